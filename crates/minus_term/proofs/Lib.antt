@@ -1,0 +1,6 @@
+-- Laws of the definitions.
+pub mod FullRedrawLaws
+pub mod PlayLaws
+pub mod PutsLaws
+pub mod SinkLaws
+pub mod WrittenLaws

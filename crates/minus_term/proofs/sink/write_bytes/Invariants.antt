@@ -1,0 +1,12 @@
+-- What is gone from `rest` was appended, and nothing was refused.
+use Rattle.std.proofs.Common.{◌≡◌, ℕ, List, ◌++◌, length}
+use Rattle.std.specs.Io.KnownBytes.{Appends}
+use Rattle.minus_term.specs.Counts.{Stays}
+use Rattle.minus_term.proofs.sink.write_bytes.Given as goal
+
+abbrev pub invariant-loop-rest : goal.invariant-loop-rest
+invariant-loop-rest g l =
+    (done : List ℕ) × (l.bytes ≡ done ++ l.rest) × Appends (g.S.Write.contents l.initial.out) (g.S.Write.contents l.out) done × Stays (g.S.OutputSink.refused l.initial.out) (g.S.OutputSink.refused l.out)
+
+abbrev pub decreases-loop-rest : goal.decreases-loop-rest
+decreases-loop-rest g l = length l.rest

@@ -1,0 +1,36 @@
+-- What a sink tells: the bytes that it holds, and how many of its calls were refused.
+use Rattle.std.specs.Prelude.{◌≡◌, ℕ, ◌+◌, ◌<◌, ◌≤◌, ◌==◌, Bool, true, false, Option, None, Some, Result, Ok, Err, List, length, take, ⊤}
+use Rattle.std.specs.Io.KnownBytes.{Appends}
+
+-- a sink's count before and after one call: one more where the call was refused; a count that is not told stays so
+abbrev pub CountsCall : Option ℕ → Option ℕ → Bool → Type 0
+CountsCall None None refused = ⊤
+CountsCall None (Some n) refused = ⊥
+CountsCall (Some m) None refused = ⊤
+CountsCall (Some m) (Some n) true = n ≡ m + 1
+CountsCall (Some m) (Some n) false = n ≡ m
+
+-- whether a write was refused: it gave an error of any kind, or took nothing
+abbrev pub is_refused : {E : Type 0} → Result ℕ E → Bool
+is_refused (Ok n) = n == 0
+is_refused (Err e) = true
+
+-- whether a flush was refused
+abbrev pub is_fault : {A E : Type 0} → Result A E → Bool
+is_fault (Ok n) = false
+is_fault (Err e) = true
+
+-- over some calls no refusal was counted
+abbrev pub Stays : Option ℕ → Option ℕ → Type 0
+Stays old new = CountsCall old new false
+
+-- over some calls the count rose, where it is told before and after them
+abbrev pub Rises : Option ℕ → Option ℕ → Type 0
+Rises None None = ⊤
+Rises None (Some n) = ⊥
+Rises (Some m) None = ⊤
+Rises (Some m) (Some n) = m < n
+
+-- the bytes that the sink holds grew by a beginning of these, perhaps none or all of them
+abbrev pub AppendsFront : Option (List ℕ) → Option (List ℕ) → List ℕ → Type 0
+AppendsFront old new bytes = (k : ℕ) × (k ≤ length bytes) × Appends old new (take k bytes)

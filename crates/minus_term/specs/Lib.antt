@@ -1,0 +1,8 @@
+-- What the contracts cite.
+pub mod Operations
+pub mod PlayedScreen
+pub mod Puts
+pub mod Counts
+pub mod FullRedraw
+pub mod Refusals
+pub mod Written

@@ -1,0 +1,14 @@
+//! What a pager needs of its terminal: the operations that it draws by and the bytes that they
+//! are, a screen as far as it is known, sinks that take the bytes, and the errors of all this.
+#![tactic(auto)]
+
+pub mod draw;
+pub mod error;
+pub mod sink;
+
+pub use draw::{DrawOp, full_redraw_shows_its_page, play_is_monotone, write_op};
+pub use error::MinusError;
+pub use sink::{OutputSink, draw_bytes, write_bytes};
+
+#[cfg(test)]
+mod tests;
