@@ -1,0 +1,23 @@
+-- How many digits a number has, a digit at a time.
+use Rattle.std.proofs.Common.{◌≡◌, ℕ, ◌+◌, ◌<◌, ◌≤◌, ◌/◌, ◌^◌, length, arith, ap, ◌∙◌}
+use Rattle.std.specs.Fmt.{decimal}
+use Rattle.std.proofs.lemmas.Fmt.{decimal-digits_of, decimal_digit, length-decimal-le}
+use Rattle.std.proofs.lemmas.Int.Digits.{length-digits_of_step}
+use Rattle.std.specs.Int.Digits.{digits_of}
+use Rattle.std.proofs.lemmas.List.{length-map}
+
+-- the last digit is one more than those of the number without it
+pub length-decimal_step : (n : ℕ) → 10 ≤ n → n < 2 ^ 64 → length (decimal n) ≡ length (decimal (n / 10)) + 1
+length-decimal_step n big fits =
+    let some : 0 < n / 10 = omega arith in
+    let small : n / 10 < 2 ^ 64 = omega arith in
+    let all : length (decimal n) ≡ length (digits_of 10 n) = ap length (decimal-digits_of n (omega arith) fits) ∙ length-map (digits_of 10 n) (λ d. 48 + d) in
+    let front : length (decimal (n / 10)) ≡ length (digits_of 10 (n / 10)) = ap length (decimal-digits_of (n / 10) some small) ∙ length-map (digits_of 10 (n / 10)) (λ d. 48 + d) in
+    let step = length-digits_of_step 10 n (omega arith) (omega arith) in
+    omega arith
+
+pub length-decimal_digit : (n : ℕ) → n < 10 → length (decimal n) ≡ 1
+length-decimal_digit n small = ap length (decimal_digit n small)
+
+pub length-decimal_small : (n : ℕ) → n < 2 ^ 64 → length (decimal n) ≤ 20
+length-decimal_small n fits = length-decimal-le 20 n (omega arith) (omega arith) fits

@@ -1,0 +1,15 @@
+-- The body's units and the spaces after it.
+use Rattle.std.proofs.Common.{◌≡◌, ◌+◌, ◌-◌, length, chars, ap, arith, rules, ◌∙◌}
+use Rattle.std.specs.List.{sum_by}
+use Rattle.minus_text.specs.Units.{units, unit_columns, text_columns, columns, body_of}
+use Rattle.minus_text.proofs.wrap.columns.Goals as goal
+
+pub returns : goal.returns
+unfolding columns text_columns
+returns c =
+    let body = c.without_spaces-body.ensures.body in
+    let spaces = c.without_spaces-body.ensures.spaces in
+    let room = c.without_spaces-body.ensures.room in
+    let sum = c.units_columns.ensures.value ∙ ap (λ cs. sum_by unit_columns (units cs)) body in
+    let size = ap length body in
+    omega (arith, sum, size, spaces, room)

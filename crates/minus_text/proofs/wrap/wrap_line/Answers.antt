@@ -1,0 +1,37 @@
+-- The rows that are fitted are those of the line.
+use Rattle.std.proofs.Common.{◌≡◌, ◌<◌, ◌≢◌, length, map, chars, arith, sym, ap, ◌∙◌, append-nil}
+use Rattle.std.proofs.lemmas.Bool.{eqb-true, eqb-false}
+use Rattle.minus_text.specs.Pieces.{pieces}
+use Rattle.minus_text.specs.Measures.{measure}
+use Rattle.minus_text.specs.Rows.{line_places}
+use Rattle.minus_text.proofs.RowsLaws.{fitted, line_size, empty_places, line_places-are}
+use Rattle.minus_text.proofs.wrap.wrap_line.Goals as goal
+
+pub returns-then-is_empty-clause-places : goal.returns-then-is_empty-clause-places
+returns-then-is_empty-clause-places c =
+    let one = c.in_ok-push.ensures.items in
+    let none = c.new-rows.ensures.items in
+    empty_places c.args.cols c.args.line.now c.push.new.self.items (eqb-true (length c.args.line.now) 0 (sym c.is_empty.ensures ∙ c.if-is_empty.true)) (rw none at one)
+
+pub returns-then-is_empty-clause-rows : goal.returns-then-is_empty-clause-rows
+returns-then-is_empty-clause-rows c =
+    let one = c.in_ok-push.ensures.items in
+    let none = c.new-rows.ensures.items in
+    rw (empty_places c.args.cols c.args.line.now c.push.new.self.items (eqb-true (length c.args.line.now) 0 (sym c.is_empty.ensures ∙ c.if-is_empty.true)) (rw none at one)) (line_places-are c.args.cols c.args.line.now c.utf8.line)
+
+pub fit-requires : goal.fit-requires
+fit-requires c =
+    let size = line_size c.args.cols c.args.line.now c.deref.result.now c.utf8.line (c.deref.ensures.value ∙ c.in_ok-pieces.ensures) in
+    omega (arith, size)
+
+pub returns-clause-places : goal.returns-clause-places
+returns-clause-places c =
+    let other : length c.args.line.now ≢ 0 = eqb-false (length c.args.line.now) 0 (sym c.is_empty.ensures ∙ c.if-is_empty.false) in
+    let h = c.in_ok-rows.ensures in
+    fitted c.args.cols c.args.line.now c.deref.result.now c.in_ok-rows.rows.items c.utf8.line (omega arith) (c.deref.ensures.value ∙ c.in_ok-pieces.ensures) h.0 h.1 h.2
+
+pub returns-clause-rows : goal.returns-clause-rows
+returns-clause-rows c =
+    let other : length c.args.line.now ≢ 0 = eqb-false (length c.args.line.now) 0 (sym c.is_empty.ensures ∙ c.if-is_empty.false) in
+    let h = c.in_ok-rows.ensures in
+    rw (fitted c.args.cols c.args.line.now c.deref.result.now c.in_ok-rows.rows.items c.utf8.line (omega arith) (c.deref.ensures.value ∙ c.in_ok-pieces.ensures) h.0 h.1 h.2) (line_places-are c.args.cols c.args.line.now c.utf8.line)

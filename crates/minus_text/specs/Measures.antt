@@ -1,0 +1,74 @@
+-- Pieces as the code measures them: bytes of the body, columns of the body, spaces after it.
+use Rattle.std.specs.Prelude.{◌≡◌, ℕ, ◌+◌, ◌-◌, ◌<◌, ◌||◌, Bool, not, nat_le, List, [], ◌∷◌, ◌++◌, length, take, replicate}
+use Rattle.std.specs.List.{sum_by, concat}
+use Rattle.std.specs.Str.{encode_utf8_all}
+use Rattle.minus_text.specs.declared.wrap.Span.{Span}
+use Rattle.minus_text.specs.declared.wrap.Measured.{Measured}
+use Rattle.minus_text.specs.declared.wrap.Class.{Class}
+use Rattle.minus_text.specs.declared.wrap.Class.TheVariants.{Body, Spaces, Parameters}
+use Rattle.minus_text.specs.Runs.{IsRun}
+use Rattle.minus_text.specs.Units.{units, unit_columns, is_final}
+use Rattle.minus_text.specs.Fronts.{fits_front}
+use Rattle.minus_text.specs.Pieces.{Piece, piece_columns, is_space, parts, words, body_len}
+
+abbrev pub measure : Piece → Measured
+measure p = record { len = length (encode_utf8_all (concat p.body)); width = piece_columns p; spaces = p.spaces }
+
+-- the bytes of a piece with its spaces
+abbrev pub size : Measured → ℕ
+size m = m.len + m.spaces
+
+abbrev pub measured_columns : List Measured → ℕ
+measured_columns [] = 0
+measured_columns (m ∷ []) = m.width
+measured_columns (m ∷ n ∷ ms) = (m.width + m.spaces) + measured_columns (n ∷ ms)
+
+abbrev pub fits_measured : ℕ → List Measured → Bool
+fits_measured cols run = nat_le (length run) 1 || nat_le (measured_columns run) cols
+
+-- where the text of a run that begins at a place ends
+abbrev pub end_of : ℕ → List Measured → ℕ
+end_of at [] = at
+end_of at (m ∷ []) = at + m.len
+end_of at (m ∷ n ∷ ms) = end_of (at + size m) (n ∷ ms)
+
+abbrev pub measured_places : ℕ → List (List Measured) → List Span
+measured_places at [] = []
+measured_places at (run ∷ runs) = record { start = at; end = end_of at run } ∷ measured_places (at + sum_by size run) runs
+
+-- what a stretch of characters is made of
+abbrev pub class_test : Class → ℕ → Bool
+class_test Body = λ c. not (is_space c)
+class_test Spaces = is_space
+class_test Parameters = λ c. not (is_final c)
+
+-- the first unit of some characters, its columns, and what follows it
+pub record SplitsUnit (cs : List ℕ) (width : ℕ) (rest : List ℕ) : Type 0 where
+  pub unit : List ℕ
+  pub some : 0 < length unit
+  pub joins : cs ≡ unit ++ rest
+  pub first : units cs ≡ unit ∷ units rest
+  pub columns : width ≡ unit_columns unit
+
+-- the first front of some characters, its columns, and what follows it
+pub record SplitsFront (cols : ℕ) (cs : List ℕ) (width : ℕ) (rest : List ℕ) : Type 0 where
+  pub front : List (List ℕ)
+  pub joins : cs ≡ concat front ++ rest
+  pub first : units cs ≡ front ++ units rest
+  pub run : IsRun (fits_front cols) front (units rest)
+  pub columns : width ≡ sum_by unit_columns front
+
+-- the first part of some characters and the rest, neither of them empty
+pub record SplitsPart (cs part rest : List ℕ) : Type 0 where
+  pub some : 0 < length part
+  pub more : 0 < length rest
+  pub joins : cs ≡ part ++ rest
+  pub first : parts cs ≡ part ∷ parts rest
+
+-- the first word of some characters: its body, its spaces, and what follows them
+pub record SplitsWord (cs body : List ℕ) (spaces : ℕ) (rest : List ℕ) : Type 0 where
+  pub some : 0 < length (body ++ replicate spaces 32)
+  pub joins : cs ≡ (body ++ replicate spaces 32) ++ rest
+  pub first : words cs ≡ (body ++ replicate spaces 32) ∷ words rest
+  pub body_is : take (body_len (body ++ replicate spaces 32)) (body ++ replicate spaces 32) ≡ body
+  pub spaces_is : length (body ++ replicate spaces 32) - body_len (body ++ replicate spaces 32) ≡ spaces

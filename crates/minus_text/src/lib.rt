@@ -1,0 +1,18 @@
+//! The text of a pager: lines, rows and what is kept of them.
+#![tactic(auto)]
+
+mod formed;
+pub mod line_numbers;
+pub mod lines;
+pub mod lines_row_map;
+pub mod pending;
+pub mod screen;
+#[cfg(test)]
+mod tests;
+pub mod wrap;
+
+pub use line_numbers::digits;
+pub use lines_row_map::LinesRowMap;
+pub use pending::PendingPush;
+pub use screen::{FormatResult, Line, OwnedTextBlock, Row, Rows, Screen, TextBlock};
+pub use wrap::{Span, columns, format_line, pieces_join, rows_are_determined, rows_fit, wrap_line};

@@ -1,0 +1,135 @@
+//! A map from each line to the number of its first row.
+ghost use Rattle.std.specs.Prelude.{◌≡◌, ℕ, ◌+◌, ◌<◌, ◌==◌, List, [], ◌∷◌, ◌++◌, length, take, slice_get, OnOk, OnErr, MatchOption};
+ghost use Rattle.std.specs.List.Sorted.{IsStrictlyIncreasing};
+ghost use Rattle.minus_text.specs.LineMaps.{entries_kept, IsLineOfRow};
+
+use std::alloc::{AllocError, Global};
+use std::marker::Model;
+
+/// The number of the first row of each line, from line 0 on. The numbers ascend strictly.
+#[derive(Debug, Drop)]
+pub struct LinesRowMap {
+    first_rows: Vec<usize>,
+}
+
+impl Model for LinesRowMap {
+    ghost use Rattle.std.specs.Prelude.{ℕ, List};
+    ghost use Rattle.std.specs.List.Sorted.{IsStrictlyIncreasing};
+
+    ghost Value = { List ℕ };
+
+    ghost view = { λ s. s.first_rows.items };
+
+    ghost invariant = { λ s. IsStrictlyIncreasing s.first_rows.items };
+}
+
+// Puts fresh entries behind the first few. An `Err` changes nothing.
+fn replace_behind(entries: &mut Vec<usize>, keep: usize, fresh: &[usize]) -> Result<(), AllocError>
+    ensures ok { OnOk result (entries.new.items ≡ take keep entries.old.items ++ fresh.now) }
+    ensures err { OnErr result (entries.new.items ≡ entries.old.items) }
+{
+    entries.reserve(fresh.len())?;
+    entries.truncate(keep);
+    match entries.extend_from_slice(fresh) {
+        Ok(()) => Ok(()),
+        Err(_) => unreachable!(),
+    }
+}
+
+// How many entries stay before more are put behind them.
+fn kept_len(len: usize, clean: bool) -> usize
+    ensures { (entries : List ℕ) → len ≡ length entries → take result entries ≡ entries_kept entries clean }
+{
+    if clean { len } else { len.saturating_sub(1) }
+}
+
+impl LinesRowMap {
+    /// A map of no line.
+    pub fn new(alloc: Global) -> Self
+        ensures { result ≡ [] }
+    {
+        LinesRowMap {
+            first_rows: Vec::new(alloc),
+        }
+    }
+
+    // The map with these entries.
+    pub(crate) fn from_first_rows(first_rows: Vec<usize>) -> Self
+        requires { IsStrictlyIncreasing first_rows.items }
+        ensures { result ≡ first_rows.items }
+    {
+        LinesRowMap { first_rows }
+    }
+
+    /// Moves the entries of another map behind these. Where the rows go on those of the last line,
+    /// `clean` is false, and the last entry is dropped first. An `Err` changes neither map.
+    pub fn append(&mut self, other: &mut Self, clean: bool) -> Result<(), AllocError>
+        requires { IsStrictlyIncreasing (entries_kept self.old clean ++ other.old) }
+        ensures ok { OnOk result (self.new ≡ entries_kept self.old clean ++ other.old) }
+        ensures emptied { OnOk result (other.new ≡ []) }
+        ensures err { OnErr result (self.new ≡ self.old) }
+        ensures other_err { OnErr result (other.new ≡ other.old) }
+    {
+        let keep = kept_len(self.first_rows.len(), clean);
+        replace_behind(&mut self.first_rows, keep, other.first_rows.as_slice())?;
+        other.first_rows.clear();
+        Ok(())
+    }
+
+    /// Puts the first row of one more line behind these, after the last entry is dropped unless
+    /// `clean`. An `Err` changes nothing.
+    pub fn insert(&mut self, row: usize, clean: bool) -> Result<(), AllocError>
+        requires { IsStrictlyIncreasing (entries_kept self.old clean ++ row ∷ []) }
+        ensures ok { OnOk result (self.new ≡ entries_kept self.old clean ++ row ∷ []) }
+        ensures err { OnErr result (self.new ≡ self.old) }
+    {
+        let keep = kept_len(self.first_rows.len(), clean);
+        replace_behind(&mut self.first_rows, keep, &[row])?;
+        Ok(())
+    }
+
+    // Puts the entries of another map behind the first few. An `Err` changes nothing.
+    pub(crate) fn replace_behind(&mut self, keep: usize, fresh: &Self) -> Result<(), AllocError>
+        requires { IsStrictlyIncreasing (take keep self.old ++ fresh.now) }
+        ensures ok { OnOk result (self.new ≡ take keep self.old ++ fresh.now) }
+        ensures err { OnErr result (self.new ≡ self.old) }
+    {
+        replace_behind(&mut self.first_rows, keep, fresh.first_rows.as_slice())?;
+        Ok(())
+    }
+
+    /// The number of the first row of a line, both from 0.
+    pub fn get(&self, line: usize) -> Option<usize>
+        ensures { result ≡ slice_get self.now line }
+    {
+        self.first_rows.get(line).copied()
+    }
+
+    /// The last line whose first row is at or before a row, and line 0 where there is none; `None`
+    /// only where there is no line.
+    pub fn row_to_line(&self, row: usize) -> Option<usize>
+        ensures { MatchOption result (self.now ≡ []) (λ line. IsLineOfRow self.now row line) }
+    {
+        if self.first_rows.is_empty() {
+            return None;
+        }
+        match self.first_rows.binary_search(&row) {
+            Ok(line) => Some(line),
+            Err(after) => Some(after.saturating_sub(1)),
+        }
+    }
+
+    /// How many lines there are.
+    pub fn len(&self) -> usize
+        ensures { result ≡ length self.now }
+    {
+        self.first_rows.len()
+    }
+
+    /// Whether there is no line.
+    pub fn is_empty(&self) -> bool
+        ensures { result ≡ (length self.now == 0) }
+    {
+        self.first_rows.is_empty()
+    }
+}

@@ -1,0 +1,387 @@
+//! A text and its rows.
+ghost use Rattle.std.specs.Prelude.{◌≡◌, ℕ, List, ◌+◌, ◌^◌, ◌<◌, ◌≤◌, [], ◌++◌, length, take, true, ◌==◌, if◌then◌else◌, IfOk, IfErr, OnOk, OnErr, slice_get, option_map, string_bytes, vec_len, vec_capacity};
+ghost use Rattle.std.specs.List.Sorted.{IsStrictlyIncreasing};
+ghost use Rattle.std.specs.String.{string_len, string_capacity};
+ghost use Rattle.minus_text.specs.Document.{rows_of, line_map, line_count, longest, unfinished_rows, pushed, PushesJoin, LineMapAscends};
+ghost use Rattle.minus_text.specs.Kept.{kept_of};
+ghost use Rattle.minus_text.specs.Pending.{IsPending};
+ghost use Rattle.minus_text.specs.FormatResults.{Tells, formed_by, first_formed, is_clean};
+
+use crate::formed::{Finished, Formed, StoredRow, form};
+use crate::lines_row_map::LinesRowMap;
+use crate::pending::PendingPush;
+use minus_term::error::MinusError;
+use std::alloc::{AllocError, Global};
+use std::marker::Model;
+
+/// The text of a row.
+pub type Row = String;
+
+/// The texts of rows.
+pub type Rows = Vec<String>;
+
+/// The text of a line.
+pub type Line<'a> = &'a str;
+
+/// A text of any number of lines.
+pub type TextBlock<'a> = &'a str;
+
+/// A text of any number of lines that is owned.
+pub type OwnedTextBlock = String;
+
+/// What a call formed. It tells of the text formed: in a push the unfinished line followed by the
+/// pushed text, and the whole text where that is formed anew.
+#[derive(Debug, Drop)]
+pub struct FormatResult {
+    /// How many lines the text formed has.
+    pub lines_formatted: usize,
+    /// How many rows it has.
+    pub rows_formatted: usize,
+    /// How many rows its last line has where no newline ends it, and 0 otherwise.
+    pub num_unterminated: usize,
+    /// The first row of each of its lines, numbered in the whole text from 0.
+    pub lines_to_row_map: LinesRowMap,
+    /// The columns of its longest line.
+    pub max_line_length: usize,
+    /// Whether nothing was attached in front of the text given.
+    pub clean_append: bool,
+}
+
+/// A text that grows, with its rows for a number of columns.
+#[derive(Debug, Drop)]
+pub struct Screen {
+    text: String,
+    cols: usize,
+    rows: Vec<StoredRow>,
+    first_rows: LinesRowMap,
+    // How far the lines go that a newline ends, and the columns of the longest line of all.
+    finished: Finished,
+    longest: usize,
+}
+
+impl Model for Screen {
+    ghost use Rattle.std.specs.Prelude.{string_bytes};
+    ghost use Rattle.minus_text.specs.Document.{Document};
+    ghost use Rattle.minus_text.specs.Kept.{IsFormed};
+
+    ghost Value = { Document };
+
+    ghost view = { λ s. record { text = string_bytes s.text; cols = s.cols } };
+
+    ghost invariant = { λ s. IsFormed (string_bytes s.text) s.cols s.rows.items s.first_rows s.finished s.longest };
+}
+
+// How far the finished lines go that stay as they are under these columns.
+fn kept_under(finished: Finished, old_cols: usize, cols: usize) -> Finished
+    ensures { result ≡ kept_of finished old_cols cols }
+{
+    if cols == old_cols {
+        finished
+    } else {
+        Finished::START
+    }
+}
+
+// Whether the finished lines take all of the text, or the whole is formed anew.
+fn attaches_nothing(finished: Finished, len: usize, old_cols: usize, cols: usize) -> bool
+    ensures { result ≡ (if cols == old_cols then finished.bytes == len else true) }
+{
+    cols != old_cols || finished.bytes == len
+}
+
+// Puts rows at the end, for which there is room.
+fn push_reserved(rows: &mut Vec<StoredRow>, fresh: &[StoredRow])
+    requires { vec_len rows.old + length fresh.now ≤ vec_capacity rows.old }
+    ensures { rows.new.items ≡ rows.old.items ++ fresh.now }
+{
+    match rows.extend_from_slice(fresh) {
+        Ok(()) => {}
+        Err(_) => unreachable!(),
+    }
+}
+
+// Puts a text at the end, for which there is room.
+fn push_str_reserved(text: &mut String, piece: &str)
+    requires { string_len text.old + length piece.now ≤ string_capacity text.old }
+    ensures { string_bytes text.new ≡ string_bytes text.old ++ piece.now }
+{
+    match text.push_str(piece) {
+        Ok(()) => {}
+        Err(_) => unreachable!(),
+    }
+}
+
+// Puts a piece, its rows and their lines' first rows behind what is kept. An `Err` changes nothing.
+fn replace_end(
+    text: &mut String,
+    rows: &mut Vec<StoredRow>,
+    first_rows: &mut LinesRowMap,
+    kept: Finished,
+    piece: &str,
+    formed: &Formed,
+) -> Result<(), AllocError>
+    requires { IsStrictlyIncreasing (take kept.lines first_rows.old ++ formed.now.first_rows) }
+    ensures text { OnOk result (string_bytes text.new ≡ string_bytes text.old ++ piece.now) }
+    ensures rows { OnOk result (rows.new.items ≡ take kept.rows rows.old.items ++ formed.now.rows.items) }
+    ensures first_rows { OnOk result (first_rows.new ≡ take kept.lines first_rows.old ++ formed.now.first_rows) }
+    ensures text_stays { OnErr result (string_bytes text.new ≡ string_bytes text.old) }
+    ensures rows_stay { OnErr result (rows.new.items ≡ rows.old.items) }
+    ensures first_rows_stay { OnErr result (first_rows.new ≡ first_rows.old) }
+{
+    text.reserve(piece.len())?;
+    rows.reserve(formed.rows.len())?;
+    first_rows.replace_behind(kept.lines, &formed.first_rows)?;
+    rows.truncate(kept.rows);
+    push_reserved(rows, formed.rows.as_slice());
+    push_str_reserved(text, piece);
+    Ok(())
+}
+
+impl Screen {
+    /// A screen of no text, for no columns.
+    pub fn new(alloc: Global) -> Self
+        ensures { result ≡ record { text = []; cols = 0 } }
+    {
+        Screen {
+            text: String::new(alloc),
+            cols: 0,
+            rows: Vec::new(alloc),
+            first_rows: LinesRowMap::new(alloc),
+            finished: Finished::START,
+            longest: 0,
+        }
+    }
+
+    /// How many rows there are.
+    pub fn formatted_lines_count(&self) -> usize
+        ensures value { result ≡ length (rows_of self.now) }
+        ensures few { result < 2 ^ 63 }
+    {
+        self.rows.len()
+    }
+
+    /// How many lines there are.
+    pub fn line_count(&self) -> usize
+        ensures { result ≡ line_count self.now }
+    {
+        self.first_rows.len()
+    }
+
+    /// The columns of the longest line, 0 where there is no line.
+    pub fn get_max_line_length(&self) -> usize
+        ensures { result ≡ longest self.now }
+    {
+        self.longest
+    }
+
+    /// How many rows the last line has where no newline ends it, and 0 otherwise.
+    pub fn unterminated(&self) -> usize
+        ensures { result ≡ unfinished_rows self.now }
+    {
+        self.rows.len() - self.finished.rows
+    }
+
+    /// The columns that the rows were formed for.
+    pub fn cols(&self) -> usize
+        ensures { result ≡ self.now.cols }
+    {
+        self.cols
+    }
+
+    /// The text as it was given.
+    pub fn orig_text(&self) -> &str
+        ensures { result.now ≡ self.now.text }
+    {
+        self.text.as_str()
+    }
+
+    /// The number of the first row of each line.
+    pub fn lines_to_row_map(&self) -> &LinesRowMap
+        ensures { result.now ≡ line_map self.now }
+    {
+        &self.first_rows
+    }
+
+    /// The text of a row, counted from 0. It takes no memory.
+    pub fn row_text(&self, i: usize) -> Option<&str>
+        ensures { option_map (λ r. r.now) result ≡ slice_get (rows_of self.now) i }
+    {
+        let text = self.text.as_str();
+        match self.rows.get(i) {
+            Some(row) => Some(&text[row.start..row.end]),
+            None => None,
+        }
+    }
+
+    /// A copy of the text of a row, counted from 0.
+    ///
+    /// # Errors
+    ///
+    /// [`MinusError::Memory`] where there is no memory for the copy.
+    pub fn formatted_row(&self, alloc: Global, i: usize) -> Result<Option<Row>, MinusError>
+        ensures ok { IfOk result (λ row. option_map string_bytes row ≡ slice_get (rows_of self.now) i) }
+        ensures memory { IfErr result (λ e. e ≡ MinusError.Memory) }
+    {
+        match self.row_text(i) {
+            Some(text) => Ok(Some(String::from_str(alloc, text)?)),
+            None => Ok(None),
+        }
+    }
+
+    // Puts a piece behind the text. What is formed is formed beside what is kept, so that an `Err`
+    // changes nothing.
+    fn push_piece(
+        &mut self,
+        alloc: Global,
+        piece: &str,
+        cols: usize,
+    ) -> Result<FormatResult, AllocError>
+        ensures ok { OnOk result (self.new ≡ pushed self.old piece.now cols) }
+        ensures told { IfOk result (λ r. Tells r (formed_by self.old piece.now cols) (first_formed self.old cols) (is_clean self.old cols)) }
+        ensures err { OnErr result (self.new ≡ self.old) }
+    {
+        let kept = kept_under(self.finished, self.cols, cols);
+        let clean = attaches_nothing(self.finished, self.text.len(), self.cols, cols);
+        let mut joined = String::from_str(alloc, &self.text[kept.bytes..])?;
+        joined.push_str(piece)?;
+        let formed = form(alloc, &joined, kept, cols)?;
+        replace_end(
+            &mut self.text,
+            &mut self.rows,
+            &mut self.first_rows,
+            kept,
+            piece,
+            &formed,
+        )?;
+        self.cols = cols;
+        self.finished = formed.finished;
+        self.longest = kept.longest.max(formed.longest);
+        let rows_formatted = formed.rows.len();
+        Ok(FormatResult {
+            lines_formatted: formed.first_rows.len(),
+            rows_formatted,
+            num_unterminated: kept.rows + rows_formatted - formed.finished.rows,
+            lines_to_row_map: formed.first_rows,
+            max_line_length: formed.longest,
+            clean_append: clean,
+        })
+    }
+
+    /// Puts a text at the end. Where the columns differ from those that the rows were last formed
+    /// for, all rows are formed anew, and otherwise those of the unfinished line and the text.
+    ///
+    /// # Errors
+    ///
+    /// [`MinusError::Memory`] where there is no memory for it. Nothing has changed then.
+    pub fn push_screen_buf(
+        &mut self,
+        alloc: Global,
+        text: TextBlock<'_>,
+        cols: usize,
+    ) -> Result<FormatResult, MinusError>
+        ensures ok { OnOk result (self.new ≡ pushed self.old text.now cols) }
+        ensures told { IfOk result (λ r. Tells r (formed_by self.old text.now cols) (first_formed self.old cols) (is_clean self.old cols)) }
+        ensures err { OnErr result (self.new ≡ self.old) }
+        ensures memory { IfErr result (λ e. e ≡ MinusError.Memory) }
+    {
+        Ok(self.push_piece(alloc, text, cols)?)
+    }
+
+    /// Forms what a push of this text would form, beside the rows that would stay. The screen stays
+    /// as it is; `rows_after` and `row_after` tell of it as the push would leave it.
+    ///
+    /// # Errors
+    ///
+    /// [`MinusError::Memory`] where there is no memory for it.
+    pub fn prepare_push(
+        &self,
+        alloc: Global,
+        text: TextBlock<'_>,
+        cols: usize,
+    ) -> Result<PendingPush, MinusError>
+        ensures ok { IfOk result (λ p. IsPending self.now text.now cols p) }
+        ensures memory { IfErr result (λ e. e ≡ MinusError.Memory) }
+    {
+        let kept = kept_under(self.finished, self.cols, cols);
+        let mut joined = String::from_str(alloc, &self.text[kept.bytes..])?;
+        joined.push_str(text)?;
+        let mut tail = Screen::new(alloc);
+        let _ = tail.set_text(alloc, &joined, cols)?;
+        Ok(PendingPush {
+            tail,
+            kept_rows: kept.rows,
+        })
+    }
+
+    /// How many rows there would be after the push. It takes no memory.
+    pub fn rows_after(&self, pending: &PendingPush) -> usize
+        ensures { (piece : List ℕ) (cols : ℕ) → IsPending self.now piece cols pending.now → result ≡ length (rows_of (pushed self.now piece cols)) }
+    {
+        let staying = pending.kept_rows.min(self.formatted_lines_count());
+        staying + pending.tail.formatted_lines_count()
+    }
+
+    /// The text of a row, counted from 0, as it would be after the push. It takes no memory.
+    pub fn row_after<'a>(&'a self, pending: &'a PendingPush, i: usize) -> Option<&'a str>
+        ensures { (piece : List ℕ) (cols : ℕ) → IsPending self.now piece cols pending.now → option_map (λ r. r.now) result ≡ slice_get (rows_of (pushed self.now piece cols)) i }
+    {
+        if i < pending.kept_rows {
+            self.row_text(i)
+        } else {
+            pending.tail.row_text(i - pending.kept_rows)
+        }
+    }
+
+    /// Makes the push that was prepared, of the same text.
+    ///
+    /// # Errors
+    ///
+    /// [`MinusError::Memory`] where there is no memory for it. Nothing has changed then.
+    pub fn place_push(
+        &mut self,
+        alloc: Global,
+        text: TextBlock<'_>,
+        pending: PendingPush,
+    ) -> Result<FormatResult, MinusError>
+        ensures ok { OnOk result ((cols : ℕ) → IsPending self.old text.now cols pending → self.new ≡ pushed self.old text.now cols) }
+        ensures told { IfOk result (λ r. (cols : ℕ) → IsPending self.old text.now cols pending → Tells r (formed_by self.old text.now cols) (first_formed self.old cols) (is_clean self.old cols)) }
+        ensures err { OnErr result (self.new ≡ self.old) }
+        ensures memory { IfErr result (λ e. e ≡ MinusError.Memory) }
+    {
+        let cols = pending.tail.cols();
+        Ok(self.push_piece(alloc, text, cols)?)
+    }
+
+    /// Puts a text in the place of all that there is.
+    ///
+    /// # Errors
+    ///
+    /// [`MinusError::Memory`] where there is no memory for it. Nothing has changed then.
+    pub fn set_text(
+        &mut self,
+        alloc: Global,
+        text: TextBlock<'_>,
+        cols: usize,
+    ) -> Result<FormatResult, MinusError>
+        ensures ok { OnOk result (self.new ≡ record { text = text.now; cols = cols }) }
+        ensures told { IfOk result (λ r. Tells r (record { text = text.now; cols = cols }) 0 true) }
+        ensures err { OnErr result (self.new ≡ self.old) }
+        ensures memory { IfErr result (λ e. e ≡ MinusError.Memory) }
+    {
+        let mut fresh = Screen::new(alloc);
+        let told = fresh.push_piece(alloc, text, cols)?;
+        *self = fresh;
+        Ok(told)
+    }
+}
+
+/// To push one piece and then another is to push both joined: the rows, the first row of each
+/// line, the number of lines and the longest line are the same.
+pub fn pushes_join()
+    ensures { PushesJoin }
+{}
+
+/// Each line begins at a later row than the line before it.
+pub fn line_map_ascends()
+    ensures { LineMapAscends }
+{}
