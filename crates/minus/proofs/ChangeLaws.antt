@@ -1,0 +1,27 @@
+-- A change that was put in its place.
+use Rattle.std.proofs.Common.{◌≡◌, ℕ, List, refl, sym, ap, ◌∙◌}
+use Rattle.minus_text.specs.Document.{Document}
+use Rattle.minus.specs.declared.state.PagerState.{PagerState}
+use Rattle.minus.specs.declared.change.Change.{Change}
+use Rattle.minus.specs.Control.{Control, document_of}
+use Rattle.minus.specs.NextTexts.{next_document}
+use Rattle.minus.specs.Changes.{IsChange}
+use Rattle.minus.specs.Reads.{control_of, IsFormed}
+
+same_control : (a b : Control) → a.text ≡ b.text → a.cols ≡ b.cols → a.rows ≡ b.rows → a.mark ≡ b.mark → a ≡ b
+same_control a b t c r m =
+    ap (λ (x : List ℕ). let k : Control = record { text = x; cols = a.cols; rows = a.rows; mark = a.mark } in k) t
+    ∙ ap (λ (x : ℕ). let k : Control = record { text = b.text; cols = x; rows = a.rows; mark = a.mark } in k) c
+    ∙ ap (λ (x : ℕ). let k : Control = record { text = b.text; cols = b.cols; rows = x; mark = a.mark } in k) r
+    ∙ ap (λ (x : ℕ). let k : Control = record { text = b.text; cols = b.cols; rows = b.rows; mark = x } in k) m
+
+-- the state holds the control that the change leads to
+pub placed : (s t : PagerState) (change : Change) (new : Control) → IsFormed s → IsChange (control_of s) change new → t.screen ≡ next_document s.screen change.text → t.upper_mark ≡ change.mark → t.cols ≡ s.cols → t.rows ≡ s.rows → control_of t ≡ new
+placed s t change new f h e m c r =
+    let document : t.screen ≡ document_of new = e ∙ ap (λ (d : Document). next_document d change.text) f.document ∙ h.document in
+    same_control (control_of t) new (ap (λ (d : Document). d.text) document) (c ∙ sym h.cols_stay) (r ∙ sym h.rows_stay) (m ∙ h.mark_is)
+
+-- the same where the state was drawn from between
+pub placed_after : (s d t : PagerState) (change : Change) (new : Control) → d ≡ s → IsFormed s → IsChange (control_of s) change new → t.screen ≡ next_document d.screen change.text → t.upper_mark ≡ change.mark → t.cols ≡ d.cols → t.rows ≡ d.rows → control_of t ≡ new
+placed_after s d t change new same f h e m c r =
+    placed s t change new f h (e ∙ ap (λ (x : PagerState). next_document x.screen change.text) same) m (c ∙ ap (λ (x : PagerState). x.cols) same) (r ∙ ap (λ (x : PagerState). x.rows) same)

@@ -1,0 +1,5 @@
+pub mod DrawingLaws
+pub mod ShownLaws
+pub mod ChangeLaws
+pub mod DrawnLaws
+pub mod RunLaws

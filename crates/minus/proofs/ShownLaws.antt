@@ -1,0 +1,29 @@
+-- The rows of text on a page.
+use Rattle.std.proofs.Common.{◌≡◌, ℕ, zero, suc, ◌+◌, ◌-◌, ◌<◌, ◌≤◌, min, List, [], ◌∷◌, ◌++◌, length, map, take, drop, get_or, Option, Some, None, refl, sym, ap, ◌∙◌, arith}
+use Rattle.std.specs.List.{slice_get}
+use Rattle.std.proofs.lemmas.List.{take_more, map-append, get_or-drop, length-drop, take_min, map_push}
+
+get_some : {X : Type 0} (xs : List X) (i : ℕ) (x d : X) → Some x ≡ slice_get xs i → get_or xs i d ≡ x
+get_some [] i x d e = cc
+get_some (y ∷ xs) zero x d e = cc
+get_some (y ∷ xs) (suc i) x d e = get_some xs i x d e
+
+-- there is a row below the count
+pub row_there : {X : Type 0} (xs : List X) (i : ℕ) → i < length xs → None ≡ slice_get xs i → ⊥
+row_there [] i l e = omega arith
+row_there (x ∷ xs) zero l e = cc
+row_there (x ∷ xs) (suc i) l e = row_there xs i (omega arith) e
+
+-- one more row on the page
+pub shown_more : {X : Type 0} (f : X → List ℕ) (xs news : List X) (x : X) (rows : List (List ℕ)) (mark i : ℕ) → mark + i < length rows → map f xs ≡ take i (drop mark rows) → Some (f x) ≡ slice_get rows (mark + i) → news ≡ xs ++ x ∷ []
+    → map f news ≡ take (i + 1) (drop mark rows)
+shown_more f xs news x rows mark i l h e g =
+    let left : i < length (drop mark rows) = omega (arith, length-drop mark rows) in
+    let is : get_or (drop mark rows) i [] ≡ f x = get_or-drop mark rows i [] ∙ get_some rows (mark + i) (f x) [] e in
+    ap (map f) g ∙ map_push f xs x ∙ ap (λ rs. rs ++ f x ∷ []) h ∙ sym (take_more (drop mark rows) i [] left ∙ ap (λ r. take i (drop mark rows) ++ r ∷ []) is)
+
+-- no more rows than there are
+pub shown_all : (rows : List (List ℕ)) (mark n k : ℕ) → n ≡ min (length rows - mark) k → take n (drop mark rows) ≡ take k (drop mark rows)
+shown_all rows mark n k e =
+    let m : n ≡ min k (length (drop mark rows)) = omega (arith, e, length-drop mark rows) in
+    ap (λ j. take j (drop mark rows)) m ∙ take_min k (drop mark rows)

@@ -1,0 +1,25 @@
+-- What the commands define: the text on show, the size and the mark.
+use Rattle.std.specs.Prelude.{ℕ, ◌-◌, min, List, length}
+use Rattle.minus_text.specs.Document.{Document, rows_of}
+
+pub record Control : Type 0 where
+  pub text : List ℕ
+  pub cols : ℕ
+  pub rows : ℕ
+  pub mark : ℕ
+
+-- the document of the text on show
+abbrev pub document_of : Control → Document
+document_of c = record { text = c.text; cols = c.cols }
+
+-- the texts of its rows
+abbrev pub text_rows : Control → List (List ℕ)
+text_rows c = rows_of (document_of c)
+
+-- the greatest mark: the last page is full where there are rows enough
+abbrev pub top : Control → ℕ
+top c = length (text_rows c) - (c.rows - 1)
+
+-- the mark is at most that
+abbrev pub clamp : Control → Control
+clamp c = record c { mark = min c.mark (top c) }

@@ -1,0 +1,42 @@
+-- What the bytes of a sink say of the page.
+use Rattle.std.specs.Prelude.{◌≡◌, ℕ, ◌≤◌, List, [], ◌∷◌, ◌++◌, map, take, length, Option, None, Some}
+use Rattle.std.specs.List.{Contains}
+use Rattle.std.specs.Io.KnownBytes.{Appends}
+use Rattle.minus_term.specs.Operations.{Op}
+use Rattle.minus_term.specs.Counts.{AppendsFront}
+use Rattle.minus_term.specs.PlayedScreen.{Shows, Draws, play_all, unknown_screen}
+use Rattle.minus_term.specs.Written.{written_all, IsClean}
+use Rattle.minus.specs.Control.{Control}
+use Rattle.minus.specs.Page.{page}
+
+-- the operations are drawn from: they put rows of the pages of these controls alone, and lead from the page of the one to that of the other
+pub record IsDrawing (ops : List Op) (old new : Control) : Type 0 where
+  pub draws : Draws ops (page old) (page new)
+  pub clean : IsClean (page old ∷ page new ∷ []) ops
+
+-- the sink grew by the written form of one such list of operations
+abbrev pub Drawn : Option (List ℕ) → Option (List ℕ) → Control → Control → Type 0
+Drawn old_bytes new_bytes old new = (ops : List Op) × Appends old_bytes new_bytes (written_all ops) × IsDrawing ops old new
+
+-- the sink grew by a beginning of the written form of one such list
+abbrev pub BrokenOff : Option (List ℕ) → Option (List ℕ) → Control → Control → Type 0
+BrokenOff old_bytes new_bytes old new = (ops : List Op) × AppendsFront old_bytes new_bytes (written_all ops) × IsDrawing ops old new
+
+-- the operations take every screen of the control's size to its page, and put rows of the pages of the controls passed
+-- alone, of which it is one
+pub record IsWholeDrawing (ops : List Op) (passed : List Control) (control : Control) : Type 0 where
+  pub here : Contains passed control
+  pub shows : Shows (play_all ops (unknown_screen control.rows)) (page control)
+  pub clean : IsClean (map page passed) ops
+
+-- the sink's bytes are known, and end with the written form of such a list
+abbrev pub Leaves : Option (List ℕ) → List Control → Control → Type 0
+Leaves None passed control = ⊥
+Leaves (Some bytes) passed control = (front : List ℕ) × (ops : List Op) × (bytes ≡ front ++ written_all ops) × IsWholeDrawing ops passed control
+
+-- the sink grew by the written form of such a list, or by a beginning of it
+abbrev pub DrawnWhole : Option (List ℕ) → Option (List ℕ) → Control → Type 0
+DrawnWhole old_bytes new_bytes control = (ops : List Op) × Appends old_bytes new_bytes (written_all ops) × IsWholeDrawing ops (control ∷ []) control
+
+abbrev pub WholeBrokenOff : Option (List ℕ) → Option (List ℕ) → Control → Type 0
+WholeBrokenOff old_bytes new_bytes control = (ops : List Op) × AppendsFront old_bytes new_bytes (written_all ops) × IsWholeDrawing ops (control ∷ []) control

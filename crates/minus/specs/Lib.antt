@@ -1,0 +1,13 @@
+-- What the contracts cite.
+pub mod Sizes
+pub mod Control
+pub mod Table
+pub mod PromptRow
+pub mod Page
+pub mod Drawn
+pub mod Reads
+pub mod NextTexts
+pub mod Changes
+pub mod Steps
+pub mod Core
+pub mod Starts

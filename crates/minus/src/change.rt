@@ -1,0 +1,47 @@
+//! What a command leaves, formed beside the state.
+use minus_text::{PendingPush, Screen};
+
+// The text that there will be: as it is, another one, or as a push leaves it.
+#[derive(Debug, Drop)]
+pub(crate) enum NextText {
+    Same,
+    Whole(Screen),
+    Pushed(String, PendingPush),
+}
+
+impl NextText {
+    ghost use Rattle.std.specs.Prelude.{◌≡◌, length, slice_get, option_map};
+    ghost use Rattle.minus_text.specs.Document.{rows_of};
+    ghost use Rattle.minus.specs.NextTexts.{next_document, IsNext};
+
+    // How many rows there will be.
+    pub(crate) fn rows_after(&self, screen: &Screen) -> usize
+        requires { IsNext screen.now self.now }
+        ensures { result ≡ length (rows_of (next_document screen.now self.now)) }
+    {
+        match self {
+            NextText::Same => screen.formatted_lines_count(),
+            NextText::Whole(next) => next.formatted_lines_count(),
+            NextText::Pushed(_, pending) => screen.rows_after(pending),
+        }
+    }
+
+    // The text of a row, counted from 0, as it will be.
+    pub(crate) fn row_after<'a>(&'a self, screen: &'a Screen, i: usize) -> Option<&'a str>
+        requires { IsNext screen.now self.now }
+        ensures { option_map (λ r. r.now) result ≡ slice_get (rows_of (next_document screen.now self.now)) i }
+    {
+        match self {
+            NextText::Same => screen.row_text(i),
+            NextText::Whole(next) => next.row_text(i),
+            NextText::Pushed(_, pending) => screen.row_after(pending, i),
+        }
+    }
+}
+
+// What a command leaves: the text, and the mark.
+#[derive(Debug, Drop)]
+pub(crate) struct Change {
+    pub(crate) text: NextText,
+    pub(crate) mark: usize,
+}

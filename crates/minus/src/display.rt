@@ -1,0 +1,107 @@
+//! Drawings, as bytes in a buffer.
+ghost use Rattle.std.specs.Prelude.{◌≡◌, ◌==◌, [], ◌∷◌, ◌++◌, ◌-◌, length, replicate, if◌then◌else◌, map, OnOk, IfOk, string_bytes};
+ghost use Rattle.std.specs.List.{flat_map};
+ghost use Rattle.minus_term.specs.Operations.{Put};
+ghost use Rattle.minus_term.specs.Written.{written_all};
+ghost use Rattle.minus_term.specs.FullRedraw.{full_ops, prompt_ops, row_ops};
+ghost use Rattle.minus.specs.PromptRow.{prompt_row, prompt, fitted};
+
+use minus_term::{DrawOp, write_op};
+use std::alloc::{AllocError, Global};
+
+// What the prompt says.
+const PROMPT: &str = "minus";
+
+// Adds a row of text, and goes to the next.
+fn write_row(alloc: Global, out: &mut Vec<u8>, row: &str) -> Result<(), AllocError>
+    ensures { OnOk result (out.new.items ≡ out.old.items ++ written_all (row_ops row.now)) }
+{
+    write_op(alloc, out, &DrawOp::Return)?;
+    write_op(alloc, out, &DrawOp::Put(row))?;
+    write_op(alloc, out, &DrawOp::NextRow)?;
+    Ok(())
+}
+
+// Adds rows of text.
+fn write_rows(alloc: Global, out: &mut Vec<u8>, shown: &[&str]) -> Result<(), AllocError>
+    ensures { OnOk result (out.new.items ≡ out.old.items ++ written_all (flat_map row_ops (map (λ r. r.now) shown.now))) }
+{
+    for row in shown {
+        write_row(alloc, out, row)?;
+    }
+    Ok(())
+}
+
+// Adds a text, unless it is empty.
+fn write_some(alloc: Global, out: &mut Vec<u8>, text: &str) -> Result<(), AllocError>
+    ensures { OnOk result (out.new.items ≡ out.old.items ++ written_all (if length text.now == 0 then [] else Put text.now ∷ [])) }
+{
+    if text.is_empty() {
+        return Ok(());
+    }
+    write_op(alloc, out, &DrawOp::Put(text))?;
+    Ok(())
+}
+
+/// Adds the bytes that draw the prompt row in the last of so many rows. An empty one is not put.
+pub fn write_prompt(
+    alloc: Global,
+    out: &mut Vec<u8>,
+    rows: u16,
+    prompt: &str,
+) -> Result<(), AllocError>
+    ensures { OnOk result (out.new.items ≡ out.old.items ++ written_all (prompt_ops rows prompt.now)) }
+{
+    write_op(alloc, out, &DrawOp::GoTo(0, rows))?;
+    write_op(alloc, out, &DrawOp::Return)?;
+    write_op(alloc, out, &DrawOp::ClearRow)?;
+    write_some(alloc, out, prompt)?;
+    Ok(())
+}
+
+/// Adds the bytes that draw a whole page of so many rows: these rows of text from its top, and the
+/// prompt row.
+pub fn draw_full(
+    alloc: Global,
+    out: &mut Vec<u8>,
+    rows: u16,
+    shown: &[&str],
+    prompt: &str,
+) -> Result<(), AllocError>
+    ensures { OnOk result (out.new.items ≡ out.old.items ++ written_all (full_ops rows (map (λ r. r.now) shown.now) prompt.now)) }
+{
+    write_op(alloc, out, &DrawOp::GoTo(0, 0))?;
+    write_op(alloc, out, &DrawOp::ClearAll)?;
+    write_rows(alloc, out, shown)?;
+    write_prompt(alloc, out, rows, prompt)?;
+    Ok(())
+}
+
+// Adds so many spaces.
+fn push_spaces(row: &mut String, count: usize) -> Result<(), AllocError>
+    ensures { OnOk result (string_bytes row.new ≡ string_bytes row.old ++ replicate count 32) }
+{
+    for _space in 0..count {
+        row.push(' ')?;
+    }
+    Ok(())
+}
+
+// Adds the prompt, cut or filled with spaces to so many columns.
+fn push_fitted(row: &mut String, cols: usize) -> Result<(), AllocError>
+    ensures { OnOk result (string_bytes row.new ≡ string_bytes row.old ++ fitted cols prompt) }
+{
+    row.push_str(&PROMPT[..cols.min(PROMPT.len())])?;
+    push_spaces(row, cols.saturating_sub(PROMPT.len()))?;
+    Ok(())
+}
+
+/// The prompt row for so many columns, in its style.
+pub fn format_prompt(alloc: Global, cols: usize) -> Result<String, AllocError>
+    ensures { IfOk result (λ row. string_bytes row ≡ prompt_row cols) }
+{
+    let mut row = String::from_str(alloc, "\x1b[2;40;37m")?;
+    push_fitted(&mut row, cols)?;
+    row.push_str("\x1b[0m")?;
+    Ok(row)
+}

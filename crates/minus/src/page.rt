@@ -1,0 +1,78 @@
+//! The page, as texts.
+ghost use Rattle.std.specs.Prelude.{◌≡◌, ◌<◌, ◌++◌, [], length, replicate, map, string_bytes, OnOk, IfOk};
+ghost use Rattle.minus_term.specs.FullRedraw.{page_of};
+ghost use Rattle.minus.specs.PromptRow.{prompt_row};
+
+use crate::display::format_prompt;
+use minus_term::MinusError;
+use std::alloc::{AllocError, Global};
+
+// Adds copies of texts.
+fn push_copies(alloc: Global, rows: &mut Vec<String>, texts: &[&str]) -> Result<(), AllocError>
+    ensures { OnOk result (map string_bytes rows.new.items ≡ map string_bytes rows.old.items ++ map (λ r. r.now) texts.now) }
+{
+    for text in texts {
+        rows.push(String::from_str(alloc, text)?)?;
+    }
+    Ok(())
+}
+
+// Adds so many blank rows.
+fn push_blanks(alloc: Global, rows: &mut Vec<String>, count: usize) -> Result<(), AllocError>
+    ensures { OnOk result (map string_bytes rows.new.items ≡ map string_bytes rows.old.items ++ replicate count []) }
+{
+    for _blank in 0..count {
+        rows.push(String::new(alloc))?;
+    }
+    Ok(())
+}
+
+// The texts of a page of so many rows that begins with these.
+fn page_rows(
+    alloc: Global,
+    cols: usize,
+    rows: usize,
+    shown: &[&str],
+) -> Result<Vec<String>, AllocError>
+    requires { length shown.now < rows }
+    ensures { IfOk result (λ p. map string_bytes p.items ≡ (page_of rows (map (λ r. r.now) shown.now) (prompt_row cols)).texts) }
+{
+    let mut page = Vec::new(alloc);
+    push_copies(alloc, &mut page, shown)?;
+    push_blanks(alloc, &mut page, rows - 1 - shown.len())?;
+    page.push(format_prompt(alloc, cols)?)?;
+    Ok(page)
+}
+
+/// A page: the text of each row of the terminal, the prompt's last, and the cursor's place where it has one.
+#[derive(Debug, Drop)]
+pub struct Page {
+    /// The texts of the rows, from the top.
+    pub rows: Vec<String>,
+    /// The cursor's column in the last row, from 0.
+    pub cursor: Option<u16>,
+}
+
+impl Page {
+    ghost use Rattle.std.specs.Prelude.{◌≡◌, ◌<◌, length, map, string_bytes, None, IfOk, IfErr};
+    ghost use Rattle.minus_term.specs.FullRedraw.{page_of};
+    ghost use Rattle.minus.specs.PromptRow.{prompt_row};
+
+    // The page of these rows of text.
+    pub(crate) fn form(
+        alloc: Global,
+        cols: usize,
+        rows: usize,
+        shown: &[&str],
+    ) -> Result<Page, MinusError>
+        requires { length shown.now < rows }
+        ensures rows { IfOk result (λ p. map string_bytes p.rows.items ≡ (page_of rows (map (λ r. r.now) shown.now) (prompt_row cols)).texts) }
+        ensures cursor { IfOk result (λ p. p.cursor ≡ None) }
+        ensures memory { IfErr result (λ e. e ≡ MinusError.Memory) }
+    {
+        Ok(Page {
+            rows: page_rows(alloc, cols, rows, shown)?,
+            cursor: None,
+        })
+    }
+}

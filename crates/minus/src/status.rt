@@ -1,0 +1,10 @@
+//! How a session stands.
+
+/// How a session stands.
+#[derive(Clone, Copy, Debug, PartialEq, Eq)]
+pub enum Status {
+    /// It takes steps.
+    Running,
+    /// A write or a flush was refused, and each step is refused.
+    Failed,
+}
