@@ -77,7 +77,7 @@ leaves_more (Some x) (Some y) old new before r d h =
 pub leaves_refused : {K : Type 0} (e : MinusError) (a b : Option (List ℕ)) (reached new : Seen K) (w : Wanted) (passed : List Control) → Refuses e reached w new → ((IsDrawFault e → ⊥) → b ≡ a) → Leaves a passed reached.control → new.status ≡ status.Running → Leaves b passed new.control
 leaves_refused Memory a b reached new w passed h s k r = let same = s (λ f. f) in rw (same, h) k
 leaves_refused (BadSize c d) a b reached new w passed h s k r = absurd h
-leaves_refused Failed a b reached new w passed h s k r = let same = s (λ f. f) in rw (same, h) k
+leaves_refused Failed a b reached new w passed h s k r = let same = s (λ f. f) in let stays = h.1 in rw (same, stays) k
 leaves_refused (Draw cause) a b reached new w passed h s k r = let both : status.Failed ≡ status.Running = sym (ap (λ (x : Seen _). x.status) h) ∙ r in cc
 
 -- ---- a run so far

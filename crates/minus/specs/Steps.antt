@@ -23,12 +23,12 @@ pub data Steps {K : Type 0} : Seen K → List Wanted → List Control → Seen K
   none : {a : Seen K} → Steps a [] [] a
   more : {a b c : Seen K} {w : Wanted} {ws : List Wanted} {cs : List Control} → Step a w b → Steps b ws cs c → Steps a (w ∷ ws) (b.control ∷ cs) c
 
--- what a refused step leaves: all as it was, where memory was wanted or the session had failed before; where the sink
+-- what a refused step leaves: all as it was, where memory was wanted, or where the session had failed before; where the sink
 -- refused, the control that the step led to, in a session that has failed
 abbrev pub Refuses : {K : Type 0} → MinusError → Seen K → Wanted → Seen K → Type 0
 Refuses Memory old wanted new = new ≡ old
 Refuses (BadSize cols rows) old wanted new = ⊥
-Refuses Failed old wanted new = new ≡ old
+Refuses Failed old wanted new = (old.status ≡ status.Failed) × (new ≡ old)
 Refuses (Draw cause) old wanted new = new ≡ record old { control = worked old.control wanted; status = status.Failed }
 
 -- the sink refused
