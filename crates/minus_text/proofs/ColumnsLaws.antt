@@ -1,9 +1,9 @@
 -- Laws on the columns of a text.
-use Rattle.std.proofs.Common.{◌≡◌, ℕ, zero, suc, ◌+◌, ◌≤◌, ◌<◌, ◌&&◌, Bool, true, false, cond, eqb, List, [], ◌∷◌, ◌++◌, length, replicate, get_or, chars, arith, refl, sym, ap, ◌∙◌, append_assoc, inl, inr, ◌≢◌}
+use Rattle.std.proofs.Common.{◌≡◌, ℕ, zero, suc, ◌+◌, ◌<◌, eqb, List, [], ◌∷◌, ◌++◌, length, replicate, get_or, chars, arith, refl, sym, ap, ◌∙◌, append_assoc, inl, inr, ◌≢◌}
 use Rattle.std.specs.Str.{IsUtf8, encode_utf8_all}
 use Rattle.std.specs.List.{sum_by}
-use Rattle.std.proofs.lemmas.Bool.{cases_Bool, eqb-true, eq-eqb}
-use Rattle.std.proofs.lemmas.List.{append-nil, length-append, length-replicate, nil_from_length, replicate_more}
+use Rattle.std.proofs.lemmas.Bool.{cases_Bool, eqb-true}
+use Rattle.std.proofs.lemmas.List.{append-nil, length-append, length-replicate, nil_from_length}
 use Rattle.std.proofs.lemmas.List.Sums.{sum_by-cons}
 use Rattle.std.proofs.lemmas.Str.{chars-append, encodes-append, encodes-chars, chars-IsAscii}
 use Rattle.minus_text.specs.Units.{body_of, units, unit_columns}
@@ -60,7 +60,7 @@ body_chars text body u h = ap chars h.text_is ∙ chars-append body (replicate h
 pub body_found : (text body : List ℕ) → IsUtf8 body → BodySoFar text body → ((front : List ℕ) → body ≢ front ++ 32 ∷ []) → chars body ≡ body_of (chars text)
 body_found text body u h none =
     let no_space : (xs : List ℕ) → chars body ≡ xs ++ 32 ∷ [] → ⊥ =
-        λ xs e. none (encode_utf8_all xs) (sym (encodes-chars body u) ∙ ap encode_utf8_all e ∙ encodes-append xs (32 ∷ []) ∙ ap (λ ys. encode_utf8_all xs ++ ys) (spaces_encode 1)) in
+    λ xs e. none (encode_utf8_all xs) (sym (encodes-chars body u) ∙ ap encode_utf8_all e ∙ encodes-append xs (32 ∷ []) ∙ ap (λ ys. encode_utf8_all xs ++ ys) (spaces_encode 1)) in
     sym (ap body_of (body_chars text body u h) ∙ body_before (chars body) h.spaces ∙ body_whole (chars body) no_space)
 
 pub spaces_count : (text body : List ℕ) → IsUtf8 body → BodySoFar text body → length text + length (chars body) ≡ length (chars text) + length body

@@ -1,12 +1,11 @@
 -- Laws on fronts that are found unit by unit.
-use Rattle.std.proofs.Common.{◌≡◌, ℕ, ◌+◌, ◌*◌, ◌≤◌, ◌<◌, ◌||◌, Bool, true, false, cond, nat_lt, nat_le, leb, ltb, List, [], ◌∷◌, ◌++◌, length, arith, refl, sym, ap, ◌∙◌, append_assoc, inl, inr, zero-add}
+use Rattle.std.proofs.Common.{◌≡◌, ℕ, ◌+◌, ◌≤◌, ◌<◌, Bool, true, false, cond, nat_le, leb, ltb, List, [], ◌∷◌, ◌++◌, length, arith, refl, sym, ap, ◌∙◌, append_assoc, inl, inr}
 use mir.Val.{bool_byte}
 use Rattle.std.specs.List.{concat, sum_by, count_by}
-use Rattle.std.proofs.lemmas.Bool.{cases_Bool, leb-true, le-leb, lt-leb, or_left, or_right, or_from, lt-ltb, ltb-true}
-use Rattle.std.proofs.lemmas.List.{append-nil, length-append, length_push}
+use Rattle.std.proofs.lemmas.Bool.{cases_Bool, le-leb, lt-leb, or_left, or_right, or_from}
+use Rattle.std.proofs.lemmas.List.{append-nil, length_push}
 use Rattle.std.proofs.lemmas.List.Sums.{sum_by-append}
 use Rattle.minus_text.specs.Units.{units, unit_columns}
-use Rattle.minus_text.specs.Runs.{IsRun}
 use Rattle.minus_text.specs.Fronts.{is_wide, fits_front, front_rule}
 use Rattle.minus_text.specs.Measures.{SplitsUnit, SplitsFront}
 

@@ -19,3 +19,5 @@ pub mod ScreenLaws
 pub mod RowTextLaws
 pub mod FormatResultLaws
 pub mod PendingLaws
+pub mod MovedLaws
+pub mod PlacedLaws

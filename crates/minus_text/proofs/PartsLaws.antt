@@ -1,12 +1,12 @@
 -- Laws on the pieces of a part, found front by front.
-use Rattle.std.proofs.Common.{◌≡◌, ℕ, ◌+◌, ◌-◌, ◌≤◌, ◌<◌, Bool, true, false, List, [], ◌∷◌, ◌++◌, length, map, chars, arith, refl, sym, ap, ◌∙◌, append_assoc, inl, inr}
+use Rattle.std.proofs.Common.{◌≡◌, ℕ, ◌-◌, ◌<◌, List, [], ◌∷◌, ◌++◌, length, map, chars, arith, refl, sym, ap, ◌∙◌, append_assoc, inl, inr}
 use Rattle.std.specs.List.{concat, sum_by}
 use Rattle.std.specs.Str.{IsUtf8, encode_utf8_all}
 use Rattle.std.proofs.lemmas.List.{append-nil, length-append, map-append, nil_from_length}
 use Rattle.std.proofs.lemmas.Bool.{cases_lt}
 use Rattle.std.proofs.lemmas.Str.{chars-nil, IsUtf8-nil}
 use Rattle.minus_text.specs.Units.{units, unit_len, unit_columns}
-use Rattle.minus_text.specs.Runs.{IsRun, AreRuns}
+use Rattle.minus_text.specs.Runs.{AreRuns}
 use Rattle.minus_text.specs.TheRuns.{the_runs}
 use Rattle.minus_text.specs.Fronts.{fits_front, front_rule}
 use Rattle.minus_text.specs.Pieces.{Piece, fronts, with_spaces}
@@ -63,7 +63,7 @@ pub part_more : (cols : ℕ) (all : List ℕ) (rest more : List ℕ) (old items 
 part_more cols all rest more old items news width len size left left' u v s h e pushed some =
     let one = measure_front cols rest more width len 0 u v h e in
     let next : (ms : List (List (List ℕ))) → AreRuns (fits_front cols) (units (chars more)) ms → AreRuns (fits_front cols) (units all) ((s.done ++ h.front ∷ []) ++ ms) =
-        λ ms k. let w = s.whole (h.front ∷ ms) (units (chars more), h.first, h.run, k) in rw (← append_assoc s.done (h.front ∷ []) ms) at w in
+    λ ms k. let w = s.whole (h.front ∷ ms) (units (chars more), h.first, h.run, k) in rw (← append_assoc s.done (h.front ∷ []) ms) at w in
     record {
       done = s.done ++ h.front ∷ [];
       whole = next;

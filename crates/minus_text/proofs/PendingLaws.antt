@@ -1,9 +1,9 @@
 -- The rows that a push would leave.
-use Rattle.std.proofs.Common.{◌≡◌, ℕ, ◌+◌, ◌-◌, ◌≤◌, ◌<◌, zero, suc, Bool, true, false, cond, eqb, List, [], ◌∷◌, ◌++◌, length, take, drop, get_or, Option, Some, None, refl, sym, ap, subst, ◌∙◌, arith, append_assoc, inl, inr}
+use Rattle.std.proofs.Common.{◌≡◌, ℕ, ◌+◌, ◌-◌, ◌≤◌, ◌<◌, zero, suc, Bool, cond, eqb, List, [], ◌∷◌, ◌++◌, length, take, refl, sym, ap, subst, ◌∙◌, arith, inl, inr}
 use Rattle.std.specs.List.{slice_get}
 use Rattle.std.specs.Str.Lines.{lines}
 use Rattle.std.proofs.lemmas.Bool.{cases_Bool, eqb-true}
-use Rattle.std.proofs.lemmas.List.{length-append, take_all, take_at, append-nil, length-take-le}
+use Rattle.std.proofs.lemmas.List.{length-append, take_all, take_at, length-take-le}
 use Rattle.std.proofs.lemmas.List.Concat.{flat_map-append}
 use Rattle.minus_text.specs.declared.formed.Finished.{Finished}
 use Rattle.minus_text.specs.declared.formed.StoredRow.{StoredRow}
@@ -28,7 +28,7 @@ front_rows text cols = elim (cases_Bool (eqb (length (unfinished_line text)) 0))
   | inl e ↦ let same = lines_closed text e in rw same (take_all (length (rows_of_lines cols (finished_lines text))) (rows_of_lines cols (finished_lines text)) (omega arith))
   | inr e ↦
       let split : rows_of_lines cols (lines text) ≡ rows_of_lines cols (finished_lines text) ++ rows_of_lines cols (unfinished_line text ∷ []) =
-          ap (rows_of_lines cols) (lines_open text e) ∙ flat_map-append (line_rows cols) (finished_lines text) (unfinished_line text ∷ []) in
+      ap (rows_of_lines cols) (lines_open text e) ∙ flat_map-append (line_rows cols) (finished_lines text) (unfinished_line text ∷ []) in
       rw split (take_at (rows_of_lines cols (finished_lines text)) (rows_of_lines cols (unfinished_line text ∷ [])) (length (rows_of_lines cols (finished_lines text))) refl)
 ]
 
@@ -41,7 +41,7 @@ rows_going_on text piece cols =
     let first : length (rows_of_lines cols (lines text)) - unfinished_rows d ≡ length (rows_of_lines cols (finished_lines text)) = omega (arith, counts) in
     let more : List (List ℕ) = rows_of_lines cols (lines (unfinished_line text ++ piece)) in
     let halves : rows_of_lines cols (lines (text ++ piece)) ≡ rows_of_lines cols (finished_lines text) ++ more =
-        ap (rows_of_lines cols) (lines_pushed text piece) ∙ flat_map-append (line_rows cols) (finished_lines text) (lines (unfinished_line text ++ piece)) in
+    ap (rows_of_lines cols) (lines_pushed text piece) ∙ flat_map-append (line_rows cols) (finished_lines text) (lines (unfinished_line text ++ piece)) in
     halves ∙ ap (λ rs. rs ++ more) (sym (front_rows text cols)) ∙ ap (λ n. take n (rows_of_lines cols (lines text)) ++ more) (sym first)
 
 -- the rows that a push leaves: those that stay, and those that it forms

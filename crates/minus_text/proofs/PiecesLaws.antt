@@ -1,21 +1,20 @@
 -- The pieces of a line, one after another, are the line.
-use Rattle.std.proofs.Common.{◌≡◌, ℕ, zero, suc, ◌+◌, ◌-◌, ◌≤◌, ◌<◌, Bool, true, false, List, [], ◌∷◌, ◌++◌, length, map, take, drop, replicate, arith, refl, sym, ap, ◌∙◌, append_assoc}
-use Rattle.std.specs.List.{concat, sum_by, flat_map, prefix_len, position_or_len}
+use Rattle.std.proofs.Common.{◌≡◌, ℕ, zero, suc, ◌+◌, ◌-◌, ◌≤◌, ◌<◌, Bool, false, List, [], ◌∷◌, ◌++◌, length, map, take, drop, replicate, arith, refl, sym, ap, ◌∙◌, append_assoc}
+use Rattle.std.specs.List.{concat, sum_by, flat_map, prefix_len}
 use Rattle.std.specs.Str.{encode_utf8_all}
-use Rattle.std.proofs.lemmas.List.{append-nil, length-append, take-append-drop, drop-drop, length-replicate, length-take, length-drop, length-take-le, take-take}
+use Rattle.std.proofs.lemmas.List.{append-nil, length-append, take-append-drop, length-replicate, length-take, length-drop, length-take-le, take-take}
 use Rattle.std.proofs.lemmas.List.Concat.{flat_map-append}
 use Rattle.std.proofs.lemmas.List.Folds.{length-prefix_len}
 use Rattle.std.proofs.lemmas.List.Sums.{sum_by-cons}
 use Rattle.std.proofs.lemmas.Str.{encodes-append}
 use Rattle.std.proofs.Math.Seq.{take-add}
 use Rattle.minus_text.specs.Cuts.{cuts, cuts_up_to}
-use Rattle.minus_text.specs.Units.{units, unit_len}
+use Rattle.minus_text.specs.Units.{units}
 use Rattle.minus_text.specs.Runs.{AreRuns}
 use Rattle.minus_text.specs.TheRuns.{the_runs}
 use Rattle.minus_text.specs.Fronts.{fits_front, front_rule}
-use Rattle.minus_text.specs.Pieces.{Piece, is_space, body_len, word_len, words, part_len_after, parts, fronts, with_spaces, word_pieces, pieces, piece_text}
+use Rattle.minus_text.specs.Pieces.{Piece, is_space, body_len, word_len, part_len_after, parts, fronts, with_spaces, word_pieces, pieces, piece_text}
 use Rattle.minus_text.specs.Rows.{run_text, PiecesJoin}
-use Rattle.minus_text.specs.declared.wrap.Measured.{Measured}
 use Rattle.minus_text.specs.Measures.{measure, size}
 use Rattle.minus_text.proofs.CutsLaws.{cuts_join}
 use Rattle.minus_text.proofs.UnitsLaws.{units_join}

@@ -1,17 +1,16 @@
 -- Each row fits, or holds one unit that is too wide.
-use Rattle.std.proofs.Common.{◌≡◌, ℕ, ◌+◌, ◌-◌, take, chars, ◌≤◌, ◌<◌, ◌||◌, ◌⊎◌, Bool, true, false, cond, nat_le, nat_lt, leb, ltb, List, [], ◌∷◌, ◌++◌, length, map, arith, refl, sym, ap, ◌∙◌, inl, inr}
+use Rattle.std.proofs.Common.{◌≡◌, ℕ, ◌+◌, ◌-◌, take, chars, ◌≤◌, ◌<◌, ◌⊎◌, true, false, cond, nat_le, List, [], ◌∷◌, ◌++◌, length, arith, refl, ap, ◌∙◌, inl, inr}
 use Rattle.std.specs.List.{sum_by, count_by, flat_map, All}
-use Rattle.std.proofs.lemmas.Bool.{cases_Bool, cases_lt, leb-true, ltb-true, ltb-false, le-leb, or_cases, or_left}
-use Rattle.std.proofs.lemmas.List.{append-nil, length-append}
+use Rattle.std.proofs.lemmas.Bool.{cases_Bool, cases_lt, leb-true, ltb-false, le-leb, or_cases, or_left}
+use Rattle.std.proofs.lemmas.List.{append-nil}
 use Rattle.std.proofs.lemmas.List.Sums.{sum_by-cons}
 use Rattle.std.proofs.lemmas.List.Elements.{All-nil, All-cons, All-append, All-head, All-tail}
 use Rattle.minus_text.specs.Units.{units, unit_columns}
-use Rattle.minus_text.specs.Runs.{IsRun, AreRuns}
+use Rattle.minus_text.specs.Runs.{AreRuns}
 use Rattle.minus_text.specs.TheRuns.{the_runs}
 use Rattle.minus_text.specs.Fronts.{is_wide, fits_front, front_rule}
-use Rattle.minus_text.specs.Cuts.{cuts}
-use Rattle.minus_text.specs.Pieces.{Piece, fronts, parts, with_spaces, word_pieces, words, body_len, pieces, piece_columns}
-use Rattle.minus_text.specs.RowRuns.{run_columns, fits_row, row_rule}
+use Rattle.minus_text.specs.Pieces.{Piece, fronts, parts, with_spaces, word_pieces, words, body_len, pieces}
+use Rattle.minus_text.specs.RowRuns.{run_columns, fits_row}
 use Rattle.minus_text.specs.Rows.{the_rows, line_runs, HoldsOneWide, RowsFit}
 
 -- the body of a piece fits as a front

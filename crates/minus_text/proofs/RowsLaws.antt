@@ -1,16 +1,15 @@
 -- Laws on the rows of a line and their places.
-use Rattle.std.proofs.Common.{◌≡◌, ℕ, zero, suc, ◌+◌, ◌-◌, ◌≤◌, ◌<◌, ◌&&◌, ◌||◌, Bool, true, false, cond, eqb, nat_le, List, [], ◌∷◌, ◌++◌, length, map, take, drop, get_or, replicate, chars, ◌≢◌, arith, refl, sym, ap, ◌∙◌, append_assoc, inl, inr}
-use Rattle.std.specs.List.{concat, sum_by, flat_map, slice_range}
+use Rattle.std.proofs.Common.{◌≡◌, ℕ, zero, suc, ◌+◌, ◌-◌, ◌≤◌, ◌<◌, ◌||◌, true, false, eqb, nat_le, List, [], ◌∷◌, ◌++◌, length, map, take, get_or, replicate, chars, ◌≢◌, arith, refl, sym, ap, ◌∙◌, append_assoc, inl, inr}
+use Rattle.std.specs.List.{sum_by, flat_map}
 use Rattle.std.specs.Str.{encode_utf8_all, all_scalars, IsUtf8, IsCharBoundary}
-use Rattle.std.proofs.lemmas.Bool.{cases_Bool, cases_lt, leb-true, le-leb, or_cases, or_left, or_right, and_parts, ne_eqb, eq-eqb, eqb-true, eqb-false}
+use Rattle.std.proofs.lemmas.Bool.{cases_Bool, leb-true, le-leb, or_cases, or_left, or_right, and_parts, ne_eqb, eq-eqb, eqb-true, eqb-false}
 use Rattle.std.proofs.lemmas.List.{append-nil, length-append, length-map, take_more, take_at, drop_at, nil_from_length, map-append}
 use Rattle.std.proofs.lemmas.List.Concat.{flat_map-append}
-use Rattle.std.proofs.lemmas.List.Sums.{sum_by-cons}
 use Rattle.std.proofs.lemmas.Str.{encodes-append, encodes-chars, scalars-chars, IsCharBoundary-at_seam, IsCharBoundary-start, IsUtf8-nil, chars-nil}
 use Rattle.minus_text.specs.Runs.{IsRun, IsFull, AreRuns, IsFitRule}
 use Rattle.minus_text.specs.RunsLaws.{same_runs}
 use Rattle.minus_text.specs.Pieces.{Piece, pieces, piece_text, piece_columns}
-use Rattle.minus_text.specs.RowRuns.{run_columns, fits_row, row_rule}
+use Rattle.minus_text.specs.RowRuns.{run_columns, fits_row}
 use Rattle.minus_text.specs.Rows.{the_rows, run_text, row_text, line_runs, line_rows, places, line_places, IsPlace, ArePlaces}
 use Rattle.minus_text.specs.declared.wrap.Span.{Span}
 use Rattle.minus_text.specs.declared.wrap.Measured.{Measured}
@@ -147,7 +146,7 @@ places_are line before (run ∷ runs) s e =
     let s2 : all_scalars ((before ++ run_text run) ++ rest) ≡ true = rw (append_assoc before (run_text run) rest) s in
     let e2 : line ≡ encode_utf8_all ((before ++ run_text run) ++ rest) = rw (append_assoc before (run_text run) rest) e in
     let next : length (encode_utf8_all (before ++ run_text run)) ≡ length (encode_utf8_all before) + length (encode_utf8_all (run_text run)) =
-        ap length (encodes-append before (run_text run)) ∙ length-append (encode_utf8_all before) (encode_utf8_all (run_text run)) in
+    ap length (encodes-append before (run_text run)) ∙ length-append (encode_utf8_all before) (encode_utf8_all (run_text run)) in
     (here, rw next at (places_are line (before ++ run_text run) runs s2 e2))
 
 -- runs, one after another, are the pieces

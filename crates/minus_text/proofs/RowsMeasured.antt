@@ -1,8 +1,8 @@
 -- Runs of measured pieces.
-use Rattle.std.proofs.Common.{◌≡◌, ℕ, ◌+◌, ◌<◌, ◌≤◌, ◌||◌, Bool, true, false, nat_le, List, [], ◌∷◌, ◌++◌, length, take, drop, get_or, refl, sym, ap, ◌∙◌, arith, append_assoc, inl, inr}
+use Rattle.std.proofs.Common.{◌≡◌, ℕ, ◌+◌, ◌<◌, ◌≤◌, true, nat_le, List, [], ◌∷◌, ◌++◌, length, take, drop, get_or, refl, sym, ap, ◌∙◌, arith, append_assoc, inl, inr}
 use Rattle.std.specs.List.{sum_by}
 use Rattle.std.proofs.lemmas.Bool.{le-leb, lt-leb, or_left, or_right, or_from, cases_lt}
-use Rattle.std.proofs.lemmas.List.{append-nil, length-append, take_more, drop_more, length-take-le, drop_all, drop-drop, take-append-drop}
+use Rattle.std.proofs.lemmas.List.{length-append, take_more, drop_more, length-take-le, drop_all, drop-drop, take-append-drop}
 use Rattle.std.proofs.lemmas.List.Sums.{sum_by-append}
 use Rattle.std.proofs.Math.Seq.{take-add}
 use Rattle.minus_text.specs.declared.wrap.Span.{Span}

@@ -1,5 +1,5 @@
 -- Laws on units and their columns.
-use Rattle.std.proofs.Common.{◌≡◌, ℕ, ◌+◌, ◌*◌, ◌≤◌, ◌<◌, Bool, true, false, cond, nat_lt, nat_le, ltb, leb, Option, Some, None, unwrap_or, zero, suc, List, [], ◌∷◌, ◌++◌, length, take, drop, zero-add, arith, refl, sym, ap, ◌∙◌, inl, inr}
+use Rattle.std.proofs.Common.{◌≡◌, ℕ, ◌+◌, ◌*◌, ◌≤◌, ◌<◌, false, unwrap_or, suc, List, [], ◌∷◌, take, drop, zero-add, arith, refl, sym, ap, ◌∙◌, inl, inr}
 use Rattle.std.specs.Char.{len_utf8}
 use Rattle.std.proofs.lemmas.Bool.{cases_Bool, cases_lt}
 use Rattle.std.proofs.lemmas.Bool.Decides.{nat_tests}
@@ -8,7 +8,7 @@ use Rattle.unicode_width.specs.Width.{char_width}
 use Rattle.unicode_width.proofs.Rules.{width_or_zero-le}
 use Rattle.std.specs.List.{concat, position_or_len}
 use Rattle.std.proofs.lemmas.List.{take-append-drop}
-use Rattle.minus_text.specs.Units.{char_columns, units, unit_len, unit_columns, begins_sequence, is_final}
+use Rattle.minus_text.specs.Units.{char_columns, units, unit_len, begins_sequence, is_final}
 use Rattle.minus_text.specs.Cuts.{cuts}
 use Rattle.minus_text.specs.Measures.{SplitsUnit}
 use Rattle.minus_text.proofs.CutsLaws.{IsCutRule, cuts_first, cuts_join}

@@ -1,23 +1,22 @@
 -- Laws on words and their parts.
-use Rattle.std.proofs.Common.{◌≡◌, ℕ, zero, suc, ◌+◌, ◌-◌, ◌≤◌, ◌<◌, ◌&&◌, Bool, true, false, cond, not, eqb, List, [], ◌∷◌, ◌++◌, length, map, take, drop, replicate, get_or, chars, encode_utf8, arith, refl, sym, ap, ◌∙◌, append_assoc, inl, inr}
-use Rattle.std.specs.List.{concat, sum_by, flat_map, prefix_len, position_or_len}
+use Rattle.std.proofs.Common.{◌≡◌, ℕ, zero, suc, ◌+◌, ◌-◌, ◌≤◌, ◌<◌, ◌&&◌, Bool, true, false, not, eqb, List, [], ◌∷◌, ◌++◌, length, map, take, drop, replicate, get_or, chars, encode_utf8, arith, refl, sym, ap, ◌∙◌, append_assoc, inl, inr}
+use Rattle.std.specs.List.{flat_map, prefix_len}
 use Rattle.std.specs.Char.{is_ascii_alphanumeric}
 use Rattle.std.specs.Str.{IsUtf8, encode_utf8_all}
-use Rattle.std.proofs.lemmas.Bool.{cases_Bool, cases_lt, eqb-true}
-use Rattle.std.proofs.lemmas.List.{append-nil, length-append, map-append, nil_from_length, append_cancel_right, take_at, drop_at, take-append-drop, take_all, drop_all, drop-drop, length-take-le, length-replicate}
+use Rattle.std.proofs.lemmas.Bool.{cases_Bool, eqb-true}
+use Rattle.std.proofs.lemmas.List.{append-nil, length-append, map-append, append_cancel_right, take_at, drop_at, take-append-drop, take_all, drop_all, drop-drop, length-replicate}
 use Rattle.std.proofs.Math.Seq.{take-add}
-use Rattle.std.proofs.lemmas.List.Concat.{flat_map-append}
 use Rattle.std.proofs.lemmas.List.Folds.{length-prefix_len}
-use Rattle.std.proofs.lemmas.Str.{chars-append, chars-nil, encodes-chars, encodes-IsAscii, length-le-encodes}
+use Rattle.std.proofs.lemmas.Str.{chars-append, encodes-chars, encodes-IsAscii, length-le-encodes}
 use Rattle.minus_text.specs.Cuts.{cuts}
 use Rattle.minus_text.specs.Units.{units, unit_len}
 use Rattle.minus_text.specs.TheRuns.{the_runs}
 use Rattle.minus_text.specs.Runs.{AreRuns}
 use Rattle.minus_text.specs.Fronts.{fits_front, front_rule}
-use Rattle.minus_text.specs.Pieces.{Piece, fronts, with_spaces, part_len_after, parts, begins_alphanumeric, words, word_len, body_len, is_space, word_pieces}
+use Rattle.minus_text.specs.Pieces.{fronts, with_spaces, part_len_after, parts, begins_alphanumeric, words, word_len, body_len, is_space, word_pieces}
 use Rattle.minus_text.specs.Measures.{measure, SplitsPart, SplitsWord}
 use Rattle.minus_text.specs.declared.wrap.Measured.{Measured}
-use Rattle.minus_text.proofs.CutsLaws.{IsCutRule, cuts-nil, cuts-cons, cuts_first, cuts_join}
+use Rattle.minus_text.proofs.CutsLaws.{IsCutRule, cuts-nil, cuts-cons, cuts_first}
 use Rattle.minus_text.proofs.UnitsLaws.{unit_rule}
 use Rattle.minus_text.proofs.StretchesLaws.{text_split}
 
@@ -139,7 +138,7 @@ word_more cols spaces old items news rest part more all h pushed inv =
     let split : flat_map (fronts cols) (parts rest) ≡ a ++ b = ap (flat_map (fronts cols)) h.first in
     let both : with_spaces (a ++ b) spaces ≡ with_spaces a 0 ++ with_spaces b spaces = with_spaces-append a b spaces (fronts_some cols part h.some) (body_some cols more h.more) in
     let measured : map measure (with_spaces (flat_map (fronts cols) (parts rest)) spaces) ≡ map measure (with_spaces a 0) ++ map measure (with_spaces b spaces) =
-        ap (λ bs. map measure (with_spaces bs spaces)) split ∙ ap (map measure) both ∙ map-append measure (with_spaces a 0) (with_spaces b spaces) in
+    ap (λ bs. map measure (with_spaces bs spaces)) split ∙ ap (map measure) both ∙ map-append measure (with_spaces a 0) (with_spaces b spaces) in
     ap (λ ms. ms ++ map measure (with_spaces b spaces)) pushed ∙ append_assoc items (map measure (with_spaces a 0)) (map measure (with_spaces b spaces)) ∙ ap (λ ms. items ++ ms) (sym measured) ∙ inv
 
 -- the last part of a word
@@ -281,9 +280,9 @@ pub line_more : (cols spaces : ℕ) (items news : List Measured) (rest body more
 line_more cols spaces items news rest body more all h pushed inv =
     let word : List ℕ = body ++ replicate spaces 32 in
     let here : word_pieces cols word ≡ with_spaces (flat_map (fronts cols) (parts body)) spaces =
-        ap (λ b. with_spaces (flat_map (fronts cols) (parts b)) (length word - body_len word)) h.body_is ∙ ap (λ n. with_spaces (flat_map (fronts cols) (parts body)) n) h.spaces_is in
+    ap (λ b. with_spaces (flat_map (fronts cols) (parts b)) (length word - body_len word)) h.body_is ∙ ap (λ n. with_spaces (flat_map (fronts cols) (parts body)) n) h.spaces_is in
     let split : flat_map (word_pieces cols) (words rest) ≡ with_spaces (flat_map (fronts cols) (parts body)) spaces ++ flat_map (word_pieces cols) (words more) =
-        ap (flat_map (word_pieces cols)) h.first ∙ ap (λ ps. ps ++ flat_map (word_pieces cols) (words more)) here in
+    ap (flat_map (word_pieces cols)) h.first ∙ ap (λ ps. ps ++ flat_map (word_pieces cols) (words more)) here in
     let a : List Measured = map measure (with_spaces (flat_map (fronts cols) (parts body)) spaces) in
     let b : List Measured = map measure (flat_map (word_pieces cols) (words more)) in
     ap (λ ms. ms ++ b) pushed ∙ append_assoc items a b ∙ ap (λ ms. items ++ ms) (sym (map-append measure (with_spaces (flat_map (fronts cols) (parts body)) spaces) (flat_map (word_pieces cols) (words more))) ∙ ap (map measure) (sym split)) ∙ inv

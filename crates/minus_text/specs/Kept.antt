@@ -8,7 +8,7 @@ use Rattle.minus_text.specs.declared.formed.Finished.{Finished}
 use Rattle.minus_text.specs.declared.formed.Formed.{Formed}
 use Rattle.minus_text.specs.Rows.{line_places}
 use Rattle.minus_text.specs.Lines.{Cut, cut}
-use Rattle.minus_text.specs.Document.{rows_of_lines, first_rows, longest_of}
+use Rattle.minus_text.specs.Document.{Document, rows_of_lines, first_rows, longest_of}
 
 -- a part of a line, as a part of the text in which the line begins at a place
 abbrev pub stored_at : ℕ → ℕ → Span → StoredRow
@@ -50,6 +50,13 @@ pub record IsFormOf (f : Formed) (text : List ℕ) (from : Finished) (cols : ℕ
   pub its_finish : Reaches cols from (cut text).closed f.finished
   pub its_longest : f.longest ≡ longest_of (lines text)
 
+-- a stored row, and a place, counted from behind finished lines in the stead of the start
+abbrev pub row_behind : Finished → StoredRow → StoredRow
+row_behind from row = record { line = from.lines + row.line; start = from.bytes + row.start; end = from.bytes + row.end }
+
+abbrev pub place_behind : Finished → Finished → Finished
+place_behind from place = record { lines = from.lines + place.lines; rows = from.rows + place.rows; bytes = from.bytes + place.bytes; longest = max from.longest place.longest }
+
 -- the place before the first line
 abbrev pub at_start : Finished
 at_start = record { lines = 0; rows = 0; bytes = 0; longest = 0 }
@@ -65,3 +72,7 @@ pub record IsFormed (text : List ℕ) (cols : ℕ) (rows : List StoredRow) (map 
 -- how far the finished lines go that a push keeps: as far as before, or nowhere where the columns change
 abbrev pub kept_of : Finished → ℕ → ℕ → Finished
 kept_of finished old_cols cols = if cols == old_cols then finished else at_start
+
+-- how far the finished lines of a document go that a push keeps
+abbrev pub IsKept : Document → ℕ → Finished → Type 0
+IsKept d cols kept = Reaches cols at_start (if cols == d.cols then (cut d.text).closed else []) kept

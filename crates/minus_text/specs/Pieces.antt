@@ -1,10 +1,10 @@
 -- The pieces of a line for some columns. A line is here the list of its characters.
-use Rattle.std.specs.Prelude.{◌≡◌, ℕ, ◌+◌, ◌-◌, ◌==◌, ◌&&◌, ◌||◌, Bool, true, false, nat_le, nat_lt, List, [], ◌∷◌, ◌++◌, length, take, drop, replicate, if◌then◌else◌}
-use Rattle.std.specs.List.{sum_by, count_by, prefix_len, position_or_len, flat_map, concat}
+use Rattle.std.specs.Prelude.{ℕ, ◌+◌, ◌-◌, ◌==◌, ◌&&◌, Bool, false, List, [], ◌∷◌, ◌++◌, length, take, drop, replicate, if◌then◌else◌}
+use Rattle.std.specs.List.{sum_by, prefix_len, position_or_len, flat_map, concat}
 use Rattle.std.specs.Char.{is_ascii_alphanumeric}
 use Rattle.minus_text.specs.Cuts.{cuts}
 use Rattle.minus_text.specs.Units.{units, unit_columns}
-use Rattle.minus_text.specs.TheRuns.{TheRuns, the_runs}
+use Rattle.minus_text.specs.TheRuns.{the_runs}
 use Rattle.minus_text.specs.Fronts.{fits_front, front_rule}
 
 -- a part of a line that stays on one row: the units of its body, and how many spaces follow it

@@ -1,5 +1,5 @@
 -- What fits on a row.
-use Rattle.std.proofs.Common.{◌≡◌, ℕ, ◌+◌, ◌≤◌, ◌<◌, ◌||◌, Bool, true, false, nat_le, leb, List, [], ◌∷◌, ◌++◌, length, arith, refl, sym, ap, ◌∙◌, inl, inr}
+use Rattle.std.proofs.Common.{ℕ, ◌+◌, ◌≤◌, ◌||◌, Bool, nat_le, List, [], ◌∷◌, ◌++◌, length, arith, inl, inr}
 use Rattle.std.proofs.lemmas.Bool.{leb-true, le-leb, or_cases, or_left, or_right}
 use Rattle.std.proofs.lemmas.List.{length-append}
 use Rattle.minus_text.specs.Pieces.{Piece, piece_columns}

@@ -1,6 +1,6 @@
 -- The rows of a line for some columns.
 use Rattle.std.specs.Prelude.{◌≡◌, ℕ, ◌+◌, ◌≤◌, ◌<◌, ◌==◌, ◌⊎◌, List, [], ◌∷◌, ◌++◌, length, map, chars, if◌then◌else◌}
-use Rattle.std.specs.List.{sum_by, flat_map, concat, slice_range, All}
+use Rattle.std.specs.List.{flat_map, concat, slice_range, All}
 use Rattle.std.specs.Str.{encode_utf8_all, IsCharBoundary}
 use Rattle.minus_text.specs.Units.{unit_columns}
 use Rattle.minus_text.specs.TheRuns.{TheRuns, the_runs}

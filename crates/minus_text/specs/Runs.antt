@@ -1,5 +1,5 @@
 -- A list divided into consecutive runs, each the longest that fits.
-use Rattle.std.specs.Prelude.{◌≡◌, ℕ, ◌<◌, Bool, true, false, List, [], ◌∷◌, ◌++◌, length}
+use Rattle.std.specs.Prelude.{◌≡◌, ◌<◌, Bool, true, false, List, [], ◌∷◌, ◌++◌, length}
 
 -- the run would not fit with the next element added
 abbrev pub IsFull : {X : Type 0} → (List X → Bool) → List X → List X → Type 0

@@ -1,8 +1,8 @@
 -- A list is divided into such runs in one way.
-use Rattle.std.proofs.Common.{◌≡◌, ℕ, ◌+◌, ◌<◌, ◌≤◌, Bool, true, false, cond, List, [], ◌∷◌, ◌++◌, length, refl, sym, ap, ◌∙◌, arith, append_assoc, inl, inr, ◌⊎◌}
+use Rattle.std.proofs.Common.{◌≡◌, ◌+◌, ◌<◌, Bool, true, false, cond, List, [], ◌∷◌, ◌++◌, length, refl, sym, ap, ◌∙◌, arith, append_assoc, inl, inr, ◌⊎◌}
 use Rattle.std.proofs.lemmas.Bool.{cases_Bool}
 use Rattle.std.proofs.lemmas.List.{append_cancel_left, append-nil, length-append}
-use Rattle.minus_text.specs.Runs.{IsFull, IsRun, AreRuns, IsFitRule}
+use Rattle.minus_text.specs.Runs.{IsRun, AreRuns, IsFitRule}
 
 -- of two fronts of a list, one is a front of the other
 abbrev pub IsLonger : {X : Type 0} → List X → List X → List X → List X → Type 0

@@ -1,8 +1,9 @@
 //! Rows formed of a text, beside what is kept.
-ghost use Rattle.std.specs.Prelude.{◌≡◌, ℕ, ◌+◌, ◌^◌, ◌<◌, ◌≤◌, ◌∷◌, [], ◌++◌, length, max, IfOk, OnOk};
+ghost use Rattle.std.specs.Prelude.{◌≡◌, ℕ, ◌+◌, ◌^◌, ◌<◌, ◌≤◌, ◌∷◌, [], ◌++◌, length, map, max, IfOk, OnOk};
+ghost use Rattle.std.specs.List.{All};
 ghost use Rattle.minus_text.specs.Rows.{line_rows};
 ghost use Rattle.minus_text.specs.Units.{columns};
-ghost use Rattle.minus_text.specs.Kept.{line_stored, IsFormOf};
+ghost use Rattle.minus_text.specs.Kept.{line_stored, row_behind, place_behind, IsFormOf};
 
 use crate::lines::{split_line, without_return};
 use crate::lines_row_map::LinesRowMap;
@@ -35,6 +36,37 @@ impl Finished {
         bytes: 0,
         longest: 0,
     };
+
+    // This place, counted from behind finished lines in the stead of the start.
+    pub(crate) fn behind(self, from: Finished) -> Finished
+        requires lines { from.lines + self.lines < 2 ^ 64 }
+        requires rows { from.rows + self.rows < 2 ^ 64 }
+        requires bytes { from.bytes + self.bytes < 2 ^ 64 }
+        ensures { result ≡ place_behind from self }
+    {
+        Finished {
+            lines: from.lines + self.lines,
+            rows: from.rows + self.rows,
+            bytes: from.bytes + self.bytes,
+            longest: from.longest.max(self.longest),
+        }
+    }
+}
+
+// Moves rows behind finished lines.
+pub(crate) fn move_rows(rows: &mut [StoredRow], from: Finished)
+    requires lines { All (λ r. from.lines + r.line < 2 ^ 64) rows.old }
+    requires starts { All (λ r. from.bytes + r.start < 2 ^ 64) rows.old }
+    requires ends { All (λ r. from.bytes + r.end < 2 ^ 64) rows.old }
+    ensures { rows.new ≡ map (row_behind from) rows.old }
+{
+    for row in rows.iter_mut() {
+        *row = StoredRow {
+            line: from.lines + row.line,
+            start: from.bytes + row.start,
+            end: from.bytes + row.end,
+        };
+    }
 }
 
 // What is formed of a text: its rows, the first row of each line, how far its finished lines go,

@@ -1,5 +1,6 @@
 //! A map from each line to the number of its first row.
-ghost use Rattle.std.specs.Prelude.{◌≡◌, ℕ, ◌+◌, ◌<◌, ◌==◌, List, [], ◌∷◌, ◌++◌, length, take, slice_get, OnOk, OnErr, MatchOption};
+ghost use Rattle.std.specs.Prelude.{◌≡◌, ℕ, ◌+◌, ◌^◌, ◌<◌, ◌==◌, List, [], ◌∷◌, ◌++◌, length, map, take, slice_get, OnOk, OnErr, MatchOption};
+ghost use Rattle.std.specs.List.{All};
 ghost use Rattle.std.specs.List.Sorted.{IsStrictlyIncreasing};
 ghost use Rattle.minus_text.specs.LineMaps.{entries_kept, IsLineOfRow};
 
@@ -41,6 +42,16 @@ fn kept_len(len: usize, clean: bool) -> usize
     ensures { (entries : List ℕ) → len ≡ length entries → take result entries ≡ entries_kept entries clean }
 {
     if clean { len } else { len.saturating_sub(1) }
+}
+
+// Adds a number to each entry.
+fn add_to_each(entries: &mut [usize], more: usize)
+    requires { All (λ n. more + n < 2 ^ 64) entries.old }
+    ensures { entries.new ≡ map (λ n. more + n) entries.old }
+{
+    for entry in entries.iter_mut() {
+        *entry += more;
+    }
 }
 
 impl LinesRowMap {
@@ -96,6 +107,14 @@ impl LinesRowMap {
     {
         replace_behind(&mut self.first_rows, keep, fresh.first_rows.as_slice())?;
         Ok(())
+    }
+
+    // Counts the rows from behind more of them.
+    pub(crate) fn move_behind(&mut self, rows: usize)
+        requires { All (λ n. rows + n < 2 ^ 64) self.old }
+        ensures { self.new ≡ map (λ n. rows + n) self.old }
+    {
+        add_to_each(self.first_rows.as_mut_slice(), rows);
     }
 
     /// The number of the first row of a line, both from 0.

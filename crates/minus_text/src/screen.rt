@@ -1,13 +1,13 @@
 //! A text and its rows.
-ghost use Rattle.std.specs.Prelude.{◌≡◌, ℕ, List, ◌+◌, ◌^◌, ◌<◌, ◌≤◌, [], ◌++◌, length, take, true, ◌==◌, if◌then◌else◌, IfOk, IfErr, OnOk, OnErr, slice_get, option_map, string_bytes, vec_len, vec_capacity};
+ghost use Rattle.std.specs.Prelude.{◌≡◌, ℕ, List, ◌+◌, ◌^◌, ◌<◌, ◌≤◌, [], ◌++◌, length, take, true, ◌==◌, if◌then◌else◌, ◌↔◌, IsTrue, IfOk, IfErr, OnOk, OnErr, slice_get, option_map, string_bytes, vec_len, vec_capacity};
 ghost use Rattle.std.specs.List.Sorted.{IsStrictlyIncreasing};
 ghost use Rattle.std.specs.String.{string_len, string_capacity};
 ghost use Rattle.minus_text.specs.Document.{rows_of, line_map, line_count, longest, unfinished_rows, pushed, PushesJoin, LineMapAscends};
-ghost use Rattle.minus_text.specs.Kept.{kept_of};
+ghost use Rattle.minus_text.specs.Kept.{kept_of, IsFormOf, IsKept};
 ghost use Rattle.minus_text.specs.Pending.{IsPending};
 ghost use Rattle.minus_text.specs.FormatResults.{Tells, formed_by, first_formed, is_clean};
 
-use crate::formed::{Finished, Formed, StoredRow, form};
+use crate::formed::{Finished, Formed, StoredRow, form, move_rows};
 use crate::lines_row_map::LinesRowMap;
 use crate::pending::PendingPush;
 use minus_term::error::MinusError;
@@ -241,10 +241,29 @@ impl Screen {
         ensures err { OnErr result (self.new ≡ self.old) }
     {
         let kept = kept_under(self.finished, self.cols, cols);
-        let clean = attaches_nothing(self.finished, self.text.len(), self.cols, cols);
         let mut joined = String::from_str(alloc, &self.text[kept.bytes..])?;
         joined.push_str(piece)?;
         let formed = form(alloc, &joined, kept, cols)?;
+        let told = self.place_formed(piece, kept, formed, cols)?;
+        Ok(told)
+    }
+
+    // Puts a piece, and what is formed of it and of what it goes on, behind what is kept. An `Err`
+    // changes nothing.
+    fn place_formed(
+        &mut self,
+        piece: &str,
+        kept: Finished,
+        formed: Formed,
+        cols: usize,
+    ) -> Result<FormatResult, AllocError>
+        requires kept { IsKept self.old cols kept }
+        requires formed { IsFormOf formed (formed_by self.old piece.now cols).text kept cols }
+        ensures ok { OnOk result (self.new ≡ pushed self.old piece.now cols) }
+        ensures told { IfOk result (λ r. Tells r (formed_by self.old piece.now cols) (first_formed self.old cols) (is_clean self.old cols)) }
+        ensures err { OnErr result (self.new ≡ self.old) }
+    {
+        let clean = attaches_nothing(self.finished, self.text.len(), self.cols, cols);
         replace_end(
             &mut self.text,
             &mut self.rows,
@@ -265,6 +284,41 @@ impl Screen {
             max_line_length: formed.longest,
             clean_append: clean,
         })
+    }
+
+    // What is formed of the text, where it stands behind finished lines.
+    fn into_formed(self, from: Finished) -> Formed
+        requires lines { from.lines < 2 ^ 63 }
+        requires rows { from.rows < 2 ^ 63 }
+        requires bytes { from.bytes < 2 ^ 63 }
+        ensures { IsFormOf result self.text from self.cols }
+    {
+        let Screen {
+            mut rows,
+            mut first_rows,
+            finished,
+            longest,
+            ..
+        } = self;
+        move_rows(rows.as_mut_slice(), from);
+        first_rows.move_behind(from.rows);
+        Formed {
+            rows,
+            first_rows,
+            finished: finished.behind(from),
+            longest,
+        }
+    }
+
+    // Whether a tail has the text that a push of a piece forms for its columns.
+    fn is_tail(&self, tail: &Screen, piece: &str) -> bool
+        ensures { IsTrue result ↔ tail.now.text ≡ (formed_by self.now piece.now tail.now.cols).text }
+    {
+        let kept = kept_under(self.finished, self.cols, tail.cols);
+        match tail.text.strip_prefix(&self.text[kept.bytes..]) {
+            Some(rest) => rest == piece,
+            None => false,
+        }
     }
 
     /// Puts a text at the end. Where the columns differ from those that the rows were last formed
@@ -332,7 +386,8 @@ impl Screen {
         }
     }
 
-    /// Makes the push that was prepared, of the same text.
+    /// Makes the push that was prepared, of the same text. What was formed then is put in place as
+    /// it is; where it is not what this push forms, the push is formed anew.
     ///
     /// # Errors
     ///
@@ -348,8 +403,13 @@ impl Screen {
         ensures err { OnErr result (self.new ≡ self.old) }
         ensures memory { IfErr result (λ e. e ≡ MinusError.Memory) }
     {
-        let cols = pending.tail.cols();
-        Ok(self.push_piece(alloc, text, cols)?)
+        let tail = pending.tail;
+        let cols = tail.cols();
+        if !self.is_tail(&tail, text) {
+            return Ok(self.push_piece(alloc, text, cols)?);
+        }
+        let kept = kept_under(self.finished, self.cols, cols);
+        Ok(self.place_formed(text, kept, tail.into_formed(kept), cols)?)
     }
 
     /// Puts a text in the place of all that there is.

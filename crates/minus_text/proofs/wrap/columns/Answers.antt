@@ -1,7 +1,7 @@
 -- The body's units and the spaces after it.
-use Rattle.std.proofs.Common.{◌≡◌, ◌+◌, ◌-◌, length, chars, ap, arith, rules, ◌∙◌}
+use Rattle.std.proofs.Common.{length, ap, arith, ◌∙◌}
 use Rattle.std.specs.List.{sum_by}
-use Rattle.minus_text.specs.Units.{units, unit_columns, text_columns, columns, body_of}
+use Rattle.minus_text.specs.Units.{units, unit_columns, text_columns, columns}
 use Rattle.minus_text.proofs.wrap.columns.Goals as goal
 
 pub returns : goal.returns

@@ -1,9 +1,9 @@
 -- One more piece on the row, or none.
-use Rattle.std.proofs.Common.{◌≡◌, ◌<◌, ◌≤◌, ◌+◌, length, take, arith, get_or, sym, ◌∙◌}
+use Rattle.std.proofs.Common.{◌<◌, length, arith, sym}
 use Rattle.std.proofs.lemmas.List.Sums.{sum_by_more}
 use Rattle.minus_text.specs.declared.wrap.Measured.{Measured}
 use Rattle.minus_text.specs.Measures.{size}
-use Rattle.minus_text.proofs.RowsMeasured.{columns_more, gap_more, end_of_more, columns_none, gap_none, run_before, run_whole}
+use Rattle.minus_text.proofs.RowsMeasured.{columns_more, gap_more, end_of_more, columns_none, gap_none, run_before}
 use Rattle.minus_text.proofs.wrap.first_run.Goals as goal
 use Rattle.minus_text.proofs.wrap.first_run.Goals.{then-i-eq0, else-i-eq0+in-Some}
 

@@ -1,5 +1,5 @@
 -- One run more, and none left.
-use Rattle.std.proofs.Common.{◌≡◌, ◌<◌, ◌≤◌, ◌+◌, ◌++◌, ◌∷◌, [], List, length, take, drop, arith, sym, ap, ◌∙◌}
+use Rattle.std.proofs.Common.{◌≤◌, [], List, length, drop, arith, sym, ◌∙◌}
 use Rattle.std.proofs.lemmas.List.{drop_all, append-nil, take_rest, length-drop}
 use Rattle.std.proofs.lemmas.List.Sums.{sum_by-take-drop}
 use Rattle.minus_text.specs.declared.wrap.Measured.{Measured}

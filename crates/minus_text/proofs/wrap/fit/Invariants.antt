@@ -1,5 +1,5 @@
 -- Whatever division completes the rest completes the whole.
-use Rattle.std.proofs.Common.{length, ◌-◌, ◌≡◌, ℕ, ◌+◌, ◌≤◌, ◌<◌, ◌^◌, List, drop, take, ◌++◌}
+use Rattle.std.proofs.Common.{length, ◌-◌, ◌≡◌, ◌≤◌, List, drop, take, ◌++◌}
 use Rattle.std.specs.List.{sum_by}
 use Rattle.minus_text.specs.declared.wrap.Measured.{Measured}
 use Rattle.minus_text.specs.Runs.{AreRuns}

@@ -1,5 +1,5 @@
 -- Each place cuts out its row.
-use Rattle.std.proofs.Common.{◌≡◌, ◌<◌, ◌∙◌, [], length, map, take, string_bytes, arith, ap, sym}
+use Rattle.std.proofs.Common.{◌<◌, ◌∙◌, [], length, string_bytes, arith}
 use Rattle.std.proofs.lemmas.List.{take_all}
 use Rattle.minus_text.specs.declared.wrap.Span.{Span}
 use Rattle.minus_text.specs.Rows.{line_rows, ArePlaces}

@@ -1,5 +1,5 @@
 -- A text may be cut where another text begins.
-use Rattle.std.proofs.Common.{◌≡◌, ◌-◌, ◌+◌, ◌++◌, length, ap, arith}
+use Rattle.std.proofs.Common.{◌≡◌, ◌-◌, length, ap, arith}
 use Rattle.std.proofs.lemmas.Str.{IsCharBoundary-at_seam}
 use Rattle.std.proofs.lemmas.List.{length-append}
 use Rattle.minus_text.proofs.wrap.front.Goals as goal

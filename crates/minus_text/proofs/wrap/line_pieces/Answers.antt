@@ -1,5 +1,5 @@
 -- One more word, and no more.
-use Rattle.std.proofs.Common.{◌≡◌, ◌<◌, ◌≢◌, chars, length, arith, rules, sym, ap, ◌∙◌}
+use Rattle.std.proofs.Common.{◌<◌, ◌≢◌, chars, length, arith, rules, sym, ap, ◌∙◌}
 use Rattle.std.proofs.lemmas.Bool.{eqb-true, eqb-false}
 use Rattle.std.proofs.lemmas.List.{nil_from_length}
 use Rattle.std.proofs.lemmas.Str.{chars-nil}

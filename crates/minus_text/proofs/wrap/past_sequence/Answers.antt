@@ -1,5 +1,5 @@
 -- The final character is passed too, where there is one.
-use Rattle.std.proofs.Common.{◌≡◌, chars}
+use Rattle.std.proofs.Common.{chars}
 use Rattle.std.specs.List.{position_or_len}
 use Rattle.minus_text.specs.Units.{is_final}
 use Rattle.minus_text.proofs.StretchesLaws.{past_one, past_none}

@@ -1,5 +1,5 @@
 -- One more front of the part is a piece, and the last one has the spaces.
-use Rattle.std.proofs.Common.{◌≡◌, ◌<◌, ◌-◌, chars, length, arith, rules, refl, sym, ◌∙◌, ◌≢◌}
+use Rattle.std.proofs.Common.{◌<◌, ◌-◌, chars, length, arith, rules, refl, sym, ◌∙◌, ◌≢◌}
 use Rattle.std.proofs.lemmas.Bool.{eqb-true, eqb-false}
 use Rattle.std.specs.Str.{IsUtf8}
 use Rattle.minus_text.proofs.PartsLaws.{part_more, part_end}

@@ -1,5 +1,5 @@
 -- One more part of the word, and the last one with the spaces.
-use Rattle.std.proofs.Common.{◌≡◌, chars, rules}
+use Rattle.std.proofs.Common.{chars, rules}
 use Rattle.minus_text.proofs.WordsLaws.{word_more, word_last}
 use Rattle.minus_text.proofs.wrap.push_word.Goals as goal
 

@@ -1,8 +1,8 @@
 -- The first character and the rest of a text.
-use Rattle.std.proofs.Common.{◌≡◌, ◌++◌, arith, ap, length, sym, ◌∙◌, []}
+use Rattle.std.proofs.Common.{◌≡◌, arith, ap, length, sym, ◌∙◌, []}
 use Rattle.std.proofs.lemmas.Str.{chars_past_char, length-encode, chars-nil}
 use Rattle.std.proofs.lemmas.List.{length-append, nil_from_length}
-use Rattle.std.specs.Prelude.{encode_utf8, chars}
+use Rattle.std.specs.Prelude.{encode_utf8}
 use Rattle.minus_text.proofs.wrap.split_char.Goals as goal
 
 pub returns-in-Some-clause-chars : goal.returns-in-Some-clause-chars

@@ -1,6 +1,6 @@
 -- A hyphen between letters or digits ends the part; what is passed before it is kept.
-use Rattle.std.proofs.Common.{◌≡◌, chars, length, arith, rules, sym, ◌∙◌}
-use Rattle.minus_text.proofs.WordsLaws.{nothing_passed, before_more, passes_one, part_cut, part_whole}
+use Rattle.std.proofs.Common.{arith, rules, sym, ◌∙◌}
+use Rattle.minus_text.proofs.WordsLaws.{nothing_passed, before_more, passes_one, part_cut}
 use Rattle.minus_text.proofs.wrap.split_part.Goals as goal
 
 pub loop-c-init : goal.loop-c-init

@@ -1,5 +1,4 @@
 -- No hyphen passed so far stands between letters or digits.
-use Rattle.std.proofs.Common.{chars}
 use denote.Text.{Utf8}
 use denote.Shadow.{shadow}
 use Rattle.std.proofs.Common.{◌≤◌, length}

@@ -1,5 +1,5 @@
 -- The first unit is a sequence or a character.
-use Rattle.std.proofs.Common.{◌≡◌, chars}
+use Rattle.std.proofs.Common.{chars}
 use Rattle.minus_text.proofs.UnitsLaws.{unit_sequence, unit_character}
 use Rattle.minus_text.proofs.wrap.split_unit.Goals as goal
 

@@ -1,5 +1,5 @@
 -- The first word ends where its spaces do.
-use Rattle.std.proofs.Common.{◌≡◌, ◌-◌, chars, length, refl}
+use Rattle.std.proofs.Common.{◌-◌, chars, length, refl}
 use Rattle.minus_text.specs.Pieces.{body_len}
 use Rattle.minus_text.proofs.WordsLaws.{before_stretch, first_word, word_less}
 use Rattle.minus_text.proofs.wrap.split_word.Goals as goal

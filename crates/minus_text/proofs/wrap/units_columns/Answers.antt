@@ -1,5 +1,5 @@
 -- One more unit, and no more.
-use Rattle.std.proofs.Common.{◌≡◌, ◌+◌, [], chars, ap, arith, rules, ◌∙◌}
+use Rattle.std.proofs.Common.{◌≡◌, chars, ap, arith, rules, ◌∙◌}
 use Rattle.std.specs.List.{sum_by}
 use Rattle.minus_text.specs.Units.{units, unit_len, unit_columns}
 use Rattle.minus_text.proofs.CutsLaws.{cuts-nil}

@@ -1,9 +1,6 @@
 -- The rows that are fitted are those of the line.
-use Rattle.std.proofs.Common.{◌≡◌, ◌<◌, ◌≢◌, length, map, chars, arith, sym, ap, ◌∙◌, append-nil}
+use Rattle.std.proofs.Common.{◌≢◌, length, arith, sym, ◌∙◌}
 use Rattle.std.proofs.lemmas.Bool.{eqb-true, eqb-false}
-use Rattle.minus_text.specs.Pieces.{pieces}
-use Rattle.minus_text.specs.Measures.{measure}
-use Rattle.minus_text.specs.Rows.{line_places}
 use Rattle.minus_text.proofs.RowsLaws.{fitted, line_size, empty_places, line_places-are}
 use Rattle.minus_text.proofs.wrap.wrap_line.Goals as goal
 

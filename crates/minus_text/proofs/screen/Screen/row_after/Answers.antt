@@ -1,5 +1,5 @@
 -- A row stays, or is formed.
-use Rattle.std.proofs.Common.{◌≡◌, sym, ◌∙◌}
+use Rattle.std.proofs.Common.{sym, ◌∙◌}
 use Rattle.minus_text.proofs.PendingLaws.{row_staying, row_forming}
 use Rattle.minus_text.proofs.screen.Screen.row_after.Goals as goal
 

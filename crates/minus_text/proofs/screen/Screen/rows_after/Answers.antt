@@ -1,5 +1,5 @@
 -- The rows that stay and those that are formed.
-use Rattle.std.proofs.Common.{◌≡◌, arith}
+use Rattle.std.proofs.Common.{arith}
 use Rattle.minus_text.proofs.PendingLaws.{count_after, first_within}
 use Rattle.minus_text.proofs.screen.Screen.rows_after.Goals as goal
 
