@@ -1,11 +1,11 @@
 -- Bytes of operations, added one after another.
-use Rattle.std.proofs.Common.{◌≡◌, ℕ, ◌+◌, ◌<◌, List, [], ◌∷◌, ◌++◌, length, map, take, get_or, refl, sym, ap, ◌∙◌, append_assoc, append-nil}
+use Rattle.std.proofs.Common.{◌≡◌, ℕ, ◌+◌, ◌<◌, List, [], ◌∷◌, ◌++◌, length, map, take, get_or, sym, ap, ◌∙◌, append_assoc, append-nil}
 use Rattle.std.specs.List.{flat_map}
 use Rattle.std.proofs.lemmas.List.{map_more}
 use Rattle.std.proofs.lemmas.List.Concat.{flat_map-append}
-use Rattle.minus_term.specs.Operations.{Op, GoTo, ClearAll}
+use Rattle.minus_term.specs.Operations.{Op}
 use Rattle.minus_term.specs.Written.{written, written_all}
-use Rattle.minus_term.specs.FullRedraw.{row_ops, prompt_ops, full_ops}
+use Rattle.minus_term.specs.FullRedraw.{row_ops}
 use Rattle.minus_term.proofs.WrittenLaws.{written_all-nil, written_all-one, written_all-append}
 
 -- more operations
@@ -27,7 +27,7 @@ no_op old = sym (ap (λ bs. old ++ bs) written_all-nil ∙ append-nil old)
 -- one more row
 pub row_added : (old a b : List ℕ) (rows : List (List ℕ)) (row : List ℕ) → a ≡ old ++ written_all (flat_map row_ops rows) → b ≡ a ++ written_all (row_ops row) → b ≡ old ++ written_all (flat_map row_ops (rows ++ row ∷ []))
 row_added old a b rows row e f =
-    ops_added old a b (flat_map row_ops rows) (row_ops row) e f ∙ ap (λ ops. old ++ written_all ops) (sym (flat_map-append row_ops rows (row ∷ []) ))
+    ops_added old a b (flat_map row_ops rows) (row_ops row) e f ∙ ap (λ ops. old ++ written_all ops) (sym (flat_map-append row_ops rows (row ∷ [])))
 
 -- one more row of a list
 pub rows_more : {X : Type 0} (f : X → List ℕ) (xs : List X) (i : ℕ) (d : X) (old a b : List ℕ) → i < length xs → a ≡ old ++ written_all (flat_map row_ops (map f (take i xs))) → b ≡ a ++ written_all (row_ops (f (get_or xs i d)))

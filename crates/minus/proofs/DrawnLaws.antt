@@ -1,21 +1,18 @@
 -- What is drawn in a step, and in a run.
-use Rattle.std.proofs.Common.{◌≡◌, ℕ, ◌+◌, ◌-◌, ◌<◌, ◌≤◌, min, List, [], ◌∷◌, ◌++◌, length, map, take, drop, replicate, Option, Some, None, Result, Ok, Err, IfErr, refl, sym, ap, subst, ◌∙◌, arith, append_assoc}
-use Rattle.std.specs.List.{Contains}
+use Rattle.std.proofs.Common.{◌≡◌, ℕ, ◌-◌, ◌<◌, ◌≤◌, List, [], ◌∷◌, ◌++◌, length, map, drop, replicate, Option, Some, None, Result, Ok, Err, IfErr, refl, sym, ap, subst, ◌∙◌, arith}
 use Rattle.std.specs.Io.KnownBytes.{Appends}
-use Rattle.std.proofs.lemmas.List.{length-append, length-map, length-replicate, length-take, map-append}
+use Rattle.std.proofs.lemmas.List.{length-append, length-map, length-replicate, length-take}
 use Rattle.minus_term.specs.Operations.{Op}
 use Rattle.minus_term.specs.Counts.{AppendsFront}
-use Rattle.minus_term.specs.PlayedScreen.{ShownPage, PlayedScreen, Shows, Draws, play_all, screen_of, unknown_screen}
-use Rattle.minus_term.specs.Written.{written_all, IsClean}
+use Rattle.minus_term.specs.PlayedScreen.{screen_of, unknown_screen}
+use Rattle.minus_term.specs.Written.{written_all}
 use Rattle.minus_term.specs.FullRedraw.{full_ops, page_of}
-use Rattle.minus_term.proofs.PlayLaws.{play_all-append, draws_from}
 use Rattle.minus_term.proofs.FullRedrawLaws.{full_redraw_lem, IsClean-full}
-use Rattle.minus_term.proofs.WrittenLaws.{written_all-append, IsClean-append, IsClean-more, IsClean-pages_behind}
 use Rattle.minus.specs.Control.{Control, text_rows}
 use Rattle.minus.specs.Table.{Wanted, sets_data, appends_data, moves_mark, worked}
 use Rattle.minus.specs.Page.{shown, page}
 use Rattle.minus.specs.PromptRow.{prompt_row}
-use Rattle.minus.specs.Drawn.{IsDrawing, Drawn, BrokenOff, IsWholeDrawing, DrawnWhole, WholeBrokenOff, Leaves}
+use Rattle.minus.specs.Drawn.{IsDrawing, Drawn, BrokenOff, IsWholeDrawing, DrawnWhole, WholeBrokenOff}
 
 -- the list that draws a page whole
 abbrev pub whole_page : Control → List Op

@@ -1,5 +1,5 @@
 -- A run, one step more.
-use Rattle.std.proofs.Common.{◌≡◌, ℕ, zero, suc, get_or, ◌+◌, ◌<◌, ◌≤◌, List, [], ◌∷◌, ◌++◌, length, map, reverse, Option, Some, None, refl, sym, ap, subst, ◌∙◌, arith, append_assoc}
+use Rattle.std.proofs.Common.{◌≡◌, ℕ, zero, suc, get_or, ◌+◌, ◌<◌, List, [], ◌∷◌, ◌++◌, length, map, reverse, Option, Some, None, refl, sym, ap, subst, ◌∙◌, arith, append_assoc}
 use Rattle.std.specs.List.{Contains}
 use Rattle.std.proofs.lemmas.List.Elements.{Contains-append_left, Contains-push}
 use Rattle.std.proofs.lemmas.List.{append-nil, reverse-append, map-append, length-map, length_push, map_push, get_or-map}
@@ -7,15 +7,14 @@ use Rattle.minus_term.specs.declared.error.MinusError.{MinusError}
 use Rattle.minus_term.specs.declared.error.MinusError.TheVariants.{Memory, BadSize, Failed, Draw}
 use Rattle.minus_term.specs.Operations.{Op}
 use Rattle.minus_term.specs.PlayedScreen.{ShownPage, PlayedScreen, Shows, play_all, unknown_screen}
-use Rattle.minus_term.specs.Written.{written_all, IsClean}
+use Rattle.minus_term.specs.Written.{written_all}
 use Rattle.minus_term.proofs.PlayLaws.{play_all-append, draws_from}
 use Rattle.minus_term.proofs.WrittenLaws.{written_all-append, IsClean-append, IsClean-more}
-use Rattle.minus.specs.declared.status.Status.{Status}
 use Rattle.minus.specs.declared.status.Status.TheVariants as status
 use Rattle.minus.specs.Control.{Control}
-use Rattle.minus.specs.Table.{Wanted, worked}
+use Rattle.minus.specs.Table.{Wanted}
 use Rattle.minus.specs.Page.{page}
-use Rattle.minus.specs.Drawn.{IsDrawing, Drawn, IsWholeDrawing, Leaves}
+use Rattle.minus.specs.Drawn.{Drawn, Leaves}
 use Rattle.minus.specs.Steps.{Seen, Step, Steps, none, more, Refuses, IsDrawFault, IsRun}
 use Rattle.minus.proofs.DrawnLaws.{rows_stay}
 
@@ -61,8 +60,7 @@ leaves_more (Some x) (Some y) old new before r d h =
     let shows : Shows (play_all (ops ++ d.0) (unknown_screen old.rows)) (page new) = subst (λ (s : PlayedScreen). Shows s (page new)) (sym (play_all-append ops d.0 (unknown_screen old.rows))) then_shows in
     let kept : (p : ShownPage) → Contains (map page before) p → Contains all p = λ p k. rw pages (Contains-append_left (map page before) (page new ∷ []) p k) in
     let mine : Contains all (page old) = kept (page old) (page_among before old whole.here) in
-    let last : Contains all (page new) = rw pages (Contains-push (map page before) (page new)) in
-    (
+    let last : Contains all (page new) = rw pages (Contains-push (map page before) (page new)) in (
       front,
       ops ++ d.0,
       bytes,

@@ -1,5 +1,5 @@
 -- The text that a command leaves, formed beside the document.
-use Rattle.std.specs.Prelude.{◌≡◌, ℕ, string_bytes}
+use Rattle.std.specs.Prelude.{string_bytes}
 use Rattle.minus_text.specs.Document.{Document, pushed}
 use Rattle.minus_text.specs.Pending.{IsPending}
 use Rattle.minus.specs.declared.change.NextText.{NextText}

@@ -1,5 +1,5 @@
 -- The prompt row.
-use Rattle.std.specs.Prelude.{ℕ, ◌-◌, List, [], ◌∷◌, ◌++◌, length, take, replicate, codes}
+use Rattle.std.specs.Prelude.{ℕ, ◌-◌, List, ◌∷◌, ◌++◌, length, take, replicate, codes}
 
 -- the prompt
 abbrev pub prompt : List ℕ

@@ -1,5 +1,5 @@
 -- What a session is seen as, its steps, and what a refusal leaves.
-use Rattle.std.specs.Prelude.{◌≡◌, ℕ, ◌≤◌, List, [], ◌∷◌, ◌++◌, length, map, Option, None, Some}
+use Rattle.std.specs.Prelude.{◌≡◌, ℕ, List, [], ◌∷◌, ◌++◌, length, map, Option, None, Some}
 use Rattle.minus_term.specs.declared.error.MinusError.{MinusError}
 use Rattle.minus_term.specs.declared.error.MinusError.TheVariants.{Memory, BadSize, Failed, Draw}
 use Rattle.minus.specs.declared.status.Status.{Status}

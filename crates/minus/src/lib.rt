@@ -17,3 +17,6 @@ pub use minus_term::{MinusError, OutputSink};
 pub use page::Page;
 pub use session::{Answer, Ran, Session};
 pub use state::PagerState;
+
+#[cfg(test)]
+mod tests;

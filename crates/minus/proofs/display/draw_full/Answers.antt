@@ -1,5 +1,5 @@
 -- The start, the rows and the prompt.
-use Rattle.std.proofs.Common.{◌≡◌, ◌++◌, [], ◌∷◌, List, ℕ, map}
+use Rattle.std.proofs.Common.{◌++◌, [], ◌∷◌, List, map}
 use Rattle.std.specs.List.{flat_map}
 use Rattle.minus_term.specs.Operations.{Op, GoTo, ClearAll}
 use Rattle.minus_term.specs.FullRedraw.{row_ops, prompt_ops}

@@ -1,6 +1,6 @@
 -- The style, the prompt and the style's end.
-use Rattle.std.proofs.Common.{◌≡◌, ◌++◌, refl}
-use Rattle.minus.specs.PromptRow.{prompt_row, prompt, fitted}
+use Rattle.std.proofs.Common.{refl}
+use Rattle.minus.specs.PromptRow.{prompt_row}
 use Rattle.minus.proofs.display.format_prompt.Goals as goal
 
 pub returns : goal.returns

@@ -1,5 +1,5 @@
 -- Three operations, and the text unless it is empty.
-use Rattle.std.proofs.Common.{◌≡◌, ◌++◌, [], ◌∷◌, length, cond, eqb}
+use Rattle.std.proofs.Common.{[], ◌∷◌, length, cond, eqb}
 use Rattle.minus_term.specs.Operations.{GoTo, Return, ClearRow, Put}
 use Rattle.minus.proofs.DrawingLaws.{op_first, op_added, ops_added}
 use Rattle.minus.proofs.display.write_prompt.Goals as goal

@@ -1,5 +1,5 @@
 -- Three operations.
-use Rattle.std.proofs.Common.{◌≡◌, ◌++◌, [], ◌∷◌}
+use Rattle.std.proofs.Common.{[], ◌∷◌}
 use Rattle.minus_term.specs.Operations.{Return, Put, NextRow}
 use Rattle.minus.proofs.DrawingLaws.{op_first, op_added}
 use Rattle.minus.proofs.display.write_row.Goals as goal

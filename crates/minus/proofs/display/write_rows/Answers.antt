@@ -1,5 +1,4 @@
 -- No row yet, and one more row.
-use Rattle.std.proofs.Common.{◌≡◌}
 use Rattle.minus.proofs.DrawingLaws.{no_op, rows_more}
 use Rattle.minus.proofs.display.write_rows.Goals as goal
 

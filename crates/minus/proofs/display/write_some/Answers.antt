@@ -1,5 +1,5 @@
 -- One operation, or none.
-use Rattle.std.proofs.Common.{◌≡◌, ◌++◌, [], ◌∷◌, length, eqb, true, false, sym, ◌∙◌}
+use Rattle.std.proofs.Common.{◌≡◌, length, eqb, true, false, sym, ◌∙◌}
 use Rattle.minus_term.specs.Operations.{Put}
 use Rattle.minus.proofs.DrawingLaws.{op_first, no_op}
 use Rattle.minus.proofs.display.write_some.Goals as goal

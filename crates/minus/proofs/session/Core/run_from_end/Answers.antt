@@ -1,9 +1,9 @@
 -- How far the list was worked off, at each end.
-use Rattle.std.proofs.Common.{◌≡◌, ℕ, ◌+◌, ◌++◌, length, reverse, sym, ap, ◌∙◌, arith}
+use Rattle.std.proofs.Common.{length, reverse, ap, ◌∙◌, arith}
 use Rattle.std.proofs.lemmas.List.{length-append, length-reverse}
 use Rattle.minus.specs.Reads.{told_of}
 use Rattle.minus.specs.Core.{seen_of}
-use Rattle.minus.proofs.RunLaws.{RunSoFar, not_yet, one_step, run_over, run_stopped}
+use Rattle.minus.proofs.RunLaws.{not_yet, one_step, run_over, run_stopped}
 use Rattle.minus.proofs.session.Core.run_from_end.Goals as goal
 
 pub loop-input-init : goal.loop-input-init

@@ -1,5 +1,5 @@
 -- The drawing of the step, whole or broken off.
-use Rattle.std.proofs.Common.{◌≡◌, ap, ◌∙◌}
+use Rattle.std.proofs.Common.{◌≡◌, ap}
 use Rattle.minus.specs.Control.{Control}
 use Rattle.minus.specs.Reads.{control_of}
 use Rattle.minus.specs.Drawn.{BrokenOff}

@@ -1,5 +1,5 @@
 -- What was drawn is the page of the control that was reached.
-use Rattle.std.proofs.Common.{◌≡◌, ℕ, List, sym, subst}
+use Rattle.std.proofs.Common.{◌≡◌, sym, subst}
 use Rattle.minus_term.specs.Written.{written_all}
 use Rattle.minus_term.specs.FullRedraw.{full_ops}
 use Rattle.minus.specs.Control.{Control}

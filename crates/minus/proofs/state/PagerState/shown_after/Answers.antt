@@ -1,8 +1,8 @@
 -- One more row, since there is one.
-use Rattle.std.proofs.Common.{◌≡◌, ◌+◌, ◌-◌, ◌<◌, List, ℕ, length, map, take, drop, arith, ap, ◌∙◌}
+use Rattle.std.proofs.Common.{◌+◌, ◌<◌, List, ℕ, length, arith}
 use Rattle.minus_text.specs.Document.{rows_of}
 use Rattle.minus.specs.NextTexts.{next_document}
-use Rattle.minus.proofs.ShownLaws.{row_there, shown_more, shown_all}
+use Rattle.minus.proofs.ShownLaws.{row_there, shown_more}
 use Rattle.minus.proofs.state.PagerState.shown_after.Goals as goal
 use Rattle.minus.proofs.state.PagerState.shown_after.Goals.{in-Some+in_ok-push, in_default}
 
