@@ -1,0 +1,6 @@
+-- Laws of the definitions.
+pub mod NumberLaws
+pub mod EscapeLaws
+pub mod ScriptLaws
+pub mod PrintedLaws
+pub mod RunLaws

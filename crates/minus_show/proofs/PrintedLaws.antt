@@ -1,0 +1,12 @@
+-- What stands in front of printed rows.
+use Rattle.std.proofs.Common.{ℕ, List, ◌++◌, length, drop, take, ◌∙◌, ap}
+use Rattle.std.specs.Io.{StartsWith}
+use Rattle.std.proofs.KnownBytes.{starts_with_rest}
+use Rattle.std.proofs.lemmas.List.{append_assoc}
+use Rattle.std.proofs.Math.Seq.{take-append_seam}
+
+-- what begins with some bytes and more begins with these bytes
+pub starts_with_front : (new old more : List ℕ) → StartsWith new (old ++ more) → StartsWith new old
+starts_with_front new old more h =
+    let rest = drop (length (old ++ more)) new in
+    ap (λ l. take (length old) l) (starts_with_rest new (old ++ more) h ∙ append_assoc old more rest) ∙ take-append_seam old (more ++ rest)

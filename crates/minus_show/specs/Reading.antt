@@ -1,0 +1,15 @@
+-- How the reading of a script may fail.
+use Rattle.std.specs.Prelude.{◌≡◌, ℕ, List, Option, ⊤}
+use Rattle.std.specs.Io.KnownBytes.{Consumes}
+use Rattle.minus_show.specs.declared.fault.ScriptFault.{ScriptFault}
+use Rattle.minus_show.specs.declared.fault.ScriptFault.TheVariants.{Io, Line, Refused}
+
+-- the reader failed, or it is want of memory
+abbrev pub IsReadFault : ScriptFault → Type 0
+IsReadFault (Io cause) = ⊤
+IsReadFault (Line number) = ⊥
+IsReadFault (Refused reason) = reason ≡ 1
+
+-- known bytes lose some at their front
+abbrev pub ConsumesSome : Option (List ℕ) → Option (List ℕ) → Type 0
+ConsumesSome old new = (bytes : List ℕ) × Consumes old new bytes
