@@ -11,3 +11,4 @@ pub mod Changes
 pub mod Steps
 pub mod Core
 pub mod Starts
+pub mod Answers

@@ -122,6 +122,7 @@ impl<S: OutputSink + Drop, P: Parts> Core<S, P> {
     ghost use Rattle.minus.specs.Reads.{wanted_of, told_of};
     ghost use Rattle.minus.specs.Drawn.{Drawn, BrokenOff};
     ghost use Rattle.minus.specs.Steps.{Step, Refuses, IsDrawFault, IsRun};
+    ghost use Rattle.minus.specs.Answers.{IsPlain, IsLastAnswer};
     ghost use Rattle.minus.specs.Core.{seen_of};
     ghost use Rattle.minus.specs.declared.status.Status.TheVariants as status;
 
@@ -167,7 +168,7 @@ impl<S: OutputSink + Drop, P: Parts> Core<S, P> {
         ensures step { OnOk result (Step (seen_of self.old) (told_of input) (seen_of self.new)) }
         ensures drawn { OnOk result (Drawn (S.contents self.old.sink) (S.contents self.new.sink) (seen_of self.old).control (seen_of self.new).control) }
         ensures stays { OnOk result (Stays (S.refused self.old.sink) (S.refused self.new.sink)) }
-        ensures answer { IfOk result (λ a. (a.copied ≡ None) × (a.refused.items ≡ [])) }
+        ensures answer { IfOk result IsPlain }
 
         // A refusal: what it leaves, and when it comes.
         ensures refused { IfErr result (λ e. Refuses e (seen_of self.old) (told_of input) (seen_of self.new)) }
@@ -192,6 +193,7 @@ impl<S: OutputSink + Drop, P: Parts> Core<S, P> {
     fn run_from_end(&mut self, left: &mut Vec<Input>) -> Progress
         ensures run { IsRun told_of (seen_of self.old) (seen_of self.new) (reverse left.old.items) result.done result.stopped (reverse left.new.items) (S.contents self.old.sink) (S.contents self.new.sink) }
         ensures all { IfNone result.stopped (left.new.items ≡ []) }
+        ensures last { IsLastAnswer result.done result.last }
     {
         let mut done = 0;
         let mut last = None;
@@ -221,6 +223,7 @@ impl<S: OutputSink + Drop, P: Parts> Core<S, P> {
     pub fn run(&mut self, inputs: Vec<Input>) -> Ran
         ensures run { IsRun told_of (seen_of self.old) (seen_of self.new) inputs.items result.done result.stopped result.rest.items (S.contents self.old.sink) (S.contents self.new.sink) }
         ensures all { IfNone result.stopped (result.rest.items ≡ []) }
+        ensures last { IsLastAnswer result.done result.last }
     {
         let mut left = inputs;
         left.reverse();

@@ -101,7 +101,7 @@ fn a_mark_past_the_end_is_clamped(rt: HostRuntime) -> Result<(), Fail> {
 }
 
 #[test]
-fn the_empty_text_has_one_blank_row(rt: HostRuntime) -> Result<(), Fail> {
+fn the_empty_text_leaves_blank_rows(rt: HostRuntime) -> Result<(), Fail> {
     let alloc = rt.alloc();
     let mut session = start(alloc, Vec::new(alloc), 20, 3)?;
     let rows = ["", "", "\x1b[2;40;37mminus               \x1b[0m"];
