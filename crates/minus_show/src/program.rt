@@ -71,7 +71,7 @@ fn words(rt: &HostRuntime) -> Result<Vec<String>, ProgramFault> {
 }
 
 /// Runs the script on standard input as the program's arguments say, and prints to standard output.
-pub fn run_program(rt: &HostRuntime) -> Result<(), ProgramFault> {
+pub(crate) fn run_program(rt: &HostRuntime) -> Result<(), ProgramFault> {
     let words = words(rt)?;
     let Some(Arguments { mode, cols, rows }) = parse_arguments(&words) else {
         return Err(ProgramFault::Usage);
