@@ -3,12 +3,11 @@ use Rattle.std.proofs.Common.{◌≡◌, ℕ, List, [], ◌∷◌, ◌++◌, map
 use Rattle.std.proofs.lemmas.List.{append-nil}
 use Rattle.minus_term.specs.declared.error.MinusError.{MinusError}
 use Rattle.minus_term.specs.declared.error.MinusError.TheVariants.{Memory, BadSize, Failed, Draw}
-use Rattle.minus.specs.declared.status.Status.{Status}
 use Rattle.minus.specs.declared.status.Status.TheVariants as status
 use Rattle.minus.specs.Sizes.{IsSize}
 use Rattle.minus.specs.Control.{Control}
-use Rattle.minus.specs.Table.{Wanted, worked}
-use Rattle.minus.specs.Steps.{Seen, Step, Steps, none, more, Refuses, Stops, IsRun}
+use Rattle.minus.specs.Table.{Wanted}
+use Rattle.minus.specs.Steps.{Seen, Steps, none, more, Stops, IsRun}
 use Rattle.minus_show.specs.Runs.{worked_all, PagerRefuses}
 
 -- steps lead to the control that their commands lead to

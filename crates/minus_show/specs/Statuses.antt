@@ -1,6 +1,5 @@
 -- The statuses that the program ends with.
 use Rattle.std.specs.Prelude.{ℕ}
-use Rattle.minus_show.specs.declared.fault.ScriptFault.{ScriptFault}
 use Rattle.minus_show.specs.declared.fault.ScriptFault.TheVariants.{Io, Line, Refused}
 use Rattle.minus_show.specs.declared.program.ProgramFault.{ProgramFault}
 use Rattle.minus_show.specs.declared.program.ProgramFault.TheVariants.{Usage, Script}

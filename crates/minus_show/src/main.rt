@@ -15,10 +15,10 @@ pub use fault::ScriptFault;
 pub use number::{parse_usize, usize_of_is_what_parse_reads};
 pub use printed::{print_row, print_rows, printed_rows_read_back};
 pub use program::ProgramFault;
+use program::run_program;
 pub use reading::read_script;
 pub use run::run_script;
 pub use script::parse_script;
-use program::run_program;
 use std::process::ExitCode;
 
 #[cfg(test)]
