@@ -3,4 +3,5 @@ pub mod FullRedrawLaws
 pub mod PlayLaws
 pub mod PutsLaws
 pub mod SinkLaws
+pub mod TerminalLaws
 pub mod WrittenLaws

@@ -1,11 +1,61 @@
 //! The errors of the pager.
 ghost use Rattle.std.specs.Prelude.{◌≡◌};
 ghost use Rattle.minus_term.specs.Refusals.{number_of};
-ghost use Rattle.minus_term.specs.declared.error.MinusError.TheVariants.{Memory, Draw};
+ghost use Rattle.minus_term.specs.declared.error.MinusError.TheVariants.{Memory, Setup, Cleanup, Draw, Cursor, FmtWriteError, SearchExpError};
 
 use std::alloc::AllocError;
-use std::io;
+use std::{fmt, io};
 use thiserror::Error;
+
+/// An operation on the terminal failed.
+#[derive(Debug, Drop, Error)]
+#[error("{0}")]
+pub struct TermError(pub io::Error);
+
+/// A pattern was not built.
+#[derive(Debug, Drop, Error)]
+#[error("{0}")]
+pub struct RegexError(pub regex::Error);
+
+/// Why the terminal was not set up.
+#[derive(Debug, Drop, Error)]
+pub enum SetupError {
+    /// The sink is no terminal.
+    #[error("The standard output is not a valid terminal")]
+    InvalidTerminal,
+    /// The sink refused the bytes that switch to the alternate screen.
+    #[error("Failed to switch to alternate screen")]
+    AlternateScreen(TermError),
+    /// Kept for callers: no call answers it.
+    #[error("Failed to enable raw mode")]
+    RawMode(TermError),
+    /// The sink refused the bytes that hide the cursor.
+    #[error("Failed to hide the cursor")]
+    HideCursor(TermError),
+    /// The sink refused the bytes that ask for the mouse's events.
+    #[error("Failed to enable mouse capture")]
+    EnableMouseCapture(TermError),
+    /// Kept for callers: no call answers it.
+    #[error("Couldn't determine the terminal size")]
+    TerminalSize(TermError),
+}
+
+/// Why the terminal was not cleaned up.
+#[derive(Debug, Drop, Error)]
+pub enum CleanupError {
+    /// The sink refused the bytes that end the mouse's events.
+    #[error("Failed to disable mouse capture")]
+    DisableMouseCapture(TermError),
+    /// The sink refused the bytes that show the cursor.
+    #[error("Failed to show the cursor")]
+    ShowCursor(TermError),
+    /// Kept for callers: no call answers it.
+    #[error("Failed to disable raw mode")]
+    DisableRawMode(TermError),
+    /// The sink refused the bytes that switch back to the main screen.
+    #[error("Failed to switch back to main screen")]
+    LeaveAlternateScreen(TermError),
+}
 
 /// Why the pager refused a call.
 #[derive(Debug, Drop, Error)]
@@ -16,12 +66,55 @@ pub enum MinusError {
     /// So many columns and rows are out of range.
     #[error("refused 5")]
     BadSize(usize, usize),
+    /// The call is not for this mode.
+    #[error("refused 9")]
+    BadMode,
     /// The pager failed before, and does nothing more.
     #[error("refused 10")]
     Failed,
+    /// The pager has exited, and does nothing more.
+    #[error("refused 11")]
+    Ended,
+    /// The terminal was not set up.
+    #[error("Failed to initialize the terminal")]
+    Setup(SetupError),
+    /// The terminal was not cleaned up.
+    #[error("Failed to clean up the terminal")]
+    Cleanup(CleanupError),
     /// The sink refused a write or a flush.
     #[error("Failed to draw the new data")]
     Draw(io::Error),
+    /// Kept for callers: no call answers it.
+    #[error("Failed to handle terminal event")]
+    HandleEvent(TermError),
+    /// Kept for callers: no call answers it.
+    #[error("Failed to do an operation on the cursor")]
+    Cursor(TermError),
+    /// Kept for callers that format into a pager: no call answers it.
+    #[error("Failed to send formatted data to the pager")]
+    FmtWriteError(fmt::Error),
+    /// Kept for callers: no call answers it.
+    #[error("Failed to convert between some primitives")]
+    Conversion,
+    /// A pattern was not built.
+    #[error("{0}")]
+    SearchExpError(RegexError),
+}
+
+impl From<io::Error> for TermError {
+    ghost from_gives = { λ cause e. e.0 ≡ cause };
+
+    fn from(cause: io::Error) -> TermError {
+        TermError(cause)
+    }
+}
+
+impl From<regex::Error> for RegexError {
+    ghost from_gives = { λ cause e. e.0 ≡ cause };
+
+    fn from(cause: regex::Error) -> RegexError {
+        RegexError(cause)
+    }
 }
 
 impl From<AllocError> for MinusError {
@@ -29,6 +122,22 @@ impl From<AllocError> for MinusError {
 
     fn from(_cause: AllocError) -> MinusError {
         MinusError::Memory
+    }
+}
+
+impl From<SetupError> for MinusError {
+    ghost from_gives = { λ cause e. e ≡ Setup cause };
+
+    fn from(cause: SetupError) -> MinusError {
+        MinusError::Setup(cause)
+    }
+}
+
+impl From<CleanupError> for MinusError {
+    ghost from_gives = { λ cause e. e ≡ Cleanup cause };
+
+    fn from(cause: CleanupError) -> MinusError {
+        MinusError::Cleanup(cause)
     }
 }
 
@@ -40,16 +149,47 @@ impl From<io::Error> for MinusError {
     }
 }
 
+impl From<TermError> for MinusError {
+    ghost from_gives = { λ cause e. e ≡ Cursor cause };
+
+    fn from(cause: TermError) -> MinusError {
+        MinusError::Cursor(cause)
+    }
+}
+
+impl From<fmt::Error> for MinusError {
+    ghost from_gives = { λ cause e. e ≡ FmtWriteError cause };
+
+    fn from(cause: fmt::Error) -> MinusError {
+        MinusError::FmtWriteError(cause)
+    }
+}
+
+impl From<RegexError> for MinusError {
+    ghost from_gives = { λ cause e. e ≡ SearchExpError cause };
+
+    fn from(cause: RegexError) -> MinusError {
+        MinusError::SearchExpError(cause)
+    }
+}
+
 impl MinusError {
-    /// The number that names this error.
+    /// The number that names this error; 0 for those that no call answers and that have none.
     pub fn number(&self) -> u8
         ensures { result ≡ number_of self.now }
     {
         match self {
             MinusError::Memory => 1,
             MinusError::BadSize(_, _) => 5,
+            MinusError::BadMode => 9,
             MinusError::Failed => 10,
+            MinusError::Ended => 11,
+            MinusError::Setup(_) => 12,
+            MinusError::Cleanup(_) => 13,
             MinusError::Draw(_) => 14,
+            MinusError::SearchExpError(_) => 15,
+            MinusError::FmtWriteError(_) => 16,
+            MinusError::HandleEvent(_) | MinusError::Cursor(_) | MinusError::Conversion => 0,
         }
     }
 }

@@ -5,10 +5,15 @@
 pub mod draw;
 pub mod error;
 pub mod sink;
+pub mod sinks;
+pub mod term;
+pub mod with_tty;
 
 pub use draw::{DrawOp, full_redraw_shows_its_page, play_is_monotone, write_op};
-pub use error::MinusError;
+pub use error::{CleanupError, MinusError, RegexError, SetupError, TermError};
 pub use sink::{OutputSink, draw_bytes, write_bytes};
+pub use term::{cleanup, setup};
+pub use with_tty::WithTty;
 
 #[cfg(test)]
 mod tests;

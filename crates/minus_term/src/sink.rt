@@ -1,5 +1,5 @@
 //! Sinks: where the pager writes.
-ghost use Rattle.std.specs.Prelude.{◌≡◌, ℕ, length, Option, None, Some, OnOk, OnErr, IfOk, IfErr, IsOk};
+ghost use Rattle.std.specs.Prelude.{◌≡◌, ℕ, length, Option, None, Some, Bool, false, OnOk, OnErr, IfOk, IfErr, IsOk};
 ghost use Rattle.std.specs.Io.{WritesAtMost};
 ghost use Rattle.std.specs.Io.KnownBytes.{WriteAppends, Keeps, Appends};
 ghost use Rattle.std.specs.IoError.{error_kind};
@@ -13,6 +13,8 @@ use std::io::{ErrorKind, Write};
 pub trait OutputSink: Write {
     // The number of refused writes and flushes, where the sink tells it.
     ghost refused: { Self → Option ℕ } = { λ _. None };
+    // Whether the sink is a terminal.
+    ghost terminal: { Self → Bool } = { λ _. false };
 
     /// Takes the first of these bytes, and says how many: the sink's `write`. It refuses by an
     /// error, or by taking none of some bytes.
@@ -27,9 +29,8 @@ pub trait OutputSink: Write {
         ensures counted { CountsCall (refused self.old) (refused self.new) (is_fault result) };
 
     /// Whether the sink is a terminal.
-    fn is_tty(&self) -> bool {
-        false
-    }
+    fn is_tty(&self) -> bool
+        ensures { result ≡ terminal self.now };
 }
 
 impl OutputSink for Vec<u8> {
@@ -49,6 +50,10 @@ impl OutputSink for Vec<u8> {
         ensures ok { IsOk result }
     {
         self.flush()
+    }
+
+    fn is_tty(&self) -> bool {
+        false
     }
 }
 

@@ -71,6 +71,10 @@ impl OutputSink for Stubborn {
     fn settle(&mut self) -> io::Result<()> {
         self.flush()
     }
+
+    fn is_tty(&self) -> bool {
+        false
+    }
 }
 
 #[test]

@@ -1,0 +1,48 @@
+-- The parts of a setup and of a cleanup, one after another.
+use Rattle.std.proofs.Common.{◌≡◌, ℕ, ◌∷◌, [], Option, List, ◌++◌, codes, refl, subst}
+use Rattle.std.proofs.KnownBytes.{Appends-trans}
+use Rattle.std.specs.Io.KnownBytes.{Appends}
+use Rattle.minus_term.specs.Counts.{AppendsFront, AppendsPart}
+use Rattle.minus_term.specs.Operations.{ShowCursor, HideCursor}
+use Rattle.minus_term.specs.Written.{written}
+use Rattle.minus_term.specs.Terminal.{alternate_screen, main_screen, mouse_on, mouse_off}
+
+pub alternate_screen_is : 27 ∷ codes "[?1049h" ≡ alternate_screen
+unfolding alternate_screen
+alternate_screen_is = refl
+
+pub main_screen_is : 27 ∷ codes "[?1049l" ≡ main_screen
+unfolding main_screen
+main_screen_is = refl
+
+pub mouse_on_is : (27 ∷ codes "[?1000h") ++ (27 ∷ codes "[?1002h") ++ (27 ∷ codes "[?1003h") ++ (27 ∷ codes "[?1015h") ++ (27 ∷ codes "[?1006h") ≡ mouse_on
+unfolding mouse_on
+mouse_on_is = refl
+
+pub mouse_off_is : (27 ∷ codes "[?1006l") ++ (27 ∷ codes "[?1015l") ++ (27 ∷ codes "[?1003l") ++ (27 ∷ codes "[?1002l") ++ (27 ∷ codes "[?1000l") ≡ mouse_off
+unfolding mouse_off
+mouse_off_is = refl
+
+pub show_cursor_is : 27 ∷ codes "[?25h" ≡ written ShowCursor
+unfolding written
+show_cursor_is = refl
+
+pub hide_cursor_is : 27 ∷ codes "[?25l" ≡ written HideCursor
+unfolding written
+hide_cursor_is = refl
+
+-- a part written whole, after those before it
+pub part_added : (a b c : Option (List ℕ)) (before bytes part : List ℕ) → bytes ≡ part → Appends a b before → Appends b c bytes → Appends a c (before ++ part)
+part_added a b c before bytes part e h k = Appends-trans a b c before part h (subst (λ (x : List ℕ). Appends b c x) e k)
+
+pub first_added : (a b : Option (List ℕ)) (bytes part : List ℕ) → bytes ≡ part → Appends a b bytes → Appends a b part
+first_added a b bytes part e h = subst (λ (x : List ℕ). Appends a b x) e h
+
+-- a part broken off, after those before it
+pub part_broken : (a b c : Option (List ℕ)) (before bytes part : List ℕ) → bytes ≡ part → Appends a b before → AppendsFront b c bytes → AppendsPart a c before part
+part_broken a b c before bytes part e h k =
+    let (n, few, added) = subst (λ (x : List ℕ). AppendsFront b c x) e k in
+    (n, few, Appends-trans a b c before _ h added)
+
+pub first_broken : (a b : Option (List ℕ)) (bytes part : List ℕ) → bytes ≡ part → AppendsFront a b bytes → AppendsPart a b [] part
+first_broken a b bytes part e h = subst (λ (x : List ℕ). AppendsFront a b x) e h
