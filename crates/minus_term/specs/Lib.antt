@@ -6,3 +6,4 @@ pub mod Counts
 pub mod FullRedraw
 pub mod Refusals
 pub mod Written
+pub mod NormalForm

@@ -4,10 +4,16 @@
 
 pub mod draw;
 pub mod error;
+pub mod event;
 pub mod sink;
 
 pub use draw::{DrawOp, full_redraw_shows_its_page, play_is_monotone, write_op};
-pub use error::MinusError;
+pub use error::{DescriptionError, MinusError};
+pub use event::equality::NormalKey;
+pub use event::{
+    Event, KeyCode, KeyEvent, KeyEventKind, KeyEventState, KeyModifiers, MouseButton, MouseEvent,
+    MouseEventKind,
+};
 pub use sink::{OutputSink, draw_bytes, write_bytes};
 
 #[cfg(test)]
