@@ -193,3 +193,29 @@ impl MinusError {
         }
     }
 }
+
+/// Why a text describes no key, or no action of the mouse.
+#[derive(Clone, Copy, Debug, PartialEq, Eq, Error)]
+pub enum DescriptionError {
+    /// A character of it is not ASCII.
+    #[error("NotAscii")]
+    NotAscii,
+    /// Nothing stands in it but blanks.
+    #[error("Empty")]
+    Empty,
+    /// An empty segment stands inside it, and not right after a modifier.
+    #[error("EmptySegment")]
+    EmptySegment,
+    /// A modifier stands in it a second time.
+    #[error("RepeatedModifier")]
+    RepeatedModifier,
+    /// A segment is no name that is known.
+    #[error("UnknownName")]
+    UnknownName,
+    /// A second key, or a second action of the mouse, stands in it.
+    #[error("SecondKey")]
+    SecondKey,
+    /// No action of the mouse stands in it.
+    #[error("NoAction")]
+    NoAction,
+}

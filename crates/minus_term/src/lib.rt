@@ -4,13 +4,19 @@
 
 pub mod draw;
 pub mod error;
+pub mod event;
 pub mod sink;
 pub mod sinks;
 pub mod term;
 pub mod with_tty;
 
 pub use draw::{DrawOp, full_redraw_shows_its_page, play_is_monotone, write_op};
-pub use error::{CleanupError, MinusError, RegexError, SetupError, TermError};
+pub use error::{CleanupError, DescriptionError, MinusError, RegexError, SetupError, TermError};
+pub use event::equality::NormalKey;
+pub use event::{
+    Event, KeyCode, KeyEvent, KeyEventKind, KeyEventState, KeyModifiers, MouseButton, MouseEvent,
+    MouseEventKind,
+};
 pub use sink::{OutputSink, draw_bytes, write_bytes};
 pub use term::{cleanup, setup};
 pub use with_tty::WithTty;
