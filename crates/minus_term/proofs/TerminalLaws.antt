@@ -1,11 +1,12 @@
 -- The parts of a setup and of a cleanup, one after another.
-use Rattle.std.proofs.Common.{◌≡◌, ℕ, ◌∷◌, [], Option, List, ◌++◌, codes, refl, subst}
+use Rattle.std.proofs.Common.{◌≡◌, ℕ, ◌∷◌, [], Option, List, ◌++◌, codes, take, drop, refl, sym, ap, ◌∙◌, subst, append_assoc, append-nil, take-append-drop}
 use Rattle.std.proofs.KnownBytes.{Appends-trans}
 use Rattle.std.specs.Io.KnownBytes.{Appends}
 use Rattle.minus_term.specs.Counts.{AppendsFront, AppendsPart}
 use Rattle.minus_term.specs.Operations.{ShowCursor, HideCursor}
 use Rattle.minus_term.specs.Written.{written}
 use Rattle.minus_term.specs.Terminal.{alternate_screen, main_screen, mouse_on, mouse_off}
+use Rattle.minus_term.proofs.SinkLaws.{AppendsFront-of}
 
 pub alternate_screen_is : 27 ∷ codes "[?1049h" ≡ alternate_screen
 unfolding alternate_screen
@@ -46,3 +47,16 @@ part_broken a b c before bytes part e h k =
 
 pub first_broken : (a b : Option (List ℕ)) (bytes part : List ℕ) → bytes ≡ part → AppendsFront a b bytes → AppendsPart a b [] part
 first_broken a b bytes part e h = subst (λ (x : List ℕ). AppendsFront a b x) e h
+
+-- a part broken off is a beginning of all parts
+pub part_is_front : (a b : Option (List ℕ)) (before part after : List ℕ) → AppendsPart a b before part → AppendsFront a b (before ++ part ++ after)
+part_is_front a b before part after h =
+    let k = h.0 in
+    let split = ap (λ (x : List ℕ). before ++ x ++ after) (sym (take-append-drop k part)) ∙ ap (λ (x : List ℕ). x ++ after) (sym (append_assoc before (take k part) (drop k part))) ∙ append_assoc (before ++ take k part) (drop k part) after in
+    AppendsFront-of a b (before ++ part ++ after) (before ++ take k part) (drop k part ++ after) split h.2
+
+pub first_is_front : (a b : Option (List ℕ)) (part next after : List ℕ) → AppendsPart a b [] part → AppendsFront a b (part ++ next ++ after)
+first_is_front a b part next after h = rw (append_assoc part next after) (part_is_front a b [] part (next ++ after) h)
+
+pub last_is_front : (a b : Option (List ℕ)) (before part : List ℕ) → AppendsPart a b before part → AppendsFront a b (before ++ part)
+last_is_front a b before part h = subst (λ (x : List ℕ). AppendsFront a b x) (append-nil (before ++ part)) (part_is_front a b before part [] h)

@@ -71,6 +71,7 @@ pub fn setup<S: OutputSink>(out: &mut S) -> Result<(), SetupError>
 /// it.
 pub fn cleanup<S: OutputSink>(out: &mut S, cleanup_screen: bool) -> Result<(), CleanupError>
     ensures ok { OnOk result (Appends (S.contents out.old) (S.contents out.new) (if cleanup_screen then cleanup_bytes else [])) }
+    ensures tried { AppendsFront (S.contents out.old) (S.contents out.new) cleanup_bytes }
     ensures stays { OnOk result (Stays (S.refused out.old) (S.refused out.new)) }
     ensures off { cleanup_screen ≡ false → IsOk result }
     ensures untouched { cleanup_screen ≡ false → out.new ≡ out.old }
