@@ -1,10 +1,11 @@
 -- A change that was put in its place.
-use Rattle.std.proofs.Common.{◌≡◌, ℕ, List, sym, ap, ◌∙◌}
+use Rattle.std.proofs.Common.{◌≡◌, ℕ, List, sym, ap, subst, ◌∙◌}
 use Rattle.minus_text.specs.Document.{Document}
 use Rattle.minus.specs.declared.state.PagerState.{PagerState}
 use Rattle.minus.specs.declared.change.Change.{Change}
+use Rattle.minus.specs.declared.change.NextText.{NextText}
 use Rattle.minus.specs.Control.{Control, document_of}
-use Rattle.minus.specs.NextTexts.{next_document}
+use Rattle.minus.specs.NextTexts.{next_document, IsNext}
 use Rattle.minus.specs.Changes.{IsChange}
 use Rattle.minus.specs.Reads.{control_of, IsFormed}
 
@@ -16,12 +17,25 @@ same_control a b t c r m =
     ∙ ap (λ (x : ℕ). let k : Control = record { text = b.text; cols = b.cols; rows = b.rows; mark = x } in k) m
 
 -- the state holds the control that the change leads to
-pub placed : (s t : PagerState) (change : Change) (new : Control) → IsFormed s → IsChange (control_of s) change new → t.screen ≡ next_document s.screen change.text → t.upper_mark ≡ change.mark → t.cols ≡ s.cols → t.rows ≡ s.rows → control_of t ≡ new
+pub placed : (s t : PagerState) (change : Change) (new : Control) → IsFormed s → IsChange (control_of s) change new → t.screen ≡ next_document s.screen change.text → t.upper_mark ≡ change.mark → t.cols ≡ change.cols → t.rows ≡ change.rows → control_of t ≡ new
 placed s t change new f h e m c r =
     let document : t.screen ≡ document_of new = e ∙ ap (λ (d : Document). next_document d change.text) f.document ∙ h.document in
-    same_control (control_of t) new (ap (λ (d : Document). d.text) document) (c ∙ sym h.cols_stay) (r ∙ sym h.rows_stay) (m ∙ h.mark_is)
+    same_control (control_of t) new (ap (λ (d : Document). d.text) document) (c ∙ h.cols_are) (r ∙ h.rows_are) (m ∙ h.mark_is)
 
 -- the same where the state was drawn from between
-pub placed_after : (s d t : PagerState) (change : Change) (new : Control) → d ≡ s → IsFormed s → IsChange (control_of s) change new → t.screen ≡ next_document d.screen change.text → t.upper_mark ≡ change.mark → t.cols ≡ d.cols → t.rows ≡ d.rows → control_of t ≡ new
-placed_after s d t change new same f h e m c r =
-    placed s t change new f h (e ∙ ap (λ (x : PagerState). next_document x.screen change.text) same) m (c ∙ ap (λ (x : PagerState). x.cols) same) (r ∙ ap (λ (x : PagerState). x.rows) same)
+pub placed_after : (s d t : PagerState) (change : Change) (new : Control) → d ≡ s → IsFormed s → IsChange (control_of s) change new → t.screen ≡ next_document d.screen change.text → t.upper_mark ≡ change.mark → t.cols ≡ change.cols → t.rows ≡ change.rows → control_of t ≡ new
+placed_after s d t change new same f h e m c r = placed s t change new f h (e ∙ ap (λ (x : PagerState). next_document x.screen change.text) same) m c r
+
+abbrev pub document : List ℕ → ℕ → Document
+document text cols = record { text = text; cols = cols }
+
+-- a change to a text that was formed anew
+pub change_anew : (s : PagerState) (change : Change) (next : NextText) (text : List ℕ) (cols : ℕ) (new : Control) → change.text ≡ next → ((d : Document) → IsNext d next) → ((d : Document) → next_document d next ≡ document text cols) → text ≡ new.text → cols ≡ new.cols
+    → change.mark ≡ new.mark → change.cols ≡ new.cols → change.rows ≡ new.rows → IsChange (control_of s) change new
+change_anew s change next text cols new is belongs formed t k m c r = record {
+  belongs = subst (λ (n : NextText). IsNext (document_of (control_of s)) n) (sym is) (belongs (document_of (control_of s)));
+  document = ap (λ (n : NextText). next_document (document_of (control_of s)) n) is ∙ formed (document_of (control_of s)) ∙ ap (λ (x : List ℕ). document x cols) t ∙ ap (λ (x : ℕ). document new.text x) k;
+  mark_is = m;
+  cols_are = c;
+  rows_are = r;
+}

@@ -1,18 +1,19 @@
--- What is drawn in a step, and in a run.
-use Rattle.std.proofs.Common.{◌≡◌, ℕ, ◌-◌, ◌<◌, ◌≤◌, List, [], ◌∷◌, ◌++◌, length, map, drop, replicate, Option, Some, None, Result, Ok, Err, IfErr, refl, sym, ap, subst, ◌∙◌, arith}
+-- What is drawn in a step, and at the start.
+use Rattle.std.proofs.Common.{◌≡◌, ℕ, ◌-◌, ◌<◌, ◌≤◌, ◌==◌, ◌&&◌, Bool, true, false, List, [], ◌∷◌, ◌++◌, length, map, drop, replicate, Option, Some, None, refl, sym, ap, subst, ◌∙◌, arith, inl, inr}
 use Rattle.std.specs.Io.KnownBytes.{Appends}
 use Rattle.std.proofs.lemmas.List.{length-append, length-map, length-replicate, length-take}
+use Rattle.std.proofs.lemmas.Bool.{cases_Bool, eqb-true, and_left, and_right}
 use Rattle.minus_term.specs.Operations.{Op}
 use Rattle.minus_term.specs.Counts.{AppendsFront}
-use Rattle.minus_term.specs.PlayedScreen.{screen_of, unknown_screen}
+use Rattle.minus_term.specs.PlayedScreen.{PlayedScreen, screen_of, unknown_screen}
+use Rattle.minus_term.specs.Terminal.{setup_bytes}
 use Rattle.minus_term.specs.Written.{written_all}
 use Rattle.minus_term.specs.FullRedraw.{full_ops, page_of}
 use Rattle.minus_term.proofs.FullRedrawLaws.{full_redraw_lem, IsClean-full}
-use Rattle.minus.specs.Control.{Control, text_rows}
-use Rattle.minus.specs.Table.{Wanted, sets_data, appends_data, moves_mark, worked}
+use Rattle.minus.specs.Control.{Control, text_rows, has_size_of}
 use Rattle.minus.specs.Page.{shown, page}
 use Rattle.minus.specs.PromptRow.{prompt_row}
-use Rattle.minus.specs.Drawn.{IsDrawing, Drawn, BrokenOff, IsWholeDrawing, DrawnWhole, WholeBrokenOff}
+use Rattle.minus.specs.Drawn.{screen_before, IsDrawing, Drawn, BrokenOff, IsWholeDrawing, Begins}
 
 -- the list that draws a page whole
 abbrev pub whole_page : Control → List Op
@@ -25,38 +26,34 @@ length_page rows texts prompt l =
 pub shown_fits : (c : Control) → 1 ≤ c.rows → length (shown c) < c.rows
 shown_fits c h = omega (arith, length-take (c.rows - 1) (drop c.mark (text_rows c)))
 
-pub rows_stay : (c : Control) (w : Wanted) → (worked c w).rows ≡ c.rows
-rows_stay c (sets_data t) = refl
-rows_stay c (appends_data t) = refl
-rows_stay c (moves_mark m) = refl
+both_true : (x y : Bool) → (x && y) ≡ true → y ≡ true
+both_true true y e = e
+both_true false y e = absurd (cc)
 
--- a page drawn whole is drawn from any page of the size
-pub whole_draws : (old new : Control) → 1 ≤ old.rows → new.rows ≡ old.rows → IsDrawing (whole_page new) old new
-whole_draws old new some same =
-    let new_some : 1 ≤ new.rows = omega arith in
-    let n : length (map Some (page old).texts) ≡ new.rows = length-map (page old).texts Some ∙ length_page old.rows (shown old) (prompt_row old.cols) (shown_fits old some) ∙ sym same in
-    record {
-      draws = full_redraw_lem new.rows (shown new) (prompt_row new.cols) (screen_of (page old)) n (shown_fits new new_some);
-      clean = IsClean-full (page old ∷ page new ∷ []) new.rows (shown new) (prompt_row new.cols) (1, omega arith, refl);
-    }
+pub same_rows : (a b : Control) → has_size_of a b ≡ true → a.rows ≡ b.rows
+same_rows a b e = eqb-true a.rows b.rows (both_true (a.cols == b.cols) (a.rows == b.rows) e)
+
+-- the screen that is drawn on has the rows of the new page
+pub length_before : (old new : Control) → 1 ≤ old.rows → length (screen_before old new).texts ≡ new.rows
+length_before old new some = elim (cases_Bool (has_size_of old new)) [
+  | inl e ↦ rw e (length-map (page old).texts Some ∙ length_page old.rows (shown old) (prompt_row old.cols) (shown_fits old some) ∙ same_rows old new e)
+  | inr e ↦ rw e (length-replicate {A = Option (List ℕ)} new.rows None)
+]
+
+-- a page drawn whole is drawn from any page
+pub whole_draws : (old new : Control) → 1 ≤ old.rows → 1 ≤ new.rows → IsDrawing (whole_page new) old new
+whole_draws old new some new_some = record {
+  shows = full_redraw_lem new.rows (shown new) (prompt_row new.cols) (screen_before old new) (length_before old new some) (shown_fits new new_some);
+  clean = IsClean-full (page old ∷ page new ∷ []) new.rows (shown new) (prompt_row new.cols) (1, omega arith, refl);
+}
 
 -- a step's drawing, whole or broken off
-pub step_drawn : (a b c : Option (List ℕ)) (bytes : List ℕ) (old mid new : Control) (w : Wanted) → 1 ≤ old.rows → mid ≡ worked old w → new ≡ mid → bytes ≡ written_all (whole_page mid) → b ≡ a → Appends b c bytes → Drawn a c old new
-step_drawn a b c bytes old mid new w some e f g s h =
-    let is : bytes ≡ written_all (whole_page new) = subst (λ (x : Control). bytes ≡ written_all (whole_page x)) (sym f) g in
-    let rows : new.rows ≡ old.rows = ap (λ (x : Control). x.rows) (f ∙ e) ∙ rows_stay old w in
-    (whole_page new, rw (← is) (subst (λ (x : Option (List ℕ)). Appends x c bytes) s h), whole_draws old new some rows)
+pub step_drawn : (a b c : Option (List ℕ)) (bytes : List ℕ) (old new : Control) → 1 ≤ old.rows → 1 ≤ new.rows → bytes ≡ written_all (whole_page new) → b ≡ a → Appends b c bytes → Drawn a c old new
+step_drawn a b c bytes old new some new_some is s h = (whole_page new, rw (← is) (subst (λ (x : Option (List ℕ)). Appends x c bytes) s h), whole_draws old new some new_some)
 
-pub step_broken : (a b c : Option (List ℕ)) (bytes : List ℕ) (old mid new : Control) (w : Wanted) → 1 ≤ old.rows → mid ≡ worked old w → new ≡ mid → bytes ≡ written_all (whole_page mid) → b ≡ a → AppendsFront b c bytes → BrokenOff a c old new
-step_broken a b c bytes old mid new w some e f g s h =
-    let is : bytes ≡ written_all (whole_page new) = subst (λ (x : Control). bytes ≡ written_all (whole_page x)) (sym f) g in
-    let rows : new.rows ≡ old.rows = ap (λ (x : Control). x.rows) (f ∙ e) ∙ rows_stay old w in
-    (whole_page new, subst (λ (x : List ℕ). AppendsFront a c x) is (subst (λ (x : Option (List ℕ)). AppendsFront x c bytes) s h), whole_draws old new some rows)
-
--- a fact holds of each error
-pub of_each_error : {T E : Type 0} (P : E → Type 0) (Q : Type 0) (r : Result T E) → Q → IfErr r (λ e. P e → Q)
-of_each_error P Q (Ok x) q = tt
-of_each_error P Q (Err e) q = λ _. q
+pub step_broken : (a b c : Option (List ℕ)) (bytes : List ℕ) (old new : Control) → 1 ≤ old.rows → 1 ≤ new.rows → bytes ≡ written_all (whole_page new) → b ≡ a → AppendsFront b c bytes → BrokenOff a c old new
+step_broken a b c bytes old new some new_some is s h =
+    (whole_page new, subst (λ (x : List ℕ). AppendsFront a c x) is (subst (λ (x : Option (List ℕ)). AppendsFront x c bytes) s h), whole_draws old new some new_some)
 
 -- a page drawn whole is drawn from every screen of its size
 pub whole_shows : (c : Control) → 1 ≤ c.rows → IsWholeDrawing (whole_page c) (c ∷ []) c
@@ -66,13 +63,6 @@ whole_shows c some = record {
   clean = IsClean-full (page c ∷ []) c.rows (shown c) (prompt_row c.cols) (0, omega arith, refl);
 }
 
--- the first drawing, into an empty buffer, whole or broken off
-pub first_drawn : (a b : Option (List ℕ)) (buffer bytes : List ℕ) (c : Control) → 1 ≤ c.rows → buffer ≡ [] → bytes ≡ buffer ++ written_all (whole_page c) → Appends a b bytes → DrawnWhole a b c
-first_drawn a b buffer bytes c some e g h =
-    let is : bytes ≡ written_all (whole_page c) = g ∙ ap (λ x. x ++ written_all (whole_page c)) e in
-    (whole_page c, rw (← is) h, whole_shows c some)
-
-pub first_broken : (a b : Option (List ℕ)) (buffer bytes : List ℕ) (c : Control) → 1 ≤ c.rows → buffer ≡ [] → bytes ≡ buffer ++ written_all (whole_page c) → AppendsFront a b bytes → WholeBrokenOff a b c
-first_broken a b buffer bytes c some e g h =
-    let is : bytes ≡ written_all (whole_page c) = g ∙ ap (λ x. x ++ written_all (whole_page c)) e in
-    (whole_page c, subst (λ (x : List ℕ). AppendsFront a b x) is h, whole_shows c some)
+-- the first drawing, after the setup
+pub first_drawn : (a b : Option (List ℕ)) (bytes drawing : List ℕ) (c : Control) → 1 ≤ c.rows → bytes ≡ drawing → drawing ≡ written_all (whole_page c) → Appends a b (setup_bytes ++ bytes) → Begins a b c
+first_drawn a b bytes drawing c some e g h = (whole_page c, subst (λ (x : List ℕ). Appends a b (setup_bytes ++ x)) (e ∙ g) h, whole_shows c some)

@@ -4,4 +4,4 @@ use Rattle.minus.specs.Steps.{Seen}
 use Rattle.minus.specs.Reads.{control_of}
 
 abbrev pub seen_of : {S P K : Type 0} → Core S P K → Seen K
-seen_of core = record { control = control_of core.state; classifier = core.classifier; status = core.status }
+seen_of core = record { control = control_of core.state; classifier = core.classifier; mode = core.mode; status = core.status }

@@ -2,6 +2,7 @@
 pub mod Sizes
 pub mod Control
 pub mod Table
+pub mod Classified
 pub mod PromptRow
 pub mod Page
 pub mod Drawn
@@ -9,6 +10,7 @@ pub mod Reads
 pub mod NextTexts
 pub mod Changes
 pub mod Steps
+pub mod Runs
 pub mod Core
 pub mod Starts
 pub mod Answers

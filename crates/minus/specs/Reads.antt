@@ -1,14 +1,15 @@
 -- What contracts read of the state, of commands and inputs.
-use Rattle.std.specs.Prelude.{◌≡◌, string_bytes}
+use Rattle.std.specs.Prelude.{◌≡◌, string_bytes, Option, None, Some}
+use Rattle.minus_term.specs.declared.event.Event.{Event}
 use Rattle.minus.specs.declared.state.PagerState.{PagerState}
 use Rattle.minus.specs.declared.commands.Command.{Command}
 use Rattle.minus.specs.declared.commands.Command.TheVariants.{SetData, AppendData, UserInput}
-use Rattle.minus.specs.declared.commands.InputEvent.{InputEvent}
-use Rattle.minus.specs.declared.commands.InputEvent.TheVariants.{UpdateUpperMark}
 use Rattle.minus.specs.declared.commands.Input.{Input}
 use Rattle.minus.specs.declared.commands.Input.TheVariants as input
+use Rattle.minus.specs.declared.input.InputEvent.{InputEvent}
+use Rattle.minus.specs.declared.input.InputEvent.TheVariants.{UpdateUpperMark, UpdateTermArea, Exit, Ignore}
 use Rattle.minus.specs.Control.{Control, document_of}
-use Rattle.minus.specs.Table.{Wanted, sets_data, appends_data, moves_mark}
+use Rattle.minus.specs.Table.{Wanted, sets_data, appends_data, moves_mark, resizes, exits, ignores}
 
 -- the control that a state holds
 abbrev pub control_of : PagerState → Control
@@ -18,14 +19,29 @@ control_of s = record { text = s.screen.text; cols = s.cols; rows = s.rows; mark
 pub record IsFormed (s : PagerState) : Type 0 where
   pub document : s.screen ≡ document_of (control_of s)
 
+-- what an event of the pager asks for
 abbrev pub event_wanted : InputEvent → Wanted
 event_wanted (UpdateUpperMark mark) = moves_mark mark
+event_wanted (UpdateTermArea cols rows) = resizes cols rows
+event_wanted Exit = exits
+event_wanted Ignore = ignores
 
+-- what a classifier's answer asks for: no answer, nothing
+abbrev pub answer_wanted : Option InputEvent → Wanted
+answer_wanted None = ignores
+answer_wanted (Some event) = event_wanted event
+
+-- what a command asks for
 abbrev pub wanted_of : Command → Wanted
 wanted_of (SetData text) = sets_data (string_bytes text)
 wanted_of (AppendData text) = appends_data (string_bytes text)
 wanted_of (UserInput event) = event_wanted event
 
--- what an input asks for
-abbrev pub told_of : Input → Wanted
-told_of (input.Command command) = wanted_of command
+-- what a session is told: a command, or an event of the terminal
+pub data Told : Type 0 where
+  a_command : Wanted → Told
+  an_event : Event → Told
+
+abbrev pub told_of : Input → Told
+told_of (input.Command command) = a_command (wanted_of command)
+told_of (input.Event event) = an_event event

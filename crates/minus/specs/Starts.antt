@@ -1,17 +1,102 @@
 -- The start of a session.
-use Rattle.std.specs.Prelude.{◌≡◌, ℕ, []}
+use Rattle.std.specs.Prelude.{◌≡◌, ℕ, List, [], ◌∷◌, ◌++◌, Bool, true, false, Option, None, Some}
+use Rattle.std.specs.Io.KnownBytes.{Appends}
 use Rattle.minus_term.specs.declared.error.MinusError.{MinusError}
-use Rattle.minus_term.specs.declared.error.MinusError.TheVariants.{Memory, BadSize, Failed, Draw}
+use Rattle.minus_term.specs.declared.error.MinusError.TheVariants.{Memory, BadSize, BadMode, Setup, Draw}
+use Rattle.minus_term.specs.declared.error.SetupError.{SetupError}
+use Rattle.minus_term.specs.declared.error.SetupError.TheVariants.{InvalidTerminal, AlternateScreen, HideCursor, EnableMouseCapture}
+use Rattle.minus_term.specs.Operations.{Op}
+use Rattle.minus_term.specs.Written.{written_all}
+use Rattle.minus_term.specs.Counts.{AppendsFront}
+use Rattle.minus_term.specs.Terminal.{setup_bytes, cleanup_bytes, SetupBreaksOff}
+use Rattle.minus.specs.declared.state.RunMode.{RunMode}
+use Rattle.minus.specs.declared.state.RunMode.TheVariants.{Uninitialized}
+use Rattle.minus.specs.declared.status.Status.TheVariants as status
 use Rattle.minus.specs.Sizes.{IsSize}
 use Rattle.minus.specs.Control.{Control}
+use Rattle.minus.specs.Drawn.{Begins, IsWholeDrawing}
+use Rattle.minus.specs.Steps.{Seen}
+use Rattle.minus.specs.Table.{Wanted, effect}
 
 -- no text, and the mark at the first row
 abbrev pub at_start : ℕ → ℕ → Control
 at_start cols rows = record { text = []; cols = cols; rows = rows; mark = 0 }
 
--- why a start for so many columns and rows is refused: a size that is none, and that error for no other size
-abbrev pub StartRefused : MinusError → ℕ → ℕ → Type 0
-StartRefused Memory cols rows = IsSize cols rows
-StartRefused (BadSize c r) cols rows = (c ≡ cols) × (r ≡ rows) × (IsSize cols rows → ⊥)
-StartRefused Failed cols rows = ⊥
-StartRefused (Draw cause) cols rows = IsSize cols rows
+-- what a command that waits for the start changes: the text on show; nothing moves
+abbrev pub taken : Control → Wanted → Control
+taken c w = record c { text = (effect c w).changed.text }
+
+-- commands that wait are taken in their order
+abbrev pub taken_all : Control → List Wanted → Control
+taken_all c [] = c
+taken_all c (w ∷ ws) = taken_all (taken c w) ws
+
+-- the first control: that of the commands that waited
+abbrev pub first_control : ℕ → ℕ → List Wanted → Control
+first_control cols rows waiting = taken_all (at_start cols rows) waiting
+
+-- a start is asked for as it can be: in a mode in which a session runs, and for a size of a terminal
+pub record CanStart (mode : RunMode) (cols rows : ℕ) : Type 0 where
+  pub runs : mode ≡ Uninitialized → ⊥
+  pub size : IsSize cols rows
+
+-- a start that ends well: on a terminal, where the session runs and has drawn its first page
+pub record IsStarted {K : Type 0} (seen : Seen K) (classifier : K) (waiting : List Wanted) (mode : RunMode) (cols rows : ℕ) (terminal : Bool) (old_bytes new_bytes : Option (List ℕ)) : Type 0 where
+  pub can : CanStart mode cols rows
+  pub on_terminal : terminal ≡ true
+  pub begins : seen ≡ record { control = first_control cols rows waiting; classifier = classifier; mode = mode; status = status.Running }
+  pub drawn : Begins old_bytes new_bytes (first_control cols rows waiting)
+
+-- when a setup is refused: with the one error where the sink is no terminal
+abbrev pub IsSetupRefused : SetupError → Bool → Type 0
+IsSetupRefused InvalidTerminal terminal = terminal ≡ false
+IsSetupRefused e terminal = terminal ≡ true
+
+-- when what is drawn at the start is refused
+abbrev pub IsShowRefused : MinusError → Bool → Type 0
+IsShowRefused (Setup cause) terminal = IsSetupRefused cause terminal
+IsShowRefused (Draw cause) terminal = terminal ≡ true
+IsShowRefused e terminal = ⊥
+
+-- the sink grew by the bytes that set a terminal up, a beginning of these, and a beginning of the bytes that clean a
+-- terminal up
+abbrev pub DrawingBreaksOff : Option (List ℕ) → Option (List ℕ) → List ℕ → Type 0
+DrawingBreaksOff old_bytes new_bytes drawing = (set_up drawn : Option (List ℕ)) × Appends old_bytes set_up setup_bytes × AppendsFront set_up drawn drawing × AppendsFront drawn new_bytes cleanup_bytes
+
+-- what is left where it was refused
+abbrev pub ShowBreaksOff : MinusError → Option (List ℕ) → Option (List ℕ) → List ℕ → Type 0
+ShowBreaksOff (Setup cause) old_bytes new_bytes drawing = SetupBreaksOff cause old_bytes new_bytes
+ShowBreaksOff (Draw cause) old_bytes new_bytes drawing = DrawingBreaksOff old_bytes new_bytes drawing
+ShowBreaksOff e old_bytes new_bytes drawing = ⊥
+
+-- when a start is refused: for its mode first, then for its size, then by the sink
+abbrev pub IsStartRefused : MinusError → RunMode → ℕ → ℕ → Bool → Type 0
+IsStartRefused BadMode mode cols rows terminal = mode ≡ Uninitialized
+IsStartRefused (BadSize c r) mode cols rows terminal = (mode ≡ Uninitialized → ⊥) × (c ≡ cols) × (r ≡ rows) × (IsSize cols rows → ⊥)
+IsStartRefused Memory mode cols rows terminal = CanStart mode cols rows
+IsStartRefused (Setup cause) mode cols rows terminal = CanStart mode cols rows × IsSetupRefused cause terminal
+IsStartRefused (Draw cause) mode cols rows terminal = CanStart mode cols rows × (terminal ≡ true)
+IsStartRefused e mode cols rows terminal = ⊥
+
+-- the start was refused before anything was written
+abbrev pub IsEarly : MinusError → Type 0
+IsEarly (Setup cause) = ⊥
+IsEarly (Draw cause) = ⊥
+IsEarly e = Unit {0}
+
+-- what a refused start wrote: nothing; a beginning of what sets the terminal up; or all of that, a beginning of the first
+-- page, and a beginning of what cleans the terminal up
+abbrev pub StartBreaksOff : MinusError → Option (List ℕ) → Option (List ℕ) → Control → Type 0
+StartBreaksOff (Setup cause) old_bytes new_bytes first = SetupBreaksOff cause old_bytes new_bytes
+StartBreaksOff (Draw cause) old_bytes new_bytes first = (ops : List Op) × DrawingBreaksOff old_bytes new_bytes (written_all ops) × IsWholeDrawing ops (first ∷ []) first
+StartBreaksOff e old_bytes new_bytes first = new_bytes ≡ old_bytes
+
+-- the sink refused a write or a flush, or took nothing
+abbrev pub IsSetupFault : SetupError → Type 0
+IsSetupFault InvalidTerminal = ⊥
+IsSetupFault e = Unit {0}
+
+abbrev pub IsStartFault : MinusError → Type 0
+IsStartFault (Setup cause) = IsSetupFault cause
+IsStartFault (Draw cause) = Unit {0}
+IsStartFault e = ⊥

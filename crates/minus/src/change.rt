@@ -1,4 +1,6 @@
 //! What a command leaves, formed beside the state.
+ghost use Rattle.minus.specs.Sizes.{IsSize};
+
 use minus_text::{PendingPush, Screen};
 
 // The text that there will be: as it is, another one, or as a push leaves it.
@@ -39,9 +41,12 @@ impl NextText {
     }
 }
 
-// What a command leaves: the text, and the mark.
+// What a command leaves: the text, the mark and the size.
 #[derive(Debug, Drop)]
 pub(crate) struct Change {
     pub(crate) text: NextText,
     pub(crate) mark: usize,
+    pub(crate) cols: usize,
+    pub(crate) rows: usize,
+    pub(crate) ghost sized: { IsSize cols rows },
 }

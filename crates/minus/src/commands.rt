@@ -1,11 +1,10 @@
 //! What a pager is told.
+ghost use Rattle.std.specs.Prelude.{◌≡◌};
+ghost use Rattle.minus.specs.Table.{drawing_of};
+ghost use Rattle.minus.specs.Reads.{wanted_of};
 
-/// What an event asks for.
-#[derive(Clone, Copy, Debug, PartialEq, Eq)]
-pub enum InputEvent {
-    /// Move the mark, the first row of text on the page, to this row, counted from 0.
-    UpdateUpperMark(usize),
-}
+use crate::input::InputEvent;
+use minus_term::Event;
 
 /// A command.
 #[derive(Debug, Drop)]
@@ -23,4 +22,30 @@ pub enum Command {
 pub enum Input {
     /// A command.
     Command(Command),
+    /// An event of the terminal, which the session's classifier decides about.
+    Event(Event),
+}
+
+/// How what a command does is drawn.
+#[derive(Clone, Copy, Debug, PartialEq, Eq)]
+pub enum Drawing {
+    /// Not at all: nothing has changed.
+    Nothing,
+    /// The whole page.
+    Full,
+    /// The terminal is cleaned up.
+    Ending,
+}
+
+impl Command {
+    // How it is drawn.
+    pub(crate) fn drawing(&self) -> Drawing
+        ensures { result ≡ drawing_of (wanted_of self.now) }
+    {
+        match self {
+            Command::UserInput(InputEvent::Exit) => Drawing::Ending,
+            Command::UserInput(InputEvent::Ignore) => Drawing::Nothing,
+            Command::SetData(_) | Command::AppendData(_) | Command::UserInput(_) => Drawing::Full,
+        }
+    }
 }

@@ -5,18 +5,22 @@ mod change;
 pub mod commands;
 pub mod display;
 pub mod init;
+pub mod input;
 pub mod page;
+pub mod pager;
 pub mod parts;
 pub mod session;
 pub mod state;
 pub mod status;
 
-pub use commands::{Command, Input, InputEvent};
-pub use init::{StartError, start};
-pub use minus_term::{MinusError, OutputSink};
+pub use commands::{Command, Input};
+pub use init::{StartError, dynamic_paging, init_core};
+pub use input::{InputClassifier, InputEvent};
+pub use minus_term::{CleanupError, Event, MinusError, OutputSink, SetupError, WithTty};
 pub use page::Page;
+pub use pager::Pager;
 pub use session::{Answer, Ran, Session};
-pub use state::PagerState;
+pub use state::{ExitStrategy, PagerState, RunMode};
 
 #[cfg(test)]
 mod tests;

@@ -1,4 +1,5 @@
 //! What a session keeps of its caller's.
+use crate::input::InputClassifier;
 use std::marker::PhantomData;
 
 /// The kinds of what a session keeps.
@@ -6,6 +7,9 @@ pub trait Parts {
     /// What decides about events.
     type Classifier: Drop;
 }
+
+/// Kinds of which the classifier can be asked.
+pub trait Calls: Parts<Classifier: InputClassifier> {}
 
 /// What is kept, by its kinds.
 pub struct Kinds<K> {
@@ -16,6 +20,4 @@ impl<K: Drop> Parts for Kinds<K> {
     type Classifier = K;
 }
 
-/// The classifier of a session that is given commands alone.
-#[derive(Clone, Copy, Debug, PartialEq, Eq)]
-pub struct NoEvents;
+impl<K: InputClassifier> Calls for Kinds<K> {}

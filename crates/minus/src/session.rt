@@ -2,12 +2,13 @@
 ghost use Rattle.minus.specs.Reads.{IsFormed};
 
 use crate::change::{Change, NextText};
-use crate::commands::{Command, Input};
+use crate::commands::{Command, Drawing, Input};
+use crate::input::{InputClassifier, InputEvent, ResizeAlone};
 use crate::page::Page;
-use crate::parts::{Kinds, NoEvents, Parts};
-use crate::state::PagerState;
+use crate::parts::{Calls, Kinds, Parts};
+use crate::state::{ExitStrategy, PagerState, RunMode};
 use crate::status::Status;
-use minus_term::{MinusError, OutputSink, draw_bytes};
+use minus_term::{CleanupError, MinusError, OutputSink, cleanup, draw_bytes};
 use std::alloc::Global;
 
 /// A pager over a sink, generic in what it keeps of its caller's.
@@ -18,20 +19,59 @@ pub struct Core<S, P: Parts> {
     pub(crate) state: PagerState,
     pub(crate) classifier: P::Classifier,
     pub(crate) drawing: Vec<u8>,
+    pub(crate) mode: RunMode,
     pub(crate) status: Status,
     ghost formed: { IsFormed state },
 }
 
 /// A pager over a sink.
-pub type Session<S> = Core<S, Kinds<NoEvents>>;
+pub type Session<S> = Core<S, Kinds<ResizeAlone>>;
 
 /// What a step answers.
 #[derive(Debug, Drop)]
 pub struct Answer {
+    /// After an exit, how the program is to go on, and the code that it ends with if it is to end.
+    pub exited: Option<(ExitStrategy, u8)>,
     /// The text that was copied.
     pub copied: Option<String>,
     /// The items that were refused in the step, which went on.
     pub refused: Vec<MinusError>,
+}
+
+impl Answer {
+    ghost use Rattle.std.specs.Prelude.{◌≡◌};
+    ghost use Rattle.minus.specs.Answers.{IsAnswer, ends_run};
+    ghost use Rattle.minus.specs.declared.commands.Drawing.TheVariants.{Nothing, Full, Ending};
+
+    // The answer of a step after which the session goes on.
+    fn going_on(alloc: Global) -> Answer
+        ensures full { IsAnswer Full result }
+        ensures nothing { IsAnswer Nothing result }
+    {
+        Answer {
+            exited: None,
+            copied: None,
+            refused: Vec::new(alloc),
+        }
+    }
+
+    // Whether a run stops after the step: it has exited, copied a text, or refused items.
+    fn ends_a_run(&self) -> bool
+        ensures { result ≡ ends_run self.now }
+    {
+        self.exited.is_some() || self.copied.is_some() || !self.refused.is_empty()
+    }
+
+    // The answer of an exit.
+    fn exit(alloc: Global) -> Answer
+        ensures { IsAnswer Ending result }
+    {
+        Answer {
+            exited: Some((ExitStrategy::ProcessQuit, 0)),
+            copied: None,
+            refused: Vec::new(alloc),
+        }
+    }
 }
 
 /// What came of a list of inputs.
@@ -62,9 +102,12 @@ impl<S, P: Parts> Core<S, P> {
     ghost use Rattle.minus.specs.Control.{Control};
     ghost use Rattle.minus.specs.Page.{page, shown};
     ghost use Rattle.minus.specs.PromptRow.{prompt_row};
-    ghost use Rattle.minus.specs.Reads.{control_of};
+    ghost use Rattle.minus.specs.Reads.{control_of, wanted_of};
     ghost use Rattle.minus.specs.NextTexts.{IsNext};
-    ghost use Rattle.minus.specs.Changes.{IsChange};
+    ghost use Rattle.minus.specs.Changes.{IsChange, IsUnformed};
+    ghost use Rattle.minus.specs.Sizes.{IsSize};
+    ghost use Rattle.minus.specs.Table.{effect, changed_by, IsPossible};
+    ghost use Rattle.minus.specs.Steps.{mode_told};
     ghost use Rattle.minus.specs.Core.{seen_of};
 
     /// The state: what its screen answers is the document of the text on show.
@@ -73,6 +116,16 @@ impl<S, P: Parts> Core<S, P> {
         ensures formed { IsFormed result.now }
     {
         &self.state
+    }
+
+    /// The mode that the session was started in; `Uninitialized` after an exit or a failure.
+    pub fn mode(&self) -> RunMode
+        ensures { result ≡ mode_told (seen_of self.now) }
+    {
+        match self.status {
+            Status::Running => self.mode,
+            Status::Ended | Status::Failed => RunMode::Uninitialized,
+        }
     }
 
     /// The page that the commands define.
@@ -85,10 +138,7 @@ impl<S, P: Parts> Core<S, P> {
         ensures cursor { IfOk result (λ p. p.cursor ≡ None) }
         ensures memory { IfErr result (λ e. e ≡ MinusError.Memory) }
     {
-        let change = Change {
-            text: NextText::Same,
-            mark: self.state.upper_mark,
-        };
+        let change = self.state.change_to(NextText::Same);
         let shown = self.state.shown_after(self.alloc, &change)?;
         let page = Page::form(self.alloc, self.state.cols, self.state.rows, &shown)?;
         Ok(page)
@@ -99,8 +149,7 @@ impl<S, P: Parts> Core<S, P> {
         requires { IsNext self.old.state.screen change.now.text }
         ensures drawn { OnOk result ((new : Control) → IsChange (seen_of self.old).control change.now new → self.new.drawing.items ≡ written_all (full_ops new.rows (shown new) (prompt_row new.cols))) }
         ensures state { self.new.state ≡ self.old.state }
-        ensures classifier { self.new.classifier ≡ self.old.classifier }
-        ensures status { self.new.status ≡ self.old.status }
+        ensures seen { seen_of self.new ≡ seen_of self.old }
         ensures sink { self.new.sink ≡ self.old.sink }
         ensures memory { IfErr result (λ e. e ≡ MinusError.Memory) }
     {
@@ -109,33 +158,54 @@ impl<S, P: Parts> Core<S, P> {
             .draw_after(self.alloc, &mut self.drawing, change)?;
         Ok(())
     }
+
+    // Forms the change of a command, draws it into the buffer and puts it in its place. An `Err` changes nothing.
+    fn take(&mut self, command: Command) -> Result<(), MinusError>
+        ensures done { OnOk result (seen_of self.new ≡ record (seen_of self.old) { control = changed_by (effect (seen_of self.old).control (wanted_of command)) }) }
+        ensures possible { OnOk result (IsPossible (wanted_of command)) }
+        ensures drawn { OnOk result (self.new.drawing.items ≡ written_all (full_ops (seen_of self.new).control.rows (shown (seen_of self.new).control) (prompt_row (seen_of self.new).control.cols))) }
+        ensures size { OnOk result (IsSize (seen_of self.new).control.cols (seen_of self.new).control.rows) }
+        ensures sink { self.new.sink ≡ self.old.sink }
+        ensures err { OnErr result (seen_of self.new ≡ seen_of self.old) }
+        ensures unformed { IfErr result (λ e. IsUnformed e (wanted_of command)) }
+    {
+        let change = self.state.prepare(self.alloc, command)?;
+        self.draw_change(&change)?;
+        self.state.place(self.alloc, change)?;
+        Ok(())
+    }
 }
 
-impl<S: OutputSink + Drop, P: Parts> Core<S, P> {
-    ghost use Rattle.std.specs.Prelude.{◌≡◌, ◌++◌, ◌↔◌, ℕ, [], map, reverse, None, OnOk, OnErr, IfOk, IfErr, IfNone, IsErrOf};
+impl<S: OutputSink + Drop, P: Calls> Core<S, P> {
+    ghost use Rattle.std.specs.Prelude.{◌≡◌, ◌++◌, ◌↔◌, ℕ, [], map, reverse, None, OnOk, OnErr, IfOk, IfErr, IfNone, IsOk, IsErrOf};
     ghost use Rattle.std.specs.Io.KnownBytes.{Appends};
     ghost use Rattle.minus_term.specs.Counts.{Stays, Rises, AppendsFront};
+    ghost use Rattle.minus_term.specs.Terminal.{cleanup_bytes, CleanupBreaksOff};
     ghost use Rattle.minus_term.specs.Written.{written_all};
     ghost use Rattle.minus_term.specs.FullRedraw.{full_ops};
     ghost use Rattle.minus.specs.Page.{shown};
     ghost use Rattle.minus.specs.PromptRow.{prompt_row};
-    ghost use Rattle.minus.specs.Reads.{wanted_of, told_of};
+    ghost use Rattle.minus.specs.Reads.{wanted_of, told_of, a_command};
+    ghost use Rattle.minus.specs.Table.{drawing_of};
     ghost use Rattle.minus.specs.Drawn.{Drawn, BrokenOff};
-    ghost use Rattle.minus.specs.Steps.{Step, Refuses, IsDrawFault, IsRun};
-    ghost use Rattle.minus.specs.Answers.{IsPlain, IsLastAnswer};
+    ghost use Rattle.minus.specs.Steps.{Asks, IsStep, Refuses, IsSinkFault, BreaksOffExit, cleanup_after};
+    ghost use Rattle.minus.specs.Runs.{IsRun};
+    ghost use Rattle.minus.specs.Answers.{IsAnswer};
     ghost use Rattle.minus.specs.Core.{seen_of};
+    ghost use Rattle.minus.specs.declared.commands.Drawing.TheVariants.{Full};
     ghost use Rattle.minus.specs.declared.status.Status.TheVariants as status;
 
-    // Writes the buffer of drawings. A refusal fails the session.
-    fn write_drawing(&mut self) -> Result<(), MinusError>
-        ensures ok { OnOk result (Appends (S.contents self.old.sink) (S.contents self.new.sink) self.old.drawing.items) }
+    // Does what a command asks for that is drawn in full, and draws the page. A refusal of the sink fails the session.
+    fn change(&mut self, command: Command) -> Result<(), MinusError>
+        requires full { drawing_of (wanted_of command) ≡ Full }
+        requires running { (seen_of self.old).status ≡ status.Running }
+        ensures step { OnOk result ((answer : Answer) → IsAnswer Full answer → IsStep P.Classifier.allows (seen_of self.old) (a_command (wanted_of command)) (seen_of self.new) answer (S.contents self.old.sink) (S.contents self.new.sink)) }
         ensures stays { OnOk result (Stays (S.refused self.old.sink) (S.refused self.new.sink)) }
-        ensures runs { OnOk result (seen_of self.new ≡ seen_of self.old) }
-        ensures err { OnErr result (AppendsFront (S.contents self.old.sink) (S.contents self.new.sink) self.old.drawing.items) }
-        ensures rises { OnErr result (Rises (S.refused self.old.sink) (S.refused self.new.sink)) }
-        ensures fails { OnErr result (seen_of self.new ≡ record (seen_of self.old) { status = status.Failed }) }
-        ensures fault { IfErr result IsDrawFault }
+        ensures refused { IfErr result (λ e. Refuses P.Classifier.allows e (seen_of self.old) (a_command (wanted_of command)) (seen_of self.new) (S.contents self.old.sink) (S.contents self.new.sink)) }
+        ensures rises { IfErr result (λ e. IsSinkFault e → Rises (S.refused self.old.sink) (S.refused self.new.sink)) }
+        ensures untouched { IfErr result (λ e. (IsSinkFault e → ⊥) → self.new.sink ≡ self.old.sink) }
     {
+        self.take(command)?;
         if let Err(cause) = draw_bytes(&mut self.sink, &self.drawing) {
             self.status = Status::Failed;
             return Err(MinusError::Draw(cause));
@@ -143,57 +213,91 @@ impl<S: OutputSink + Drop, P: Parts> Core<S, P> {
         Ok(())
     }
 
-    // Forms the change of a command, draws it into the buffer and puts it in its place. An `Err` changes nothing.
-    fn take(&mut self, command: Command) -> Result<(), MinusError>
-        ensures step { OnOk result (Step (seen_of self.old) (wanted_of command) (seen_of self.new)) }
-        ensures drawn { OnOk result (self.new.drawing.items ≡ written_all (full_ops (seen_of self.new).control.rows (shown (seen_of self.new).control) (prompt_row (seen_of self.new).control.cols))) }
-        ensures sink { self.new.sink ≡ self.old.sink }
-        ensures err { OnErr result (seen_of self.new ≡ seen_of self.old) }
-        ensures memory { IfErr result (λ e. e ≡ MinusError.Memory) }
+    // Cleans the terminal up, and ends the session. A refusal fails it.
+    fn exit(&mut self) -> Result<(), MinusError>
+        ensures ok { OnOk result (Appends (S.contents self.old.sink) (S.contents self.new.sink) cleanup_bytes) }
+        ensures stays { OnOk result (Stays (S.refused self.old.sink) (S.refused self.new.sink)) }
+        ensures ends { OnOk result (seen_of self.new ≡ record (seen_of self.old) { status = status.Ended }) }
+        ensures err { IfErr result (λ e. BreaksOffExit e (S.contents self.old.sink) (S.contents self.new.sink)) }
+        ensures rises { OnErr result (Rises (S.refused self.old.sink) (S.refused self.new.sink)) }
+        ensures fails { OnErr result (seen_of self.new ≡ record (seen_of self.old) { status = status.Failed }) }
     {
-        let change = self.state.prepare(self.alloc, command)?;
-        self.draw_change(&change)?;
-        self.state.place(self.alloc, change)?;
+        if let Err(cause) = cleanup(&mut self.sink, true) {
+            self.status = Status::Failed;
+            return Err(MinusError::Cleanup(cause));
+        }
+        self.status = Status::Ended;
         Ok(())
     }
 
-    /// Works an input off, and draws the page.
+    // Does what a command asks for, and draws it.
+    fn work_off(&mut self, command: Command) -> Result<Answer, MinusError>
+        requires { (seen_of self.old).status ≡ status.Running }
+        ensures step { IfOk result (λ a. IsStep P.Classifier.allows (seen_of self.old) (a_command (wanted_of command)) (seen_of self.new) a (S.contents self.old.sink) (S.contents self.new.sink)) }
+        ensures stays { OnOk result (Stays (S.refused self.old.sink) (S.refused self.new.sink)) }
+        ensures refused { IfErr result (λ e. Refuses P.Classifier.allows e (seen_of self.old) (a_command (wanted_of command)) (seen_of self.new) (S.contents self.old.sink) (S.contents self.new.sink)) }
+        ensures rises { IfErr result (λ e. IsSinkFault e → Rises (S.refused self.old.sink) (S.refused self.new.sink)) }
+        ensures untouched { IfErr result (λ e. (IsSinkFault e → ⊥) → self.new.sink ≡ self.old.sink) }
+    {
+        match command.drawing() {
+            Drawing::Nothing => Ok(Answer::going_on(self.alloc)),
+            Drawing::Full => {
+                self.change(command)?;
+                Ok(Answer::going_on(self.alloc))
+            }
+            Drawing::Ending => {
+                self.exit()?;
+                Ok(Answer::exit(self.alloc))
+            }
+        }
+    }
+
+    // The command that an input is: for an event, what the classifier answers.
+    fn command_of(&self, input: Input) -> Command
+        ensures { Asks P.Classifier.allows (seen_of self.now) (told_of input) (wanted_of result) }
+    {
+        match input {
+            Input::Command(command) => command,
+            Input::Event(event) => {
+                let answer = self.classifier.classify_input(event, &self.state);
+                Command::UserInput(answer.unwrap_or(InputEvent::Ignore))
+            }
+        }
+    }
+
+    /// Works an input off, and draws what has changed.
     ///
     /// # Errors
     ///
-    /// [`MinusError::Failed`] where the sink refused before. [`MinusError::Memory`] where there is no memory: nothing
-    /// has changed then, and nothing was written. [`MinusError::Draw`] where the sink refuses a write or the flush, or
-    /// takes nothing: a beginning of the drawing was written, and the session has failed.
+    /// [`MinusError::Failed`] where the sink refused before, and [`MinusError::Ended`] where the session has exited.
+    /// [`MinusError::BadSize`] where a size is asked for whose columns or rows are not from 1 to 65,535, and
+    /// [`MinusError::Memory`] where there is no memory: nothing has changed then, and nothing was written.
+    /// [`MinusError::Draw`] and, at an exit, [`MinusError::Cleanup`] where the sink refuses a write or the flush, or
+    /// takes nothing: a beginning of the bytes was written, and the session has failed.
     pub fn step(&mut self, input: Input) -> Result<Answer, MinusError>
-        ensures step { OnOk result (Step (seen_of self.old) (told_of input) (seen_of self.new)) }
-        ensures drawn { OnOk result (Drawn (S.contents self.old.sink) (S.contents self.new.sink) (seen_of self.old).control (seen_of self.new).control) }
+        ensures step { IfOk result (λ a. IsStep P.Classifier.allows (seen_of self.old) (told_of input) (seen_of self.new) a (S.contents self.old.sink) (S.contents self.new.sink)) }
         ensures stays { OnOk result (Stays (S.refused self.old.sink) (S.refused self.new.sink)) }
-        ensures answer { IfOk result IsPlain }
 
         // A refusal: what it leaves, and when it comes.
-        ensures refused { IfErr result (λ e. Refuses e (seen_of self.old) (told_of input) (seen_of self.new)) }
+        ensures refused { IfErr result (λ e. Refuses P.Classifier.allows e (seen_of self.old) (told_of input) (seen_of self.new) (S.contents self.old.sink) (S.contents self.new.sink)) }
         ensures failed { IsErrOf result MinusError.Failed ↔ ((seen_of self.old).status ≡ status.Failed) }
-        ensures broken { IfErr result (λ e. IsDrawFault e → BrokenOff (S.contents self.old.sink) (S.contents self.new.sink) (seen_of self.old).control (seen_of self.new).control) }
-        ensures rises { IfErr result (λ e. IsDrawFault e → Rises (S.refused self.old.sink) (S.refused self.new.sink)) }
-        ensures untouched { IfErr result (λ e. (IsDrawFault e → ⊥) → self.new.sink ≡ self.old.sink) }
+        ensures ended { IsErrOf result MinusError.Ended ↔ ((seen_of self.old).status ≡ status.Ended) }
+        ensures rises { IfErr result (λ e. IsSinkFault e → Rises (S.refused self.old.sink) (S.refused self.new.sink)) }
+        ensures untouched { IfErr result (λ e. (IsSinkFault e → ⊥) → self.new.sink ≡ self.old.sink) }
     {
-        if self.status == Status::Failed {
-            return Err(MinusError::Failed);
+        match self.status {
+            Status::Running => {}
+            Status::Ended => return Err(MinusError::Ended),
+            Status::Failed => return Err(MinusError::Failed),
         }
-        let Input::Command(command) = input;
-        self.take(command)?;
-        self.write_drawing()?;
-        Ok(Answer {
-            copied: None,
-            refused: Vec::new(self.alloc),
-        })
+        let command = self.command_of(input);
+        let answer = self.work_off(command)?;
+        Ok(answer)
     }
 
-    // Works inputs off from the end of a list, until one is refused.
+    // Works inputs off from the end of a list, until one is refused or the session has exited.
     fn run_from_end(&mut self, left: &mut Vec<Input>) -> Progress
-        ensures run { IsRun told_of (seen_of self.old) (seen_of self.new) (reverse left.old.items) result.done result.stopped (reverse left.new.items) (S.contents self.old.sink) (S.contents self.new.sink) }
-        ensures all { IfNone result.stopped (left.new.items ≡ []) }
-        ensures last { IsLastAnswer result.done result.last }
+        ensures { IsRun P.Classifier.allows told_of (seen_of self.old) (seen_of self.new) (reverse left.old.items) result.done result.last result.stopped (reverse left.new.items) (S.contents self.old.sink) (S.contents self.new.sink) }
     {
         let mut done = 0;
         let mut last = None;
@@ -201,6 +305,13 @@ impl<S: OutputSink + Drop, P: Parts> Core<S, P> {
             match self.step(input) {
                 Ok(answer) => {
                     done += 1;
+                    if answer.ends_a_run() {
+                        return Progress {
+                            done,
+                            last: Some(answer),
+                            stopped: None,
+                        };
+                    }
                     last = Some(answer);
                 }
                 Err(refusal) => {
@@ -219,11 +330,10 @@ impl<S: OutputSink + Drop, P: Parts> Core<S, P> {
         }
     }
 
-    /// Works inputs off in order, until one is refused: its input is dropped, and those after it are handed back.
+    /// Works inputs off in order, until one is refused or the session has exited. An input that is refused is dropped,
+    /// and those after it, or after an exit, are handed back.
     pub fn run(&mut self, inputs: Vec<Input>) -> Ran
-        ensures run { IsRun told_of (seen_of self.old) (seen_of self.new) inputs.items result.done result.stopped result.rest.items (S.contents self.old.sink) (S.contents self.new.sink) }
-        ensures all { IfNone result.stopped (result.rest.items ≡ []) }
-        ensures last { IsLastAnswer result.done result.last }
+        ensures { IsRun P.Classifier.allows told_of (seen_of self.old) (seen_of self.new) inputs.items result.done result.last result.stopped result.rest.items (S.contents self.old.sink) (S.contents self.new.sink) }
     {
         let mut left = inputs;
         left.reverse();
@@ -235,5 +345,24 @@ impl<S: OutputSink + Drop, P: Parts> Core<S, P> {
             stopped: progress.stopped,
             rest: left,
         }
+    }
+
+    /// Ends the session and hands its sink back. Unless it has exited, the terminal is cleaned up first, also where the
+    /// session has failed.
+    ///
+    /// # Errors
+    ///
+    /// The part of the cleanup that the sink refused: a beginning of the cleanup was written.
+    pub fn finish(self) -> (S, Result<(), CleanupError>)
+        ensures ended { (seen_of self).status ≡ status.Ended → (result.0 ≡ self.sink) × IsOk result.1 }
+        ensures ok { OnOk result.1 (Appends (S.contents self.sink) (S.contents result.0) (cleanup_after (seen_of self).status)) }
+        ensures stays { OnOk result.1 (Stays (S.refused self.sink) (S.refused result.0)) }
+        ensures broken { IfErr result.1 (λ e. CleanupBreaksOff e (S.contents self.sink) (S.contents result.0)) }
+        ensures rises { OnErr result.1 (Rises (S.refused self.sink) (S.refused result.0)) }
+    {
+        let ended = self.status == Status::Ended;
+        let Core { mut sink, .. } = self;
+        let cleaned = cleanup(&mut sink, !ended);
+        (sink, cleaned)
     }
 }

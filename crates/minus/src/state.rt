@@ -1,11 +1,13 @@
 //! What is on show, and how.
-ghost use Rattle.std.specs.Prelude.{◌≡◌, ◌↔◌, IsTrue, OnOk, OnErr, IfErr};
+ghost use Rattle.std.specs.Prelude.{◌≡◌, ◌↔◌, IsTrue, OnOk, OnErr, IfOk, IfErr};
+ghost use Rattle.minus_text.specs.Document.{Document};
 ghost use Rattle.minus.specs.NextTexts.{next_document, IsNext};
 ghost use Rattle.minus.specs.Sizes.{IsSize};
 
 use crate::change::{Change, NextText};
-use crate::commands::{Command, InputEvent};
+use crate::commands::Command;
 use crate::display::{draw_full, format_prompt};
+use crate::input::InputEvent;
 use minus_term::MinusError;
 use minus_text::Screen;
 use std::alloc::{AllocError, Global};
@@ -15,6 +17,17 @@ pub fn is_size(cols: usize, rows: usize) -> bool
     ensures { IsTrue result ↔ IsSize cols rows }
 {
     (1..=65_535).contains(&cols) && (1..=65_535).contains(&rows)
+}
+
+// A text with its rows for so many columns.
+fn formed_anew(alloc: Global, text: &str, cols: usize) -> Result<NextText, MinusError>
+    ensures next { IfOk result (λ n. (d : Document) → next_document d n ≡ record { text = text.now; cols = cols }) }
+    ensures belongs { IfOk result (λ n. (d : Document) → IsNext d n) }
+    ensures memory { IfErr result (λ e. e ≡ MinusError.Memory) }
+{
+    let mut screen = Screen::new(alloc);
+    let _ = screen.set_text(alloc, text, cols)?;
+    Ok(NextText::Whole(screen))
 }
 
 // Puts a text that was formed in its place. An `Err` changes nothing.
@@ -37,6 +50,37 @@ fn place_text(alloc: Global, screen: &mut Screen, text: NextText) -> Result<(), 
     }
 }
 
+/// How a session was started, or that it runs no more.
+#[derive(Clone, Copy, Debug, PartialEq, Eq)]
+pub enum RunMode {
+    /// For a text that is whole at the start.
+    Static,
+    /// For a text that grows.
+    Dynamic,
+    /// The session has exited or failed, or has not begun.
+    Uninitialized,
+}
+
+impl RunMode {
+    ghost use Rattle.std.specs.Prelude.{◌≡◌, ◌↔◌, IsTrue};
+
+    /// Whether no session runs.
+    pub fn is_uninitialized(&self) -> bool
+        ensures { IsTrue result ↔ (self.now ≡ RunMode.Uninitialized) }
+    {
+        *self == RunMode::Uninitialized
+    }
+}
+
+/// How the program is to go on after an exit.
+#[derive(Clone, Copy, Debug, PartialEq, Eq)]
+pub enum ExitStrategy {
+    /// The process is to end.
+    ProcessQuit,
+    /// The program is to go on.
+    PagerQuit,
+}
+
 /// What is on show: the text, the size of the terminal and the mark.
 #[derive(Debug, Drop)]
 pub struct PagerState {
@@ -55,13 +99,14 @@ impl PagerState {
     ghost use Rattle.std.specs.Prelude.{◌≡◌, ◌-◌, [], ◌++◌, map, take, drop, OnOk, OnErr, IfOk, IfErr};
     ghost use Rattle.minus_text.specs.Document.{rows_of};
     ghost use Rattle.minus.specs.Control.{document_of};
-    ghost use Rattle.minus.specs.Table.{effect, moved, worked};
+    ghost use Rattle.minus.specs.Table.{effect, moved, changed_by, resizes, IsPossible};
     ghost use Rattle.minus_term.specs.Written.{written_all};
     ghost use Rattle.minus_term.specs.FullRedraw.{full_ops};
     ghost use Rattle.minus.specs.PromptRow.{prompt_row};
     ghost use Rattle.minus.specs.Reads.{control_of, wanted_of, IsFormed};
     ghost use Rattle.minus.specs.NextTexts.{next_document, IsNext};
-    ghost use Rattle.minus.specs.Changes.{IsChange};
+    ghost use Rattle.minus.specs.Changes.{IsChange, IsUnformed};
+    ghost use Rattle.minus.specs.Starts.{taken};
 
     /// No text yet.
     pub fn new(alloc: Global, cols: usize, rows: usize) -> Result<PagerState, MinusError>
@@ -80,46 +125,100 @@ impl PagerState {
         })
     }
 
-    // The text and the mark that a command leaves, before the mark is clamped.
-    fn next_text(&self, alloc: Global, command: Command) -> Result<Change, MinusError>
-        requires { IsFormed self.now }
-        ensures next { IfOk result (λ c. IsChange (control_of self.now) c (moved (effect (control_of self.now) (wanted_of command)).changed (effect (control_of self.now) (wanted_of command)).moves_to)) }
+    // Takes over the text that a command leaves, before the start. An `Err` changes nothing.
+    pub(crate) fn take_text(&mut self, alloc: Global, command: &Command) -> Result<(), MinusError>
+        requires { IsFormed self.old }
+        ensures control { OnOk result (control_of self.new ≡ taken (control_of self.old) (wanted_of command.now)) }
+        ensures formed { OnOk result (IsFormed self.new) }
+        ensures err { OnErr result (self.new ≡ self.old) }
         ensures memory { IfErr result (λ e. e ≡ MinusError.Memory) }
     {
         match command {
             Command::SetData(text) => {
-                let mut screen = Screen::new(alloc);
-                let _ = screen.set_text(alloc, &text, self.cols)?;
-                Ok(Change {
-                    text: NextText::Whole(screen),
-                    mark: self.upper_mark,
-                })
+                let _ = self.screen.set_text(alloc, text, self.cols)?;
             }
             Command::AppendData(text) => {
+                let _ = self.screen.push_screen_buf(alloc, text, self.cols)?;
+            }
+            Command::UserInput(_) => {}
+        }
+        Ok(())
+    }
+
+    // The state as it is, but for the text.
+    pub(crate) fn change_to(&self, text: NextText) -> Change
+        ensures text { result.text ≡ text }
+        ensures mark { result.mark ≡ self.now.upper_mark }
+        ensures cols { result.cols ≡ self.now.cols }
+        ensures rows { result.rows ≡ self.now.rows }
+    {
+        Change {
+            text,
+            mark: self.upper_mark,
+            cols: self.cols,
+            rows: self.rows,
+        }
+    }
+
+    // The state in another size, for which the text is formed anew.
+    fn resized(&self, alloc: Global, cols: usize, rows: usize) -> Result<Change, MinusError>
+        requires { IsFormed self.now }
+        ensures next { IfOk result (λ c. IsChange (control_of self.now) c (record (control_of self.now) { cols = cols; rows = rows })) }
+        ensures possible { OnOk result (IsSize cols rows) }
+        ensures unformed { IfErr result (λ e. IsUnformed e (resizes cols rows)) }
+    {
+        if !is_size(cols, rows) {
+            return Err(MinusError::BadSize(cols, rows));
+        }
+        let text = formed_anew(alloc, self.screen.orig_text(), cols)?;
+        Ok(Change {
+            text,
+            mark: self.upper_mark,
+            cols,
+            rows,
+        })
+    }
+
+    // The text and the mark that a command leaves, before the mark is clamped.
+    fn next_text(&self, alloc: Global, command: Command) -> Result<Change, MinusError>
+        requires { IsFormed self.now }
+        ensures next { IfOk result (λ c. IsChange (control_of self.now) c (moved (effect (control_of self.now) (wanted_of command)).changed (effect (control_of self.now) (wanted_of command)).moves_to)) }
+        ensures possible { OnOk result (IsPossible (wanted_of command)) }
+        ensures unformed { IfErr result (λ e. IsUnformed e (wanted_of command)) }
+    {
+        match command {
+            Command::SetData(text) => Ok(self.change_to(formed_anew(alloc, &text, self.cols)?)),
+            Command::AppendData(text) => {
                 let pending = self.screen.prepare_push(alloc, &text, self.cols)?;
-                Ok(Change {
-                    text: NextText::Pushed(text, pending),
-                    mark: self.upper_mark,
-                })
+                Ok(self.change_to(NextText::Pushed(text, pending)))
             }
             Command::UserInput(InputEvent::UpdateUpperMark(mark)) => Ok(Change {
                 text: NextText::Same,
                 mark,
+                cols: self.cols,
+                rows: self.rows,
             }),
+            Command::UserInput(InputEvent::UpdateTermArea(cols, rows)) => {
+                self.resized(alloc, cols, rows)
+            }
+            Command::UserInput(InputEvent::Exit | InputEvent::Ignore) => {
+                Ok(self.change_to(NextText::Same))
+            }
         }
     }
 
     // What a command leaves, formed beside the state.
     pub(crate) fn prepare(&self, alloc: Global, command: Command) -> Result<Change, MinusError>
         requires { IsFormed self.now }
-        ensures next { IfOk result (λ c. IsChange (control_of self.now) c (worked (control_of self.now) (wanted_of command))) }
-        ensures memory { IfErr result (λ e. e ≡ MinusError.Memory) }
+        ensures next { IfOk result (λ c. IsChange (control_of self.now) c (changed_by (effect (control_of self.now) (wanted_of command)))) }
+        ensures possible { OnOk result (IsPossible (wanted_of command)) }
+        ensures unformed { IfErr result (λ e. IsUnformed e (wanted_of command)) }
     {
         let mut change = self.next_text(alloc, command)?;
         let top = change
             .text
             .rows_after(&self.screen)
-            .saturating_sub(self.rows - 1);
+            .saturating_sub(change.rows - 1);
         change.mark = change.mark.min(top);
         Ok(change)
     }
@@ -131,14 +230,14 @@ impl PagerState {
         change: &'a Change,
     ) -> Result<Vec<&'a str>, AllocError>
         requires { IsNext self.now.screen change.now.text }
-        ensures { IfOk result (λ v. map (λ r. r.now) v.items ≡ take (self.now.rows - 1) (drop change.now.mark (rows_of (next_document self.now.screen change.now.text)))) }
+        ensures { IfOk result (λ v. map (λ r. r.now) v.items ≡ take (change.now.rows - 1) (drop change.now.mark (rows_of (next_document self.now.screen change.now.text)))) }
     {
         let left = change
             .text
             .rows_after(&self.screen)
             .saturating_sub(change.mark);
         let mut shown = Vec::new(alloc);
-        for i in 0..left.min(self.rows - 1) {
+        for i in 0..left.min(change.rows - 1) {
             if let Some(row) = change.text.row_after(&self.screen, change.mark + i) {
                 shown.push(row)?;
             }
@@ -154,11 +253,11 @@ impl PagerState {
         change: &'a Change,
     ) -> Result<(), AllocError>
         requires { IsNext self.now.screen change.now.text }
-        ensures { OnOk result (out.new.items ≡ out.old.items ++ written_all (full_ops self.now.rows (take (self.now.rows - 1) (drop change.now.mark (rows_of (next_document self.now.screen change.now.text)))) (prompt_row self.now.cols))) }
+        ensures { OnOk result (out.new.items ≡ out.old.items ++ written_all (full_ops change.now.rows (take (change.now.rows - 1) (drop change.now.mark (rows_of (next_document self.now.screen change.now.text)))) (prompt_row change.now.cols))) }
     {
         let shown = self.shown_after(alloc, change)?;
-        let prompt = format_prompt(alloc, self.cols)?;
-        draw_full(alloc, out, self.rows as u16, &shown, &prompt)?;
+        let prompt = format_prompt(alloc, change.cols)?;
+        draw_full(alloc, out, change.rows as u16, &shown, &prompt)?;
         Ok(())
     }
 
@@ -167,14 +266,21 @@ impl PagerState {
         requires { IsNext self.old.screen change.text }
         ensures screen { OnOk result (self.new.screen ≡ next_document self.old.screen change.text) }
         ensures mark { OnOk result (self.new.upper_mark ≡ change.mark) }
-        ensures cols { self.new.cols ≡ self.old.cols }
-        ensures rows { self.new.rows ≡ self.old.rows }
+        ensures cols { OnOk result (self.new.cols ≡ change.cols) }
+        ensures rows { OnOk result (self.new.rows ≡ change.rows) }
         ensures err { OnErr result (self.new ≡ self.old) }
         ensures memory { IfErr result (λ e. e ≡ MinusError.Memory) }
     {
-        let Change { text, mark } = change;
+        let Change {
+            text,
+            mark,
+            cols,
+            rows,
+        } = change;
         place_text(alloc, &mut self.screen, text)?;
         self.upper_mark = mark;
+        self.cols = cols;
+        self.rows = rows;
         Ok(())
     }
 }

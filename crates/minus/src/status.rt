@@ -5,6 +5,8 @@
 pub enum Status {
     /// It takes steps.
     Running,
+    /// It has exited, and each step is refused.
+    Ended,
     /// A write or a flush was refused, and each step is refused.
     Failed,
 }

@@ -3,7 +3,7 @@ use Rattle.std.proofs.Common.{◌≡◌, sym, subst}
 use Rattle.minus_term.specs.Written.{written_all}
 use Rattle.minus_term.specs.FullRedraw.{full_ops}
 use Rattle.minus.specs.Control.{Control}
-use Rattle.minus.specs.Table.{worked}
+use Rattle.minus.specs.Table.{effect, changed_by}
 use Rattle.minus.specs.Page.{shown}
 use Rattle.minus.specs.PromptRow.{prompt_row}
 use Rattle.minus.specs.Reads.{control_of, wanted_of}
@@ -12,7 +12,7 @@ use Rattle.minus.proofs.session.Core.take.Goals as goal
 
 pub returns-clause-drawn : goal.returns-clause-drawn
 returns-clause-drawn g c =
-    let new : Control = worked (control_of c.args.self.now.state) (wanted_of c.args.command) in
+    let new : Control = changed_by (effect (control_of c.args.self.now.state) (wanted_of c.args.command)) in
     let h = c.in_ok-change.ensures.next in
-    let is = placed_after c.args.self.now.state c.draw_change.new.self.state c.place.new.self c.in_ok-change.change new c.draw_change.ensures.state c.args.self.now.formed h c.in_ok-place.ensures.screen c.in_ok-place.ensures.mark c.place.ensures.cols c.place.ensures.rows in
+    let is = placed_after c.args.self.now.state c.draw_change.new.self.state c.place.new.self c.in_ok-change.change new c.draw_change.ensures.state c.args.self.now.formed h c.in_ok-place.ensures.screen c.in_ok-place.ensures.mark c.in_ok-place.ensures.cols c.in_ok-place.ensures.rows in
     subst (λ (x : Control). c.draw_change.new.self.drawing.items ≡ written_all (full_ops x.rows (shown x) (prompt_row x.cols))) (sym is) (c.in_ok-draw_change.ensures.drawn new h)

@@ -1,0 +1,8 @@
+-- The commands so far are taken.
+use Rattle.std.proofs.Common.{◌≡◌, map, take}
+use Rattle.minus.specs.Reads.{IsFormed, control_of, wanted_of}
+use Rattle.minus.specs.Starts.{taken_all}
+use Rattle.minus.proofs.init.take_waiting.Given as goal
+
+abbrev pub invariant-loop-command : goal.invariant-loop-command
+invariant-loop-command l = IsFormed l.state × (control_of l.state ≡ taken_all (control_of l.fn.state) (map wanted_of (take l.command-index l.queue)))

@@ -1,0 +1,7 @@
+-- The text is formed anew.
+use Rattle.std.proofs.Common.{refl}
+use Rattle.minus.proofs.ChangeLaws.{change_anew}
+use Rattle.minus.proofs.state.PagerState.resized.Goals as goal
+
+pub returns-clause-next : goal.returns-clause-next
+returns-clause-next c = change_anew c.args.self.now _ c.in_ok-text.text _ _ _ refl c.in_ok-text.ensures.belongs c.in_ok-text.ensures.next c.orig_text.ensures refl refl refl refl

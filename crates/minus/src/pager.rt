@@ -1,0 +1,77 @@
+//! A pager that is not yet on show.
+ghost use Rattle.std.specs.Prelude.{◌≡◌, ◌++◌, ◌∷◌, [], map, OnOk, OnErr, IfErr, IfOk};
+ghost use Rattle.minus.specs.Reads.{wanted_of};
+ghost use Rattle.minus.specs.Table.{sets_data, appends_data};
+
+use crate::commands::Command;
+use minus_term::MinusError;
+use std::alloc::{AllocError, Global};
+use std::fmt;
+
+/// A pager that is not yet on show: what it is told waits for its start.
+#[derive(Debug, Drop)]
+pub struct Pager {
+    pub(crate) alloc: Global,
+    pub(crate) queue: Vec<Command>,
+}
+
+impl Pager {
+    /// A pager that was told nothing.
+    pub fn new(alloc: Global) -> Pager
+        ensures { result.queue.items ≡ [] }
+    {
+        Pager {
+            alloc,
+            queue: Vec::new(alloc),
+        }
+    }
+
+    // Adds a command after those that wait.
+    fn queue(&mut self, command: Command) -> Result<(), MinusError>
+        ensures ok { OnOk result (self.new.queue.items ≡ self.old.queue.items ++ command ∷ []) }
+        ensures err { OnErr result (self.new.queue.items ≡ self.old.queue.items) }
+        ensures memory { IfErr result (λ e. e ≡ MinusError.Memory) }
+    {
+        match self.queue.push(command) {
+            Ok(()) => Ok(()),
+            Err(failed) => Err(MinusError::from(AllocError::from(failed))),
+        }
+    }
+
+    /// Puts this text in the place of all text before it.
+    ///
+    /// # Errors
+    ///
+    /// [`MinusError::Memory`] where there is no memory, and nothing has changed.
+    pub fn set_text(&mut self, text: &str) -> Result<(), MinusError>
+        ensures ok { OnOk result (map wanted_of self.new.queue.items ≡ map wanted_of self.old.queue.items ++ sets_data text.now ∷ []) }
+        ensures err { OnErr result (self.new.queue.items ≡ self.old.queue.items) }
+        ensures memory { IfErr result (λ e. e ≡ MinusError.Memory) }
+    {
+        self.queue(Command::SetData(String::from_str(self.alloc, text)?))?;
+        Ok(())
+    }
+
+    /// Adds this text after the text before it.
+    ///
+    /// # Errors
+    ///
+    /// [`MinusError::Memory`] where there is no memory, and nothing has changed.
+    pub fn push_str(&mut self, text: &str) -> Result<(), MinusError>
+        ensures ok { OnOk result (map wanted_of self.new.queue.items ≡ map wanted_of self.old.queue.items ++ appends_data text.now ∷ []) }
+        ensures err { OnErr result (self.new.queue.items ≡ self.old.queue.items) }
+        ensures memory { IfErr result (λ e. e ≡ MinusError.Memory) }
+    {
+        self.queue(Command::AppendData(String::from_str(self.alloc, text)?))?;
+        Ok(())
+    }
+}
+
+impl fmt::Write for Pager {
+    fn write_str(&mut self, text: &str) -> fmt::Result {
+        match self.push_str(text) {
+            Ok(()) => Ok(()),
+            Err(_) => Err(fmt::Error),
+        }
+    }
+}
