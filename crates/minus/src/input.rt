@@ -36,10 +36,9 @@ pub trait InputClassifier: Drop {
 pub struct ResizeAlone;
 
 impl InputClassifier for ResizeAlone {
-    ghost use Rattle.std.specs.Prelude.{◌≡◌};
-    ghost use Rattle.minus.specs.Classified.{resize_answer};
+    ghost use Rattle.minus.specs.Classified.{resize_alone};
 
-    ghost allows = { λ classifier event state answer. answer ≡ resize_answer event };
+    ghost allows = { resize_alone };
 
     fn classify_input(&self, event: Event, _state: &PagerState) -> Option<InputEvent> {
         match event {

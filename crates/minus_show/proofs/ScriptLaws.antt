@@ -8,8 +8,8 @@ use Rattle.std.specs.Str.{IsUtf8, is_utf8}
 use Rattle.std.proofs.lemmas.Str.{IsUtf8-from_is_utf8, is_utf8-from_IsUtf8}
 use Rattle.std.proofs.lemmas.Option.{none-some}
 use Rattle.std.proofs.lemmas.List.Sums.{prefix_len-le-length}
-use Rattle.minus.specs.Table.{Wanted}
-use Rattle.minus_show.specs.Script.{is_newline, is_blank, has_blank, word_wanted, line_wanted, without_empty_last, script_lines, then_wanted}
+use Rattle.minus.specs.Reads.{Told}
+use Rattle.minus_show.specs.Script.{is_newline, is_blank, has_blank, word_told, line_told, without_empty_last, script_lines, then_told}
 
 -- a part that others follow is a line
 later_parts : (part : List ℕ) (parts : List (List ℕ)) → 0 < length parts → without_empty_last (part ∷ parts) ≡ part ∷ without_empty_last parts
@@ -42,32 +42,32 @@ no_newline script h = elim (cases_lt (position_or_len is_newline script) (length
   | inr ge ↦ omega (arith, prefix_len-le-length (λ b. not (is_newline b)) script)
 ]
 
--- a line that is not UTF-8 wants nothing
-pub faulty_bytes : (line : List ℕ) → (IsUtf8 line → ⊥) → None ≡ line_wanted line
+-- a line that is not UTF-8 tells nothing
+pub faulty_bytes : (line : List ℕ) → (IsUtf8 line → ⊥) → None ≡ line_told line
 faulty_bytes line h =
     let f : is_utf8 line ≡ false = false_from_ne_true (is_utf8 line) (λ t. h (IsUtf8-from_is_utf8 line t)) in
     rw f refl
 
--- what a line with a blank wants
-pub line_wanted-at : (line : List ℕ) → IsUtf8 line → position_or_len is_blank line < length line → word_wanted (before_first is_blank line) (after_first is_blank line) ≡ line_wanted line
-line_wanted-at line text at =
-    sym (cond-true (is_utf8 line && has_blank line) (word_wanted (before_first is_blank line) (after_first is_blank line)) None
+-- what a line with a blank tells
+pub line_told-at : (line : List ℕ) → IsUtf8 line → position_or_len is_blank line < length line → word_told (before_first is_blank line) (after_first is_blank line) ≡ line_told line
+line_told-at line text at =
+    sym (cond-true (is_utf8 line && has_blank line) (word_told (before_first is_blank line) (after_first is_blank line)) None
     (and_from (is_utf8 line) (has_blank line) (is_utf8-from_IsUtf8 line text) (lt-ltb (position_or_len is_blank line) (length line) at)))
 
--- what some lines want, and then what follows them
-abbrev pub wanted_after : List Wanted → Result (List Wanted) ℕ → Result (List Wanted) ℕ
-wanted_after done (Ok later) = Ok (done ++ later)
-wanted_after done (Err number) = Err (length done + number)
+-- what some lines tell, so many, and then what follows them
+abbrev pub told_after : List Told → ℕ → Result (List Told) ℕ → Result (List Told) ℕ
+told_after done lines (Ok later) = Ok (done ++ later)
+told_after done lines (Err number) = Err (lines + number)
 
 -- one more line
-pub wanted_after-more : (done : List Wanted) (w : Wanted) (later : Result (List Wanted) ℕ) → wanted_after done (then_wanted (Some w) later) ≡ wanted_after (done ++ w ∷ []) later
-wanted_after-more done w (Ok later) = ap Ok (sym (append_assoc done (w ∷ []) later))
-wanted_after-more done w (Err number) = ap Err (omega (arith, length-append done (w ∷ [])))
+pub told_after-more : (done now : List Told) (lines : ℕ) (first : List Told) (later : Result (List Told) ℕ) → now ≡ done ++ first → told_after done lines (then_told (Some first) later) ≡ told_after now (lines + 1) later
+told_after-more done now lines first (Ok later) e = ap Ok (sym (append_assoc done first later) ∙ ap (λ x. x ++ later) (sym e))
+told_after-more done now lines first (Err number) e = ap Err (omega arith)
 
 -- no line more
-pub wanted_after-end : (done : List Wanted) → wanted_after done (Ok []) ≡ Ok done
-wanted_after-end done = ap Ok (append-nil done)
+pub told_after-end : (done : List Told) (lines : ℕ) → told_after done lines (Ok []) ≡ Ok done
+told_after-end done lines = ap Ok (append-nil done)
 
-pub wanted_after-nil : (later : Result (List Wanted) ℕ) → wanted_after [] later ≡ later
-wanted_after-nil (Ok later) = refl
-wanted_after-nil (Err number) = ap Err (omega arith)
+pub told_after-nil : (later : Result (List Told) ℕ) → told_after [] 0 later ≡ later
+told_after-nil (Ok later) = refl
+told_after-nil (Err number) = ap Err (omega arith)

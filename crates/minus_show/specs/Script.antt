@@ -1,9 +1,13 @@
--- The script: its lines, and what each of them wants of the session.
-use Rattle.std.specs.Prelude.{ℕ, ◌+◌, ◌==◌, nat_lt, List, [], ◌∷◌, length, Bool, Option, Some, None, Result, Ok, Err, bytes_eq, codes, ◌&&◌, if◌then◌else◌}
+-- The script: its lines, and what each of them tells the session.
+use Rattle.std.specs.Prelude.{ℕ, ◌+◌, ◌==◌, ◌++◌, nat_lt, List, [], ◌∷◌, length, map, Bool, Option, Some, None, Result, Ok, Err, bytes_eq, codes, ◌&&◌, if◌then◌else◌}
 use Rattle.std.specs.Option.{option_map}
-use Rattle.std.specs.Str.{is_utf8}
+use Rattle.std.specs.Str.{is_utf8, chars}
 use Rattle.std.specs.List.{slice_split, before_first, after_first, position_or_len}
-use Rattle.minus.specs.Table.{Wanted, sets_data, appends_data, moves_mark}
+use Rattle.minus_term.specs.declared.event.Event.TheVariants.{Key}
+use Rattle.minus_term.specs.declared.event.KeyCode.TheVariants.{Char}
+use Rattle.minus_term.specs.declared.event.KeyEventKind.TheVariants.{Press}
+use Rattle.minus.specs.Reads.{Told, a_command, an_event}
+use Rattle.minus.specs.Table.{Wanted, sets_data, appends_data, moves_mark, resizes}
 use Rattle.minus_show.specs.Number.{usize_of}
 use Rattle.minus_show.specs.Escapes.{unescaped}
 
@@ -25,30 +29,56 @@ is_blank b = b == 32
 abbrev pub script_lines : List ℕ → List (List ℕ)
 script_lines script = without_empty_last (slice_split is_newline script)
 
--- what a word wants with its argument: a known word, whose argument is well formed
-abbrev pub word_wanted : List ℕ → List ℕ → Option Wanted
-word_wanted word argument =
-    if bytes_eq word (codes "push") then option_map appends_data (unescaped argument)
-    else if bytes_eq word (codes "set") then option_map sets_data (unescaped argument)
-    else if bytes_eq word (codes "mark") then option_map moves_mark (usize_of argument)
-    else None
-
 -- whether a line has a blank
 abbrev pub has_blank : List ℕ → Bool
 has_blank line = nat_lt (position_or_len is_blank line) (length line)
 
--- what a line wants: it is UTF-8, and its first blank ends its word and begins the argument; a faulty line wants nothing
-abbrev pub line_wanted : List ℕ → Option Wanted
-line_wanted line =
-    if is_utf8 line && has_blank line then word_wanted (before_first is_blank line) (after_first is_blank line) else None
+-- a character typed: the press of its key, without a modifier
+abbrev pub typed : ℕ → Told
+typed character = an_event (Key (record { code = Char character; modifiers = record { 0 = 0 }; kind = Press; state = record { 0 = 0 } }))
 
--- what a first line wants, and then the later ones, or the number of the first faulty line
-abbrev pub then_wanted : Option Wanted → Result (List Wanted) ℕ → Result (List Wanted) ℕ
-then_wanted None later = Err 1
-then_wanted (Some first) (Ok later) = Ok (first ∷ later)
-then_wanted (Some first) (Err number) = Err (number + 1)
+-- two numbers ask for a size
+abbrev pub size_asked : Option ℕ → Option ℕ → Option Wanted
+size_asked (Some cols) (Some rows) = Some (resizes cols rows)
+size_asked (Some cols) None = None
+size_asked None rows = None
 
--- what each line wants, or the number from 1 of the first faulty one
-abbrev pub script_wanted : List (List ℕ) → Result (List Wanted) ℕ
-script_wanted [] = Ok []
-script_wanted (line ∷ lines) = then_wanted (line_wanted line) (script_wanted lines)
+-- a size is two numbers with one blank between them
+abbrev pub resize_asked : List ℕ → Option Wanted
+resize_asked argument = if has_blank argument then size_asked (usize_of (before_first is_blank argument)) (usize_of (after_first is_blank argument)) else None
+
+-- what a word asks for as a command with its argument: a known word, whose argument is well formed
+abbrev pub command_asked : List ℕ → List ℕ → Option Wanted
+command_asked word argument =
+    if bytes_eq word (codes "push") then option_map appends_data (unescaped argument)
+    else if bytes_eq word (codes "set") then option_map sets_data (unescaped argument)
+    else if bytes_eq word (codes "mark") then option_map moves_mark (usize_of argument)
+    else if bytes_eq word (codes "resize") then resize_asked argument
+    else None
+
+-- a command is one input
+abbrev pub one_command : Wanted → List Told
+one_command wanted = a_command wanted ∷ []
+
+-- a text that is typed is as many as it has characters
+abbrev pub all_typed : List ℕ → List Told
+all_typed text = map typed (chars text)
+
+-- what a word tells the session with its argument
+abbrev pub word_told : List ℕ → List ℕ → Option (List Told)
+word_told word argument = if bytes_eq word (codes "type") then option_map all_typed (unescaped argument) else option_map one_command (command_asked word argument)
+
+-- what a line tells: it is UTF-8, and its first blank ends its word and begins the argument; a faulty line tells nothing
+abbrev pub line_told : List ℕ → Option (List Told)
+line_told line = if is_utf8 line && has_blank line then word_told (before_first is_blank line) (after_first is_blank line) else None
+
+-- what a first line tells, and then the later ones, or the number of the first faulty line
+abbrev pub then_told : Option (List Told) → Result (List Told) ℕ → Result (List Told) ℕ
+then_told None later = Err 1
+then_told (Some first) (Ok later) = Ok (first ++ later)
+then_told (Some first) (Err number) = Err (number + 1)
+
+-- what all lines tell, or the number from 1 of the first faulty one
+abbrev pub script_told : List (List ℕ) → Result (List Told) ℕ
+script_told [] = Ok []
+script_told (line ∷ lines) = then_told (line_told line) (script_told lines)

@@ -9,6 +9,8 @@ use crate::number::parse_usize;
 pub enum Mode {
     /// The page of the screen, row by row.
     Page,
+    /// All bytes that the terminal is sent.
+    Bytes,
 }
 
 /// The program's arguments, its name aside.
@@ -28,6 +30,7 @@ fn parse_mode(name: &str) -> Option<Mode>
 {
     match name {
         "page" => Some(Mode::Page),
+        "bytes" => Some(Mode::Bytes),
         _ => None,
     }
 }

@@ -1,9 +1,11 @@
 //! A run of a script.
-ghost use Rattle.std.specs.Prelude.{◌≡◌, ⊤, map, string_bytes, IfOk, IfErr, OnOk};
+ghost use Rattle.std.specs.Prelude.{◌≡◌, ⊤, map, Some, string_bytes, IfOk, IfErr, OnOk};
 ghost use Rattle.std.specs.Io.KnownBytes.{Appends};
 ghost use Rattle.minus.specs.Reads.{told_of};
-ghost use Rattle.minus.specs.Sizes.{IsSize};
-ghost use Rattle.minus_show.specs.Runs.{last_page, PagerRefuses, PrintsPage, IsRunFault};
+ghost use Rattle.minus.specs.Core.{seen_of};
+ghost use Rattle.minus.specs.Steps.{cleanup_after};
+ghost use Rattle.minus_show.specs.Runs.{exit_code, printed_exit, printed_after, IsShown, IsScriptRun, IsRunFault};
+ghost use Rattle.minus_show.specs.ShowFaults.{IsShowFault, IsCleanupFault, IsMemory};
 ghost use Rattle.minus_show.specs.declared.fault.ScriptFault.TheVariants.{Io, Line, Refused};
 
 use crate::arguments::Mode;
@@ -11,29 +13,93 @@ use crate::fault::ScriptFault;
 use crate::printed::print_rows;
 use crate::reading::read_script;
 use crate::script::parse_script;
-use minus::{Input, MinusError, Page, start};
-use std::alloc::Global;
+use minus::{Answer, Input, MinusError, Pager, Ran, Session, WithTty, dynamic_paging};
+use std::alloc::{AllocError, Global};
 use std::io;
 use std::io::{Read, Write};
 
-// The page that inputs lead to, from no text.
-fn last_page(
+// The sink of the program's sessions, which keeps all that is written to it.
+type Held = WithTty<Vec<u8>>;
+
+// The code of an exit that the last step answered.
+fn exit_code(last: &Option<Answer>) -> Option<u8>
+    ensures { result ≡ exit_code last.now }
+{
+    match last {
+        Some(
+            Answer {
+                exited: Some((_, code)),
+                ..
+            },
+        ) => Some(*code),
+        _ => None,
+    }
+}
+
+// The line that tells an exit.
+fn print_exit(alloc: Global, code: u8) -> Result<Vec<u8>, AllocError>
+    ensures { IfOk result (λ printed. printed.items ≡ printed_exit code) }
+{
+    let line = format!(in alloc; "exit {code}\n")?;
+    let mut printed = Vec::new(alloc);
+    printed.extend_from_slice(line.as_bytes())?;
+    Ok(printed)
+}
+
+// The rows of the page, or, after an exit, its code.
+fn print_page(
     alloc: Global,
+    session: &Session<Held>,
+    last: &Option<Answer>,
+) -> Result<Vec<u8>, ScriptFault>
+    ensures page { IfOk result (λ printed. printed.items ≡ printed_after (exit_code last.now) (seen_of session.now).control) }
+    ensures memory { IfErr result IsMemory }
+{
+    match exit_code(last) {
+        Some(code) => Ok(print_exit(alloc, code)?),
+        None => {
+            let mut printed = Vec::new(alloc);
+            print_rows(&mut printed, &session.page()?.rows)?;
+            Ok(printed)
+        }
+    }
+}
+
+// All bytes of a session's sink, with those that clean the terminal up.
+fn all_written(session: Session<Held>) -> Result<Vec<u8>, ScriptFault>
+    ensures bytes { IfOk result (λ written. Appends (Some session.sink.inner.items) (Some written.items) (cleanup_after (seen_of session).status)) }
+    ensures broken { IfErr result (IsCleanupFault (Some session.sink.inner.items)) }
+{
+    let (sink, cleaned) = session.finish();
+    match cleaned {
+        Ok(()) => Ok(sink.inner),
+        Err(cause) => Err(ScriptFault::from(MinusError::from(cause))),
+    }
+}
+
+// What the mode prints of a pager that was told all inputs, from no text.
+fn show(
+    alloc: Global,
+    mode: Mode,
     cols: usize,
     rows: usize,
     inputs: Vec<Input>,
-) -> Result<Page, MinusError>
-    ensures page { IfOk result (λ p. map string_bytes p.rows.items ≡ last_page cols rows (map told_of inputs.items)) }
-    ensures size { IfOk result (λ p. IsSize cols rows) }
-    ensures refused { IfErr result (λ e. PagerRefuses e cols rows) }
+) -> Result<Vec<u8>, ScriptFault>
+    ensures shown { IfOk result (λ printed. IsShown mode cols rows (map told_of inputs.items) printed.items) }
+    ensures fault { IfErr result (IsShowFault mode cols rows (map told_of inputs.items)) }
 {
-    let mut session = match start(alloc, Vec::new(alloc), cols, rows) {
+    let sink = WithTty::new(Vec::new(alloc), true);
+    let mut session = match dynamic_paging(Pager::new(alloc), sink, cols, rows) {
         Ok(session) => session,
-        Err(refused) => return Err(refused.cause),
+        Err(refused) => return Err(ScriptFault::from(refused.cause)),
     };
-    match session.run(inputs).stopped {
-        Some(refusal) => Err(refusal),
-        None => session.page(),
+    let Ran { last, stopped, .. } = session.run(inputs);
+    if let Some(refusal) = stopped {
+        return Err(ScriptFault::from(refusal));
+    }
+    match mode {
+        Mode::Page => print_page(alloc, &session, &last),
+        Mode::Bytes => all_written(session),
     }
 }
 
@@ -47,7 +113,8 @@ fn write_out<W: Write>(writer: &mut W, bytes: &[u8]) -> io::Result<()>
 }
 
 /// Reads a script to its end, runs it on a pager of so many columns and rows, and prints what the mode asks for: the
-/// rows of the last page.
+/// rows of the last page, or, after an exit, `exit` and its code; or all bytes that the terminal was sent, with those
+/// that clean it up at the end. What follows an exit in the script is not run.
 ///
 /// # Errors
 ///
@@ -61,16 +128,13 @@ pub fn run_script<R: Read, W: Write>(
     reader: &mut R,
     writer: &mut W,
 ) -> Result<(), ScriptFault>
-    ensures page { OnOk result (PrintsPage (R.remaining reader.old) (R.remaining reader.new) (W.contents writer.old) (W.contents writer.new) cols rows) }
-    ensures fault { IfErr result (IsRunFault (R.remaining reader.old) (R.remaining reader.new) cols rows) }
+    ensures shown { OnOk result (IsScriptRun mode cols rows (R.remaining reader.old) (R.remaining reader.new) (W.contents writer.old) (W.contents writer.new)) }
+    ensures fault { IfErr result (IsRunFault mode cols rows (R.remaining reader.old) (R.remaining reader.new)) }
     ensures untouched { IfErr result (λ e. elim e [ Io cause ↦ ⊤ | Line number ↦ writer.new ≡ writer.old | Refused number ↦ writer.new ≡ writer.old ]) }
 {
     let script = read_script(alloc, reader)?;
     let inputs = parse_script(alloc, &script)?;
-    let mut printed = Vec::new(alloc);
-    match mode {
-        Mode::Page => print_rows(&mut printed, &last_page(alloc, cols, rows, inputs)?.rows)?,
-    }
+    let printed = show(alloc, mode, cols, rows, inputs)?;
     write_out(writer, &printed)?;
     Ok(())
 }

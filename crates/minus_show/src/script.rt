@@ -1,16 +1,18 @@
 //! The script that the program reads.
-ghost use Rattle.std.specs.Prelude.{◌≡◌, ◌+◌, ◌<◌, ◌++◌, ◌∷◌, [], map, length, IfOk, IfErr, IfSome, IsSome, MatchOption, Ok, Some, None, string_bytes};
+ghost use Rattle.std.specs.Prelude.{◌≡◌, ◌+◌, ◌<◌, ◌++◌, ◌∷◌, [], map, length, IfOk, IfErr, OnOk, IfSome, IsSome, MatchOption, Ok, Some, None, string_bytes};
 ghost use Rattle.std.specs.Option.{option_map};
 ghost use Rattle.std.specs.List.{position};
-ghost use Rattle.minus_show.specs.Script.{is_newline, script_lines, script_wanted, line_wanted, word_wanted};
+ghost use Rattle.minus_show.specs.Script.{is_newline, script_lines, script_told, line_told, word_told, command_asked, resize_asked, typed, all_typed};
 ghost use Rattle.minus_show.specs.Escapes.{unescaped, escape_byte, split_escape_of};
+ghost use Rattle.minus_show.specs.ScriptLines.{told_by};
 ghost use Rattle.minus_show.specs.ScriptFaults.{IsScriptFault};
 ghost use Rattle.minus.specs.Reads.{told_of, wanted_of};
 ghost use Rattle.minus.specs.Table.{moves_mark};
 
 use crate::fault::ScriptFault;
 use crate::number::parse_usize;
-use minus::{Command, Input, InputEvent};
+use minus::{Command, Event, Input, InputEvent};
+use minus_term::{KeyCode, KeyEvent, KeyEventKind, KeyEventState, KeyModifiers};
 use std::alloc::{AllocError, Global};
 
 /// The place of the first newline.
@@ -87,22 +89,53 @@ fn move_mark(row: usize) -> Command
     Command::UserInput(InputEvent::UpdateUpperMark(row))
 }
 
-/// What a word and the argument after it stand for, if they are well formed.
-fn parse_word(alloc: Global, word: &str, argument: &str) -> Result<Option<Input>, AllocError>
-    ensures { IfOk result (λ line. option_map told_of line ≡ word_wanted word.now argument.now) }
+/// The command that asks for the size in an argument, if it is well formed.
+fn parse_resize(argument: &str) -> Option<Command>
+    ensures { option_map wanted_of result ≡ resize_asked argument.now }
+{
+    let (cols, rows) = argument.split_once(' ')?;
+    let cols = parse_usize(cols)?;
+    let rows = parse_usize(rows)?;
+    Some(Command::UserInput(InputEvent::UpdateTermArea(cols, rows)))
+}
+
+/// The command that a word and the argument after it stand for, if they are well formed.
+fn parse_command(alloc: Global, word: &str, argument: &str) -> Result<Option<Command>, AllocError>
+    ensures { IfOk result (λ command. option_map wanted_of command ≡ command_asked word.now argument.now) }
 {
     let command = match word {
         "push" => unescape(alloc, argument)?.map(Command::AppendData),
         "set" => unescape(alloc, argument)?.map(Command::SetData),
         "mark" => parse_usize(argument).map(move_mark),
+        "resize" => parse_resize(argument),
         _ => None,
     };
-    Ok(command.map(Input::Command))
+    Ok(command)
+}
+
+/// What a line of the script stands for.
+#[derive(Debug, Drop)]
+pub(crate) enum Line {
+    /// A command.
+    Command(Command),
+    /// A text whose characters are typed.
+    Typed(String),
+}
+
+/// What a word and the argument after it stand for, if they are well formed.
+fn parse_word(alloc: Global, word: &str, argument: &str) -> Result<Option<Line>, AllocError>
+    ensures { IfOk result (λ line. option_map told_by line ≡ word_told word.now argument.now) }
+{
+    let line = match word {
+        "type" => unescape(alloc, argument)?.map(Line::Typed),
+        _ => parse_command(alloc, word, argument)?.map(Line::Command),
+    };
+    Ok(line)
 }
 
 /// What a line without its newline stands for, if it is well formed.
-fn parse_line(alloc: Global, line: &[u8]) -> Result<Option<Input>, AllocError>
-    ensures { IfOk result (λ parsed. option_map told_of parsed ≡ line_wanted line.now) }
+fn parse_line(alloc: Global, line: &[u8]) -> Result<Option<Line>, AllocError>
+    ensures { IfOk result (λ parsed. option_map told_by parsed ≡ line_told line.now) }
 {
     let Ok(text) = str::from_utf8(line) else {
         return Ok(None);
@@ -113,18 +146,53 @@ fn parse_line(alloc: Global, line: &[u8]) -> Result<Option<Input>, AllocError>
     }
 }
 
+/// The press of a character's key.
+fn press(character: char) -> Input
+    ensures { told_of result ≡ typed character }
+{
+    Input::Event(Event::Key(KeyEvent {
+        code: KeyCode::Char(character),
+        modifiers: KeyModifiers::NONE,
+        kind: KeyEventKind::Press,
+        state: KeyEventState::NONE,
+    }))
+}
+
+/// Adds the press of each character's key.
+fn push_presses(inputs: &mut Vec<Input>, text: &str) -> Result<(), AllocError>
+    ensures { OnOk result (map told_of inputs.new.items ≡ map told_of inputs.old.items ++ all_typed text.now) }
+{
+    for character in text.chars() {
+        inputs.push(press(character))?;
+    }
+    Ok(())
+}
+
+/// Adds the inputs that a line stands for.
+fn push_line(inputs: &mut Vec<Input>, line: Line) -> Result<(), AllocError>
+    ensures { OnOk result (map told_of inputs.new.items ≡ map told_of inputs.old.items ++ told_by line) }
+{
+    match line {
+        Line::Command(command) => inputs.push(Input::Command(command))?,
+        Line::Typed(text) => push_presses(inputs, &text)?,
+    }
+    Ok(())
+}
+
 /// The inputs that the lines of a script stand for, or the fault of the first faulty one.
 pub fn parse_script(alloc: Global, script: &[u8]) -> Result<Vec<Input>, ScriptFault>
-    ensures ok { IfOk result (λ inputs. script_wanted (script_lines script.now) ≡ Ok (map told_of inputs.items)) }
-    ensures fault { IfErr result (IsScriptFault (script_wanted (script_lines script.now))) }
+    ensures ok { IfOk result (λ inputs. script_told (script_lines script.now) ≡ Ok (map told_of inputs.items)) }
+    ensures fault { IfErr result (IsScriptFault (script_told (script_lines script.now))) }
 {
     let mut inputs = Vec::new(alloc);
+    let mut number = 1;
     let mut rest = script;
     while let Some((line, more)) = split_line(rest) {
         match parse_line(alloc, line)? {
-            Some(input) => inputs.push(input)?,
-            None => return Err(ScriptFault::Line(inputs.len() + 1)),
+            Some(line) => push_line(&mut inputs, line)?,
+            None => return Err(ScriptFault::Line(number)),
         }
+        number += 1;
         rest = more;
     }
     Ok(inputs)

@@ -6,7 +6,8 @@ use crate::{
     Arguments, Mode, ProgramFault, ScriptFault, parse_arguments, parse_script, parse_usize,
     print_row, print_rows, read_script, run_script,
 };
-use minus::{Command, Input, InputEvent};
+use minus::{Command, Event, Input, InputEvent};
+use minus_term::{KeyCode, KeyEvent, KeyEventKind, KeyEventState, KeyModifiers};
 use std::alloc::Global;
 use std::io;
 use std::io::{ErrorKind, Read, Write};
@@ -70,21 +71,45 @@ impl Read for Broken {
     }
 }
 
-/// The lines of a script, each as its word and its argument, or the text of its fault.
+/// What a command is, as its word and its argument.
+fn command_text(alloc: Global, command: &Command) -> Result<String, Fail> {
+    let text = match command {
+        Command::AppendData(added) => format!(in alloc; "push[{added}]")?,
+        Command::SetData(put) => format!(in alloc; "set[{put}]")?,
+        Command::UserInput(InputEvent::UpdateUpperMark(row)) => format!(in alloc; "mark[{row}]")?,
+        Command::UserInput(InputEvent::UpdateTermArea(cols, rows)) => {
+            format!(in alloc; "resize[{cols} {rows}]")?
+        }
+        Command::UserInput(InputEvent::Exit | InputEvent::Ignore) => String::new(alloc),
+    };
+    Ok(text)
+}
+
+/// What an input is: a command, or the key that is pressed.
+fn input_text(alloc: Global, input: &Input) -> Result<String, Fail> {
+    match input {
+        Input::Command(command) => command_text(alloc, command),
+        Input::Event(
+            Event::Key(
+                KeyEvent {
+                    code: KeyCode::Char(character),
+                    modifiers: KeyModifiers::NONE,
+                    kind: KeyEventKind::Press,
+                    state: KeyEventState::NONE,
+                },
+            ),
+        ) => Ok(format!(in alloc; "key[{character}]")?),
+        Input::Event(_) => Ok(String::new(alloc)),
+    }
+}
+
+/// The inputs of a script, or the text of its fault.
 fn shown(alloc: Global, script: &[u8]) -> Result<String, Fail> {
     let mut text = String::new(alloc);
     match parse_script(alloc, script) {
-        Ok(lines) => {
-            for line in &lines {
-                let Input::Command(command) = line;
-                let one = match command {
-                    Command::AppendData(added) => format!(in alloc; "push[{added}]")?,
-                    Command::SetData(put) => format!(in alloc; "set[{put}]")?,
-                    Command::UserInput(InputEvent::UpdateUpperMark(row)) => {
-                        format!(in alloc; "mark[{row}]")?
-                    }
-                };
-                text.push_str(one.as_str())?;
+        Ok(inputs) => {
+            for input in &inputs {
+                text.push_str(input_text(alloc, input)?.as_str())?;
             }
         }
         Err(fault) => text.push_str(format!(in alloc; "{fault}")?.as_str())?,
@@ -94,7 +119,7 @@ fn shown(alloc: Global, script: &[u8]) -> Result<String, Fail> {
 
 #[test]
 fn parses_scripts(rt: HostRuntime) -> Result<(), Fail> {
-    let table: [(&[u8], &str); 12] = [
+    let table: [(&[u8], &str); 15] = [
         (b"", ""),
         (b"push ", "push[]"),
         (b"push \n", "push[]"),
@@ -110,6 +135,9 @@ fn parses_scripts(rt: HostRuntime) -> Result<(), Fail> {
         (b"set push a", "set[push a]"),
         (b"push a\tb", "push[a\tb]"),
         (b"push a\0b\n", "push[a\0b]"),
+        (b"resize 30 6\nmark 1", "resize[30 6]mark[1]"),
+        (b"type \nresize 0 +9", "resize[0 9]"),
+        (b"type a\xc3\xa9\\n", "key[a]key[é]key[\n]"),
     ];
     for (script, text) in table {
         assert_eq!(rt; shown(rt.alloc(), script)?.as_str(), text);
@@ -119,7 +147,7 @@ fn parses_scripts(rt: HostRuntime) -> Result<(), Fail> {
 
 #[test]
 fn names_the_first_faulty_line(rt: HostRuntime) -> Result<(), Fail> {
-    let table: [(&[u8], &str); 18] = [
+    let table: [(&[u8], &str); 25] = [
         (b"\n", "script line 1"),
         (b"push a\n\npush", "script line 2"),
         (b"push", "script line 1"),
@@ -138,6 +166,13 @@ fn names_the_first_faulty_line(rt: HostRuntime) -> Result<(), Fail> {
         (b"mark -1", "script line 1"),
         (b"mark 18446744073709551616", "script line 1"),
         (b"push a\nset \xff\nmark x\n", "script line 2"),
+        (b"type ab\npull a", "script line 2"),
+        (b"type", "script line 1"),
+        (b"type \\x", "script line 1"),
+        (b"resize 30", "script line 1"),
+        (b"resize 30  6", "script line 1"),
+        (b"resize 30 6 ", "script line 1"),
+        (b"resize 30 x", "script line 1"),
     ];
     for (script, text) in table {
         assert_eq!(rt; shown(rt.alloc(), script)?.as_str(), text);
@@ -194,9 +229,14 @@ fn parses_arguments(rt: HostRuntime) -> Result<(), Fail> {
         rows: 24,
     };
     assert_eq!(rt; arguments_in(alloc, &["page", "80", "24"])?, Some(page));
-    let table: [&[&str]; 9] = [
+    let bytes = Arguments {
+        mode: Mode::Bytes,
+        cols: 0,
+        rows: 1,
+    };
+    assert_eq!(rt; arguments_in(alloc, &["bytes", "0", "1"])?, Some(bytes));
+    let table: [&[&str]; 8] = [
         &[],
-        &["bytes", "80", "24"],
         &["page", "80"],
         &["page", "80", "24", ""],
         &["Page", "80", "24"],
@@ -262,14 +302,64 @@ impl Write for Full {
     }
 }
 
-/// What a run of a script prints, or the text of its fault.
-fn printed(alloc: Global, cols: usize, rows: usize, script: &str) -> Result<String, Fail> {
+/// What a run of a script prints in a mode, or the text of its fault.
+fn printed_in(
+    alloc: Global,
+    mode: Mode,
+    cols: usize,
+    rows: usize,
+    script: &str,
+) -> Result<String, Fail> {
     let mut out = Vec::new(alloc);
     let mut reader = script.as_bytes();
-    match run_script(alloc, Mode::Page, cols, rows, &mut reader, &mut out) {
+    match run_script(alloc, mode, cols, rows, &mut reader, &mut out) {
         Ok(()) => Ok(String::from_utf8(out)?),
         Err(fault) => Ok(format!(in alloc; "{fault}, {} bytes", out.len())?),
     }
+}
+
+/// What a run of a script prints of its page, or the text of its fault.
+fn printed(alloc: Global, cols: usize, rows: usize, script: &str) -> Result<String, Fail> {
+    printed_in(alloc, Mode::Page, cols, rows, script)
+}
+
+const SETUP: &str = "\x1b[?1049h\x1b[?1000h\x1b[?1002h\x1b[?1003h\x1b[?1015h\x1b[?1006h\x1b[?25l";
+
+const CLEANUP: &str = "\x1b[?25h\x1b[?1006l\x1b[?1015l\x1b[?1003l\x1b[?1002l\x1b[?1000l\x1b[?1049l";
+
+#[test]
+fn the_bytes_of_an_empty_script(rt: HostRuntime) -> Result<(), Fail> {
+    let alloc = rt.alloc();
+    let page = "\x1b[1;1H\x1b[2J\x1b[3;1H\r\x1b[2K\x1b[2;40;37mminus \x1b[0m";
+    assert_eq!(rt;
+        printed_in(alloc, Mode::Bytes, 6, 2, "")?.as_str(),
+        format!(in alloc; "{SETUP}{page}{CLEANUP}")?.as_str()
+    );
+    Ok(())
+}
+
+#[test]
+fn the_bytes_of_a_push(rt: HostRuntime) -> Result<(), Fail> {
+    let alloc = rt.alloc();
+    let prompt = "\x1b[6;1H\r\x1b[2K\x1b[2;40;37mminus               \x1b[0m";
+    let first = format!(in alloc; "\x1b[1;1H\x1b[2J{prompt}")?;
+    let second = format!(in alloc; "\x1b[1;1H\x1b[2J\rone\n\rtwo\n\rthree\n{prompt}")?;
+    assert_eq!(rt;
+        printed_in(alloc, Mode::Bytes, 20, 5, "push one\\ntwo\\nthree")?.as_str(),
+        format!(in alloc; "{SETUP}{first}{second}{CLEANUP}")?.as_str()
+    );
+    Ok(())
+}
+
+#[test]
+fn a_resize_forms_the_page_anew(rt: HostRuntime) -> Result<(), Fail> {
+    let alloc = rt.alloc();
+    let script = "push ab cd\ntype q/\nresize 3 4\n";
+    let page = "ab\ncd\n\n\\e[2;40;37mmin\\e[0m\n";
+    assert_eq!(rt; printed(alloc, 20, 2, script)?.as_str(), page);
+    let refused = printed(alloc, 20, 2, "resize 0 10\npush a")?;
+    assert_eq!(rt; refused.as_str(), "refused 5, 0 bytes");
+    Ok(())
 }
 
 #[test]

@@ -1,9 +1,9 @@
 use Rattle.std.proofs.Common.{◌≡◌, ◌∙◌, lit<}
 use Rattle.std.specs.Option.{option_map}
 use Rattle.std.proofs.lemmas.Result.{IfOk-weaker}
-use Rattle.minus_show.specs.Script.{line_wanted, word_wanted}
-use Rattle.minus.specs.Reads.{told_of}
-use Rattle.minus_show.proofs.ScriptLaws.{faulty_bytes, line_wanted-at}
+use Rattle.minus_show.specs.Script.{line_told, word_told}
+use Rattle.minus_show.specs.ScriptLines.{told_by}
+use Rattle.minus_show.proofs.ScriptLaws.{faulty_bytes, line_told-at}
 use Rattle.minus_show.proofs.script.parse_line.Goals as goal
 
 pub returns-in_default : goal.returns-in_default
@@ -15,5 +15,5 @@ returns-in-Some c =
     let is = c.in-Ok.ensures.cases in
     let line = c.args.line.now in
     let at = rw is.0 at h.2 in
-    let wants : word_wanted c.in-Some.word.now c.in-Some.argument.now ≡ line_wanted line = rw (h.0, h.1, is.0) (line_wanted-at line is.1 at) in
-    IfOk-weaker c.parse_word.result (λ parsed. option_map told_of parsed ≡ word_wanted c.in-Some.word.now c.in-Some.argument.now) (λ parsed. option_map told_of parsed ≡ line_wanted line) (λ parsed e. e ∙ wants) c.parse_word.ensures
+    let tells : word_told c.in-Some.word.now c.in-Some.argument.now ≡ line_told line = rw (h.0, h.1, is.0) (line_told-at line is.1 at) in
+    IfOk-weaker c.parse_word.result (λ parsed. option_map told_by parsed ≡ word_told c.in-Some.word.now c.in-Some.argument.now) (λ parsed. option_map told_by parsed ≡ line_told line) (λ parsed e. e ∙ tells) c.parse_word.ensures
