@@ -7,3 +7,4 @@ pub mod FullRedraw
 pub mod Refusals
 pub mod Written
 pub mod Terminal
+pub mod Writes
