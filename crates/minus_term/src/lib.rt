@@ -9,6 +9,7 @@ pub mod sink;
 pub mod sinks;
 pub mod term;
 pub mod with_tty;
+pub mod wrappers;
 pub mod writes;
 
 pub use draw::{DrawOp, full_redraw_shows_its_page, play_is_monotone, write_op};
