@@ -14,6 +14,12 @@ fn draws_to_each_sink_over_memory(rt: HostRuntime) -> Result<(), Fail> {
     draw_bytes(&mut boxed, b"to a box")?;
     assert!(rt; !boxed.is_tty());
     assert_eq!(rt; boxed.as_slice(), b"to a box".as_slice());
+    let mut boxed = Box::new(
+        rt.alloc(),
+        Stubborn::new(rt.alloc(), 0, Refusal::Interrupted),
+    )?;
+    draw_bytes(&mut boxed, b"settled")?;
+    assert_eq!(rt; boxed.flushes, 1);
     let mut nothing = io::sink();
     draw_bytes(&mut nothing, b"to nothing")?;
     assert!(rt; !nothing.is_tty());
@@ -24,9 +30,11 @@ fn draws_to_each_sink_over_memory(rt: HostRuntime) -> Result<(), Fail> {
 #[test]
 fn draws_to_each_sink_of_the_system(rt: HostRuntime) -> Result<(), Fail> {
     let mut out = rt.stdout();
+    assert_eq!(rt; out.put(b"")?, 0);
     draw_bytes(&mut out, b"")?;
     assert!(rt; !out.is_tty());
     let mut err = rt.stderr();
+    assert_eq!(rt; err.put(b"")?, 0);
     draw_bytes(&mut err, b"")?;
     assert!(rt; !err.is_tty());
     let mut file = fs::create(&rt, "/dev/null")?;
