@@ -8,3 +8,4 @@ pub mod Refusals
 pub mod Written
 pub mod Terminal
 pub mod NormalForm
+pub mod Writes

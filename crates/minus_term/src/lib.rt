@@ -5,10 +5,13 @@
 pub mod draw;
 pub mod error;
 pub mod event;
+pub mod hooks;
 pub mod sink;
 pub mod sinks;
 pub mod term;
 pub mod with_tty;
+pub mod wrappers;
+pub mod writes;
 
 pub use draw::{DrawOp, full_redraw_shows_its_page, play_is_monotone, write_op};
 pub use error::{CleanupError, DescriptionError, MinusError, RegexError, SetupError, TermError};
@@ -17,9 +20,11 @@ pub use event::{
     Event, KeyCode, KeyEvent, KeyEventKind, KeyEventState, KeyModifiers, MouseButton, MouseEvent,
     MouseEventKind,
 };
+pub use hooks::Hook;
 pub use sink::{OutputSink, draw_bytes, write_bytes};
 pub use term::{cleanup, setup};
 pub use with_tty::WithTty;
+pub use writes::{clear_entire_screen, move_cursor, write_raw_lines};
 
 #[cfg(test)]
 mod tests;

@@ -1,9 +1,9 @@
-//! The standard library's writers as sinks. None of them asks the system whether it is a terminal:
-//! `WithTty` carries what the caller knows.
+//! The standard streams, files and the library's `Sink` as sinks. None of them asks the system
+//! whether it is a terminal: `WithTty` carries what the caller knows.
 use crate::sink::OutputSink;
 use std::fs::File;
 use std::io;
-use std::io::{Cursor, Sink, Stderr, Stdout, Write};
+use std::io::{Sink, Stderr, Stdout, Write};
 
 impl OutputSink for Stdout {
     fn put(&mut self, bytes: &[u8]) -> io::Result<usize> {
@@ -58,40 +58,5 @@ impl OutputSink for Sink {
 
     fn is_tty(&self) -> bool {
         false
-    }
-}
-
-impl<T> OutputSink for Cursor<T>
-where
-    Cursor<T>: Write,
-{
-    fn put(&mut self, bytes: &[u8]) -> io::Result<usize> {
-        self.write(bytes)
-    }
-
-    fn settle(&mut self) -> io::Result<()> {
-        self.flush()
-    }
-
-    fn is_tty(&self) -> bool {
-        false
-    }
-}
-
-impl<T: OutputSink> OutputSink for Box<T> {
-    ghost refused = { λ held. T.refused held.value };
-
-    ghost terminal = { λ held. T.terminal held.value };
-
-    fn put(&mut self, bytes: &[u8]) -> io::Result<usize> {
-        self.as_mut().put(bytes)
-    }
-
-    fn settle(&mut self) -> io::Result<()> {
-        self.as_mut().settle()
-    }
-
-    fn is_tty(&self) -> bool {
-        self.as_ref().is_tty()
     }
 }

@@ -1,81 +1,15 @@
-//! What no contract says: the bytes and texts as a terminal's manual has them, and which error
-//! comes.
-ghost use Rattle.std.specs.Prelude.{Some};
-
-use crate::{DrawOp, MinusError, OutputSink, draw_bytes, write_bytes, write_op};
-use std::alloc::{AllocError, Global};
-use std::io;
-use std::io::{ErrorKind, Write};
+//! What no contract says: the bytes and texts as a terminal's manual has them, which error comes,
+//! and what is settled.
+use crate::{DrawOp, OutputSink, draw_bytes, write_bytes, write_op};
+use std::io::ErrorKind;
 use std::test::Fail;
+use stubborn::{Refusal, Stubborn};
 
-/// How a sink of the tests refuses a write.
-#[derive(Clone, Copy)]
-enum Refusal {
-    Interrupted,
-    NothingTaken,
-}
-
-/// Takes one byte a write, and refuses one write, named by its number from 1.
-#[derive(Drop)]
-struct Stubborn {
-    held: Vec<u8>,
-    writes: u32,
-    flushes: u32,
-    refused_write: u32,
-    refusal: Refusal,
-}
-
-impl Stubborn {
-    fn new(alloc: Global, refused_write: u32, refusal: Refusal) -> Stubborn {
-        Stubborn {
-            held: Vec::new(alloc),
-            writes: 0,
-            flushes: 0,
-            refused_write,
-            refusal,
-        }
-    }
-}
-
-impl Write for Stubborn {
-    ghost contents = { λ s. Some s.held.items };
-
-    fn write(&mut self, bytes: &[u8]) -> io::Result<usize> {
-        self.writes = self.writes.saturating_add(1);
-        if self.writes == self.refused_write {
-            return match self.refusal {
-                Refusal::Interrupted => Err(io::Error::from(ErrorKind::Interrupted)),
-                Refusal::NothingTaken => Ok(0),
-            };
-        }
-        let Some(byte) = bytes.first() else {
-            return Ok(0);
-        };
-        match self.held.push(*byte) {
-            Ok(()) => Ok(1),
-            Err(failed) => Err(io::Error::from(AllocError::from(failed))),
-        }
-    }
-
-    fn flush(&mut self) -> io::Result<()> {
-        self.flushes = self.flushes.saturating_add(1);
-        Ok(())
-    }
-}
-
-impl OutputSink for Stubborn {
-    fn put(&mut self, bytes: &[u8]) -> io::Result<usize> {
-        self.write(bytes)
-    }
-
-    fn settle(&mut self) -> io::Result<()> {
-        self.flush()
-    }
-
-    fn is_tty(&self) -> bool {
-        false
-    }
-}
+mod errors;
+mod sinks;
+mod stubborn;
+mod terminal;
+mod writes;
 
 #[test]
 fn writes_each_operation(rt: HostRuntime) -> Result<(), Fail> {
@@ -146,25 +80,5 @@ fn takes_nothing_for_a_refusal(rt: HostRuntime) -> Result<(), Fail> {
     assert!(rt; error.kind() == ErrorKind::WriteZero);
     assert_eq!(rt; sink.held.as_slice(), b"x".as_slice());
     assert_eq!(rt; sink.writes, 2);
-    Ok(())
-}
-
-#[test]
-fn names_each_error(rt: HostRuntime) -> Result<(), Fail> {
-    let alloc = rt.alloc();
-    let table = [
-        (MinusError::Memory, 1, "refused 1"),
-        (MinusError::BadSize(1, 2), 5, "refused 5"),
-        (MinusError::Failed, 10, "refused 10"),
-        (
-            MinusError::from(io::Error::from(ErrorKind::BrokenPipe)),
-            14,
-            "Failed to draw the new data",
-        ),
-    ];
-    for (error, number, text) in table {
-        assert_eq!(rt; error.number(), number);
-        assert_eq!(rt; format!(in alloc; "{error}")?.as_str(), text);
-    }
     Ok(())
 }
