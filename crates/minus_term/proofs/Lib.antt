@@ -4,3 +4,4 @@ pub mod PlayLaws
 pub mod PutsLaws
 pub mod SinkLaws
 pub mod WrittenLaws
+pub mod NormalFormLaws
