@@ -1,0 +1,1 @@
+//! Descriptions of keys and of actions of the mouse.

@@ -1,0 +1,10 @@
+//! What a program's user types and reads of keys: the descriptions that keys and actions of the
+//! mouse are bound by, and the names of keys.
+#![tactic(auto)]
+
+pub mod description;
+pub mod key_seq;
+pub mod names;
+
+pub use key_seq::KeySeq;
+pub use names::modifier_of;
