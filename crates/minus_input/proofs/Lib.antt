@@ -1,1 +1,2 @@
 -- Laws of the definitions.
+pub mod SegmentsLaws
