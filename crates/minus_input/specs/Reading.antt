@@ -10,15 +10,15 @@ use Rattle.minus_input.specs.Names.{modifier_letter}
 abbrev pub beginning : {C : Type 0} → KeySeq C
 beginning = record { modifiers = record { 0 = 0 }; code = None; may_be_empty = true }
 
--- a name is read: the code that it has, if it is the first
+-- a segment that names a code, or nothing, is read after a code that was, or was not, there before
 abbrev pub name_read : {C : Type 0} → KeySeq C → Option C → Option C → Result (KeySeq C) DescriptionError
-name_read seq first None = Err UnknownName
-name_read seq (Some code) (Some other) = Err SecondKey
-name_read seq None (Some code) = Ok (record { modifiers = seq.modifiers; code = Some code; may_be_empty = false })
+name_read seq None before = Err UnknownName
+name_read seq (Some code) (Some before) = Err SecondKey
+name_read seq (Some code) None = Ok (record { modifiers = seq.modifiers; code = Some code; may_be_empty = false })
 
 -- a segment is read that is neither empty nor a modifier
 abbrev pub read_action : {C : Type 0} → (List ℕ → Option C) → KeySeq C → List ℕ → Result (KeySeq C) DescriptionError
-read_action named seq segment = name_read seq seq.code (named segment)
+read_action named seq segment = name_read seq (named segment) seq.code
 
 -- a segment that may be a modifier is read
 abbrev pub read_modifier : {C : Type 0} → (List ℕ → Option C) → KeySeq C → List ℕ → Option ℕ → Result (KeySeq C) DescriptionError

@@ -6,5 +6,6 @@ pub mod description;
 pub mod key_seq;
 pub mod names;
 
+pub use description::{each_text_has_one_meaning, parse_key_event, parse_mouse_event};
 pub use key_seq::KeySeq;
 pub use names::modifier_of;

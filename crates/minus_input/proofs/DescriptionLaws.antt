@@ -1,0 +1,145 @@
+-- Each text has one meaning.
+use Rattle.std.proofs.Common.{◌≡◌, ◌⊎◌, ℕ, ◌+◌, ◌<◌, ◌≤◌, List, [], ◌∷◌, length, Option, None, Some, Result, Ok, Err, Bool, true, false, refl, sym, subst, arith, ◌∙◌, ap, inl, inr, get_or}
+use Rattle.std.specs.Str.{IsAscii, IsNotAscii, trim}
+use Rattle.std.proofs.lemmas.Bool.{cases_lt}
+use Rattle.std.proofs.lemmas.List.Splits.{length-slice_split}
+use Rattle.std.proofs.lemmas.Option.{none-some, same_Some}
+use Rattle.minus_term.specs.declared.error.DescriptionError.{DescriptionError}
+use Rattle.minus_term.specs.declared.error.DescriptionError.TheVariants.{NotAscii, Empty, EmptySegment, RepeatedModifier, UnknownName, SecondKey, NoAction}
+use Rattle.minus_term.specs.declared.event.KeyEvent.{KeyEvent}
+use Rattle.minus_term.specs.declared.event.KeyEventKind.TheVariants.{Press}
+use Rattle.minus_term.specs.declared.event.MouseEvent.{MouseEvent}
+use Rattle.minus_input.specs.declared.key_seq.KeySeq.{KeySeq}
+use Rattle.minus_input.specs.Names.{key_named, action_named}
+use Rattle.minus_input.specs.Segments.{is_dash, segments, leading, last_segment}
+use Rattle.minus_input.specs.Reading.{beginning, read_segments}
+use Rattle.minus_input.specs.Description.{others, IsReading, Reads, or_null, DescribesKey, DescribesMouse, SegmentFault, TextFault, KeyFault, MouseFault, HasOneMeaning, EachTextHasOneMeaning}
+use Rattle.minus_input.proofs.FaultLaws.{cases_Option, ok_is_not_err, none_is_not_some, some_of, one_code, rules_no_fault}
+use Rattle.minus_input.proofs.ReadingLaws.{same_Err, read_both, read_means, fault_means, segments_read}
+
+-- the segments of a text, without white space at its ends
+abbrev leads_of : List ℕ → List (List ℕ)
+leads_of text = leading (segments (trim text))
+
+abbrev last_of : List ℕ → List ℕ
+last_of text = last_segment (segments (trim text))
+
+same_Ok : {X E : Type 0} (a b : X) → ◌≡◌ {A = Result X E} (Ok a) (Ok b) → a ≡ b
+same_Ok {X} {E} a b h = ap (λ (r : Result X E). elim r [ Ok x ↦ x | Err e ↦ a ]) h
+
+module _ {C : Type 0} (named : List ℕ → Option C) where
+  both : (text : List ℕ) → read_segments named beginning (segments (trim text)) ≡ read_both named (leads_of text) (last_of text)
+  both text = segments_read named beginning (segments (trim text)) (omega (arith, length-slice_split is_dash (trim text)))
+
+  -- what is read without error is read by the rules
+  pub reads_ok : (text : List ℕ) (seq : KeySeq C) → Ok seq ≡ read_segments named beginning (segments (trim text)) → Reads named text seq.modifiers.0 seq.code
+  reads_ok text seq h = elim (read_means named (leads_of text) (last_of text)) [
+    | inl p ↦
+      let e : seq ≡ p.0 = same_Ok seq p.0 (h ∙ both text ∙ p.1) in
+      subst (λ (s : KeySeq C). Reads named text s.modifiers.0 s.code) (sym e) p.2
+    | inr p ↦ absurd (ok_is_not_err seq p.0 (Ok seq) refl (h ∙ both text ∙ p.1))
+  ]
+
+  -- and an error is the first fault
+  pub reads_err : (text : List ℕ) (error : DescriptionError) → Err error ≡ read_segments named beginning (segments (trim text)) → SegmentFault named (leads_of text) (last_of text) error
+  reads_err text error h = elim (read_means named (leads_of text) (last_of text)) [
+    | inl p ↦ absurd (ok_is_not_err p.0 error (Ok p.0) refl (sym p.1 ∙ sym (both text) ∙ sym h))
+    | inr p ↦ subst (λ e. SegmentFault named (leads_of text) (last_of text) e) (sym (same_Err {X = KeySeq C} error p.0 (h ∙ both text ∙ p.1))) p.2
+  ]
+
+  one_fault : (text : List ℕ) (a b : DescriptionError) → SegmentFault named (leads_of text) (last_of text) a → SegmentFault named (leads_of text) (last_of text) b → a ≡ b
+  one_fault text a b f g = same_Err {X = KeySeq C} a b (sym (fault_means named (leads_of text) (last_of text) a f) ∙ fault_means named (leads_of text) (last_of text) b g)
+
+ascii_cases : (text : List ℕ) → IsAscii text ⊎ IsNotAscii text
+ascii_cases text = ?
+
+not_both_ascii : (text : List ℕ) → IsAscii text → IsNotAscii text → ⊥
+not_both_ascii text a n = omega (arith, a n.0, n.1)
+
+empty_or_some : (text : List ℕ) → (text ≡ []) ⊎ (0 < length text)
+empty_or_some [] = inl refl
+empty_or_some (c ∷ text) = inr (omega arith)
+
+not_empty : (text : List ℕ) → text ≡ [] → 0 < length text → ⊥
+not_empty text e some = let k : length text ≡ 0 = ap length e in omega (arith, k, some)
+
+-- a fault of a segment is one of a text
+pub key_fault : (text : List ℕ) (error : DescriptionError) → TextFault key_named text error → KeyFault text error
+key_fault text NotAscii f = elim f.2 [ inl g ↦ absurd g.fault | inr g ↦ absurd g.1 ]
+key_fault text Empty f = elim f.2 [ inl g ↦ absurd g.fault | inr g ↦ absurd g.1 ]
+key_fault text EmptySegment f = f
+key_fault text RepeatedModifier f = f
+key_fault text UnknownName f = f
+key_fault text SecondKey f = f
+key_fault text NoAction f = f
+
+pub mouse_fault : (text : List ℕ) (error : DescriptionError) → TextFault action_named text error → MouseFault text error
+mouse_fault text NotAscii f = elim f.2 [ inl g ↦ absurd g.fault | inr g ↦ absurd g.1 ]
+mouse_fault text Empty f = elim f.2 [ inl g ↦ absurd g.fault | inr g ↦ absurd g.1 ]
+mouse_fault text EmptySegment f = f
+mouse_fault text RepeatedModifier f = f
+mouse_fault text UnknownName f = f
+mouse_fault text SecondKey f = f
+mouse_fault text NoAction f = elim f.2 [ inl g ↦ absurd g.fault | inr g ↦ absurd g.1 ]
+
+key_not_ascii : (text : List ℕ) (error : DescriptionError) → IsNotAscii text → KeyFault text error → error ≡ NotAscii
+key_not_ascii text NotAscii n f = refl
+key_not_ascii text Empty n f = absurd (not_both_ascii text f.0 n)
+key_not_ascii text EmptySegment n f = absurd (not_both_ascii text f.0 n)
+key_not_ascii text RepeatedModifier n f = absurd (not_both_ascii text f.0 n)
+key_not_ascii text UnknownName n f = absurd (not_both_ascii text f.0 n)
+key_not_ascii text SecondKey n f = absurd (not_both_ascii text f.0 n)
+key_not_ascii text NoAction n f = absurd (not_both_ascii text f.0 n)
+
+key_empty : (text : List ℕ) (error : DescriptionError) → IsAscii text → trim text ≡ [] → KeyFault text error → error ≡ Empty
+key_empty text NotAscii a e f = absurd (not_both_ascii text a f)
+key_empty text Empty a e f = refl
+key_empty text EmptySegment a e f = absurd (not_empty (trim text) e f.1)
+key_empty text RepeatedModifier a e f = absurd (not_empty (trim text) e f.1)
+key_empty text UnknownName a e f = absurd (not_empty (trim text) e f.1)
+key_empty text SecondKey a e f = absurd (not_empty (trim text) e f.1)
+key_empty text NoAction a e f = absurd (not_empty (trim text) e f.1)
+
+key_segment : (text : List ℕ) (error : DescriptionError) → IsAscii text → 0 < length (trim text) → KeyFault text error → SegmentFault key_named (leads_of text) (last_of text) error
+key_segment text NotAscii a some f = absurd (not_both_ascii text a f)
+key_segment text Empty a some f = absurd (not_empty (trim text) f.1 some)
+key_segment text EmptySegment a some f = f.2
+key_segment text RepeatedModifier a some f = f.2
+key_segment text UnknownName a some f = f.2
+key_segment text SecondKey a some f = f.2
+key_segment text NoAction a some f = f.2
+
+same_key : (a b : KeyEvent) → a.code ≡ b.code → a.modifiers.0 ≡ b.modifiers.0 → a.kind ≡ b.kind → a.state.0 ≡ b.state.0 → a ≡ b
+same_key a b c m k s i = record { code = c i; modifiers = record { 0 = m i }; kind = k i; state = record { 0 = s i } }
+
+key_one_meaning : (text : List ℕ) → HasOneMeaning (DescribesKey text) (KeyFault text)
+key_one_meaning text = record {
+  one_event = λ a b x y.
+    let r = x.reads in let q = y.reads in
+    let c : a.code ≡ b.code = r.2 ∙ ap or_null (one_code key_named (others (leads_of text) (last_of text)) r.0 q.0 r.1.names q.1.names) ∙ sym q.2 in
+    same_key a b c (r.1.modifiers ∙ sym q.1.modifiers) (x.kind ∙ sym y.kind) (x.state ∙ sym y.state);
+  one_error = λ a b f g. elim (ascii_cases text) [
+    | inr n ↦ key_not_ascii text a n f ∙ sym (key_not_ascii text b n g)
+    | inl h ↦ elim (empty_or_some (trim text)) [
+        | inl e ↦ key_empty text a h e f ∙ sym (key_empty text b h e g)
+        | inr some ↦ one_fault key_named text a b (key_segment text a h some f) (key_segment text b h some g)
+      ]
+  ];
+  never_both = λ a b x f. let r = x.reads in rules_no_fault key_named (leads_of text) (last_of text) a.modifiers.0 r.0 b r.1 (key_segment text b x.ascii x.some f);
+  one_of_both = elim (ascii_cases text) [
+    | inr n ↦ inr (NotAscii, n)
+    | inl h ↦ elim (empty_or_some (trim text)) [
+        | inl e ↦ inr (Empty, (h, e))
+        | inr some ↦ elim (read_means key_named (leads_of text) (last_of text)) [
+            | inl p ↦ inl (record { code = or_null p.0.code; modifiers = p.0.modifiers; kind = Press; state = record { 0 = 0 } }, record {
+                ascii = h;
+                some = some;
+                reads = (p.0.code, p.2, refl);
+                kind = refl;
+                state = refl;
+              })
+            | inr p ↦ inr (p.0, key_fault text p.0 (h, some, p.2))
+          ]
+      ]
+  ];
+}
