@@ -1,5 +1,5 @@
 -- Each text has one meaning.
-use Rattle.std.proofs.Common.{◌≡◌, ◌⊎◌, ℕ, ◌+◌, ◌<◌, ◌≤◌, List, [], ◌∷◌, length, Option, None, Some, Result, Ok, Err, Bool, true, false, refl, sym, subst, arith, ◌∙◌, ap, inl, inr, get_or}
+use Rattle.std.proofs.Common.{◌≡◌, ◌⊎◌, ℕ, ◌+◌, ◌<◌, ◌≤◌, List, [], ◌∷◌, length, Option, None, Some, Result, Ok, Err, Bool, true, false, zero, suc, refl, sym, subst, arith, ◌∙◌, ap, inl, inr, get_or}
 use Rattle.std.specs.Str.{IsAscii, IsNotAscii, trim}
 use Rattle.std.proofs.lemmas.Bool.{cases_lt}
 use Rattle.std.proofs.lemmas.List.Splits.{length-slice_split}
@@ -51,7 +51,18 @@ module _ {C : Type 0} (named : List ℕ → Option C) where
   one_fault text a b f g = same_Err {X = KeySeq C} a b (sym (fault_means named (leads_of text) (last_of text) a f) ∙ fault_means named (leads_of text) (last_of text) b g)
 
 ascii_cases : (text : List ℕ) → IsAscii text ⊎ IsNotAscii text
-ascii_cases text = ?
+ascii_cases [] = inl (λ i. omega arith)
+ascii_cases (c ∷ text) = elim (cases_lt c 128) [
+  | inr ge ↦ inr (0, ge)
+  | inl lt ↦ elim (ascii_cases text) [
+      | inl h ↦ inl (later c text lt h)
+      | inr n ↦ inr (suc n.0, n.1)
+    ]
+]
+  where
+  later : (c : ℕ) (text : List ℕ) → c < 128 → IsAscii text → IsAscii (c ∷ text)
+  later c text lt h zero = lt
+  later c text lt h (suc i) = h i
 
 not_both_ascii : (text : List ℕ) → IsAscii text → IsNotAscii text → ⊥
 not_both_ascii text a n = omega (arith, a n.0, n.1)
@@ -143,3 +154,86 @@ key_one_meaning text = record {
       ]
   ];
 }
+
+mouse_not_ascii : (text : List ℕ) (error : DescriptionError) → IsNotAscii text → MouseFault text error → error ≡ NotAscii
+mouse_not_ascii text NotAscii n f = refl
+mouse_not_ascii text Empty n f = absurd (not_both_ascii text f.0 n)
+mouse_not_ascii text EmptySegment n f = absurd (not_both_ascii text f.0 n)
+mouse_not_ascii text RepeatedModifier n f = absurd (not_both_ascii text f.0 n)
+mouse_not_ascii text UnknownName n f = absurd (not_both_ascii text f.0 n)
+mouse_not_ascii text SecondKey n f = absurd (not_both_ascii text f.0 n)
+mouse_not_ascii text NoAction n f = absurd (not_both_ascii text f.0 n)
+
+mouse_empty : (text : List ℕ) (error : DescriptionError) → IsAscii text → trim text ≡ [] → MouseFault text error → error ≡ Empty
+mouse_empty text NotAscii a e f = absurd (not_both_ascii text a f)
+mouse_empty text Empty a e f = refl
+mouse_empty text EmptySegment a e f = absurd (not_empty (trim text) e f.1)
+mouse_empty text RepeatedModifier a e f = absurd (not_empty (trim text) e f.1)
+mouse_empty text UnknownName a e f = absurd (not_empty (trim text) e f.1)
+mouse_empty text SecondKey a e f = absurd (not_empty (trim text) e f.1)
+mouse_empty text NoAction a e f = absurd (not_empty (trim text) e f.1)
+
+-- a fault of a segment, or no action where the rules hold
+abbrev MouseSegment : List ℕ → DescriptionError → Type 0
+MouseSegment text error = SegmentFault action_named (leads_of text) (last_of text) error ⊎ ((error ≡ NoAction) × (bits : ℕ) × Reads action_named text bits None)
+
+mouse_segment : (text : List ℕ) (error : DescriptionError) → IsAscii text → 0 < length (trim text) → MouseFault text error → MouseSegment text error
+mouse_segment text NotAscii a some f = absurd (not_both_ascii text a f)
+mouse_segment text Empty a some f = absurd (not_empty (trim text) f.1 some)
+mouse_segment text EmptySegment a some f = inl f.2
+mouse_segment text RepeatedModifier a some f = inl f.2
+mouse_segment text UnknownName a some f = inl f.2
+mouse_segment text SecondKey a some f = inl f.2
+mouse_segment text NoAction a some f = inr (refl, f.2, f.3)
+
+mouse_one_fault : (text : List ℕ) (a b : DescriptionError) → MouseSegment text a → MouseSegment text b → a ≡ b
+mouse_one_fault text a b (inl f) (inl g) = one_fault action_named text a b f g
+mouse_one_fault text a b (inl f) (inr g) = absurd (rules_no_fault action_named (leads_of text) (last_of text) g.1 None a g.2 f)
+mouse_one_fault text a b (inr f) (inl g) = absurd (rules_no_fault action_named (leads_of text) (last_of text) f.1 None b f.2 g)
+mouse_one_fault text a b (inr f) (inr g) = f.0 ∙ sym g.0
+
+same_mouse : (a b : MouseEvent) → a.kind ≡ b.kind → a.column ≡ b.column → a.row ≡ b.row → a.modifiers.0 ≡ b.modifiers.0 → a ≡ b
+same_mouse a b k c r m i = record { kind = k i; column = c i; row = r i; modifiers = record { 0 = m i } }
+
+mouse_never_both : (text : List ℕ) (a : MouseEvent) (error : DescriptionError) → DescribesMouse text a → MouseSegment text error → ⊥
+mouse_never_both text a error x (inl f) = rules_no_fault action_named (leads_of text) (last_of text) a.modifiers.0 (Some a.kind) error x.reads f
+mouse_never_both text a error x (inr f) =
+    let e : Some a.kind ≡ None = one_code action_named (others (leads_of text) (last_of text)) (Some a.kind) None x.reads.names f.2.names in
+    none-some a.kind (sym e)
+
+mouse_one_meaning : (text : List ℕ) → HasOneMeaning (DescribesMouse text) (MouseFault text)
+mouse_one_meaning text = record {
+  one_event = λ a b x y.
+    let k : Some a.kind ≡ Some b.kind = one_code action_named (others (leads_of text) (last_of text)) (Some a.kind) (Some b.kind) x.reads.names y.reads.names in
+    same_mouse a b (same_Some a.kind b.kind k) (x.column ∙ sym y.column) (x.row ∙ sym y.row) (x.reads.modifiers ∙ sym y.reads.modifiers);
+  one_error = λ a b f g. elim (ascii_cases text) [
+    | inr n ↦ mouse_not_ascii text a n f ∙ sym (mouse_not_ascii text b n g)
+    | inl h ↦ elim (empty_or_some (trim text)) [
+        | inl e ↦ mouse_empty text a h e f ∙ sym (mouse_empty text b h e g)
+        | inr some ↦ mouse_one_fault text a b (mouse_segment text a h some f) (mouse_segment text b h some g)
+      ]
+  ];
+  never_both = λ a b x f. mouse_never_both text a b x (mouse_segment text b x.ascii x.some f);
+  one_of_both = elim (ascii_cases text) [
+    | inr n ↦ inr (NotAscii, n)
+    | inl h ↦ elim (empty_or_some (trim text)) [
+        | inl e ↦ inr (Empty, (h, e))
+        | inr some ↦ elim (read_means action_named (leads_of text) (last_of text)) [
+            | inr p ↦ inr (p.0, mouse_fault text p.0 (h, some, p.2))
+            | inl p ↦ elim (cases_Option p.0.code) [
+                | inl n ↦ inr (NoAction, (h, some, p.0.modifiers.0, subst (λ c. Reads action_named text p.0.modifiers.0 c) n p.2))
+                | inr k ↦ inl (record { kind = k.0; column = 0; row = 0; modifiers = p.0.modifiers }, record {
+                    ascii = h;
+                    some = some;
+                    reads = subst (λ c. Reads action_named text p.0.modifiers.0 c) k.1 p.2;
+                    column = refl;
+                    row = refl;
+                  })
+              ]
+          ]
+      ]
+  ];
+}
+
+pub each_text : EachTextHasOneMeaning
+each_text text = (key_one_meaning text, mouse_one_meaning text)

@@ -164,7 +164,7 @@ cases_Result : {X E : Type 0} (r : Result X E) → ((x : X) × (r ≡ Ok x)) ⊎
 cases_Result (Ok x) = inl (x, refl)
 cases_Result (Err e) = inr (e, refl)
 
-same_Err : {X E : Type 0} (a b : E) → ◌≡◌ {A = Result X E} (Err a) (Err b) → a ≡ b
+pub same_Err : {X E : Type 0} (a b : E) → ◌≡◌ {A = Result X E} (Err a) (Err b) → a ≡ b
 same_Err {X} {E} a b h = ap (λ (r : Result X E). elim r [ Ok x ↦ a | Err e ↦ e ]) h
 
 module _ {C : Type 0} (named : List ℕ → Option C) where
