@@ -1,19 +1,22 @@
 -- Each text has one meaning.
-use Rattle.std.proofs.Common.{◌≡◌, ◌⊎◌, ℕ, ◌+◌, ◌<◌, ◌≤◌, List, [], ◌∷◌, length, Option, None, Some, Result, Ok, Err, Bool, true, false, zero, suc, refl, sym, subst, arith, ◌∙◌, ap, inl, inr, get_or}
+use Rattle.std.proofs.Common.{◌≡◌, ◌⊎◌, ℕ, ◌+◌, ◌<◌, ◌≤◌, List, [], ◌∷◌, length, Option, None, Some, unwrap_or, Result, Ok, Err, Bool, true, false, zero, suc, refl, sym, subst, arith, ◌∙◌, ap, inl, inr, get_or}
 use Rattle.std.specs.Str.{IsAscii, IsNotAscii, trim}
 use Rattle.std.proofs.lemmas.Bool.{cases_lt}
 use Rattle.std.proofs.lemmas.List.Splits.{length-slice_split}
 use Rattle.std.proofs.lemmas.Option.{none-some, same_Some}
 use Rattle.minus_term.specs.declared.error.DescriptionError.{DescriptionError}
 use Rattle.minus_term.specs.declared.error.DescriptionError.TheVariants.{NotAscii, Empty, EmptySegment, RepeatedModifier, UnknownName, SecondKey, NoAction}
+use Rattle.minus_term.specs.declared.event.KeyCode.{KeyCode}
+use Rattle.minus_term.specs.declared.event.KeyCode.TheVariants.{Null}
 use Rattle.minus_term.specs.declared.event.KeyEvent.{KeyEvent}
 use Rattle.minus_term.specs.declared.event.KeyEventKind.TheVariants.{Press}
 use Rattle.minus_term.specs.declared.event.MouseEvent.{MouseEvent}
+use Rattle.minus_term.specs.declared.event.MouseEventKind.{MouseEventKind}
 use Rattle.minus_input.specs.declared.key_seq.KeySeq.{KeySeq}
 use Rattle.minus_input.specs.Names.{key_named, action_named}
 use Rattle.minus_input.specs.Segments.{is_dash, segments, leading, last_segment}
 use Rattle.minus_input.specs.Reading.{beginning, read_segments}
-use Rattle.minus_input.specs.Description.{others, IsReading, Reads, or_null, DescribesKey, DescribesMouse, SegmentFault, TextFault, KeyFault, MouseFault, HasOneMeaning, EachTextHasOneMeaning}
+use Rattle.minus_input.specs.Description.{others, IsReading, Reads, DescribesKey, DescribesMouse, SegmentFault, TextFault, KeyFault, MouseFault, HasOneMeaning, EachTextHasOneMeaning}
 use Rattle.minus_input.proofs.FaultLaws.{cases_Option, ok_is_not_err, none_is_not_some, some_of, one_code, rules_no_fault}
 use Rattle.minus_input.proofs.ReadingLaws.{same_Err, read_both, read_means, fault_means, segments_read}
 
@@ -127,7 +130,7 @@ key_one_meaning : (text : List ℕ) → HasOneMeaning (DescribesKey text) (KeyFa
 key_one_meaning text = record {
   one_event = λ a b x y.
     let r = x.reads in let q = y.reads in
-    let c : a.code ≡ b.code = r.2 ∙ ap or_null (one_code key_named (others (leads_of text) (last_of text)) r.0 q.0 r.1.names q.1.names) ∙ sym q.2 in
+    let c : a.code ≡ b.code = r.2 ∙ ap (λ o. unwrap_or o Null) (one_code key_named (others (leads_of text) (last_of text)) r.0 q.0 r.1.names q.1.names) ∙ sym q.2 in
     same_key a b c (r.1.modifiers ∙ sym q.1.modifiers) (x.kind ∙ sym y.kind) (x.state ∙ sym y.state);
   one_error = λ a b f g. elim (ascii_cases text) [
     | inr n ↦ key_not_ascii text a n f ∙ sym (key_not_ascii text b n g)
@@ -142,7 +145,7 @@ key_one_meaning text = record {
     | inl h ↦ elim (empty_or_some (trim text)) [
         | inl e ↦ inr (Empty, (h, e))
         | inr some ↦ elim (read_means key_named (leads_of text) (last_of text)) [
-            | inl p ↦ inl (record { code = or_null p.0.code; modifiers = p.0.modifiers; kind = Press; state = record { 0 = 0 } }, record {
+            | inl p ↦ inl (record { code = unwrap_or p.0.code Null; modifiers = p.0.modifiers; kind = Press; state = record { 0 = 0 } }, record {
                 ascii = h;
                 some = some;
                 reads = (p.0.code, p.2, refl);
@@ -237,3 +240,41 @@ mouse_one_meaning text = record {
 
 pub each_text : EachTextHasOneMeaning
 each_text text = (key_one_meaning text, mouse_one_meaning text)
+
+-- what is read of a text is told of the whole text
+pub parsed_key : (text part : List ℕ) (seq : KeySeq KeyCode) (code : KeyCode) → IsAscii text → 0 < length part → part ≡ trim text →
+    Ok seq ≡ read_segments key_named beginning (segments part) → code ≡ unwrap_or seq.code Null →
+    DescribesKey text (record { code = code; modifiers = seq.modifiers; kind = Press; state = record { 0 = 0 } })
+parsed_key text part seq code a some is read c = record {
+  ascii = a;
+  some = subst (λ t. 0 < length t) is some;
+  reads = (seq.code, reads_ok key_named text seq (read ∙ ap (λ t. read_segments key_named beginning (segments t)) is), c);
+  kind = refl;
+  state = refl;
+}
+
+pub refused_key : (text part : List ℕ) (error : DescriptionError) → IsAscii text → 0 < length part → part ≡ trim text →
+    Err error ≡ read_segments key_named beginning (segments part) → KeyFault text error
+refused_key text part error a some is read =
+    key_fault text error (a, subst (λ t. 0 < length t) is some, reads_err key_named text error (read ∙ ap (λ t. read_segments key_named beginning (segments t)) is))
+
+pub parsed_mouse : (text part : List ℕ) (seq : KeySeq MouseEventKind) (kind : MouseEventKind) → IsAscii text → 0 < length part → part ≡ trim text →
+    Ok seq ≡ read_segments action_named beginning (segments part) → seq.code ≡ Some kind →
+    DescribesMouse text (record { kind = kind; column = 0; row = 0; modifiers = seq.modifiers })
+parsed_mouse text part seq kind a some is read c = record {
+  ascii = a;
+  some = subst (λ t. 0 < length t) is some;
+  reads = subst (λ o. Reads action_named text seq.modifiers.0 o) c (reads_ok action_named text seq (read ∙ ap (λ t. read_segments action_named beginning (segments t)) is));
+  column = refl;
+  row = refl;
+}
+
+pub refused_mouse : (text part : List ℕ) (error : DescriptionError) → IsAscii text → 0 < length part → part ≡ trim text →
+    Err error ≡ read_segments action_named beginning (segments part) → MouseFault text error
+refused_mouse text part error a some is read =
+    mouse_fault text error (a, subst (λ t. 0 < length t) is some, reads_err action_named text error (read ∙ ap (λ t. read_segments action_named beginning (segments t)) is))
+
+pub no_action : (text part : List ℕ) (seq : KeySeq MouseEventKind) → IsAscii text → 0 < length part → part ≡ trim text →
+    Ok seq ≡ read_segments action_named beginning (segments part) → seq.code ≡ None → MouseFault text NoAction
+no_action text part seq a some is read c =
+    (a, subst (λ t. 0 < length t) is some, seq.modifiers.0, subst (λ o. Reads action_named text seq.modifiers.0 o) c (reads_ok action_named text seq (read ∙ ap (λ t. read_segments action_named beginning (segments t)) is)))

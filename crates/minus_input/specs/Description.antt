@@ -1,5 +1,5 @@
 -- What a text describes, by the rules of its segments, and why it describes nothing.
-use Rattle.std.specs.Prelude.{ℕ, ◌≡◌, ◌<◌, ◌==◌, ◌⊎◌, List, [], ◌∷◌, ◌++◌, length, Bool, true, not, ◌&&◌, IsTrue, Option, None, Some, IsSome, is_none, if◌then◌else◌}
+use Rattle.std.specs.Prelude.{ℕ, ◌≡◌, ◌<◌, ◌==◌, ◌⊎◌, List, [], ◌∷◌, ◌++◌, length, Bool, true, not, ◌&&◌, IsTrue, Option, None, Some, IsSome, is_none, unwrap_or, if◌then◌else◌}
 use Rattle.std.specs.Int.RustNames.{bit_or}
 use Rattle.std.specs.List.{Contains, filter, filter_map, fold}
 use Rattle.std.specs.Str.{IsAscii, IsNotAscii, trim}
@@ -53,16 +53,11 @@ pub record IsReading {C : Type 0} (named : List ℕ → Option C) (leads : List 
 abbrev pub Reads : {C : Type 0} → (List ℕ → Option C) → List ℕ → ℕ → Option C → Type 0
 Reads named text bits code = IsReading named (leading (segments (trim text))) (last_segment (segments (trim text))) bits code
 
--- no key at all is Null
-abbrev pub or_null : Option KeyCode → KeyCode
-or_null (Some code) = code
-or_null None = Null
-
--- a text describes a key
+-- a text describes a key: without a code it is Null
 pub record DescribesKey (text : List ℕ) (key : KeyEvent) : Type 0 where
   pub ascii : IsAscii text
   pub some : 0 < length (trim text)
-  pub reads : (code : Option KeyCode) × Reads key_named text key.modifiers.0 code × (key.code ≡ or_null code)
+  pub reads : (code : Option KeyCode) × Reads key_named text key.modifiers.0 code × (key.code ≡ unwrap_or code Null)
   pub kind : key.kind ≡ Press
   pub state : key.state.0 ≡ 0
 
