@@ -38,8 +38,8 @@ module _ {C : Type 0} (named : List ℕ → Option C) where
   pub reads_ok : (text : List ℕ) (seq : KeySeq C) → Ok seq ≡ read_segments named beginning (segments (trim text)) → Reads named text seq.modifiers.0 seq.code
   reads_ok text seq h = elim (read_means named (leads_of text) (last_of text)) [
     | inl p ↦
-      let e : seq ≡ p.0 = same_Ok seq p.0 (h ∙ both text ∙ p.1) in
-      subst (λ (s : KeySeq C). Reads named text s.modifiers.0 s.code) (sym e) p.2
+        let e : seq ≡ p.0 = same_Ok seq p.0 (h ∙ both text ∙ p.1) in
+        subst (λ (s : KeySeq C). Reads named text s.modifiers.0 s.code) (sym e) p.2
     | inr p ↦ absurd (ok_is_not_err seq p.0 (Ok seq) refl (h ∙ both text ∙ p.1))
   ]
 
@@ -58,14 +58,14 @@ ascii_cases [] = inl (λ i. omega arith)
 ascii_cases (c ∷ text) = elim (cases_lt c 128) [
   | inr ge ↦ inr (0, ge)
   | inl lt ↦ elim (ascii_cases text) [
-      | inl h ↦ inl (later c text lt h)
-      | inr n ↦ inr (suc n.0, n.1)
-    ]
+    | inl h ↦ inl (later c text lt h)
+    | inr n ↦ inr (suc n.0, n.1)
+  ]
 ]
   where
-  later : (c : ℕ) (text : List ℕ) → c < 128 → IsAscii text → IsAscii (c ∷ text)
-  later c text lt h zero = lt
-  later c text lt h (suc i) = h i
+    later : (c : ℕ) (text : List ℕ) → c < 128 → IsAscii text → IsAscii (c ∷ text)
+    later c text lt h zero = lt
+    later c text lt h (suc i) = h i
 
 not_both_ascii : (text : List ℕ) → IsAscii text → IsNotAscii text → ⊥
 not_both_ascii text a n = omega (arith, a n.0, n.1)
@@ -129,32 +129,35 @@ same_key a b c m k s i = record { code = c i; modifiers = record { 0 = m i }; ki
 key_one_meaning : (text : List ℕ) → HasOneMeaning (DescribesKey text) (KeyFault text)
 key_one_meaning text = record {
   one_event = λ a b x y.
-    let r = x.reads in let q = y.reads in
-    let c : a.code ≡ b.code = r.2 ∙ ap (λ o. unwrap_or o Null) (one_code key_named (others (leads_of text) (last_of text)) r.0 q.0 r.1.names q.1.names) ∙ sym q.2 in
-    same_key a b c (r.1.modifiers ∙ sym q.1.modifiers) (x.kind ∙ sym y.kind) (x.state ∙ sym y.state);
+      let r = x.reads in let q = y.reads in
+      let c : a.code ≡ b.code = r.2 ∙ ap (λ o. unwrap_or o Null) (one_code key_named (others (leads_of text) (last_of text)) r.0 q.0 r.1.names q.1.names) ∙ sym q.2 in
+      same_key a b c (r.1.modifiers ∙ sym q.1.modifiers) (x.kind ∙ sym y.kind) (x.state ∙ sym y.state);
   one_error = λ a b f g. elim (ascii_cases text) [
     | inr n ↦ key_not_ascii text a n f ∙ sym (key_not_ascii text b n g)
     | inl h ↦ elim (empty_or_some (trim text)) [
-        | inl e ↦ key_empty text a h e f ∙ sym (key_empty text b h e g)
-        | inr some ↦ one_fault key_named text a b (key_segment text a h some f) (key_segment text b h some g)
-      ]
+      | inl e ↦ key_empty text a h e f ∙ sym (key_empty text b h e g)
+      | inr some ↦ one_fault key_named text a b (key_segment text a h some f) (key_segment text b h some g)
+    ]
   ];
   never_both = λ a b x f. let r = x.reads in rules_no_fault key_named (leads_of text) (last_of text) a.modifiers.0 r.0 b r.1 (key_segment text b x.ascii x.some f);
   one_of_both = elim (ascii_cases text) [
     | inr n ↦ inr (NotAscii, n)
     | inl h ↦ elim (empty_or_some (trim text)) [
-        | inl e ↦ inr (Empty, (h, e))
-        | inr some ↦ elim (read_means key_named (leads_of text) (last_of text)) [
-            | inl p ↦ inl (record { code = unwrap_or p.0.code Null; modifiers = p.0.modifiers; kind = Press; state = record { 0 = 0 } }, record {
-                ascii = h;
-                some = some;
-                reads = (p.0.code, p.2, refl);
-                kind = refl;
-                state = refl;
-              })
-            | inr p ↦ inr (p.0, key_fault text p.0 (h, some, p.2))
-          ]
+      | inl e ↦ inr (Empty, (h, e))
+      | inr some ↦ elim (read_means key_named (leads_of text) (last_of text)) [
+        | inl p ↦ inl (
+          record { code = unwrap_or p.0.code Null; modifiers = p.0.modifiers; kind = Press; state = record { 0 = 0 } },
+          record {
+            ascii = h;
+            some = some;
+            reads = (p.0.code, p.2, refl);
+            kind = refl;
+            state = refl;
+          },
+        )
+        | inr p ↦ inr (p.0, key_fault text p.0 (h, some, p.2))
       ]
+    ]
   ];
 }
 
@@ -207,34 +210,37 @@ mouse_never_both text a error x (inr f) =
 mouse_one_meaning : (text : List ℕ) → HasOneMeaning (DescribesMouse text) (MouseFault text)
 mouse_one_meaning text = record {
   one_event = λ a b x y.
-    let k : Some a.kind ≡ Some b.kind = one_code action_named (others (leads_of text) (last_of text)) (Some a.kind) (Some b.kind) x.reads.names y.reads.names in
-    same_mouse a b (same_Some a.kind b.kind k) (x.column ∙ sym y.column) (x.row ∙ sym y.row) (x.reads.modifiers ∙ sym y.reads.modifiers);
+      let k : Some a.kind ≡ Some b.kind = one_code action_named (others (leads_of text) (last_of text)) (Some a.kind) (Some b.kind) x.reads.names y.reads.names in
+      same_mouse a b (same_Some a.kind b.kind k) (x.column ∙ sym y.column) (x.row ∙ sym y.row) (x.reads.modifiers ∙ sym y.reads.modifiers);
   one_error = λ a b f g. elim (ascii_cases text) [
     | inr n ↦ mouse_not_ascii text a n f ∙ sym (mouse_not_ascii text b n g)
     | inl h ↦ elim (empty_or_some (trim text)) [
-        | inl e ↦ mouse_empty text a h e f ∙ sym (mouse_empty text b h e g)
-        | inr some ↦ mouse_one_fault text a b (mouse_segment text a h some f) (mouse_segment text b h some g)
-      ]
+      | inl e ↦ mouse_empty text a h e f ∙ sym (mouse_empty text b h e g)
+      | inr some ↦ mouse_one_fault text a b (mouse_segment text a h some f) (mouse_segment text b h some g)
+    ]
   ];
   never_both = λ a b x f. mouse_never_both text a b x (mouse_segment text b x.ascii x.some f);
   one_of_both = elim (ascii_cases text) [
     | inr n ↦ inr (NotAscii, n)
     | inl h ↦ elim (empty_or_some (trim text)) [
-        | inl e ↦ inr (Empty, (h, e))
-        | inr some ↦ elim (read_means action_named (leads_of text) (last_of text)) [
-            | inr p ↦ inr (p.0, mouse_fault text p.0 (h, some, p.2))
-            | inl p ↦ elim (cases_Option p.0.code) [
-                | inl n ↦ inr (NoAction, (h, some, p.0.modifiers.0, subst (λ c. Reads action_named text p.0.modifiers.0 c) n p.2))
-                | inr k ↦ inl (record { kind = k.0; column = 0; row = 0; modifiers = p.0.modifiers }, record {
-                    ascii = h;
-                    some = some;
-                    reads = subst (λ c. Reads action_named text p.0.modifiers.0 c) k.1 p.2;
-                    column = refl;
-                    row = refl;
-                  })
-              ]
-          ]
+      | inl e ↦ inr (Empty, (h, e))
+      | inr some ↦ elim (read_means action_named (leads_of text) (last_of text)) [
+        | inr p ↦ inr (p.0, mouse_fault text p.0 (h, some, p.2))
+        | inl p ↦ elim (cases_Option p.0.code) [
+          | inl n ↦ inr (NoAction, (h, some, p.0.modifiers.0, subst (λ c. Reads action_named text p.0.modifiers.0 c) n p.2))
+          | inr k ↦ inl (
+            record { kind = k.0; column = 0; row = 0; modifiers = p.0.modifiers },
+            record {
+              ascii = h;
+              some = some;
+              reads = subst (λ c. Reads action_named text p.0.modifiers.0 c) k.1 p.2;
+              column = refl;
+              row = refl;
+            },
+          )
+        ]
       ]
+    ]
   ];
 }
 

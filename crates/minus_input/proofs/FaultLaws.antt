@@ -52,9 +52,9 @@ pub snoc_last : {X : Type 0} (done before : List X) (last x : X) → done ++ las
 snoc_last done before last x h = elim (snoc_split done before [] last x h) [
   | inl p ↦ p.1
   | inr p ↦
-    let l1 : length (done ++ last ∷ []) ≡ length (before ++ x ∷ []) = ap length h in
-    let l2 : length done ≡ length (before ++ x ∷ p.0) = ap length p.1 in
-    absurd (omega (arith, length-append done (last ∷ []), length-append before (x ∷ []), length-append before (x ∷ p.0), l1, l2))
+      let l1 : length (done ++ last ∷ []) ≡ length (before ++ x ∷ []) = ap length h in
+      let l2 : length done ≡ length (before ++ x ∷ p.0) = ap length p.1 in
+      absurd (omega (arith, length-append done (last ∷ []), length-append before (x ∷ []), length-append before (x ∷ p.0), l1, l2))
 ]
 
 -- what stands inside a filtered list

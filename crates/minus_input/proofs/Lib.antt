@@ -3,3 +3,4 @@ pub mod SegmentsLaws
 pub mod FaultLaws
 pub mod ReadingLaws
 pub mod DescriptionLaws
+pub mod HelpTableLaws

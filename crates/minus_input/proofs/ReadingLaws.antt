@@ -26,16 +26,16 @@ letter_cases (a ∷ b ∷ more) bit h = absurd (none-some bit h)
 letter_cases (a ∷ []) bit h = elim (cases_Bool (eqb a 109)) [
   | inl t ↦ inl (ap (λ c. c ∷ []) (eqb-true a 109 t), sym (same_Some 4 bit (rw t at h)))
   | inr f ↦
-    let h2 = rw f at h in
-    elim (cases_Bool (eqb a 99)) [
-      | inl t ↦ inr (inl (ap (λ c. c ∷ []) (eqb-true a 99 t), sym (same_Some 2 bit (rw t at h2))))
-      | inr f2 ↦
-        let h3 = rw f2 at h2 in
-        elim (cases_Bool (eqb a 115)) [
-          | inl t ↦ inr (inr (ap (λ c. c ∷ []) (eqb-true a 115 t), sym (same_Some 1 bit (rw t at h3))))
-          | inr f3 ↦ absurd (none-some bit (rw f3 at h3))
-        ]
-    ]
+      let h2 = rw f at h in
+      elim (cases_Bool (eqb a 99)) [
+        | inl t ↦ inr (inl (ap (λ c. c ∷ []) (eqb-true a 99 t), sym (same_Some 2 bit (rw t at h2))))
+        | inr f2 ↦
+            let h3 = rw f2 at h2 in
+            elim (cases_Bool (eqb a 115)) [
+              | inl t ↦ inr (inr (ap (λ c. c ∷ []) (eqb-true a 115 t), sym (same_Some 1 bit (rw t at h3))))
+              | inr f3 ↦ absurd (none-some bit (rw f3 at h3))
+            ]
+      ]
 ]
 
 -- two modifiers are one, or share no bit and no letter
@@ -43,24 +43,24 @@ letters_apart : (s t : List ℕ) (a b : ℕ) → modifier_letter s ≡ Some a �
     ((s ≡ t) × (a ≡ b)) ⊎ ((bit_and a b ≡ 0) × (s ≡ t → ⊥))
 letters_apart s t a b h k = elim (letter_cases s a h) [
   | inl p ↦ elim (letter_cases t b k) [
-      | inl q ↦ inl (p.0 ∙ sym q.0, p.1 ∙ sym q.1)
-      | inr (inl q) ↦ inr (rw (p.1, q.1) refl, λ e. first_differs 109 99 (λ n. omega (arith, n)) (sym p.0 ∙ e ∙ q.0))
-      | inr (inr q) ↦ inr (rw (p.1, q.1) refl, λ e. first_differs 109 115 (λ n. omega (arith, n)) (sym p.0 ∙ e ∙ q.0))
-    ]
+    | inl q ↦ inl (p.0 ∙ sym q.0, p.1 ∙ sym q.1)
+    | inr (inl q) ↦ inr (rw (p.1, q.1) refl, λ e. first_differs 109 99 (λ n. omega (arith, n)) (sym p.0 ∙ e ∙ q.0))
+    | inr (inr q) ↦ inr (rw (p.1, q.1) refl, λ e. first_differs 109 115 (λ n. omega (arith, n)) (sym p.0 ∙ e ∙ q.0))
+  ]
   | inr (inl p) ↦ elim (letter_cases t b k) [
-      | inl q ↦ inr (rw (p.1, q.1) refl, λ e. first_differs 99 109 (λ n. omega (arith, n)) (sym p.0 ∙ e ∙ q.0))
-      | inr (inl q) ↦ inl (p.0 ∙ sym q.0, p.1 ∙ sym q.1)
-      | inr (inr q) ↦ inr (rw (p.1, q.1) refl, λ e. first_differs 99 115 (λ n. omega (arith, n)) (sym p.0 ∙ e ∙ q.0))
-    ]
+    | inl q ↦ inr (rw (p.1, q.1) refl, λ e. first_differs 99 109 (λ n. omega (arith, n)) (sym p.0 ∙ e ∙ q.0))
+    | inr (inl q) ↦ inl (p.0 ∙ sym q.0, p.1 ∙ sym q.1)
+    | inr (inr q) ↦ inr (rw (p.1, q.1) refl, λ e. first_differs 99 115 (λ n. omega (arith, n)) (sym p.0 ∙ e ∙ q.0))
+  ]
   | inr (inr p) ↦ elim (letter_cases t b k) [
-      | inl q ↦ inr (rw (p.1, q.1) refl, λ e. first_differs 115 109 (λ n. omega (arith, n)) (sym p.0 ∙ e ∙ q.0))
-      | inr (inl q) ↦ inr (rw (p.1, q.1) refl, λ e. first_differs 115 99 (λ n. omega (arith, n)) (sym p.0 ∙ e ∙ q.0))
-      | inr (inr q) ↦ inl (p.0 ∙ sym q.0, p.1 ∙ sym q.1)
-    ]
+    | inl q ↦ inr (rw (p.1, q.1) refl, λ e. first_differs 115 109 (λ n. omega (arith, n)) (sym p.0 ∙ e ∙ q.0))
+    | inr (inl q) ↦ inr (rw (p.1, q.1) refl, λ e. first_differs 115 99 (λ n. omega (arith, n)) (sym p.0 ∙ e ∙ q.0))
+    | inr (inr q) ↦ inl (p.0 ∙ sym q.0, p.1 ∙ sym q.1)
+  ]
 ]
   where
-  first_differs : (a b : ℕ) → (a ≡ b → ⊥) → a ∷ [] ≡ b ∷ [] → ⊥
-  first_differs a b n e = n (ap (λ l. get_or l 0 0) e)
+    first_differs : (a b : ℕ) → (a ≡ b → ⊥) → a ∷ [] ≡ b ∷ [] → ⊥
+    first_differs a b n e = n (ap (λ l. get_or l 0 0) e)
 
 -- no bit of a modifier is in nothing
 no_bit : (segment : List ℕ) (bit : ℕ) → modifier_letter segment ≡ Some bit → eqb (bit_and 0 bit) bit ≡ false
@@ -93,9 +93,10 @@ none_from_is_none (Some x) h = absurd (true≢false (sym h))
 
 -- the two parts of `is_other`
 other_parts : (segment : List ℕ) → is_other segment ≡ true → (eqb (length segment) 0 ≡ false) × (modifier_letter segment ≡ None)
-other_parts segment h =
-    (not-true (eqb (length segment) 0) (first_so (not (eqb (length segment) 0)) (is_none (modifier_letter segment)) h),
-     none_from_is_none (modifier_letter segment) (second_so (not (eqb (length segment) 0)) (is_none (modifier_letter segment)) h))
+other_parts segment h = (
+  not-true (eqb (length segment) 0) (first_so (not (eqb (length segment) 0)) (is_none (modifier_letter segment)) h),
+  none_from_is_none (modifier_letter segment) (second_so (not (eqb (length segment) 0)) (is_none (modifier_letter segment)) h),
+)
 
 other_from : (segment : List ℕ) → eqb (length segment) 0 ≡ false → modifier_letter segment ≡ None → is_other segment ≡ true
 other_from segment l m = rw (l, m) refl
@@ -131,12 +132,13 @@ more_bits done segment bit h =
 same_has : (set : ℕ) (done : List (List ℕ)) (segment : List ℕ) → modifier_letter segment ≡ None →
     ((other : List ℕ) (bit : ℕ) → modifier_letter other ≡ Some bit → Decides (eqb (bit_and set bit) bit) (Contains done other)) →
     (other : List ℕ) (bit : ℕ) → modifier_letter other ≡ Some bit → Decides (eqb (bit_and set bit) bit) (Contains (done ++ segment ∷ []) other)
-same_has set done segment m has other bit h =
-    (λ t. Contains-append_left done (segment ∷ []) other ((has other bit h).0 t),
-     λ k. elim (Contains-push_cases done segment other k) [
-       | inl c ↦ (has other bit h).1 c
-       | inr e ↦ absurd (none-some bit (sym m ∙ ap modifier_letter e ∙ h))
-     ])
+same_has set done segment m has other bit h = (
+  λ t. Contains-append_left done (segment ∷ []) other ((has other bit h).0 t),
+  λ k. elim (Contains-push_cases done segment other k) [
+    | inl c ↦ (has other bit h).1 c
+    | inr e ↦ absurd (none-some bit (sym m ∙ ap modifier_letter e ∙ h))
+  ],
+)
 
 -- and where one more is a modifier
 more_has : (set : ℕ) (done : List (List ℕ)) (segment : List ℕ) (added : ℕ) → modifier_letter segment ≡ Some added →
@@ -144,15 +146,16 @@ more_has : (set : ℕ) (done : List (List ℕ)) (segment : List ℕ) (added : �
     (other : List ℕ) (bit : ℕ) → modifier_letter other ≡ Some bit → Decides (eqb (bit_and (bit_or set added) bit) bit) (Contains (done ++ segment ∷ []) other)
 more_has set done segment added m has other bit h = elim (letters_apart segment other added bit m h) [
   | inl p ↦
-    let e : bit_and (bit_or set added) bit ≡ bit = rw (← p.1) (and_or_self added set) in
-    (λ t. rw (← p.0) (Contains-push done segment), λ k. eq-eqb (bit_and (bit_or set added) bit) bit e)
+      let e : bit_and (bit_or set added) bit ≡ bit = rw (← p.1) (and_or_self added set) in
+      (λ t. rw (← p.0) (Contains-push done segment), λ k. eq-eqb (bit_and (bit_or set added) bit) bit e)
   | inr p ↦
-    let e : eqb (bit_and (bit_or set added) bit) bit ≡ eqb (bit_and set bit) bit = ap (λ x. eqb x bit) (and_or_apart bit set added p.0) in
-    (λ t. Contains-append_left done (segment ∷ []) other ((has other bit h).0 (sym e ∙ t)),
-     λ k. e ∙ (has other bit h).1 (elim (Contains-push_cases done segment other k) [
-       | inl c ↦ c
-       | inr q ↦ absurd (p.1 q)
-     ]))
+      let e : eqb (bit_and (bit_or set added) bit) bit ≡ eqb (bit_and set bit) bit = ap (λ x. eqb x bit) (and_or_apart bit set added p.0) in (
+        λ t. Contains-append_left done (segment ∷ []) other ((has other bit h).0 (sym e ∙ t)),
+        λ k. e ∙ (has other bit h).1 (elim (Contains-push_cases done segment other k) [
+          | inl c ↦ c
+          | inr q ↦ absurd (p.1 q)
+        ]),
+      )
 ]
 
 -- the leading segments are read
@@ -196,9 +199,9 @@ module _ {C : Type 0} (named : List ℕ → Option C) where
       elim (cases_Option (named segment)) [
         | inl n ↦ absurd (none_is_not_some (named segment) n f.1)
         | inr p ↦ elim (cases_Option seq.code) [
-            | inl n ↦ absurd (let k : length (filter is_other done) ≡ 0 = ap length (no_code named (filter is_other done) seq.code s.names n) in omega (arith, k, f.2))
-            | inr q ↦ rw (o.0, o.1, p.1, q.1) refl
-          ]
+          | inl n ↦ absurd (let k : length (filter is_other done) ≡ 0 = ap length (no_code named (filter is_other done) seq.code s.names n) in omega (arith, k, f.2))
+          | inr q ↦ rw (o.0, o.1, p.1, q.1) refl
+        ]
       ]
   fault_read done seq segment NotAscii s f = absurd f
   fault_read done seq segment Empty s f = absurd f
@@ -216,16 +219,20 @@ module _ {C : Type 0} (named : List ℕ → Option C) where
   step_empty : (done : List (List ℕ)) (seq : KeySeq C) → IsSoFar named done seq → Step done seq []
   step_empty done seq s = elim (cases_Bool seq.may_be_empty) [
     | inl t ↦
-      let next : KeySeq C = record { modifiers = seq.modifiers; code = seq.code; may_be_empty = false } in
-      let read : read_leading named seq [] ≡ Ok next = rw t refl in
-      inl (next, read, record {
-        faultless = no_fault done seq next [] s read;
-        bits = s.bits ∙ sym (ap (fold bit_or 0) (same_bits done [] refl));
-        has = same_has seq.modifiers.0 done [] refl s.has;
-        names = subst (λ l. IsCode named l seq.code) (sym (no_more_others done [] refl)) s.names;
-        opens = λ e. absurd (true≢false (sym e));
-        shuts = λ _. (done, [], refl, refl);
-      })
+        let next : KeySeq C = record { modifiers = seq.modifiers; code = seq.code; may_be_empty = false } in
+        let read : read_leading named seq [] ≡ Ok next = rw t refl in
+        inl (
+          next,
+          read,
+          record {
+            faultless = no_fault done seq next [] s read;
+            bits = s.bits ∙ sym (ap (fold bit_or 0) (same_bits done [] refl));
+            has = same_has seq.modifiers.0 done [] refl s.has;
+            names = subst (λ l. IsCode named l seq.code) (sym (no_more_others done [] refl)) s.names;
+            opens = λ e. absurd (true≢false (sym e));
+            shuts = λ _. (done, [], refl, refl);
+          },
+        )
     | inr f ↦ let at = s.shuts f in inr (EmptySegment, rw f refl, (refl, at.0, at.1, at.2, at.3))
   ]
 
@@ -233,46 +240,54 @@ module _ {C : Type 0} (named : List ℕ → Option C) where
   step_name done seq segment s f m = elim (cases_Option (named segment)) [
     | inl n ↦ inr (UnknownName, rw (f, m, n) refl, (other_from segment f m, n))
     | inr p ↦ elim (cases_Option seq.code) [
-        | inl n ↦
+      | inl n ↦
           let next : KeySeq C = record { modifiers = seq.modifiers; code = Some p.0; may_be_empty = false } in
           let read : read_leading named seq segment ≡ Ok next = rw (f, m, p.1, n) refl in
           let alone : filter is_other (done ++ segment ∷ []) ≡ segment ∷ []
-                = one_more_other done segment (other_from segment f m) ∙ ap (λ l. l ++ segment ∷ []) (no_code named (filter is_other done) seq.code s.names n) in
-          inl (next, read, record {
-            faultless = no_fault done seq next segment s read;
-            bits = s.bits ∙ sym (ap (fold bit_or 0) (same_bits done segment m));
-            has = same_has seq.modifiers.0 done segment m s.has;
-            names = subst (λ l. IsCode named l (Some p.0)) (sym alone) (sym p.1, some_of (named segment) p.0 p.1);
-            opens = λ e. absurd (true≢false (sym e));
-            shuts = λ _. (done, segment, refl, m);
-          })
-        | inr q ↦ inr (SecondKey, rw (f, m, p.1, q.1) refl, (other_from segment f m, some_of (named segment) p.0 p.1, some_code named (filter is_other done) seq.code q.0 s.names q.1))
-      ]
+          = one_more_other done segment (other_from segment f m) ∙ ap (λ l. l ++ segment ∷ []) (no_code named (filter is_other done) seq.code s.names n) in
+          inl (
+            next,
+            read,
+            record {
+              faultless = no_fault done seq next segment s read;
+              bits = s.bits ∙ sym (ap (fold bit_or 0) (same_bits done segment m));
+              has = same_has seq.modifiers.0 done segment m s.has;
+              names = subst (λ l. IsCode named l (Some p.0)) (sym alone) (sym p.1, some_of (named segment) p.0 p.1);
+              opens = λ e. absurd (true≢false (sym e));
+              shuts = λ _. (done, segment, refl, m);
+            },
+          )
+      | inr q ↦ inr (SecondKey, rw (f, m, p.1, q.1) refl, (other_from segment f m, some_of (named segment) p.0 p.1, some_code named (filter is_other done) seq.code q.0 s.names q.1))
+    ]
   ]
 
   step_modifier : (done : List (List ℕ)) (seq : KeySeq C) (segment : List ℕ) (bit : ℕ) → IsSoFar named done seq → modifier_letter segment ≡ Some bit → Step done seq segment
   step_modifier done seq segment bit s p = elim (cases_Bool (eqb (bit_and seq.modifiers.0 bit) bit)) [
     | inl t ↦ inr (RepeatedModifier, rw (letter_some segment bit p, p, t) refl, (some_of (modifier_letter segment) bit p, (s.has segment bit p).0 t))
     | inr f ↦
-      let next : KeySeq C = record { modifiers = record { 0 = bit_or seq.modifiers.0 bit }; code = seq.code; may_be_empty = true } in
-      let read : read_leading named seq segment ≡ Ok next = rw (letter_some segment bit p, p, f) refl in
-      inl (next, read, record {
-        faultless = no_fault done seq next segment s read;
-        bits = ap (λ x. bit_or x bit) s.bits ∙ sym (more_bits done segment bit p);
-        has = more_has seq.modifiers.0 done segment bit p s.has;
-        names = subst (λ l. IsCode named l seq.code) (sym (no_more_others done segment (modifier_is_no_other segment bit p))) s.names;
-        opens = λ _ front previous e. some_of (modifier_letter previous) bit (ap modifier_letter (snoc_last done front segment previous e) ∙ p);
-        shuts = λ e. absurd (true≢false e);
-      })
+        let next : KeySeq C = record { modifiers = record { 0 = bit_or seq.modifiers.0 bit }; code = seq.code; may_be_empty = true } in
+        let read : read_leading named seq segment ≡ Ok next = rw (letter_some segment bit p, p, f) refl in
+        inl (
+          next,
+          read,
+          record {
+            faultless = no_fault done seq next segment s read;
+            bits = ap (λ x. bit_or x bit) s.bits ∙ sym (more_bits done segment bit p);
+            has = more_has seq.modifiers.0 done segment bit p s.has;
+            names = subst (λ l. IsCode named l seq.code) (sym (no_more_others done segment (modifier_is_no_other segment bit p))) s.names;
+            opens = λ _ front previous e. some_of (modifier_letter previous) bit (ap modifier_letter (snoc_last done front segment previous e) ∙ p);
+            shuts = λ e. absurd (true≢false e);
+          },
+        )
   ]
 
   step : (done : List (List ℕ)) (seq : KeySeq C) (segment : List ℕ) → IsSoFar named done seq → Step done seq segment
   step done seq segment s = elim (cases_Bool (eqb (length segment) 0)) [
     | inl t ↦ subst (λ x. Step done seq x) (sym (no_name segment t)) (step_empty done seq s)
     | inr f ↦ elim (cases_Option (modifier_letter segment)) [
-        | inl m ↦ step_name done seq segment s f m
-        | inr p ↦ step_modifier done seq segment p.0 s p.1
-      ]
+      | inl m ↦ step_name done seq segment s f m
+      | inr p ↦ step_modifier done seq segment p.0 s p.1
+    ]
   ]
 
   -- what comes of the leading segments
@@ -282,9 +297,9 @@ module _ {C : Type 0} (named : List ℕ → Option C) where
   walk done [] seq s = inl (seq, refl, subst (λ l. IsSoFar named l seq) (sym (append-nil done)) s)
   walk done (x ∷ rest) seq s = elim (step done seq x s) [
     | inl p ↦ elim (walk (done ++ x ∷ []) rest p.0 p.2) [
-        | inl q ↦ inl (q.0, rw p.1 q.1, subst (λ l. IsSoFar named l q.0) (append_assoc done (x ∷ []) rest) q.2)
-        | inr q ↦ inr (q.0, rw p.1 q.1, subst (λ l. FirstFault named l q.0) (append_assoc done (x ∷ []) rest) q.2)
-      ]
+      | inl q ↦ inl (q.0, rw p.1 q.1, subst (λ l. IsSoFar named l q.0) (append_assoc done (x ∷ []) rest) q.2)
+      | inr q ↦ inr (q.0, rw p.1 q.1, subst (λ l. FirstFault named l q.0) (append_assoc done (x ∷ []) rest) q.2)
+    ]
     | inr p ↦ inr (p.0, rw p.1 refl, record { before = done; segment = x; after = rest; is = refl; faultless = s.faultless; fault = p.2 })
   ]
 
@@ -306,19 +321,19 @@ module _ {C : Type 0} (named : List ℕ → Option C) where
       ⊎ ((error : DescriptionError) × (read_last named seq last ≡ Err error) × LastFault named leads last error)
   finish leads last seq s = elim (cases_Bool (eqb (length last) 0)) [
     | inl t ↦
-      let e = no_name last t in
-      inl (seq, rw t refl, rules_read leads last seq seq.code s (subst (λ l. IsCode named (others leads l) seq.code) (sym e) (subst (λ l. IsCode named l seq.code) (sym (others_none named leads)) s.names)))
+        let e = no_name last t in
+        inl (seq, rw t refl, rules_read leads last seq seq.code s (subst (λ l. IsCode named (others leads l) seq.code) (sym e) (subst (λ l. IsCode named l seq.code) (sym (others_none named leads)) s.names)))
     | inr f ↦
-      let some = some_name last f in
-      elim (cases_Option (named last)) [
-        | inl n ↦ inr (UnknownName, rw (f, n) refl, (some, n))
-        | inr p ↦ elim (cases_Option seq.code) [
+        let some = some_name last f in
+        elim (cases_Option (named last)) [
+          | inl n ↦ inr (UnknownName, rw (f, n) refl, (some, n))
+          | inr p ↦ elim (cases_Option seq.code) [
             | inl n ↦
-              let alone : others leads last ≡ last ∷ [] = others_some named leads last some ∙ ap (λ l. l ++ last ∷ []) (no_code named (filter is_other leads) seq.code s.names n) in
-              inl (record { modifiers = seq.modifiers; code = Some p.0; may_be_empty = false }, rw (f, p.1, n) refl, rules_read leads last seq (Some p.0) s (subst (λ l. IsCode named l (Some p.0)) (sym alone) (sym p.1, some_of (named last) p.0 p.1)))
+                let alone : others leads last ≡ last ∷ [] = others_some named leads last some ∙ ap (λ l. l ++ last ∷ []) (no_code named (filter is_other leads) seq.code s.names n) in
+                inl (record { modifiers = seq.modifiers; code = Some p.0; may_be_empty = false }, rw (f, p.1, n) refl, rules_read leads last seq (Some p.0) s (subst (λ l. IsCode named l (Some p.0)) (sym alone) (sym p.1, some_of (named last) p.0 p.1)))
             | inr q ↦ inr (SecondKey, rw (f, p.1, q.1) refl, (some, some_of (named last) p.0 p.1, some_code named (filter is_other leads) seq.code q.0 s.names q.1))
           ]
-      ]
+        ]
   ]
 
   last_read : (leads : List (List ℕ)) (last : List ℕ) (seq : KeySeq C) (error : DescriptionError) → IsSoFar named leads seq → LastFault named leads last error → read_last named seq last ≡ Err error
@@ -330,9 +345,9 @@ module _ {C : Type 0} (named : List ℕ → Option C) where
       elim (cases_Option (named last)) [
         | inl n ↦ absurd (none_is_not_some (named last) n f.1)
         | inr p ↦ elim (cases_Option seq.code) [
-            | inl n ↦ absurd (let k : length (filter is_other leads) ≡ 0 = ap length (no_code named (filter is_other leads) seq.code s.names n) in omega (arith, k, f.2))
-            | inr q ↦ rw (l, p.1, q.1) refl
-          ]
+          | inl n ↦ absurd (let k : length (filter is_other leads) ≡ 0 = ap length (no_code named (filter is_other leads) seq.code s.names n) in omega (arith, k, f.2))
+          | inr q ↦ rw (l, p.1, q.1) refl
+        ]
       ]
   last_read leads last seq EmptySegment s f = absurd f
   last_read leads last seq RepeatedModifier s f = absurd f
@@ -350,9 +365,9 @@ module _ {C : Type 0} (named : List ℕ → Option C) where
       ⊎ ((error : DescriptionError) × (read_both leads last ≡ Err error) × SegmentFault named leads last error)
   read_means leads last = elim (walk [] leads beginning begins) [
     | inl p ↦ elim (finish leads last p.0 p.2) [
-        | inl q ↦ inl (q.0, rw p.1 q.1, q.2)
-        | inr q ↦ inr (q.0, rw p.1 q.1, inr (p.2.faultless, q.2))
-      ]
+      | inl q ↦ inl (q.0, rw p.1 q.1, q.2)
+      | inr q ↦ inr (q.0, rw p.1 q.1, inr (p.2.faultless, q.2))
+    ]
     | inr p ↦ inr (p.0, rw p.1 refl, inl p.2)
   ]
 
@@ -370,10 +385,10 @@ module _ {C : Type 0} (named : List ℕ → Option C) where
   pub fault_means : (leads : List (List ℕ)) (last : List ℕ) (error : DescriptionError) → SegmentFault named leads last error → read_both leads last ≡ Err error
   fault_means leads last error (inl f) = elim (walk [] f.before beginning begins) [
     | inl p ↦
-      let at : read_leads named beginning leads ≡ Err error
-            = ap (read_leads named beginning) f.is ∙ leads_append f.before (f.segment ∷ f.after) beginning p.0 p.1
-              ∙ ap (λ r. then_read r (λ next. read_leads named next f.after)) (fault_read f.before p.0 f.segment error p.2 f.fault) in
-      rw at refl
+        let at : read_leads named beginning leads ≡ Err error
+        = ap (read_leads named beginning) f.is ∙ leads_append f.before (f.segment ∷ f.after) beginning p.0 p.1
+        ∙ ap (λ r. then_read r (λ next. read_leads named next f.after)) (fault_read f.before p.0 f.segment error p.2 f.fault) in
+        rw at refl
     | inr p ↦ let g = p.2 in absurd (f.faultless g.before g.after g.segment p.0 g.is g.fault)
   ]
   fault_means leads last error (inr f) = elim (walk [] leads beginning begins) [

@@ -3,3 +3,4 @@ pub mod Names
 pub mod Segments
 pub mod Reading
 pub mod Description
+pub mod HelpTable
