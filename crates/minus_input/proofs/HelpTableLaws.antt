@@ -1,9 +1,14 @@
 -- Key names, and texts without repeats.
-use Rattle.std.proofs.Common.{◌≡◌, ℕ, ◌++◌, ◌∷◌, [], List, refl, sym, ap, ◌∙◌, codes}
-use Rattle.std.proofs.lemmas.List.{append_assoc}
+use Rattle.std.proofs.Common.{◌≡◌, ℕ, ◌++◌, ◌∷◌, [], List, map, take, length, Bool, true, false, not, ◌||◌, Bor, bytes_eq, eqb, refl, sym, subst, ap, ◌∙◌, inl, inr, codes, if◌then◌else◌}
+use Rattle.std.specs.List.{filter, list_any}
+use Rattle.std.proofs.lemmas.Bool.{cases_Bool}
+use Rattle.std.proofs.lemmas.Bool.Decides.{same_from_decides}
+use Rattle.std.proofs.lemmas.Slice.Eq.{bytes_eq-Decides}
+use Rattle.std.proofs.lemmas.List.Elements.{filter-append}
+use Rattle.std.proofs.lemmas.List.{append_assoc, append-nil, map-append}
 use Rattle.minus_term.specs.declared.event.KeyEvent.{KeyEvent}
 use Rattle.minus_input.specs.Names.{shift, control, alt}
-use Rattle.minus_input.specs.HelpTable.{key_name, code_name, shown, has, shows_shift}
+use Rattle.minus_input.specs.HelpTable.{key_name, code_name, shown, has, shows_shift, once_each, add_once, Entry, names_of, descriptions}
 
 -- a key's name from its parts
 pub key_name_from : (key : KeyEvent) (ctrl alternate upper code : List ℕ) → ctrl ≡ shown (has key control) (codes "Ctrl-") → alternate ≡ shown (has key alt) (codes "Alt-") →
@@ -13,3 +18,108 @@ key_name_from key ctrl alternate upper code a b c d =
     ∙ ap (λ x. x ++ alternate ++ upper ++ code) a ∙ ap (λ x. shown (has key control) (codes "Ctrl-") ++ x ++ upper ++ code) b
     ∙ ap (λ x. shown (has key control) (codes "Ctrl-") ++ shown (has key alt) (codes "Alt-") ++ x ++ code) c
     ∙ ap (λ x. shown (has key control) (codes "Ctrl-") ++ shown (has key alt) (codes "Alt-") ++ shown (shows_shift key) (codes "Shift-") ++ x) d
+
+-- whether a text stands among borrowed ones
+pub any_now : (texts : List (Bor (List ℕ))) (text : List ℕ) → list_any (λ y. bytes_eq y.now text) texts ≡ list_any (λ other. bytes_eq other text) (map (λ y. y.now) texts)
+any_now [] text = refl
+any_now (y ∷ texts) text = ap (λ b. bytes_eq y.now text || b) (any_now texts text)
+
+bytes_eq-sym : (x y : List ℕ) → bytes_eq x y ≡ bytes_eq y x
+bytes_eq-sym x y = same_from_decides (bytes_eq x y) (bytes_eq y x) (bytes_eq-Decides x y) (λ t. sym ((bytes_eq-Decides y x).0 t), λ e. (bytes_eq-Decides y x).1 (sym e))
+
+-- the texts but one
+abbrev without : List ℕ → List (List ℕ) → List (List ℕ)
+without text texts = filter (λ other. not (bytes_eq other text)) texts
+
+abbrev stands_in : List (List ℕ) → List ℕ → Bool
+stands_in texts text = list_any (λ other. bytes_eq other text) texts
+
+-- a text that differs from another one is found as before, where that is left out
+any_without : (texts : List (List ℕ)) (x y : List ℕ) → bytes_eq x y ≡ false → stands_in (without y texts) x ≡ stands_in texts x
+any_without [] x y h = refl
+any_without (z ∷ texts) x y h = elim (cases_Bool (bytes_eq z y)) [
+  | inl t ↦
+    let other : bytes_eq z x ≡ false = subst (λ w. bytes_eq w x ≡ false) (sym ((bytes_eq-Decides z y).0 t)) (bytes_eq-sym y x ∙ h) in
+    rw (t, other) (any_without texts x y h)
+  | inr f ↦ rw f (ap (λ b. bytes_eq z x || b) (any_without texts x y h))
+]
+
+-- a text that is added is left out again
+without_added : (texts : List (List ℕ)) (y : List ℕ) → without y (add_once texts y) ≡ without y texts
+without_added texts y = elim (cases_Bool (stands_in texts y)) [
+  | inl t ↦ rw t refl
+  | inr f ↦
+    let one : without y (y ∷ []) ≡ [] = rw ((bytes_eq-Decides y y).1 refl) refl in
+    rw f (filter-append (λ other. not (bytes_eq other y)) texts (y ∷ []) ∙ ap (λ l. without y texts ++ l) one ∙ append-nil (without y texts))
+]
+
+same_added : (texts : List (List ℕ)) (y : List ℕ) → y ∷ without y (add_once texts y) ≡ add_once (y ∷ without y texts) y
+same_added texts y = ap (λ l. y ∷ l) (without_added texts y) ∙ (rw ((bytes_eq-Decides y y).1 refl) refl)
+
+other_added : (texts : List (List ℕ)) (x y : List ℕ) → bytes_eq x y ≡ false → y ∷ without y (add_once texts x) ≡ add_once (y ∷ without y texts) x
+other_added texts x y h =
+    let h2 : bytes_eq y x ≡ false = bytes_eq-sym y x ∙ h in
+    let found : stands_in (y ∷ without y texts) x ≡ stands_in texts x = rw h2 (any_without texts x y h) in
+    elim (cases_Bool (stands_in texts x)) [
+      | inl t ↦ let k : stands_in (y ∷ without y texts) x ≡ true = found ∙ t in rw (t, k) refl
+      | inr f ↦
+        let k : stands_in (y ∷ without y texts) x ≡ false = found ∙ f in
+        let one : without y (x ∷ []) ≡ x ∷ [] = rw h refl in
+        rw (f, k) (ap (λ l. y ∷ l) (filter-append (λ other. not (bytes_eq other y)) texts (x ∷ []) ∙ ap (λ l. without y texts ++ l) one))
+    ]
+
+-- one more text
+pub once_each_more : (texts : List (List ℕ)) (x : List ℕ) → once_each (texts ++ x ∷ []) ≡ add_once (once_each texts) x
+once_each_more [] x = refl
+once_each_more (y ∷ texts) x =
+    ap (λ l. y ∷ without y l) (once_each_more texts x)
+    ∙ elim (cases_Bool (bytes_eq x y)) [
+      | inl t ↦ subst (λ z. y ∷ without y (add_once (once_each texts) z) ≡ add_once (y ∷ without y (once_each texts)) z) (sym ((bytes_eq-Decides x y).0 t)) (same_added (once_each texts) y)
+      | inr f ↦ other_added (once_each texts) x y f
+    ]
+
+-- a text that is there, and one that is not
+pub kept_once : (items texts : List (Bor (List ℕ))) (text : List ℕ) (found : Bool) → items ≡ texts → found ≡ list_any (λ y. bytes_eq y.now text) items → found ≡ true →
+    map (λ t. t.now) texts ≡ add_once (map (λ t. t.now) texts) text
+kept_once items texts text found is v t =
+    let k : list_any (λ other. bytes_eq other text) (map (λ y. y.now) texts) ≡ true = sym (any_now texts text) ∙ ap (λ l. list_any (λ y. bytes_eq y.now text) l) (sym is) ∙ sym v ∙ t in
+    rw k refl
+
+pub new_once : (items texts new : List (Bor (List ℕ))) (text : Bor (List ℕ)) (found : Bool) → items ≡ texts → found ≡ list_any (λ y. bytes_eq y.now text.now) items → found ≡ false →
+    new ≡ texts ++ text ∷ [] → map (λ t. t.now) new ≡ add_once (map (λ t. t.now) texts) text.now
+new_once items texts new text found is v f n =
+    let k : list_any (λ other. bytes_eq other text.now) (map (λ y. y.now) texts) ≡ false = sym (any_now texts text.now) ∙ ap (λ l. list_any (λ y. bytes_eq y.now text.now) l) (sym is) ∙ sym v ∙ f in
+    ap (map (λ t. t.now)) n ∙ map-append (λ t. t.now) texts (text ∷ []) ∙ (rw k refl)
+
+-- one more entry
+pub names_more : (entries : List Entry) (entry : Entry) (description : List ℕ) → bytes_eq entry.description description ≡ true →
+    names_of (entries ++ entry ∷ []) description ≡ add_once (names_of entries description) entry.name
+names_more entries entry description t =
+    let one : filter (λ (e : Entry). bytes_eq e.description description) (entry ∷ []) ≡ entry ∷ [] = rw t refl in
+    ap (λ l. once_each (map (λ (e : Entry). e.name) l)) (filter-append (λ (e : Entry). bytes_eq e.description description) entries (entry ∷ []) ∙ ap (λ l. filter (λ (e : Entry). bytes_eq e.description description) entries ++ l) one)
+    ∙ ap once_each (map-append (λ (e : Entry). e.name) (filter (λ (e : Entry). bytes_eq e.description description) entries) (entry ∷ []))
+    ∙ once_each_more (map (λ (e : Entry). e.name) (filter (λ (e : Entry). bytes_eq e.description description) entries)) entry.name
+
+pub names_same : (entries : List Entry) (entry : Entry) (description : List ℕ) → bytes_eq entry.description description ≡ false →
+    names_of (entries ++ entry ∷ []) description ≡ names_of entries description
+names_same entries entry description f =
+    let one : filter (λ (e : Entry). bytes_eq e.description description) (entry ∷ []) ≡ [] = rw f refl in
+    ap (λ l. once_each (map (λ (e : Entry). e.name) l)) (filter-append (λ (e : Entry). bytes_eq e.description description) entries (entry ∷ []) ∙ ap (λ l. filter (λ (e : Entry). bytes_eq e.description description) entries ++ l) one
+      ∙ append-nil (filter (λ (e : Entry). bytes_eq e.description description) entries))
+
+abbrev described : List (List ℕ) → List (List ℕ)
+described texts = filter (λ text. not (eqb (length text) 0)) texts
+
+pub descriptions_more : (entries : List Entry) (entry : Entry) → eqb (length entry.description) 0 ≡ false → descriptions (entries ++ entry ∷ []) ≡ add_once (descriptions entries) entry.description
+descriptions_more entries entry f =
+    let one : described (entry.description ∷ []) ≡ entry.description ∷ [] = rw f refl in
+    ap (λ l. once_each (described l)) (map-append (λ (e : Entry). e.description) entries (entry ∷ []))
+    ∙ ap once_each (filter-append (λ text. not (eqb (length text) 0)) (map (λ (e : Entry). e.description) entries) (entry.description ∷ []) ∙ ap (λ l. described (map (λ (e : Entry). e.description) entries) ++ l) one)
+    ∙ once_each_more (described (map (λ (e : Entry). e.description) entries)) entry.description
+
+pub descriptions_same : (entries : List Entry) (entry : Entry) → eqb (length entry.description) 0 ≡ true → descriptions (entries ++ entry ∷ []) ≡ descriptions entries
+descriptions_same entries entry t =
+    let one : described (entry.description ∷ []) ≡ [] = rw t refl in
+    ap (λ l. once_each (described l)) (map-append (λ (e : Entry). e.description) entries (entry ∷ []))
+    ∙ ap once_each (filter-append (λ text. not (eqb (length text) 0)) (map (λ (e : Entry). e.description) entries) (entry.description ∷ []) ∙ ap (λ l. described (map (λ (e : Entry). e.description) entries) ++ l) one
+      ∙ append-nil (described (map (λ (e : Entry). e.description) entries)))

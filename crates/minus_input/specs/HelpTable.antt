@@ -1,14 +1,15 @@
 -- The names of keys, and the table of them that a help page shows.
-use Rattle.std.specs.Prelude.{ℕ, ◌-◌, ◌==◌, List, [], ◌∷◌, ◌++◌, map, length, replicate, Bool, false, not, ◌&&◌, bytes_eq, codes, encode_utf8, if◌then◌else◌}
+use Rattle.std.specs.Prelude.{ℕ, ◌-◌, ◌==◌, List, [], ◌∷◌, ◌++◌, map, length, replicate, Bool, false, not, ◌&&◌, bytes_eq, codes, encode_utf8, string_bytes, if◌then◌else◌}
 use denote.Ref.{Bor}
 use Rattle.std.specs.Char.{is_ascii_uppercase}
 use Rattle.std.specs.Fmt.{decimal, char_count}
 use Rattle.std.specs.Int.RustNames.{bit_and}
-use Rattle.std.specs.List.{filter, flat_map, join_by}
+use Rattle.std.specs.List.{filter, flat_map, join_by, list_any}
 use Rattle.std.specs.Str.{trim}
 use Rattle.minus_term.specs.declared.event.KeyCode.{KeyCode}
 use Rattle.minus_term.specs.declared.event.KeyCode.TheVariants.{Backspace, Enter, Left, Right, Up, Down, Home, End, PageUp, PageDown, Tab, BackTab, Delete, Insert, F, Char, Null, Esc}
 use Rattle.minus_term.specs.declared.event.KeyEvent.{KeyEvent}
+use Rattle.minus_input.specs.declared.help_table.Entry as code
 use Rattle.minus_input.specs.Names.{shift, control, alt}
 
 -- the name of a code that is neither a character's nor a function key's
@@ -67,10 +68,18 @@ pub record Entry : Type 0 where
 abbrev pub entry_of : Bor KeyEvent × Bor (List ℕ) → Entry
 entry_of entry = record { name = key_name entry.0.now; description = trim entry.1.now }
 
+-- the entry that a value of the code is
+abbrev pub seen_entry : code.Entry → Entry
+seen_entry entry = record { name = string_bytes entry.name; description = entry.description.now }
+
 -- some texts without repeats, in the order of first ones
 abbrev pub once_each : List (List ℕ) → List (List ℕ)
 once_each [] = []
 once_each (text ∷ texts) = text ∷ filter (λ other. not (bytes_eq other text)) (once_each texts)
+
+-- one more text, unless it is there
+abbrev pub add_once : List (List ℕ) → List ℕ → List (List ℕ)
+add_once texts text = if list_any (λ other. bytes_eq other text) texts then texts else texts ++ text ∷ []
 
 -- the descriptions that are not empty
 abbrev pub descriptions : List Entry → List (List ℕ)

@@ -8,6 +8,6 @@ pub mod key_seq;
 pub mod names;
 
 pub use description::{each_text_has_one_meaning, parse_key_event, parse_mouse_event};
-pub use help_table::format_key;
+pub use help_table::{format_help_table_from_entries, format_key};
 pub use key_seq::KeySeq;
 pub use names::modifier_of;
