@@ -1,14 +1,15 @@
 -- Key names, and texts without repeats.
-use Rattle.std.proofs.Common.{◌≡◌, ℕ, ◌++◌, ◌∷◌, [], List, map, take, length, Bool, true, false, not, ◌||◌, Bor, bytes_eq, eqb, refl, sym, subst, ap, ◌∙◌, inl, inr, codes, if◌then◌else◌}
+use Rattle.std.proofs.Common.{◌≡◌, ℕ, ◌++◌, ◌∷◌, [], List, map, take, length, Bool, true, false, not, ◌||◌, Bor, bytes_eq, eqb, ◌+◌, ◌<◌, get_or, string_bytes, refl, sym, subst, ap, ◌∙◌, inl, inr, codes, if◌then◌else◌}
 use Rattle.std.specs.List.{filter, list_any}
 use Rattle.std.proofs.lemmas.Bool.{cases_Bool}
 use Rattle.std.proofs.lemmas.Bool.Decides.{same_from_decides}
 use Rattle.std.proofs.lemmas.Slice.Eq.{bytes_eq-Decides}
 use Rattle.std.proofs.lemmas.List.Elements.{filter-append}
-use Rattle.std.proofs.lemmas.List.{append_assoc, append-nil, map-append}
+use Rattle.std.proofs.lemmas.List.{append_assoc, append-nil, map-append, take_more}
 use Rattle.minus_term.specs.declared.event.KeyEvent.{KeyEvent}
+use Rattle.minus_input.specs.declared.help_table.Entry as code
 use Rattle.minus_input.specs.Names.{shift, control, alt}
-use Rattle.minus_input.specs.HelpTable.{key_name, code_name, shown, has, shows_shift, once_each, add_once, Entry, names_of, descriptions}
+use Rattle.minus_input.specs.HelpTable.{key_name, code_name, shown, has, shows_shift, once_each, add_once, Entry, seen_entry, names_of, descriptions}
 
 -- a key's name from its parts
 pub key_name_from : (key : KeyEvent) (ctrl alternate upper code : List ℕ) → ctrl ≡ shown (has key control) (codes "Ctrl-") → alternate ≡ shown (has key alt) (codes "Alt-") →
@@ -123,3 +124,44 @@ descriptions_same entries entry t =
     ap (λ l. once_each (described l)) (map-append (λ (e : Entry). e.description) entries (entry ∷ []))
     ∙ ap once_each (filter-append (λ text. not (eqb (length text) 0)) (map (λ (e : Entry). e.description) entries) (entry.description ∷ []) ∙ ap (λ l. described (map (λ (e : Entry). e.description) entries) ++ l) one
       ∙ append-nil (described (map (λ (e : Entry). e.description) entries)))
+
+-- one more entry is read
+seen_more : (entries : List code.Entry) (i : ℕ) (entry : code.Entry) → i < length entries → entry ≡ get_or entries i entry →
+    map seen_entry (take (i + 1) entries) ≡ map seen_entry (take i entries) ++ seen_entry entry ∷ []
+seen_more entries i entry h e =
+    ap (map seen_entry) (take_more entries i entry h) ∙ map-append seen_entry (take i entries) (get_or entries i entry ∷ [])
+    ∙ ap (λ x. map seen_entry (take i entries) ++ seen_entry x ∷ []) (sym e)
+
+pub names_step : (entries : List code.Entry) (i : ℕ) (entry : code.Entry) (description : List ℕ) (old new : List (List ℕ)) (text : List ℕ) →
+    i < length entries → entry ≡ get_or entries i entry → bytes_eq entry.description.now description ≡ true →
+    old ≡ names_of (map seen_entry (take i entries)) description → text ≡ string_bytes entry.name → new ≡ add_once old text →
+    new ≡ names_of (map seen_entry (take (i + 1) entries)) description
+names_step entries i entry description old new text h e t o name n =
+    n ∙ ap (λ l. add_once l text) o ∙ ap (λ x. add_once (names_of (map seen_entry (take i entries)) description) x) name
+    ∙ sym (names_more (map seen_entry (take i entries)) (seen_entry entry) description t)
+    ∙ sym (ap (λ l. names_of l description) (seen_more entries i entry h e))
+
+pub names_skip : (entries : List code.Entry) (i : ℕ) (entry : code.Entry) (description : List ℕ) (old : List (List ℕ)) →
+    i < length entries → entry ≡ get_or entries i entry → bytes_eq entry.description.now description ≡ false →
+    old ≡ names_of (map seen_entry (take i entries)) description →
+    old ≡ names_of (map seen_entry (take (i + 1) entries)) description
+names_skip entries i entry description old h e f o =
+    o ∙ sym (names_same (map seen_entry (take i entries)) (seen_entry entry) description f)
+    ∙ sym (ap (λ l. names_of l description) (seen_more entries i entry h e))
+
+pub descriptions_step : (entries : List code.Entry) (i : ℕ) (entry : code.Entry) (old new : List (List ℕ)) →
+    i < length entries → entry ≡ get_or entries i entry → eqb (length entry.description.now) 0 ≡ false →
+    old ≡ descriptions (map seen_entry (take i entries)) → new ≡ add_once old entry.description.now →
+    new ≡ descriptions (map seen_entry (take (i + 1) entries))
+descriptions_step entries i entry old new h e f o n =
+    n ∙ ap (λ l. add_once l entry.description.now) o
+    ∙ sym (descriptions_more (map seen_entry (take i entries)) (seen_entry entry) f)
+    ∙ sym (ap descriptions (seen_more entries i entry h e))
+
+pub descriptions_skip : (entries : List code.Entry) (i : ℕ) (entry : code.Entry) (old : List (List ℕ)) →
+    i < length entries → entry ≡ get_or entries i entry → eqb (length entry.description.now) 0 ≡ true →
+    old ≡ descriptions (map seen_entry (take i entries)) →
+    old ≡ descriptions (map seen_entry (take (i + 1) entries))
+descriptions_skip entries i entry old h e t o =
+    o ∙ sym (descriptions_same (map seen_entry (take i entries)) (seen_entry entry) t)
+    ∙ sym (ap descriptions (seen_more entries i entry h e))
