@@ -1,15 +1,16 @@
 -- Key names, and texts without repeats.
-use Rattle.std.proofs.Common.{◌≡◌, ℕ, ◌++◌, ◌∷◌, [], List, map, take, length, Bool, true, false, not, ◌||◌, Bor, bytes_eq, eqb, ◌+◌, ◌<◌, get_or, string_bytes, refl, sym, subst, ap, ◌∙◌, inl, inr, codes, if◌then◌else◌}
-use Rattle.std.specs.List.{filter, list_any}
-use Rattle.std.proofs.lemmas.Bool.{cases_Bool}
+use Rattle.std.proofs.Common.{◌≡◌, ℕ, ◌++◌, ◌∷◌, [], List, map, take, length, Bool, true, false, not, ◌||◌, Bor, bytes_eq, eqb, zero, suc, arith, replicate, ◌+◌, ◌-◌, ◌<◌, ◌≤◌, get_or, string_bytes, refl, sym, subst, ap, ◌∙◌, inl, inr, codes, if◌then◌else◌}
+use Rattle.std.specs.Fmt.{char_count, is_char_start, take_chars, padded, format_spec}
+use Rattle.std.specs.List.{filter, list_any, flat_map, join_by, repeat}
+use Rattle.std.proofs.lemmas.Bool.{cases_Bool, ne_eqb}
 use Rattle.std.proofs.lemmas.Bool.Decides.{same_from_decides}
 use Rattle.std.proofs.lemmas.Slice.Eq.{bytes_eq-Decides}
 use Rattle.std.proofs.lemmas.List.Elements.{filter-append}
-use Rattle.std.proofs.lemmas.List.{append_assoc, append-nil, map-append, take_more}
+use Rattle.std.proofs.lemmas.List.{append_assoc, append-nil, map-append, take_more, length-map}
 use Rattle.minus_term.specs.declared.event.KeyEvent.{KeyEvent}
 use Rattle.minus_input.specs.declared.help_table.Entry as code
 use Rattle.minus_input.specs.Names.{shift, control, alt}
-use Rattle.minus_input.specs.HelpTable.{key_name, code_name, shown, has, shows_shift, once_each, add_once, Entry, seen_entry, names_of, descriptions}
+use Rattle.minus_input.specs.HelpTable.{key_name, code_name, shown, has, shows_shift, once_each, add_once, Entry, seen_entry, names_of, descriptions, joined, filled, group_line, table_head, table_foot, help_table}
 
 -- a key's name from its parts
 pub key_name_from : (key : KeyEvent) (ctrl alternate upper code : List ℕ) → ctrl ≡ shown (has key control) (codes "Ctrl-") → alternate ≡ shown (has key alt) (codes "Alt-") →
@@ -40,8 +41,8 @@ any_without : (texts : List (List ℕ)) (x y : List ℕ) → bytes_eq x y ≡ fa
 any_without [] x y h = refl
 any_without (z ∷ texts) x y h = elim (cases_Bool (bytes_eq z y)) [
   | inl t ↦
-    let other : bytes_eq z x ≡ false = subst (λ w. bytes_eq w x ≡ false) (sym ((bytes_eq-Decides z y).0 t)) (bytes_eq-sym y x ∙ h) in
-    rw (t, other) (any_without texts x y h)
+      let other : bytes_eq z x ≡ false = subst (λ w. bytes_eq w x ≡ false) (sym ((bytes_eq-Decides z y).0 t)) (bytes_eq-sym y x ∙ h) in
+      rw (t, other) (any_without texts x y h)
   | inr f ↦ rw f (ap (λ b. bytes_eq z x || b) (any_without texts x y h))
 ]
 
@@ -50,8 +51,8 @@ without_added : (texts : List (List ℕ)) (y : List ℕ) → without y (add_once
 without_added texts y = elim (cases_Bool (stands_in texts y)) [
   | inl t ↦ rw t refl
   | inr f ↦
-    let one : without y (y ∷ []) ≡ [] = rw ((bytes_eq-Decides y y).1 refl) refl in
-    rw f (filter-append (λ other. not (bytes_eq other y)) texts (y ∷ []) ∙ ap (λ l. without y texts ++ l) one ∙ append-nil (without y texts))
+      let one : without y (y ∷ []) ≡ [] = rw ((bytes_eq-Decides y y).1 refl) refl in
+      rw f (filter-append (λ other. not (bytes_eq other y)) texts (y ∷ []) ∙ ap (λ l. without y texts ++ l) one ∙ append-nil (without y texts))
 ]
 
 same_added : (texts : List (List ℕ)) (y : List ℕ) → y ∷ without y (add_once texts y) ≡ add_once (y ∷ without y texts) y
@@ -64,9 +65,9 @@ other_added texts x y h =
     elim (cases_Bool (stands_in texts x)) [
       | inl t ↦ let k : stands_in (y ∷ without y texts) x ≡ true = found ∙ t in rw (t, k) refl
       | inr f ↦
-        let k : stands_in (y ∷ without y texts) x ≡ false = found ∙ f in
-        let one : without y (x ∷ []) ≡ x ∷ [] = rw h refl in
-        rw (f, k) (ap (λ l. y ∷ l) (filter-append (λ other. not (bytes_eq other y)) texts (x ∷ []) ∙ ap (λ l. without y texts ++ l) one))
+          let k : stands_in (y ∷ without y texts) x ≡ false = found ∙ f in
+          let one : without y (x ∷ []) ≡ x ∷ [] = rw h refl in
+          rw (f, k) (ap (λ l. y ∷ l) (filter-append (λ other. not (bytes_eq other y)) texts (x ∷ []) ∙ ap (λ l. without y texts ++ l) one))
     ]
 
 -- one more text
@@ -106,7 +107,7 @@ pub names_same : (entries : List Entry) (entry : Entry) (description : List ℕ)
 names_same entries entry description f =
     let one : filter (λ (e : Entry). bytes_eq e.description description) (entry ∷ []) ≡ [] = rw f refl in
     ap (λ l. once_each (map (λ (e : Entry). e.name) l)) (filter-append (λ (e : Entry). bytes_eq e.description description) entries (entry ∷ []) ∙ ap (λ l. filter (λ (e : Entry). bytes_eq e.description description) entries ++ l) one
-      ∙ append-nil (filter (λ (e : Entry). bytes_eq e.description description) entries))
+    ∙ append-nil (filter (λ (e : Entry). bytes_eq e.description description) entries))
 
 abbrev described : List (List ℕ) → List (List ℕ)
 described texts = filter (λ text. not (eqb (length text) 0)) texts
@@ -123,7 +124,7 @@ descriptions_same entries entry t =
     let one : described (entry.description ∷ []) ≡ [] = rw t refl in
     ap (λ l. once_each (described l)) (map-append (λ (e : Entry). e.description) entries (entry ∷ []))
     ∙ ap once_each (filter-append (λ text. not (eqb (length text) 0)) (map (λ (e : Entry). e.description) entries) (entry.description ∷ []) ∙ ap (λ l. described (map (λ (e : Entry). e.description) entries) ++ l) one
-      ∙ append-nil (described (map (λ (e : Entry). e.description) entries)))
+    ∙ append-nil (described (map (λ (e : Entry). e.description) entries)))
 
 -- one more entry is read
 seen_more : (entries : List code.Entry) (i : ℕ) (entry : code.Entry) → i < length entries → entry ≡ get_or entries i entry →
@@ -165,3 +166,62 @@ pub descriptions_skip : (entries : List code.Entry) (i : ℕ) (entry : code.Entr
 descriptions_skip entries i entry old h e t o =
     o ∙ sym (descriptions_same (map seen_entry (take i entries)) (seen_entry entry) t)
     ∙ sym (ap descriptions (seen_more entries i entry h e))
+
+-- texts that are borrowed are joined as they are
+flat_now : (sep : List ℕ) (texts : List (Bor (List ℕ))) → flat_map (λ (y : Bor (List ℕ)). sep ++ y.now) texts ≡ flat_map (λ y. sep ++ y) (map (λ y. y.now) texts)
+flat_now sep [] = refl
+flat_now sep (y ∷ texts) = ap (λ l. (sep ++ y.now) ++ l) (flat_now sep texts)
+
+pub join_now : (texts : List (Bor (List ℕ))) → join_by (λ (y : Bor (List ℕ)). y.now) (codes ", ") texts ≡ joined (map (λ y. y.now) texts)
+join_now [] = refl
+join_now (y ∷ texts) = ap (λ l. y.now ++ l) (flat_now (codes ", ") texts)
+
+take_all : (n : ℕ) (text : List ℕ) → length text ≤ n → take_chars n text ≡ text
+unfolding take_chars
+take_all n [] h = refl
+take_all n (b ∷ text) h = elim (cases_Bool (is_char_start b)) [
+  | inl t ↦
+      let z : eqb n 0 ≡ false = ne_eqb n 0 (λ e. omega (arith, h, e)) in
+      rw (t, z) (ap (λ l. b ∷ l) (take_all (n - 1) text (omega (arith, h))))
+  | inr f ↦ rw f (ap (λ l. b ∷ l) (take_all n text (omega (arith, h))))
+]
+
+repeat_blank : (n : ℕ) → repeat {A = ℕ} n (32 ∷ []) ≡ replicate n 32
+repeat_blank zero = refl
+repeat_blank (suc n) = ap (λ l. 32 ∷ l) (repeat_blank n)
+
+-- what a format with a width of 30 writes
+pub filled_is : (text : List ℕ) → length text < 18446744073709551615 → padded (format_spec 32 1 0 30 18446744073709551615) text ≡ filled text
+unfolding padded lib.Utf8.encode
+filled_is text h =
+    let all : take_chars 18446744073709551615 text ≡ text = take_all 18446744073709551615 text (omega (arith, h)) in
+    let rest : 30 - char_count text - 0 ≡ 30 - char_count text = omega arith in
+    rw (all, rest) (ap (λ l. text ++ l) (repeat_blank (30 - char_count text)))
+
+-- the line of a group from its parts
+pub group_from : (entries : List Entry) (description names written : List ℕ) → names ≡ joined (names_of entries description) → length names < 18446744073709551615 →
+    written ≡ codes "  " ++ (padded (format_spec 32 1 0 30 18446744073709551615) names ++ (codes " " ++ (description ++ codes "\n"))) →
+    written ≡ group_line entries description
+group_from entries description names written n small e =
+    let f : padded (format_spec 32 1 0 30 18446744073709551615) names ≡ filled (joined (names_of entries description)) = filled_is names small ∙ ap filled n in
+    let fill = filled (joined (names_of entries description)) in
+    e ∙ ap (λ x. codes "  " ++ (x ++ (codes " " ++ (description ++ codes "\n")))) f
+    ∙ sym (append_assoc (codes "  ") fill (codes " " ++ (description ++ codes "\n")))
+    ∙ sym (append_assoc (codes "  " ++ fill) (codes " ") (description ++ codes "\n"))
+    ∙ sym (append_assoc (codes "  " ++ fill ++ codes " ") description (codes "\n"))
+
+take_whole : {X : Type 0} (i : ℕ) (l : List X) → length l ≤ i → take i l ≡ l
+take_whole zero [] h = refl
+take_whole (suc i) [] h = refl
+take_whole zero (x ∷ l) h = absurd (omega (arith, h))
+take_whole (suc i) (x ∷ l) h = ap (λ m. x ∷ m) (take_whole i l (omega (arith, h)))
+
+-- the table from its parts
+pub table_from : (entries : List Entry) (items list : List (Bor (List ℕ))) (index : ℕ) (table written : List ℕ) →
+    map (λ text. text.now) items ≡ descriptions entries → eqb (length items) 0 ≡ false → list ≡ items → length list ≤ index →
+    table ≡ table_head ++ flat_map (group_line entries) (map (λ text. text.now) (take index list)) → written ≡ table ++ table_foot → written ≡ help_table entries
+table_from entries items list index table written d some is h t w =
+    let n : length (descriptions entries) ≡ length items = ap length (sym d) ∙ length-map _ _ in
+    let f : eqb (length (descriptions entries)) 0 ≡ false = ap (λ m. eqb m 0) n ∙ some in
+    let whole : map (λ (text : Bor (List ℕ)). text.now) (take index list) ≡ descriptions entries = ap (map (λ text. text.now)) (take_whole index list h ∙ is) ∙ d in
+    rw f (w ∙ ap (λ l. l ++ table_foot) (t ∙ ap (λ l. table_head ++ flat_map (group_line entries) l) whole))

@@ -1,5 +1,5 @@
-//! What a program's user types and reads of keys: the descriptions that keys and actions of the
-//! mouse are bound by, and the names of keys.
+//! What users write and read of keys: the descriptions that keys and actions of the mouse are
+//! bound by, the names of keys, and the table of them that a help page shows.
 #![tactic(auto)]
 
 pub mod description;
@@ -11,3 +11,6 @@ pub use description::{each_text_has_one_meaning, parse_key_event, parse_mouse_ev
 pub use help_table::{format_help_table_from_entries, format_key};
 pub use key_seq::KeySeq;
 pub use names::modifier_of;
+
+#[cfg(test)]
+mod tests;
