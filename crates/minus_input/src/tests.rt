@@ -6,7 +6,7 @@ use crate::{
 use bitflags::Flags;
 use minus_term::{
     DescriptionError, KeyCode, KeyEvent, KeyEventKind, KeyEventState, KeyModifiers, MouseButton,
-    MouseEvent, MouseEventKind,
+    MouseEventKind,
 };
 use std::test::Fail;
 
@@ -20,119 +20,106 @@ fn pressed(code: KeyCode, modifiers: KeyModifiers) -> KeyEvent {
     }
 }
 
-/// What a key's description is to give: the key as it is written, or the error.
-fn check_key(
-    rt: HostRuntime,
-    text: &str,
-    wanted: Result<(KeyCode, KeyModifiers), DescriptionError>,
-) -> Result<(), Fail> {
-    match (parse_key_event(text), wanted) {
-        (Ok(key), Ok((code, modifiers))) => {
-            assert!(rt; key.code == code, "at {text}: {key:?}");
-            assert!(rt; key.modifiers == modifiers, "at {text}: {key:?}");
-            assert!(rt; key.kind == KeyEventKind::Press);
-            assert!(rt; key.state == KeyEventState::NONE);
-        }
-        (Err(error), Err(other)) => assert!(rt; error == other, "at {text}: {error:?}"),
-        (Ok(key), Err(other)) => assert!(rt; false, "at {text}: {key:?} for {other:?}"),
-        (Err(error), Ok(_)) => assert!(rt; false, "at {text}: {error:?}"),
-    }
-    Ok(())
+/// Whether a text describes a key with this code and these modifiers, or is refused so.
+fn is_key(text: &str, wanted: Result<(KeyCode, KeyModifiers), DescriptionError>) -> bool {
+    parse_key_event(text).map(|key| (key.code, key.modifiers)) == wanted
 }
 
-/// What a description of the mouse is to give: the action and the modifiers, or the error.
-fn check_mouse(
-    rt: HostRuntime,
-    text: &str,
-    wanted: Result<(MouseEventKind, KeyModifiers), DescriptionError>,
-) -> Result<(), Fail> {
-    let wanted = wanted.map(|(kind, modifiers)| MouseEvent {
-        kind,
-        column: 0,
-        row: 0,
-        modifiers,
-    });
-    let read = parse_mouse_event(text);
-    assert!(rt; read == wanted, "at {text}: {read:?}");
-    Ok(())
+/// Whether a text describes this action of the mouse with these modifiers, or is refused so.
+fn is_mouse(text: &str, wanted: Result<(MouseEventKind, KeyModifiers), DescriptionError>) -> bool {
+    parse_mouse_event(text).map(|mouse| (mouse.kind, mouse.modifiers)) == wanted
 }
 
 #[test]
 fn ctrl_and_x_by_two_dashes(rt: HostRuntime) -> Result<(), Fail> {
-    check_key(rt, "c--x", Ok((KeyCode::Char('x'), KeyModifiers::CONTROL)))
+    assert!(rt; is_key("c--x", Ok((KeyCode::Char('x'), KeyModifiers::CONTROL))));
+    Ok(())
 }
 
 #[test]
 fn empty_segment_after_a_letter(rt: HostRuntime) -> Result<(), Fail> {
-    check_key(rt, "a--x", Err(DescriptionError::EmptySegment))
+    assert!(rt; is_key("a--x", Err(DescriptionError::EmptySegment)));
+    Ok(())
 }
 
 #[test]
 fn modifiers_alone_are_null(rt: HostRuntime) -> Result<(), Fail> {
-    check_key(rt, "c-", Ok((KeyCode::Null, KeyModifiers::CONTROL)))?;
-    check_key(rt, "-", Ok((KeyCode::Null, KeyModifiers::NONE)))
+    assert!(rt; is_key("c-", Ok((KeyCode::Null, KeyModifiers::CONTROL))));
+    assert!(rt; is_key("-", Ok((KeyCode::Null, KeyModifiers::NONE))));
+    Ok(())
 }
 
 #[test]
 fn modifier_in_last_place_is_a_letter(rt: HostRuntime) -> Result<(), Fail> {
-    check_key(rt, "c", Ok((KeyCode::Char('c'), KeyModifiers::NONE)))?;
-    check_key(rt, "q-c", Err(DescriptionError::SecondKey))
+    assert!(rt; is_key("c", Ok((KeyCode::Char('c'), KeyModifiers::NONE))));
+    assert!(rt; is_key("q-c", Err(DescriptionError::SecondKey)));
+    Ok(())
 }
 
 #[test]
 fn two_dashes_are_refused(rt: HostRuntime) -> Result<(), Fail> {
-    check_key(rt, "--", Err(DescriptionError::EmptySegment))
+    assert!(rt; is_key("--", Err(DescriptionError::EmptySegment)));
+    Ok(())
 }
 
 #[test]
 fn modifier_may_stand_after_the_key(rt: HostRuntime) -> Result<(), Fail> {
-    check_key(rt, "q-c-", Ok((KeyCode::Char('q'), KeyModifiers::CONTROL)))
+    assert!(rt; is_key("q-c-", Ok((KeyCode::Char('q'), KeyModifiers::CONTROL))));
+    Ok(())
 }
 
 #[test]
 fn shift_leaves_the_letter_as_written(rt: HostRuntime) -> Result<(), Fail> {
-    check_key(rt, "s-g", Ok((KeyCode::Char('g'), KeyModifiers::SHIFT)))
+    assert!(rt; is_key("s-g", Ok((KeyCode::Char('g'), KeyModifiers::SHIFT))));
+    Ok(())
 }
 
 #[test]
 fn only_ascii_is_read(rt: HostRuntime) -> Result<(), Fail> {
-    check_key(rt, "é", Err(DescriptionError::NotAscii))?;
-    check_mouse(rt, "é", Err(DescriptionError::NotAscii))
+    assert!(rt; is_key("é", Err(DescriptionError::NotAscii)));
+    assert!(rt; is_mouse("é", Err(DescriptionError::NotAscii)));
+    Ok(())
 }
 
 #[test]
 fn blanks_are_empty(rt: HostRuntime) -> Result<(), Fail> {
-    check_key(rt, "  ", Err(DescriptionError::Empty))?;
-    check_mouse(rt, "  ", Err(DescriptionError::Empty))?;
-    check_key(rt, " x\n", Ok((KeyCode::Char('x'), KeyModifiers::NONE)))
+    assert!(rt; is_key("  ", Err(DescriptionError::Empty)));
+    assert!(rt; is_mouse("  ", Err(DescriptionError::Empty)));
+    assert!(rt; is_key(" x\n", Ok((KeyCode::Char('x'), KeyModifiers::NONE))));
+    Ok(())
 }
 
 #[test]
 fn modifiers_are_not_repeated(rt: HostRuntime) -> Result<(), Fail> {
-    check_key(rt, "c-c-x", Err(DescriptionError::RepeatedModifier))
+    assert!(rt; is_key("c-c-x", Err(DescriptionError::RepeatedModifier)));
+    Ok(())
 }
 
 #[test]
 fn unknown_names_are_refused(rt: HostRuntime) -> Result<(), Fail> {
-    check_key(rt, "foo", Err(DescriptionError::UnknownName))?;
-    check_key(rt, "f13", Err(DescriptionError::UnknownName))
+    assert!(rt; is_key("foo", Err(DescriptionError::UnknownName)));
+    assert!(rt; is_key("f13", Err(DescriptionError::UnknownName)));
+    Ok(())
 }
 
 #[test]
 fn second_keys_are_refused(rt: HostRuntime) -> Result<(), Fail> {
-    check_key(rt, "a-b", Err(DescriptionError::SecondKey))
+    assert!(rt; is_key("a-b", Err(DescriptionError::SecondKey)));
+    Ok(())
 }
 
 #[test]
 fn three_dashes_are_refused(rt: HostRuntime) -> Result<(), Fail> {
-    check_key(rt, "c---x", Err(DescriptionError::EmptySegment))
+    assert!(rt; is_key("c---x", Err(DescriptionError::EmptySegment)));
+    Ok(())
 }
 
 #[test]
 fn first_fault_from_the_left_counts(rt: HostRuntime) -> Result<(), Fail> {
-    check_key(rt, "foo-c-c-x", Err(DescriptionError::UnknownName))?;
-    check_key(rt, "c-c-foo", Err(DescriptionError::RepeatedModifier))?;
-    check_key(rt, "x-foo", Err(DescriptionError::UnknownName))
+    assert!(rt; is_key("foo-c-c-x", Err(DescriptionError::UnknownName)));
+    assert!(rt; is_key("c-c-foo", Err(DescriptionError::RepeatedModifier)));
+    assert!(rt; is_key("x-foo", Err(DescriptionError::UnknownName)));
+    Ok(())
 }
 
 #[test]
@@ -169,19 +156,17 @@ fn names_are_read_in_any_case(rt: HostRuntime) -> Result<(), Fail> {
         ("f12", KeyCode::F(12)),
     ];
     for (name, code) in table {
-        check_key(rt, name, Ok((code, KeyModifiers::NONE)))?;
+        assert!(rt; is_key(name, Ok((code, KeyModifiers::NONE))), "at {name}");
     }
-    check_key(rt, "C-x", Err(DescriptionError::SecondKey))
+    assert!(rt; is_key("C-x", Err(DescriptionError::SecondKey)));
+    Ok(())
 }
 
 #[test]
 fn mouse_buttons_are_read(rt: HostRuntime) -> Result<(), Fail> {
     let modifiers = KeyModifiers::ALT | KeyModifiers::CONTROL;
-    check_mouse(
-        rt,
-        "m-c-mid:up",
-        Ok((MouseEventKind::Up(MouseButton::Middle), modifiers)),
-    )?;
+    let up = MouseEventKind::Up(MouseButton::Middle);
+    assert!(rt; is_mouse("m-c-mid:up", Ok((up, modifiers))));
     let table = [
         ("Left:Down", MouseEventKind::Down(MouseButton::Left)),
         ("left:up", MouseEventKind::Up(MouseButton::Left)),
@@ -195,7 +180,7 @@ fn mouse_buttons_are_read(rt: HostRuntime) -> Result<(), Fail> {
         ("Scroll:down", MouseEventKind::ScrollDown),
     ];
     for (name, kind) in table {
-        check_mouse(rt, name, Ok((kind, KeyModifiers::NONE)))?;
+        assert!(rt; is_mouse(name, Ok((kind, KeyModifiers::NONE))), "at {name}");
     }
     Ok(())
 }
@@ -203,23 +188,27 @@ fn mouse_buttons_are_read(rt: HostRuntime) -> Result<(), Fail> {
 #[test]
 fn mouse_moves_with_all_modifiers(rt: HostRuntime) -> Result<(), Fail> {
     let modifiers = KeyModifiers::ALT | KeyModifiers::CONTROL | KeyModifiers::SHIFT;
-    check_mouse(rt, "m-c-s-move", Ok((MouseEventKind::Moved, modifiers)))
+    assert!(rt; is_mouse("m-c-s-move", Ok((MouseEventKind::Moved, modifiers))));
+    Ok(())
 }
 
 #[test]
 fn mouse_wants_an_action(rt: HostRuntime) -> Result<(), Fail> {
-    check_mouse(rt, "m", Err(DescriptionError::UnknownName))?;
-    check_mouse(rt, "c-", Err(DescriptionError::NoAction))
+    assert!(rt; is_mouse("m", Err(DescriptionError::UnknownName)));
+    assert!(rt; is_mouse("c-", Err(DescriptionError::NoAction)));
+    Ok(())
 }
 
 #[test]
 fn mouse_takes_no_letter(rt: HostRuntime) -> Result<(), Fail> {
-    check_mouse(rt, "x-left:up", Err(DescriptionError::UnknownName))
+    assert!(rt; is_mouse("x-left:up", Err(DescriptionError::UnknownName)));
+    Ok(())
 }
 
 #[test]
 fn mouse_takes_one_action(rt: HostRuntime) -> Result<(), Fail> {
-    check_mouse(rt, "left:up-move", Err(DescriptionError::SecondKey))
+    assert!(rt; is_mouse("left:up-move", Err(DescriptionError::SecondKey)));
+    Ok(())
 }
 
 #[test]
