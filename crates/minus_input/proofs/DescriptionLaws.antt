@@ -1,5 +1,5 @@
 -- Each text has one meaning.
-use Rattle.std.proofs.Common.{◌≡◌, ◌⊎◌, ℕ, ◌+◌, ◌<◌, ◌≤◌, List, [], ◌∷◌, length, Option, None, Some, unwrap_or, Result, Ok, Err, Bool, true, false, zero, suc, refl, sym, subst, arith, ◌∙◌, ap, inl, inr, get_or}
+use Rattle.std.proofs.Common.{◌≡◌, ◌⊎◌, ℕ, ◌<◌, List, [], ◌∷◌, length, Option, None, Some, unwrap_or, Result, Ok, Err, zero, suc, refl, sym, subst, arith, ◌∙◌, ap, inl, inr}
 use Rattle.std.specs.Str.{IsAscii, IsNotAscii, trim}
 use Rattle.std.proofs.lemmas.Bool.{cases_lt}
 use Rattle.std.proofs.lemmas.List.Splits.{length-slice_split}
@@ -16,8 +16,8 @@ use Rattle.minus_input.specs.declared.key_seq.KeySeq.{KeySeq}
 use Rattle.minus_input.specs.Names.{key_named, action_named}
 use Rattle.minus_input.specs.Segments.{is_dash, segments, leading, last_segment}
 use Rattle.minus_input.specs.Reading.{beginning, read_segments}
-use Rattle.minus_input.specs.Description.{others, IsReading, Reads, DescribesKey, DescribesMouse, SegmentFault, TextFault, KeyFault, MouseFault, HasOneMeaning, EachTextHasOneMeaning}
-use Rattle.minus_input.proofs.FaultLaws.{cases_Option, ok_is_not_err, none_is_not_some, some_of, one_code, rules_no_fault}
+use Rattle.minus_input.specs.Description.{others, Reads, DescribesKey, DescribesMouse, SegmentFault, TextFault, KeyFault, MouseFault, HasOneMeaning, EachTextHasOneMeaning}
+use Rattle.minus_input.proofs.FaultLaws.{cases_Option, ok_is_not_err, one_code, rules_no_fault}
 use Rattle.minus_input.proofs.ReadingLaws.{same_Err, read_both, read_means, fault_means, segments_read}
 
 -- the segments of a text, without white space at its ends

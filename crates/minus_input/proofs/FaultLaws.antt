@@ -1,12 +1,12 @@
 -- Splits of a list, and what follows of a faultless one.
-use Rattle.std.proofs.Common.{◌≡◌, ◌⊎◌, ℕ, ◌+◌, ◌<◌, List, [], ◌∷◌, ◌++◌, length, drop, Option, None, Some, IsSome, IsTrue, Result, Ok, Err, Bool, true, false, not, ◌&&◌, eqb, is_some, is_none, is_ok, refl, sym, subst, arith, ◌∙◌, ap, inl, inr, get_or, if◌then◌else◌}
-use Rattle.std.specs.List.{Contains, filter}
+use Rattle.std.proofs.Common.{◌≡◌, ◌⊎◌, ℕ, ◌<◌, List, [], ◌∷◌, ◌++◌, length, drop, Option, None, Some, IsSome, Result, Ok, Err, Bool, true, false, eqb, is_some, is_ok, refl, sym, subst, arith, ◌∙◌, ap, inl, inr, get_or, if◌then◌else◌}
+use Rattle.std.specs.List.{filter}
 use Rattle.std.proofs.lemmas.Bool.{cases_Bool, true≢false, eqb-true, ne_eqb}
 use Rattle.std.proofs.lemmas.List.{length-append, append_assoc, append-nil}
 use Rattle.minus_term.specs.declared.error.DescriptionError.{DescriptionError}
 use Rattle.minus_term.specs.declared.error.DescriptionError.TheVariants.{NotAscii, Empty, EmptySegment, RepeatedModifier, UnknownName, SecondKey, NoAction}
 use Rattle.minus_input.specs.Names.{modifier_letter}
-use Rattle.minus_input.specs.Description.{EachModifierOnce, EmptiesFollowModifiers, is_other, others, IsCode, IsReading, LeadingFault, LastFault, IsFaultless, FirstFault, SegmentFault}
+use Rattle.minus_input.specs.Description.{is_other, others, IsCode, IsReading, LeadingFault, LastFault, IsFaultless, SegmentFault}
 
 -- an option holds something, or nothing
 pub cases_Option : {X : Type 0} (o : Option X) → (o ≡ None) ⊎ ((x : X) × (o ≡ Some x))

@@ -1,5 +1,5 @@
 -- Key names, and texts without repeats.
-use Rattle.std.proofs.Common.{◌≡◌, ℕ, ◌++◌, ◌∷◌, [], List, map, take, length, Bool, true, false, not, ◌||◌, Bor, bytes_eq, eqb, zero, suc, arith, replicate, ◌+◌, ◌-◌, ◌<◌, ◌≤◌, get_or, string_bytes, refl, sym, subst, ap, ◌∙◌, inl, inr, codes, if◌then◌else◌}
+use Rattle.std.proofs.Common.{◌≡◌, ℕ, ◌++◌, ◌∷◌, [], List, map, take, length, Bool, true, false, not, ◌||◌, Bor, bytes_eq, eqb, zero, suc, arith, replicate, ◌+◌, ◌-◌, ◌<◌, ◌≤◌, get_or, string_bytes, refl, sym, subst, ap, ◌∙◌, inl, inr, codes}
 use Rattle.std.specs.Fmt.{char_count, is_char_start, take_chars, padded, format_spec}
 use Rattle.std.specs.List.{filter, list_any, flat_map, join_by, repeat}
 use Rattle.std.proofs.lemmas.Bool.{cases_Bool, ne_eqb}
@@ -9,7 +9,7 @@ use Rattle.std.proofs.lemmas.List.Elements.{filter-append}
 use Rattle.std.proofs.lemmas.List.{append_assoc, append-nil, map-append, take_more, length-map}
 use Rattle.minus_term.specs.declared.event.KeyEvent.{KeyEvent}
 use Rattle.minus_input.specs.declared.help_table.Entry as code
-use Rattle.minus_input.specs.Names.{shift, control, alt}
+use Rattle.minus_input.specs.Names.{control, alt}
 use Rattle.minus_input.specs.HelpTable.{key_name, code_name, shown, has, shows_shift, once_each, add_once, Entry, seen_entry, names_of, descriptions, joined, filled, group_line, table_head, table_foot, help_table}
 
 -- a key's name from its parts

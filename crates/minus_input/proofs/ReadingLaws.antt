@@ -1,5 +1,5 @@
 -- Segments read from the left are read by the rules, up to the first that is at fault.
-use Rattle.std.proofs.Common.{◌≡◌, ◌⊎◌, ℕ, ◌+◌, ◌<◌, List, [], ◌∷◌, ◌++◌, length, Option, None, Some, IsSome, IsTrue, Result, Ok, Err, Bool, true, false, not, ◌&&◌, eqb, is_some, is_none, is_ok, bit_and, bit_or, refl, sym, subst, arith, ◌∙◌, ap, inl, inr, get_or, if◌then◌else◌}
+use Rattle.std.proofs.Common.{◌≡◌, ◌⊎◌, ℕ, ◌<◌, List, [], ◌∷◌, ◌++◌, length, Option, None, Some, IsSome, Result, Ok, Err, true, false, not, eqb, is_none, bit_and, bit_or, refl, sym, subst, arith, ◌∙◌, ap, inl, inr, get_or}
 use Rattle.std.specs.Bool.{Decides}
 use Rattle.std.specs.Cmp.{first_so, second_so}
 use Rattle.std.specs.List.{Contains, filter, filter_map, fold}
@@ -15,8 +15,8 @@ use Rattle.minus_input.specs.declared.key_seq.KeySeq.{KeySeq}
 use Rattle.minus_input.specs.Names.{modifier_letter}
 use Rattle.minus_input.specs.Segments.{leading, last_segment}
 use Rattle.minus_input.specs.Reading.{beginning, read_leading, read_last, read_segments, then_read}
-use Rattle.minus_input.specs.Description.{EachModifierOnce, EmptiesFollowModifiers, is_other, others, IsCode, IsReading, LeadingFault, LastFault, IsFaultless, FirstFault, SegmentFault}
-use Rattle.minus_input.proofs.FaultLaws.{cases_Option, none_is_not_some, some_of, ok_is_not_err, some_name, no_name, nil_split, snoc_last, one_code, no_code, some_code, faultless_more, faultless_nil, others_some, others_none}
+use Rattle.minus_input.specs.Description.{is_other, others, IsCode, IsReading, LeadingFault, LastFault, IsFaultless, FirstFault, SegmentFault}
+use Rattle.minus_input.proofs.FaultLaws.{cases_Option, none_is_not_some, some_of, ok_is_not_err, some_name, no_name, nil_split, snoc_last, no_code, some_code, faultless_more, faultless_nil, others_some, others_none}
 
 -- the letters of the modifiers, and their bits
 letter_cases : (segment : List ℕ) (bit : ℕ) → modifier_letter segment ≡ Some bit →

@@ -1,12 +1,12 @@
 -- The segments of a text, and how they are read.
-use Rattle.std.proofs.Common.{◌≡◌, ℕ, ◌+◌, ◌<◌, List, [], ◌∷◌, length, Option, Result, Ok, Err, Bool, eqb, refl, sym, arith, ◌∙◌, ap, inl, inr}
-use Rattle.std.specs.List.{position_or_len, before_first, after_first, slice_split, onto_first}
+use Rattle.std.proofs.Common.{◌≡◌, ℕ, ◌<◌, List, [], ◌∷◌, length, Option, Ok, Err, eqb, refl, arith, ◌∙◌, ap, inl, inr}
+use Rattle.std.specs.List.{position_or_len, before_first, after_first, onto_first}
 use Rattle.std.proofs.lemmas.Bool.{cases_Bool}
 use Rattle.std.proofs.lemmas.List.Splits.{slice_split_first, length-slice_split}
 use Rattle.minus_term.specs.declared.error.DescriptionError.{DescriptionError}
 use Rattle.minus_input.specs.declared.key_seq.KeySeq.{KeySeq}
 use Rattle.minus_input.specs.Segments.{is_dash, segments}
-use Rattle.minus_input.specs.Reading.{read_leading, read_last, read_segments, then_read}
+use Rattle.minus_input.specs.Reading.{read_leading, read_segments, then_read}
 
 -- the first segment ends before the first dash
 pub segments-at : (text : List ℕ) → position_or_len is_dash text < length text → segments text ≡ before_first is_dash text ∷ segments (after_first is_dash text)

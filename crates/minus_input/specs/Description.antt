@@ -1,5 +1,5 @@
 -- What a text describes, by the rules of its segments, and why it describes nothing.
-use Rattle.std.specs.Prelude.{ℕ, ◌≡◌, ◌<◌, ◌==◌, ◌⊎◌, List, [], ◌∷◌, ◌++◌, length, Bool, true, not, ◌&&◌, IsTrue, Option, None, Some, IsSome, is_none, unwrap_or, if◌then◌else◌}
+use Rattle.std.specs.Prelude.{ℕ, ◌≡◌, ◌<◌, ◌==◌, ◌⊎◌, List, [], ◌∷◌, ◌++◌, length, Bool, not, ◌&&◌, IsTrue, Option, None, Some, IsSome, is_none, unwrap_or, if◌then◌else◌}
 use Rattle.std.specs.Int.RustNames.{bit_or}
 use Rattle.std.specs.List.{Contains, filter, filter_map, fold}
 use Rattle.std.specs.Str.{IsAscii, IsNotAscii, trim}
@@ -10,7 +10,6 @@ use Rattle.minus_term.specs.declared.event.KeyCode.TheVariants.{Null}
 use Rattle.minus_term.specs.declared.event.KeyEvent.{KeyEvent}
 use Rattle.minus_term.specs.declared.event.KeyEventKind.TheVariants.{Press}
 use Rattle.minus_term.specs.declared.event.MouseEvent.{MouseEvent}
-use Rattle.minus_term.specs.declared.event.MouseEventKind.{MouseEventKind}
 use Rattle.minus_input.specs.Names.{modifier_letter, key_named, action_named}
 use Rattle.minus_input.specs.Segments.{segments, leading, last_segment}
 

@@ -1,5 +1,5 @@
 -- Segments read one by one, from the left.
-use Rattle.std.specs.Prelude.{ℕ, ◌==◌, List, [], ◌∷◌, Bool, true, false, Option, None, Some, Result, Ok, Err, length, if◌then◌else◌}
+use Rattle.std.specs.Prelude.{ℕ, ◌==◌, List, [], ◌∷◌, true, false, Option, None, Some, Result, Ok, Err, length, if◌then◌else◌}
 use Rattle.std.specs.Int.RustNames.{bit_and, bit_or}
 use Rattle.minus_term.specs.declared.error.DescriptionError.{DescriptionError}
 use Rattle.minus_term.specs.declared.error.DescriptionError.TheVariants.{EmptySegment, RepeatedModifier, UnknownName, SecondKey}

@@ -1,6 +1,5 @@
-use Rattle.std.proofs.Common.{◌≡◌, Err, sym, subst, ap, ◌∙◌, refl}
+use Rattle.std.proofs.Common.{sym, ◌∙◌}
 use Rattle.std.proofs.lemmas.Result.{err_from_is_err_and}
-use Rattle.minus_input.specs.Description.{KeyFault}
 use Rattle.minus_input.proofs.DescriptionLaws.{parsed_key, refused_key}
 use Rattle.minus_input.proofs.description.parse_key_event.Goals as goal
 

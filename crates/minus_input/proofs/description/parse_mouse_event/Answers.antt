@@ -1,7 +1,5 @@
-use Rattle.std.proofs.Common.{◌≡◌, Err, sym, subst, ap, ◌∙◌, refl, inl, inr}
+use Rattle.std.proofs.Common.{sym, ◌∙◌}
 use Rattle.std.proofs.lemmas.Result.{err_from_is_err_and}
-use Rattle.minus_input.specs.Description.{MouseFault}
-use Rattle.minus_input.proofs.FaultLaws.{cases_Option}
 use Rattle.minus_input.proofs.DescriptionLaws.{parsed_mouse, refused_mouse, no_action}
 use Rattle.minus_input.proofs.description.parse_mouse_event.Goals as goal
 

@@ -1,4 +1,4 @@
-use Rattle.std.proofs.Common.{◌≡◌, map, sym, ◌∙◌}
+use Rattle.std.proofs.Common.{sym, ◌∙◌}
 use Rattle.minus_input.proofs.HelpTableLaws.{descriptions_step, descriptions_skip}
 use Rattle.minus_input.proofs.help_table.descriptions.Goals.{then-not-is_empty+in_ok-push_once, else-not-is_empty}
 use Rattle.minus_input.proofs.help_table.descriptions.Goals as goal

@@ -1,4 +1,4 @@
-use Rattle.std.proofs.Common.{◌≡◌, ◌≤◌, length, map, string_bytes, eqb, arith, sym, ap, ◌∙◌}
+use Rattle.std.proofs.Common.{map, string_bytes, eqb, sym, ap, ◌∙◌}
 use Rattle.minus_input.specs.HelpTable.{seen_entry}
 use Rattle.minus_input.proofs.HelpTableLaws.{table_from}
 use Rattle.minus_input.proofs.help_table.format_entries.Goals as goal

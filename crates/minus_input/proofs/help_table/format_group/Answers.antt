@@ -1,4 +1,4 @@
-use Rattle.std.proofs.Common.{◌≡◌, ◌++◌, ◌<◌, length, string_bytes, codes, map, List, ℕ, Bor, arith, sym, ap, ◌∙◌}
+use Rattle.std.proofs.Common.{◌≡◌, ◌++◌, ◌<◌, length, string_bytes, codes, map, List, ℕ, Bor, arith, ap, ◌∙◌}
 use Rattle.std.specs.Fmt.{styled_text}
 use Rattle.std.specs.List.{join_by}
 use Rattle.std.proofs.lemmas.Result.{IfOk-weaker}

@@ -1,7 +1,6 @@
-use Rattle.std.proofs.Common.{◌≡◌, ◌++◌, string_bytes, codes, sym, ap, ◌∙◌}
+use Rattle.std.proofs.Common.{string_bytes, codes, ap, ◌∙◌}
 use Rattle.std.proofs.lemmas.Result.{IfOk-weaker}
-use Rattle.std.specs.Result.{IfOk}
-use Rattle.minus_input.specs.HelpTable.{key_name, shown}
+use Rattle.minus_input.specs.HelpTable.{shown}
 use Rattle.minus_input.proofs.HelpTableLaws.{key_name_from}
 use Rattle.minus_input.proofs.help_table.format_key.Goals as goal
 

@@ -1,4 +1,4 @@
-use Rattle.std.proofs.Common.{◌≡◌, map, sym, ◌∙◌}
+use Rattle.std.proofs.Common.{sym, ◌∙◌}
 use Rattle.minus_input.proofs.HelpTableLaws.{names_step, names_skip}
 use Rattle.minus_input.proofs.help_table.names_of.Goals.{then-eq+in_ok-push_once, else-eq}
 use Rattle.minus_input.proofs.help_table.names_of.Goals as goal

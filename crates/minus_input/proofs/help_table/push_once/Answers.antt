@@ -1,4 +1,3 @@
-use Rattle.std.proofs.Common.{◌≡◌, map, sym, ap, ◌∙◌}
 use Rattle.minus_input.proofs.HelpTableLaws.{kept_once, new_once}
 use Rattle.minus_input.proofs.help_table.push_once.Goals as goal
 

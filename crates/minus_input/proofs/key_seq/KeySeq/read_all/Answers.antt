@@ -1,7 +1,6 @@
-use Rattle.std.proofs.Common.{◌≡◌, Err, sym, ap, ◌∙◌, lit<, rules, refl}
+use Rattle.std.proofs.Common.{Err, sym, ap, ◌∙◌, lit<, rules}
 use Rattle.std.proofs.lemmas.Result.{err_from_is_err_and}
-use Rattle.minus_input.specs.Reading.{read_segments, read_last, then_read}
-use Rattle.minus_input.specs.Segments.{segments}
+use Rattle.minus_input.specs.Reading.{read_segments}
 use Rattle.minus_input.proofs.SegmentsLaws.{segments-none, read_ok, read_err}
 use Rattle.minus_input.proofs.key_seq.KeySeq.read_all.Goals as goal
 
