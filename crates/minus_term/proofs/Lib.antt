@@ -5,3 +5,4 @@ pub mod PutsLaws
 pub mod SinkLaws
 pub mod TerminalLaws
 pub mod WrittenLaws
+pub mod NormalFormLaws

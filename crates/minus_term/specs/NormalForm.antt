@@ -1,7 +1,7 @@
 -- The normal form of a key: what keys are compared and hashed by.
-use Rattle.std.specs.Prelude.{ℕ, ◌==◌, if◌then◌else◌}
+use Rattle.std.specs.Prelude.{ℕ, List, ◌≡◌, ◌==◌, Bool, true, if◌then◌else◌}
 use Rattle.std.specs.Int.RustNames.{bit_and, bit_or}
-use Rattle.std.specs.Char.{is_ascii_uppercase, to_ascii_uppercase}
+use Rattle.std.specs.Char.{is_ascii_lowercase, is_ascii_uppercase, to_ascii_uppercase}
 use Rattle.minus_term.specs.declared.event.KeyCode.{KeyCode}
 use Rattle.minus_term.specs.declared.event.KeyCode.TheVariants.{Char}
 use Rattle.minus_term.specs.declared.event.KeyEvent.{KeyEvent}
@@ -29,3 +29,22 @@ normal_form key = record {
   kind = key.kind;
   state = key.state;
 }
+
+-- a key with another code and other modifiers
+abbrev pub with_code : KeyEvent → KeyCode → ℕ → KeyEvent
+with_code key code modifiers = record { code = code; modifiers = record { 0 = modifiers }; kind = key.kind; state = key.state }
+
+-- what compares keys finds those of one normal form equal
+abbrev pub KeysOfOneNormalFormAreEqual : (KeyEvent → KeyEvent → Bool) → Type 0
+KeysOfOneNormalFormAreEqual equal = (a b : KeyEvent) → normal_form a ≡ normal_form b → equal a b ≡ true
+
+-- keys that are found equal give a hasher the same writes
+abbrev pub EqualKeysHashEqually : (KeyEvent → KeyEvent → Bool) → (KeyEvent → List (List ℕ)) → Type 0
+EqualKeysHashEqually equal writes = (a b : KeyEvent) → equal a b ≡ true → writes a ≡ writes b
+
+-- a small ASCII letter with SHIFT is found equal to its capital, with SHIFT or without
+abbrev pub LettersWithShiftAreCapitals : (KeyEvent → KeyEvent → Bool) → Type 0
+LettersWithShiftAreCapitals equal =
+    (key : KeyEvent) (letter modifiers : ℕ) → is_ascii_lowercase letter ≡ true →
+    (equal (with_code key (Char letter) (bit_or modifiers shift)) (with_code key (Char (to_ascii_uppercase letter)) (bit_or modifiers shift)) ≡ true)
+    × (equal (with_code key (Char letter) (bit_or modifiers shift)) (with_code key (Char (to_ascii_uppercase letter)) modifiers) ≡ true)

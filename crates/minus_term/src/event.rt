@@ -2,6 +2,8 @@
 ghost use Rattle.std.specs.Prelude.{⊤, [], ◌∷◌, codes};
 
 pub mod equality;
+#[cfg(test)]
+mod tests;
 
 use bitflags::{Flag, Flags, bitflag_items};
 

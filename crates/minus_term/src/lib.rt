@@ -1,5 +1,6 @@
-//! What a pager needs of its terminal: the operations that it draws by and the bytes that they
-//! are, a screen as far as it is known, sinks that take the bytes, and the errors of all this.
+//! What a pager needs of its terminal: the events that it tells, the operations that it draws by
+//! and the bytes that they are, a screen as far as it is known, sinks that take the bytes, and the
+//! errors of all this.
 #![tactic(auto)]
 
 pub mod draw;
@@ -15,7 +16,10 @@ pub mod writes;
 
 pub use draw::{DrawOp, full_redraw_shows_its_page, play_is_monotone, write_op};
 pub use error::{CleanupError, DescriptionError, MinusError, RegexError, SetupError, TermError};
-pub use event::equality::NormalKey;
+pub use event::equality::{
+    NormalKey, equal_keys_hash_equally, keys_of_one_normal_form_are_equal,
+    letters_with_shift_are_capitals,
+};
 pub use event::{
     Event, KeyCode, KeyEvent, KeyEventKind, KeyEventState, KeyModifiers, MouseButton, MouseEvent,
     MouseEventKind,

@@ -2,7 +2,7 @@
 ghost use Rattle.std.specs.Prelude.{◌≡◌, ◌==◌};
 ghost use Rattle.std.specs.Ordering.{on};
 ghost use Rattle.std.specs.Cmp.{partial_equiv_from_equiv, on_equiv};
-ghost use Rattle.minus_term.specs.NormalForm.{normal_form};
+ghost use Rattle.minus_term.specs.NormalForm.{normal_form, KeysOfOneNormalFormAreEqual, EqualKeysHashEqually, LettersWithShiftAreCapitals};
 ghost use Rattle.minus_term.specs.contracts.event.equality.NormalKeyEq.TheImpl.Laws.{laws-law as normal_laws};
 ghost use Rattle.minus_term.specs.contracts.event.equality.NormalKeyHash.TheImpl.Laws.{respects_eq-law as normal_respects};
 
@@ -70,3 +70,18 @@ impl Hash for KeyEvent {
         self.normal().hash(state);
     }
 }
+
+/// A law: keys of one normal form are equal.
+pub fn keys_of_one_normal_form_are_equal()
+    ensures { KeysOfOneNormalFormAreEqual ⟦<KeyEvent as PartialEq>⟧.eq }
+{}
+
+/// A law: equal keys hash equally.
+pub fn equal_keys_hash_equally()
+    ensures { EqualKeysHashEqually ⟦<KeyEvent as PartialEq>⟧.eq ⟦<KeyEvent as Hash>⟧.hash_input }
+{}
+
+/// A law: an ASCII letter with SHIFT equals its capital, with SHIFT or without.
+pub fn letters_with_shift_are_capitals()
+    ensures { LettersWithShiftAreCapitals ⟦<KeyEvent as PartialEq>⟧.eq }
+{}
