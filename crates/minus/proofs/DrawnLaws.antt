@@ -1,11 +1,11 @@
 -- What is drawn in a step, and at the start.
-use Rattle.std.proofs.Common.{◌≡◌, ℕ, ◌-◌, ◌<◌, ◌≤◌, ◌==◌, ◌&&◌, Bool, true, false, List, [], ◌∷◌, ◌++◌, length, map, drop, replicate, Option, Some, None, refl, sym, ap, subst, ◌∙◌, arith, inl, inr}
+use Rattle.std.proofs.Common.{◌≡◌, ℕ, ◌-◌, ◌<◌, ◌≤◌, ◌==◌, ◌&&◌, Bool, true, false, List, [], ◌∷◌, ◌++◌, length, drop, replicate, Option, Some, None, refl, subst, ◌∙◌, arith, inl, inr}
 use Rattle.std.specs.Io.KnownBytes.{Appends}
 use Rattle.std.proofs.lemmas.List.{length-append, length-map, length-replicate, length-take}
-use Rattle.std.proofs.lemmas.Bool.{cases_Bool, eqb-true, and_left, and_right}
+use Rattle.std.proofs.lemmas.Bool.{cases_Bool, eqb-true}
 use Rattle.minus_term.specs.Operations.{Op}
 use Rattle.minus_term.specs.Counts.{AppendsFront}
-use Rattle.minus_term.specs.PlayedScreen.{PlayedScreen, screen_of, unknown_screen}
+use Rattle.minus_term.specs.PlayedScreen.{unknown_screen}
 use Rattle.minus_term.specs.Terminal.{setup_bytes}
 use Rattle.minus_term.specs.Written.{written_all}
 use Rattle.minus_term.specs.FullRedraw.{full_ops, page_of}

@@ -1,7 +1,6 @@
 -- A run, one step more.
-use Rattle.std.proofs.Common.{◌≡◌, ℕ, zero, suc, get_or, ◌+◌, ◌<◌, ◌≤◌, Bool, true, false, inl, inr, List, [], ◌∷◌, ◌++◌, length, map, reverse, Option, Some, None, is_some, refl, sym, ap, subst, ◌∙◌, arith, append_assoc}
+use Rattle.std.proofs.Common.{◌≡◌, ℕ, zero, suc, get_or, ◌+◌, ◌<◌, true, false, inl, inr, List, [], ◌∷◌, ◌++◌, length, map, reverse, Option, Some, None, refl, sym, ap, subst, ◌∙◌, arith, append_assoc}
 use Rattle.std.specs.List.{Contains}
-use Rattle.std.specs.Io.KnownBytes.{Appends}
 use Rattle.std.proofs.lemmas.Bool.{cases_Bool}
 use Rattle.std.proofs.lemmas.List.Elements.{Contains-append_left, Contains-push}
 use Rattle.std.proofs.lemmas.List.{append-nil, reverse-append, map-append, length-map, length_push, map_push, get_or-map}
@@ -15,14 +14,13 @@ use Rattle.minus_term.proofs.WrittenLaws.{written_all-append, IsClean-append, Is
 use Rattle.minus.specs.declared.commands.Drawing.{Drawing}
 use Rattle.minus.specs.declared.commands.Drawing.TheVariants as drawing
 use Rattle.minus.specs.declared.session.Answer.{Answer}
-use Rattle.minus.specs.declared.status.Status.{Status}
 use Rattle.minus.specs.declared.status.Status.TheVariants as status
 use Rattle.minus.specs.Answers.{IsAnswer, ends_run}
 use Rattle.minus.specs.Control.{Control, has_size_of}
 use Rattle.minus.specs.Page.{page}
 use Rattle.minus.specs.Reads.{Told}
-use Rattle.minus.specs.Table.{Wanted, effect, drawing_of, left_by, worked}
-use Rattle.minus.specs.Drawn.{IsDrawing, screen_before, Drawn, Leaves}
+use Rattle.minus.specs.Table.{drawing_of}
+use Rattle.minus.specs.Drawn.{Drawn, Leaves}
 use Rattle.minus.specs.Steps.{Seen, Allows, IsStep, Steps, none, more, Writes, Refuses, status_after}
 use Rattle.minus.specs.Runs.{IsLastAnswer, IsRun}
 use Rattle.minus.proofs.DrawnLaws.{same_rows}

@@ -1,5 +1,5 @@
 -- A step, from what its parts ensure.
-use Rattle.std.proofs.Common.{◌≡◌, ℕ, ◌≤◌, List, Option, Some, None, refl, sym, ap, subst, ◌∙◌}
+use Rattle.std.proofs.Common.{◌≡◌, ℕ, List, Option, refl, sym, ap, subst, ◌∙◌}
 use Rattle.std.specs.Io.KnownBytes.{Appends}
 use Rattle.minus_term.specs.Counts.{AppendsFront}
 use Rattle.minus_term.specs.declared.error.MinusError.{MinusError}
@@ -16,7 +16,7 @@ use Rattle.minus.specs.Drawn.{Drawn, BrokenOff}
 use Rattle.minus.specs.Reads.{Told, a_command}
 use Rattle.minus.specs.Sizes.{IsSize}
 use Rattle.minus.specs.Table.{Wanted, effect, drawing_of, changed_by, worked, IsPossible}
-use Rattle.minus.specs.Steps.{Seen, Allows, Asks, Works, Writes, IsStep, IsBrokenStep, IsBadSize, IsBrokenExit, Refuses, status_after}
+use Rattle.minus.specs.Steps.{Seen, Allows, Asks, Writes, IsStep, IsBrokenStep, Refuses, status_after}
 use Rattle.minus.proofs.TableLaws.{worked_full}
 use Rattle.minus.proofs.DrawnLaws.{whole_page, step_drawn, step_broken}
 

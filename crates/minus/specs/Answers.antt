@@ -1,5 +1,5 @@
 -- What steps answer.
-use Rattle.std.specs.Prelude.{◌≡◌, ℕ, ◌<◌, nat_lt, [], length, is_some, ◌||◌, Bool, Option, None, Some}
+use Rattle.std.specs.Prelude.{◌≡◌, ℕ, nat_lt, [], length, is_some, ◌||◌, Bool, Option, None, Some}
 use Rattle.minus.specs.declared.commands.Drawing.{Drawing}
 use Rattle.minus.specs.declared.commands.Drawing.TheVariants.{Nothing, Full, Ending}
 use Rattle.minus.specs.declared.session.Answer.{Answer}

@@ -1,13 +1,13 @@
 -- The start of a session.
-use Rattle.std.specs.Prelude.{◌≡◌, ℕ, List, [], ◌∷◌, ◌++◌, Bool, true, false, Option, None, Some}
+use Rattle.std.specs.Prelude.{◌≡◌, ℕ, List, [], ◌∷◌, Bool, true, false, Option, ◌⊎◌}
 use Rattle.std.specs.Io.KnownBytes.{Appends}
 use Rattle.minus_term.specs.declared.error.MinusError.{MinusError}
 use Rattle.minus_term.specs.declared.error.MinusError.TheVariants.{Memory, BadSize, BadMode, Setup, Draw}
 use Rattle.minus_term.specs.declared.error.SetupError.{SetupError}
-use Rattle.minus_term.specs.declared.error.SetupError.TheVariants.{InvalidTerminal, AlternateScreen, HideCursor, EnableMouseCapture}
+use Rattle.minus_term.specs.declared.error.SetupError.TheVariants.{InvalidTerminal}
 use Rattle.minus_term.specs.Operations.{Op}
 use Rattle.minus_term.specs.Written.{written_all}
-use Rattle.minus_term.specs.Counts.{AppendsFront}
+use Rattle.minus_term.specs.Counts.{AppendsFront, Stays, Rises}
 use Rattle.minus_term.specs.Terminal.{setup_bytes, cleanup_bytes, SetupBreaksOff}
 use Rattle.minus.specs.declared.state.RunMode.{RunMode}
 use Rattle.minus.specs.declared.state.RunMode.TheVariants.{Uninitialized}
@@ -58,16 +58,26 @@ IsShowRefused (Setup cause) terminal = IsSetupRefused cause terminal
 IsShowRefused (Draw cause) terminal = terminal ≡ true
 IsShowRefused e terminal = ⊥
 
--- the sink grew by the bytes that set a terminal up, a beginning of these, and a beginning of the bytes that clean a
--- terminal up
-abbrev pub DrawingBreaksOff : Option (List ℕ) → Option (List ℕ) → List ℕ → Type 0
-DrawingBreaksOff old_bytes new_bytes drawing = (set_up drawn : Option (List ℕ)) × Appends old_bytes set_up setup_bytes × AppendsFront set_up drawn drawing × AppendsFront drawn new_bytes cleanup_bytes
+-- the terminal was cleaned up, or the sink refused that too, after a beginning of it
+abbrev pub CleansUp : Option (List ℕ) → Option (List ℕ) → Option ℕ → Option ℕ → Type 0
+CleansUp old_bytes new_bytes old_count new_count = (Appends old_bytes new_bytes cleanup_bytes × Stays old_count new_count) ⊎ (AppendsFront old_bytes new_bytes cleanup_bytes × Rises old_count new_count)
+
+-- the sink grew by the bytes that set a terminal up and a beginning of these, refused the rest of them, and was cleaned up
+-- as far as it took that
+pub record DrawingBreaksOff (old_bytes new_bytes : Option (List ℕ)) (old_count new_count : Option ℕ) (drawing : List ℕ) : Type 0 where
+  pub set_up : Option (List ℕ)
+  pub drawn : Option (List ℕ)
+  pub count : Option ℕ
+  pub setup : Appends old_bytes set_up setup_bytes
+  pub begun : AppendsFront set_up drawn drawing
+  pub refused : Rises old_count count
+  pub cleanup : CleansUp drawn new_bytes count new_count
 
 -- what is left where it was refused
-abbrev pub ShowBreaksOff : MinusError → Option (List ℕ) → Option (List ℕ) → List ℕ → Type 0
-ShowBreaksOff (Setup cause) old_bytes new_bytes drawing = SetupBreaksOff cause old_bytes new_bytes
-ShowBreaksOff (Draw cause) old_bytes new_bytes drawing = DrawingBreaksOff old_bytes new_bytes drawing
-ShowBreaksOff e old_bytes new_bytes drawing = ⊥
+abbrev pub ShowBreaksOff : MinusError → Option (List ℕ) → Option (List ℕ) → Option ℕ → Option ℕ → List ℕ → Type 0
+ShowBreaksOff (Setup cause) old_bytes new_bytes old_count new_count drawing = SetupBreaksOff cause old_bytes new_bytes
+ShowBreaksOff (Draw cause) old_bytes new_bytes old_count new_count drawing = DrawingBreaksOff old_bytes new_bytes old_count new_count drawing
+ShowBreaksOff e old_bytes new_bytes old_count new_count drawing = ⊥
 
 -- when a start is refused: for its mode first, then for its size, then by the sink
 abbrev pub IsStartRefused : MinusError → RunMode → ℕ → ℕ → Bool → Type 0
@@ -84,12 +94,12 @@ IsEarly (Setup cause) = ⊥
 IsEarly (Draw cause) = ⊥
 IsEarly e = Unit {0}
 
--- what a refused start wrote: nothing; a beginning of what sets the terminal up; or all of that, a beginning of the first
--- page, and a beginning of what cleans the terminal up
-abbrev pub StartBreaksOff : MinusError → Option (List ℕ) → Option (List ℕ) → Control → Type 0
-StartBreaksOff (Setup cause) old_bytes new_bytes first = SetupBreaksOff cause old_bytes new_bytes
-StartBreaksOff (Draw cause) old_bytes new_bytes first = (ops : List Op) × DrawingBreaksOff old_bytes new_bytes (written_all ops) × IsWholeDrawing ops (first ∷ []) first
-StartBreaksOff e old_bytes new_bytes first = new_bytes ≡ old_bytes
+-- what a refused start wrote: nothing; a beginning of what sets the terminal up; or all of that and a beginning of the first
+-- page, and then what cleans the terminal up, as far as the sink took it
+abbrev pub StartBreaksOff : MinusError → Option (List ℕ) → Option (List ℕ) → Option ℕ → Option ℕ → Control → Type 0
+StartBreaksOff (Setup cause) old_bytes new_bytes old_count new_count first = SetupBreaksOff cause old_bytes new_bytes
+StartBreaksOff (Draw cause) old_bytes new_bytes old_count new_count first = (ops : List Op) × DrawingBreaksOff old_bytes new_bytes old_count new_count (written_all ops) × IsWholeDrawing ops (first ∷ []) first
+StartBreaksOff e old_bytes new_bytes old_count new_count first = new_bytes ≡ old_bytes
 
 -- the sink refused a write or a flush, or took nothing
 abbrev pub IsSetupFault : SetupError → Type 0

@@ -1,5 +1,5 @@
 -- What a session is seen as, its steps, and what a refusal leaves.
-use Rattle.std.specs.Prelude.{◌≡◌, ℕ, List, [], ◌∷◌, ◌++◌, length, map, Option, None, Some}
+use Rattle.std.specs.Prelude.{◌≡◌, ℕ, List, [], ◌∷◌, Option}
 use Rattle.std.specs.Io.KnownBytes.{Appends}
 use Rattle.minus_term.specs.declared.error.MinusError.{MinusError}
 use Rattle.minus_term.specs.declared.error.MinusError.TheVariants.{Memory, BadSize, Failed, Ended, Cleanup, Draw}
@@ -19,7 +19,7 @@ use Rattle.minus.specs.Control.{Control}
 use Rattle.minus.specs.Reads.{control_of, answer_wanted, Told, a_command, an_event}
 use Rattle.minus.specs.Sizes.{IsSize}
 use Rattle.minus.specs.Table.{Wanted, resizes, exits, drawing_of, IsPossible, worked}
-use Rattle.minus.specs.Drawn.{Drawn, BrokenOff, Leaves}
+use Rattle.minus.specs.Drawn.{Drawn, BrokenOff}
 
 -- the control, the classifier that is kept, the mode of the session, and whether it runs, has exited or has failed
 pub record Seen (K : Type 0) : Type 0 where

@@ -74,7 +74,7 @@ fn show<S: OutputSink>(sink: &mut S, drawing: &[u8]) -> Result<(), MinusError>
     ensures stays { OnOk result (Stays (S.refused sink.old) (S.refused sink.new)) }
     ensures terminal { OnOk result (S.terminal sink.old ≡ true) }
     ensures refused { IfErr result (λ e. IsShowRefused e (S.terminal sink.old)) }
-    ensures broken { IfErr result (λ e. ShowBreaksOff e (S.contents sink.old) (S.contents sink.new) drawing.now) }
+    ensures broken { IfErr result (λ e. ShowBreaksOff e (S.contents sink.old) (S.contents sink.new) (S.refused sink.old) (S.refused sink.new) drawing.now) }
     ensures rises { IfErr result (λ e. IsStartFault e → Rises (S.refused sink.old) (S.refused sink.new)) }
     ensures untouched { IfErr result (λ e. (IsStartFault e → ⊥) → sink.new ≡ sink.old) }
 {
@@ -102,7 +102,7 @@ fn begin<S: OutputSink + Drop>(
     ensures terminal { IfOk result (λ s. S.terminal sink ≡ true) }
     ensures refused { IfErr result (λ e. IsShowRefused e.cause (S.terminal sink)) }
     ensures gone { IfErr result (λ e. e.pager ≡ None) }
-    ensures broken { IfErr result (λ e. StartBreaksOff e.cause (S.contents sink) (S.contents e.sink) (control_of state)) }
+    ensures broken { IfErr result (λ e. StartBreaksOff e.cause (S.contents sink) (S.contents e.sink) (S.refused sink) (S.refused e.sink) (control_of state)) }
     ensures rises { IfErr result (λ e. IsStartFault e.cause → Rises (S.refused sink) (S.refused e.sink)) }
     ensures untouched { IfErr result (λ e. (IsStartFault e.cause → ⊥) → e.sink ≡ sink) }
 {
@@ -149,7 +149,7 @@ pub fn init_core<S: OutputSink + Drop>(
     ensures refused { IfErr result (λ e. IsStartRefused e.cause mode cols rows (S.terminal sink)) }
     ensures returned { IfErr result (λ e. IsEarly e.cause → e.pager ≡ Some pager) }
     ensures gone { IfErr result (λ e. (IsEarly e.cause → ⊥) → e.pager ≡ None) }
-    ensures broken { IfErr result (λ e. StartBreaksOff e.cause (S.contents sink) (S.contents e.sink) (first_control cols rows (map wanted_of pager.queue.items))) }
+    ensures broken { IfErr result (λ e. StartBreaksOff e.cause (S.contents sink) (S.contents e.sink) (S.refused sink) (S.refused e.sink) (first_control cols rows (map wanted_of pager.queue.items))) }
     ensures rises { IfErr result (λ e. IsStartFault e.cause → Rises (S.refused sink) (S.refused e.sink)) }
     ensures untouched { IfErr result (λ e. (IsStartFault e.cause → ⊥) → e.sink ≡ sink) }
 {
@@ -197,7 +197,7 @@ pub fn dynamic_paging<S: OutputSink + Drop>(
     ensures refused { IfErr result (λ e. IsStartRefused e.cause RunMode.Dynamic cols rows (S.terminal sink)) }
     ensures returned { IfErr result (λ e. IsEarly e.cause → e.pager ≡ Some pager) }
     ensures gone { IfErr result (λ e. (IsEarly e.cause → ⊥) → e.pager ≡ None) }
-    ensures broken { IfErr result (λ e. StartBreaksOff e.cause (S.contents sink) (S.contents e.sink) (first_control cols rows (map wanted_of pager.queue.items))) }
+    ensures broken { IfErr result (λ e. StartBreaksOff e.cause (S.contents sink) (S.contents e.sink) (S.refused sink) (S.refused e.sink) (first_control cols rows (map wanted_of pager.queue.items))) }
     ensures rises { IfErr result (λ e. IsStartFault e.cause → Rises (S.refused sink) (S.refused e.sink)) }
     ensures untouched { IfErr result (λ e. (IsStartFault e.cause → ⊥) → e.sink ≡ sink) }
 {

@@ -68,7 +68,14 @@ impl Pager {
 }
 
 impl fmt::Write for Pager {
-    fn write_str(&mut self, text: &str) -> fmt::Result {
+    ghost use Rattle.std.specs.Prelude.{◌≡◌, ◌++◌, ◌∷◌, [], map, OnOk, OnErr};
+    ghost use Rattle.minus.specs.Reads.{wanted_of};
+    ghost use Rattle.minus.specs.Table.{appends_data};
+
+    fn write_str(&mut self, text: &str) -> fmt::Result
+        ensures ok { OnOk result (map wanted_of self.new.queue.items ≡ map wanted_of self.old.queue.items ++ appends_data text.now ∷ []) }
+        ensures err { OnErr result (self.new.queue.items ≡ self.old.queue.items) }
+    {
         match self.push_str(text) {
             Ok(()) => Ok(()),
             Err(_) => Err(fmt::Error),

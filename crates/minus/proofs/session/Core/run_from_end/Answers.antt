@@ -1,5 +1,5 @@
 -- How far the list was worked off, at each end.
-use Rattle.std.proofs.Common.{length, reverse, refl, sym, ap, ◌∙◌, arith}
+use Rattle.std.proofs.Common.{length, reverse, sym, ap, ◌∙◌, arith}
 use Rattle.std.proofs.lemmas.List.{length-append, length-reverse}
 use Rattle.minus.specs.Reads.{told_of}
 use Rattle.minus.specs.Core.{seen_of}
