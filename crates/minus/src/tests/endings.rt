@@ -1,6 +1,6 @@
 use super::stubborn::Stubborn;
 use super::{CLEANUP, append, ask, number_of, session_on, terminal};
-use crate::{CleanupError, ExitStrategy, InputEvent, MinusError, RunMode};
+use crate::{CleanupError, ExitStrategy, InputEvent, MinusError, Ran, RunMode};
 use std::test::Fail;
 
 #[test]
@@ -49,13 +49,16 @@ fn a_run_stops_after_an_exit(rt: HostRuntime) -> Result<(), Fail> {
         append(alloc, "b")?,
         append(alloc, "c")?,
     ]?;
-    let ran = session.run(inputs);
-    assert_eq!(rt; ran.done, 2);
-    assert!(rt; ran.stopped.is_none());
-    assert_eq!(rt; ran.rest.len(), 2);
-    let Some(answer) = ran.last else {
-        return Err(Fail::from("the exit was to be answered"));
-    };
+    let Ran {
+        done,
+        last,
+        stopped,
+        rest,
+    } = session.run(inputs);
+    assert_eq!(rt; done, 2);
+    assert!(rt; stopped.is_none());
+    assert_eq!(rt; rest.len(), 2);
+    let answer = last.ok_or("the exit was to be answered")?;
     assert_eq!(rt; answer.exited, Some((ExitStrategy::ProcessQuit, 0)));
     Ok(())
 }

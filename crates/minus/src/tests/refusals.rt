@@ -1,6 +1,6 @@
 use super::stubborn::Stubborn;
 use super::{CLEANUP, FIFTH_ROW, PROMPT_ROW, append, number_of, session_on};
-use crate::{CleanupError, Command, Input, RunMode};
+use crate::{CleanupError, Command, Input, Ran, RunMode};
 use std::test::Fail;
 
 #[test]
@@ -57,15 +57,18 @@ fn a_run_stops_at_a_refused_write(rt: HostRuntime) -> Result<(), Fail> {
         append(alloc, "b")?,
         append(alloc, "c")?,
     ]?;
-    let ran = session.run(inputs);
-    assert_eq!(rt; ran.done, 1);
-    assert!(rt; ran.last.is_some());
-    let Some(refusal) = ran.stopped else {
-        return Err(Fail::from("a write was to be refused"));
-    };
+    let Ran {
+        done,
+        last,
+        stopped,
+        rest,
+    } = session.run(inputs);
+    assert_eq!(rt; done, 1);
+    assert!(rt; last.is_some());
+    let refusal = stopped.ok_or("a write was to be refused")?;
     assert_eq!(rt; refusal.number(), 14);
-    assert_eq!(rt; ran.rest.len(), 1);
-    let Some(Input::Command(Command::AppendData(text))) = ran.rest.first() else {
+    assert_eq!(rt; rest.len(), 1);
+    let Some(Input::Command(Command::AppendData(text))) = rest.first() else {
         return Err(Fail::from("an appended text was to be left"));
     };
     assert_eq!(rt; text.as_str(), "c");

@@ -1,6 +1,8 @@
 use super::stubborn::Stubborn;
 use super::{CLEANUP, FIFTH_ROW, PROMPT_ROW, SETUP, append, session_on, terminal};
-use crate::{MinusError, Pager, RunMode, SetupError, WithTty, dynamic_paging, init_core};
+use crate::{
+    MinusError, Pager, RunMode, SetupError, StartError, WithTty, dynamic_paging, init_core,
+};
 use std::fmt::Write;
 use std::io;
 use std::io::Cursor;
@@ -73,13 +75,15 @@ fn an_early_refusal_hands_the_pager_back(rt: HostRuntime) -> Result<(), Fail> {
         let Err(refused) = init_core(pager, mode, sink, cols, rows) else {
             return Err(Fail::from("the start was to be refused"));
         };
-        assert_eq!(rt; refused.cause.number(), number, "at {cols} x {rows}");
-        assert!(rt; refused.sink.inner.is_empty());
-        let Some(returned) = refused.pager else {
-            return Err(Fail::from("the pager was to be handed back"));
-        };
-        pager = returned;
-        sink = refused.sink;
+        let StartError {
+            sink: handed_back,
+            pager: returned,
+            cause,
+        } = refused;
+        assert_eq!(rt; cause.number(), number, "at {cols} x {rows}");
+        assert!(rt; handed_back.inner.is_empty());
+        sink = handed_back;
+        pager = returned.ok_or("the pager was to be handed back")?;
     }
     let session = init_core(pager, RunMode::Static, sink, 65_535, 2)?;
     assert_eq!(rt; session.page()?.rows.first().map(String::as_str), Some("a"));
