@@ -60,5 +60,8 @@ fn a_run_stops_after_an_exit(rt: HostRuntime) -> Result<(), Fail> {
     assert_eq!(rt; rest.len(), 2);
     let answer = last.ok_or("the exit was to be answered")?;
     assert_eq!(rt; answer.exited, Some((ExitStrategy::ProcessQuit, 0)));
+    let again = session.run(rest);
+    assert_eq!(rt; again.done, 0);
+    assert_eq!(rt; again.stopped.ok_or("the session has ended")?.number(), 11);
     Ok(())
 }

@@ -28,12 +28,20 @@ fn other_events_write_nothing(rt: HostRuntime) -> Result<(), Fail> {
         kind: KeyEventKind::Press,
         state: KeyEventState::NONE,
     };
-    for event in [Event::FocusGained, Event::FocusLost, Event::Key(key)] {
-        let answer = session.step(Input::Event(event))?;
-        assert!(rt; answer.exited.is_none(), "at {event:?}");
-        assert!(rt; answer.copied.is_none(), "at {event:?}");
-        assert!(rt; answer.refused.is_empty(), "at {event:?}");
-    }
+    let inputs = vec![in alloc;
+        Input::Event(Event::FocusGained),
+        Input::Event(Event::FocusLost),
+        Input::Event(Event::Key(key)),
+    ]?;
+    let ran = session.run(inputs);
+    assert_eq!(rt; ran.done, 3);
+    assert!(rt; ran.stopped.is_none());
+    assert!(rt;
+        ran.last
+            .ok_or("the key was to be answered")?
+            .exited
+            .is_none()
+    );
     assert!(rt; session.sink.inner.is_empty());
     Ok(())
 }
@@ -41,21 +49,27 @@ fn other_events_write_nothing(rt: HostRuntime) -> Result<(), Fail> {
 #[test]
 fn a_size_of_no_terminal_changes_nothing(rt: HostRuntime) -> Result<(), Fail> {
     let alloc = rt.alloc();
-    let mut session = session_on(alloc, terminal(alloc), 20, 5)?;
-    session.sink.inner.clear();
     for (cols, rows) in [(0, 10), (10, 0), (65_536, 1), (1, 65_536)] {
+        let mut session = session_on(alloc, terminal(alloc), 20, 5)?;
+        session.sink.inner.clear();
         let stepped = session.step(ask(InputEvent::UpdateTermArea(cols, rows)));
         assert_eq!(rt; number_of(stepped), 5, "at {cols} x {rows}");
+        assert!(rt; session.sink.inner.is_empty());
+        assert_eq!(rt; session.state().cols, 20);
+        assert_eq!(rt; session.page()?.rows.len(), 5);
+        let _ = session.step(append(alloc, "a")?)?;
+        assert!(rt; !session.sink.inner.is_empty());
     }
-    assert_eq!(rt;
-        number_of(session.step(Input::Event(Event::Resize(0, 10)))),
-        5
-    );
-    assert!(rt; session.sink.inner.is_empty());
-    assert_eq!(rt; session.state().cols, 20);
-    assert_eq!(rt; session.page()?.rows.len(), 5);
-    let _ = session.step(ask(InputEvent::UpdateTermArea(65_535, 1)))?;
-    assert!(rt; !session.sink.inner.is_empty());
+    Ok(())
+}
+
+#[test]
+fn a_resize_event_of_no_terminal_is_refused(rt: HostRuntime) -> Result<(), Fail> {
+    let alloc = rt.alloc();
+    let mut session = session_on(alloc, terminal(alloc), 20, 5)?;
+    let stepped = session.step(Input::Event(Event::Resize(0, 10)));
+    assert_eq!(rt; number_of(stepped), 5);
+    let _ = session.step(Input::Event(Event::Resize(65_535, 1)))?;
     assert_eq!(rt; session.page()?.rows.len(), 1);
     Ok(())
 }

@@ -128,11 +128,18 @@ fn a_refused_start_names_the_part(rt: HostRuntime) -> Result<(), Fail> {
 #[test]
 fn a_start_refused_after_the_setup_cleans_up(rt: HostRuntime) -> Result<(), Fail> {
     let alloc = rt.alloc();
-    let Err(refused) = session_on(alloc, Stubborn::terminal(alloc, 55), 20, 5) else {
-        return Err(Fail::from("the start was to be refused"));
-    };
-    let bytes = format!(in alloc; "{SETUP}{CLEANUP}")?;
-    assert_eq!(rt; refused.sink.inner.held.as_slice(), bytes.as_bytes());
+    let page = format!(in alloc; "\x1b[1;1H\x1b[2J{FIFTH_ROW}{PROMPT_ROW}")?;
+    let table = [(55, 0, ""), (57, 0, "\x1b["), (0, 4, page.as_str())];
+    for (write, flush, drawn) in table {
+        let mut sink = Stubborn::terminal(alloc, 0);
+        sink.inner.refuse(write, flush);
+        let Err(refused) = session_on(alloc, sink, 20, 5) else {
+            return Err(Fail::from("the start was to be refused"));
+        };
+        assert_eq!(rt; refused.cause.number(), 14, "at write {write}");
+        let bytes = format!(in alloc; "{SETUP}{drawn}{CLEANUP}")?;
+        assert_eq!(rt; refused.sink.inner.held.as_slice(), bytes.as_bytes());
+    }
     Ok(())
 }
 
