@@ -210,6 +210,7 @@ run_over allows told old now inputs left rest done last first a h e empty = reco
   steps = h.steps;
   stop = (refl, refl, λ r. ap reverse (is_empty rest empty));
   answer = h.answer;
+  begun = λ well unmoved. ap reverse (is_empty rest empty);
   exit = λ ended running. refl;
   leaves = λ before k r. h.leaves before k;
 }
@@ -230,6 +231,7 @@ run_ended allows told old now new inputs left rest x done last answer first a b 
       steps = rw (map_push told h.taken x) (Steps-snoc (told x) answer h.steps s);
       stop = (refl, refl, λ r. let both : status.Ended ≡ status.Running = sym ended ∙ r in cc);
       answer = last_answer allows now new (told x) answer a b done s;
+      begun = λ well unmoved. absurd (omega (arith, unmoved));
       exit = λ here running. refl;
       leaves = λ before k r. let both : status.Ended ≡ status.Running = sym ended ∙ r in cc;
     }
@@ -248,6 +250,7 @@ run_stopped allows told old now new inputs left rest x done last e first a b h f
   steps = h.steps;
   stop = r;
   answer = h.answer;
+  begun = λ well unmoved. let both : Some e ≡ None = well in cc;
   exit = λ ended running. let both : status.Ended ≡ status.Running = sym ended ∙ h.runs running in cc;
   leaves = λ before k running. leaves_refused allows e a b now new (told x) (before ++ h.passed) r (h.leaves before k) running;
 }

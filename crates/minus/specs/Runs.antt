@@ -23,7 +23,8 @@ IsLastAnswer done now None = done ≡ 0
 IsLastAnswer done now (Some answer) = (drawing : Drawing) × (1 ≤ done) × IsAnswer drawing answer × (now ≡ status_after drawing)
 
 -- a run: the inputs that were done, in order, the one that was refused, if any, and the rest; the steps of those done, the
--- controls that they passed and what they reached, of which an exit is the last; and, where the sink's bytes ended with a
+-- controls that they passed and what they reached, of which an exit is the last; that one is done or refused where there is
+-- one; and, where the sink's bytes ended with a
 -- list of operations that takes every screen to the page, they still do as long as the session runs
 pub record IsRun {A K : Type 0} (allows : Allows K) (told : A → Told) (old new : Seen K) (inputs : List A) (done : ℕ) (last : Option Answer) (stopped : Option MinusError) (rest : List A) (old_bytes new_bytes : Option (List ℕ)) : Type 0 where
   pub taken : List A
@@ -36,5 +37,6 @@ pub record IsRun {A K : Type 0} (allows : Allows K) (told : A → Told) (old new
   pub steps : Steps allows old (map told taken) passed reached old_bytes bytes
   pub stop : Stops allows told stopped refused rest reached new bytes new_bytes
   pub answer : IsLastAnswer done reached.status last
+  pub begun : stopped ≡ None → done ≡ 0 → rest ≡ []
   pub exit : reached.status ≡ status.Ended → old.status ≡ status.Running → stopped ≡ None
   pub leaves : (before : List Control) → Leaves old_bytes before old.control → new.status ≡ status.Running → Leaves new_bytes (before ++ passed) new.control
