@@ -1,5 +1,5 @@
 -- A start that was broken off.
-use Rattle.std.proofs.Common.{◌≡◌, ℕ, ◌≤◌, List, Bool, Option, Some, None, arith, Result, Ok, Err, OnOk, OnErr, inl, inr, subst, ◌∙◌}
+use Rattle.std.proofs.Common.{◌≡◌, ℕ, ◌≤◌, List, Bool, Option, Some, None, arith, Result, Ok, Err, OnOk, OnErr, inl, inr, refl, subst, ◌∙◌}
 use Rattle.std.specs.Io.KnownBytes.{Appends}
 use Rattle.minus_term.specs.declared.error.CleanupError.{CleanupError}
 use Rattle.minus_term.specs.Counts.{AppendsFront, Stays, Rises}
@@ -40,3 +40,8 @@ Stays-rises (Some k) None None p q = tt
 Stays-rises (Some k) None (Some n) p q = absurd q
 Stays-rises (Some k) (Some m) None p q = tt
 Stays-rises (Some k) (Some m) (Some n) p q = omega (arith, p, q)
+
+-- no call, no refusal
+pub Stays-refl : (a : Option ℕ) → Stays a a
+Stays-refl None = tt
+Stays-refl (Some n) = refl

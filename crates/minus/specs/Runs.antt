@@ -7,7 +7,7 @@ use Rattle.minus.specs.declared.status.Status.{Status}
 use Rattle.minus.specs.declared.status.Status.TheVariants as status
 use Rattle.minus.specs.Control.{Control}
 use Rattle.minus.specs.Reads.{Told}
-use Rattle.minus.specs.Steps.{Seen, Allows, Steps, Refuses, status_after}
+use Rattle.minus.specs.Steps.{Seen, Allows, Steps, Refuses, IsSinkFault, status_after}
 use Rattle.minus.specs.Answers.{IsAnswer}
 use Rattle.minus.specs.Drawn.{Leaves}
 
@@ -40,3 +40,8 @@ pub record IsRun {A K : Type 0} (allows : Allows K) (told : A → Told) (old new
   pub begun : stopped ≡ None → done ≡ 0 → rest ≡ []
   pub exit : reached.status ≡ status.Ended → old.status ≡ status.Running → stopped ≡ None
   pub leaves : (before : List Control) → Leaves old_bytes before old.control → new.status ≡ status.Running → Leaves new_bytes (before ++ passed) new.control
+
+-- a run stopped where the sink refused
+abbrev pub StopsAtSink : Option MinusError → Type 0
+StopsAtSink None = ⊥
+StopsAtSink (Some e) = IsSinkFault e

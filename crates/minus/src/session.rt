@@ -189,7 +189,7 @@ impl<S: OutputSink + Drop, P: Calls> Core<S, P> {
     ghost use Rattle.minus.specs.Table.{drawing_of};
     ghost use Rattle.minus.specs.Drawn.{Drawn, BrokenOff};
     ghost use Rattle.minus.specs.Steps.{Asks, IsStep, Refuses, IsSinkFault, BreaksOffExit, cleanup_after};
-    ghost use Rattle.minus.specs.Runs.{IsRun};
+    ghost use Rattle.minus.specs.Runs.{IsRun, StopsAtSink};
     ghost use Rattle.minus.specs.Answers.{IsAnswer};
     ghost use Rattle.minus.specs.Core.{seen_of};
     ghost use Rattle.minus.specs.declared.commands.Drawing.TheVariants.{Full};
@@ -297,7 +297,9 @@ impl<S: OutputSink + Drop, P: Calls> Core<S, P> {
 
     // Works inputs off from the end of a list, until one is refused or the session has exited.
     fn run_from_end(&mut self, left: &mut Vec<Input>) -> Progress
-        ensures { IsRun P.Classifier.allows told_of (seen_of self.old) (seen_of self.new) (reverse left.old.items) result.done result.last result.stopped (reverse left.new.items) (S.contents self.old.sink) (S.contents self.new.sink) }
+        ensures run { IsRun P.Classifier.allows told_of (seen_of self.old) (seen_of self.new) (reverse left.old.items) result.done result.last result.stopped (reverse left.new.items) (S.contents self.old.sink) (S.contents self.new.sink) }
+        ensures stays { (StopsAtSink result.stopped → ⊥) → Stays (S.refused self.old.sink) (S.refused self.new.sink) }
+        ensures rises { StopsAtSink result.stopped → Rises (S.refused self.old.sink) (S.refused self.new.sink) }
     {
         let mut done = 0;
         let mut last = None;
@@ -333,7 +335,9 @@ impl<S: OutputSink + Drop, P: Calls> Core<S, P> {
     /// Works inputs off in order, until one is refused or the session has exited. An input that is refused is dropped,
     /// and those after it, or after an exit, are handed back.
     pub fn run(&mut self, inputs: Vec<Input>) -> Ran
-        ensures { IsRun P.Classifier.allows told_of (seen_of self.old) (seen_of self.new) inputs.items result.done result.last result.stopped result.rest.items (S.contents self.old.sink) (S.contents self.new.sink) }
+        ensures run { IsRun P.Classifier.allows told_of (seen_of self.old) (seen_of self.new) inputs.items result.done result.last result.stopped result.rest.items (S.contents self.old.sink) (S.contents self.new.sink) }
+        ensures stays { (StopsAtSink result.stopped → ⊥) → Stays (S.refused self.old.sink) (S.refused self.new.sink) }
+        ensures rises { StopsAtSink result.stopped → Rises (S.refused self.old.sink) (S.refused self.new.sink) }
     {
         let mut left = inputs;
         left.reverse();

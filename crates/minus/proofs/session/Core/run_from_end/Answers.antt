@@ -1,33 +1,45 @@
 -- How far the list was worked off, at each end.
-use Rattle.std.proofs.Common.{length, reverse, sym, ap, ◌∙◌, arith}
+use Rattle.std.proofs.Common.{length, reverse, sym, ap, subst, ◌∙◌, arith}
 use Rattle.std.proofs.lemmas.List.{length-append, length-reverse}
+use Rattle.minus_term.specs.Counts.{Stays}
+use Rattle.minus_term.proofs.SinkLaws.{Stays-trans}
 use Rattle.minus.specs.Reads.{told_of}
 use Rattle.minus.specs.Core.{seen_of}
+use Rattle.minus.proofs.StartLaws.{Stays-refl, Stays-rises}
 use Rattle.minus.proofs.RunLaws.{not_yet, one_step, run_over, run_ended, run_stopped}
 use Rattle.minus.proofs.session.Core.run_from_end.Goals as goal
 
 pub loop-input-init : goal.loop-input-init
-loop-input-init g c = not_yet _ told_of (seen_of c.args.self.now) c.args.left.now.items (g.S.Write.contents c.args.self.now.sink)
+loop-input-init g c = (Stays-refl (g.S.OutputSink.refused c.args.self.now.sink), not_yet _ told_of (seen_of c.args.self.now) c.args.left.now.items (g.S.Write.contents c.args.self.now.sink))
 
 pub overflow_add-done : goal.overflow_add-done
 overflow_add-done g c =
-    let h = c.loop-input.invariant in
+    let h = c.loop-input.invariant.1 in
     let parts = ap length h.all ∙ length-append h.taken (reverse c.loop-input.left.items) in
     let all = length-reverse c.args.left.now.items in
     let small = c.args.left.now.small in
     omega (arith, h.count, parts, all, small)
 
-pub returns-then-ends_a_run : goal.returns-then-ends_a_run
-returns-then-ends_a_run g c = run_ended _ told_of (seen_of c.args.self.now) (seen_of c.loop-input.self) (seen_of c.step.new.self) (reverse c.args.left.now.items) c.loop-input.left.items c.pop.new.self.items c.in-Some.input c.loop-input.done _ _ _ _ _ c.loop-input.invariant c.in-Some.ensures.items c.in-Ok.ensures.step (sym c.ends_a_run.ensures ∙ c.if-ends_a_run.true)
+pub returns-then-ends_a_run-clause-run : goal.returns-then-ends_a_run-clause-run
+returns-then-ends_a_run-clause-run g c = run_ended _ told_of (seen_of c.args.self.now) (seen_of c.loop-input.self) (seen_of c.step.new.self) (reverse c.args.left.now.items) c.loop-input.left.items c.pop.new.self.items c.in-Some.input c.loop-input.done _ _ _ _ _ c.loop-input.invariant.1 c.in-Some.ensures.items c.in-Ok.ensures.step (sym c.ends_a_run.ensures ∙ c.if-ends_a_run.true)
 
 pub loop-input-preserved : goal.loop-input-preserved
-loop-input-preserved g c = one_step _ told_of (seen_of c.args.self.now) (seen_of c.loop-input.self) (seen_of c.step.new.self) (reverse c.args.left.now.items) c.loop-input.left.items c.pop.new.self.items c.in-Some.input c.loop-input.done _ _ _ _ _ c.loop-input.invariant c.in-Some.ensures.items c.in-Ok.ensures.step (sym c.ends_a_run.ensures ∙ c.if-ends_a_run.false)
+loop-input-preserved g c = (Stays-trans _ _ _ c.loop-input.invariant.0 c.in-Ok.ensures.stays, one_step _ told_of (seen_of c.args.self.now) (seen_of c.loop-input.self) (seen_of c.step.new.self) (reverse c.args.left.now.items) c.loop-input.left.items c.pop.new.self.items c.in-Some.input c.loop-input.done _ _ _ _ _ c.loop-input.invariant.1 c.in-Some.ensures.items c.in-Ok.ensures.step (sym c.ends_a_run.ensures ∙ c.if-ends_a_run.false))
 
-pub returns-in-Err : goal.returns-in-Err
-returns-in-Err g c = run_stopped _ told_of (seen_of c.args.self.now) (seen_of c.loop-input.self) (seen_of c.step.new.self) (reverse c.args.left.now.items) c.loop-input.left.items c.pop.new.self.items c.in-Some.input c.loop-input.done _ c.in-Err.refusal _ _ _ c.loop-input.invariant c.in-Some.ensures.items c.in-Err.ensures.refused
+pub returns-in-Err-clause-run : goal.returns-in-Err-clause-run
+returns-in-Err-clause-run g c = run_stopped _ told_of (seen_of c.args.self.now) (seen_of c.loop-input.self) (seen_of c.step.new.self) (reverse c.args.left.now.items) c.loop-input.left.items c.pop.new.self.items c.in-Some.input c.loop-input.done _ c.in-Err.refusal _ _ _ c.loop-input.invariant.1 c.in-Some.ensures.items c.in-Err.ensures.refused
 
-pub returns : goal.returns
-returns g c =
+pub returns-clause-run : goal.returns-clause-run
+returns-clause-run g c =
     let none = c.in_default.ensures.cases in
     let len = c.pop.new.self.ok.0 in
-    run_over _ told_of (seen_of c.args.self.now) (seen_of c.loop-input.self) (reverse c.args.left.now.items) c.loop-input.left.items c.pop.new.self.items c.loop-input.done _ _ _ c.loop-input.invariant c.in_default.ensures.items (omega (arith, none.1, len))
+    run_over _ told_of (seen_of c.args.self.now) (seen_of c.loop-input.self) (reverse c.args.left.now.items) c.loop-input.left.items c.pop.new.self.items c.loop-input.done _ _ _ c.loop-input.invariant.1 c.in_default.ensures.items (omega (arith, none.1, len))
+
+pub returns-then-ends_a_run-clause-stays : goal.returns-then-ends_a_run-clause-stays
+returns-then-ends_a_run-clause-stays g c well = Stays-trans _ _ _ c.loop-input.invariant.0 c.in-Ok.ensures.stays
+
+pub returns-in-Err-clause-stays : goal.returns-in-Err-clause-stays
+returns-in-Err-clause-stays g c well = subst (λ (x : _). Stays (g.S.OutputSink.refused c.args.self.now.sink) (g.S.OutputSink.refused x)) (sym (c.in-Err.ensures.untouched well)) c.loop-input.invariant.0
+
+pub returns-in-Err-clause-rises : goal.returns-in-Err-clause-rises
+returns-in-Err-clause-rises g c fault = Stays-rises _ _ _ c.loop-input.invariant.0 (c.in-Err.ensures.rises fault)
