@@ -4,9 +4,7 @@ use Rattle.std.specs.Io.KnownBytes.{Appends}
 use Rattle.std.proofs.lemmas.List.{map-append}
 use Rattle.minus_term.specs.declared.error.MinusError.{MinusError}
 use Rattle.minus_term.specs.declared.error.MinusError.TheVariants.{Cleanup}
-use Rattle.minus_term.specs.declared.error.CleanupError.{CleanupError}
 use Rattle.minus_term.specs.Refusals.{number_of}
-use Rattle.minus_term.specs.Terminal.{CleanupBreaksOff}
 use Rattle.minus.specs.declared.commands.Drawing.{Drawing}
 use Rattle.minus.specs.declared.commands.Drawing.TheVariants.{Nothing, Full, Ending}
 use Rattle.minus.specs.declared.input.ResizeAlone.{ResizeAlone}
@@ -14,13 +12,13 @@ use Rattle.minus.specs.declared.session.Answer.{Answer}
 use Rattle.minus.specs.declared.state.RunMode.TheVariants.{Dynamic}
 use Rattle.minus.specs.declared.status.Status.{Status}
 use Rattle.minus.specs.declared.status.Status.TheVariants as status
-use Rattle.minus.specs.Answers.{IsAnswer, exit_of}
+use Rattle.minus.specs.Answers.{IsAnswer}
 use Rattle.minus.specs.Classified.{resize_alone}
 use Rattle.minus.specs.Control.{Control}
 use Rattle.minus.specs.Reads.{Told}
 use Rattle.minus.specs.Runs.{Stops, IsLastAnswer, IsRun}
 use Rattle.minus.specs.Starts.{IsStarted}
-use Rattle.minus.specs.Steps.{Seen, Allows, Steps, none, more, Refuses, status_after, cleanup_after}
+use Rattle.minus.specs.Steps.{Seen, Allows, Steps, none, more, status_after, cleanup_after}
 use Rattle.minus.specs.Table.{Wanted}
 use Rattle.minus_show.specs.declared.arguments.Mode.{Mode}
 use Rattle.minus_show.specs.declared.arguments.Mode.TheVariants.{Page, Bytes}

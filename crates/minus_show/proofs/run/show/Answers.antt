@@ -1,13 +1,13 @@
 -- What the session came to is shown, or what it refused.
-use Rattle.std.proofs.Common.{◌≡◌, List, map, Some, refl, ap}
+use Rattle.std.proofs.Common.{◌≡◌, map, Some, refl, ap}
 use Rattle.std.specs.Io.KnownBytes.{Appends}
 use Rattle.std.proofs.lemmas.Result.{IfOk-weaker, IfErr-weaker}
 use Rattle.minus.specs.Core.{seen_of}
 use Rattle.minus.specs.Reads.{told_of, wanted_of}
 use Rattle.minus.specs.Steps.{cleanup_after}
 use Rattle.minus_show.specs.Runs.{exit_code, printed_after, IsShown}
-use Rattle.minus_show.specs.ShowFaults.{IsShowFault, IsCleanupFault, IsMemory}
-use Rattle.minus_show.proofs.RunLaws.{started, run_came, page_shown, bytes_shown, run_refused, finish_refused, memory_fault}
+use Rattle.minus_show.specs.ShowFaults.{IsShowFault, IsCleanupFault}
+use Rattle.minus_show.proofs.RunLaws.{started, run_came, page_shown, bytes_shown, run_refused, finish_refused}
 use Rattle.minus_show.proofs.run.show.Goals as goal
 
 pub returns-in-Some-clause-fault : goal.returns-in-Some-clause-fault
