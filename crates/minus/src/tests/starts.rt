@@ -4,9 +4,9 @@ use crate::{
     MinusError, Pager, RunMode, SetupError, StartError, WithTty, dynamic_paging, init_core,
 };
 use std::fmt::Write;
-use std::io;
 use std::io::Cursor;
 use std::test::Fail;
+use std::{fs, io};
 
 #[test]
 fn the_text_of_a_pager_is_on_the_first_page(rt: HostRuntime) -> Result<(), Fail> {
@@ -168,5 +168,26 @@ fn starts_on_a_box(rt: HostRuntime) -> Result<(), Fail> {
     finished?;
     assert_eq!(rt; sink.refusals, 0);
     assert!(rt; sink.inner.ends_with(CLEANUP.as_bytes()));
+    Ok(())
+}
+
+#[test]
+fn starts_on_sinks_of_the_system(rt: HostRuntime) -> Result<(), Fail> {
+    let alloc = rt.alloc();
+    let file = WithTty::new(fs::create(&rt, "/dev/null")?, true);
+    let mut session = session_on(alloc, file, 20, 5)?;
+    let _ = session.step(append(alloc, "one")?)?;
+    let (file, finished) = session.finish();
+    finished?;
+    assert_eq!(rt; file.refusals, 0);
+    // A stream is no terminal by itself, so that nothing is written to those of the tests.
+    let Err(refused) = session_on(alloc, rt.stdout(), 20, 5) else {
+        return Err(Fail::from("standard output was to be no terminal"));
+    };
+    assert_eq!(rt; refused.cause.number(), 12);
+    let Err(refused) = session_on(alloc, rt.stderr(), 20, 5) else {
+        return Err(Fail::from("the standard error was to be no terminal"));
+    };
+    assert_eq!(rt; refused.cause.number(), 12);
     Ok(())
 }
