@@ -1,5 +1,5 @@
 -- What is drawn in a step, and at the start.
-use Rattle.std.proofs.Common.{◌≡◌, ℕ, ◌-◌, ◌<◌, ◌≤◌, ◌==◌, ◌&&◌, Bool, true, false, List, [], ◌∷◌, ◌++◌, length, drop, replicate, Option, Some, None, refl, subst, ◌∙◌, arith, inl, inr}
+use Rattle.std.proofs.Common.{◌≡◌, ℕ, ◌-◌, ◌<◌, ◌≤◌, ◌==◌, ◌&&◌, Bool, true, false, List, [], ◌∷◌, ◌++◌, length, drop, replicate, Option, Some, None, refl, sym, subst, ◌∙◌, arith, append_assoc, inl, inr}
 use Rattle.std.specs.Io.KnownBytes.{Appends}
 use Rattle.std.proofs.lemmas.List.{length-append, length-map, length-replicate, length-take}
 use Rattle.std.proofs.lemmas.Bool.{cases_Bool, eqb-true}
@@ -13,7 +13,7 @@ use Rattle.minus_term.proofs.FullRedrawLaws.{full_redraw_lem, IsClean-full}
 use Rattle.minus.specs.Control.{Control, text_rows, has_size_of}
 use Rattle.minus.specs.Page.{shown, page}
 use Rattle.minus.specs.PromptRow.{prompt_row}
-use Rattle.minus.specs.Drawn.{screen_before, IsDrawing, Drawn, BrokenOff, IsWholeDrawing, Begins}
+use Rattle.minus.specs.Drawn.{screen_before, IsDrawing, Drawn, BrokenOff, IsWholeDrawing, Leaves, Begins}
 
 -- the list that draws a page whole
 abbrev pub whole_page : Control → List Op
@@ -66,3 +66,8 @@ whole_shows c some = record {
 -- the first drawing, after the setup
 pub first_drawn : (a b : Option (List ℕ)) (bytes drawing : List ℕ) (c : Control) → 1 ≤ c.rows → bytes ≡ drawing → drawing ≡ written_all (whole_page c) → Appends a b (setup_bytes ++ bytes) → Begins a b c
 first_drawn a b bytes drawing c some e g h = (whole_page c, subst (λ (x : List ℕ). Appends a b (setup_bytes ++ x)) (e ∙ g) h, whole_shows c some)
+
+-- what a start drew stands at the end of the sink's bytes
+pub start_leaves : (bytes : List ℕ) (new_bytes : Option (List ℕ)) (c : Control) → Begins (Some bytes) new_bytes c → Leaves new_bytes (c ∷ []) c
+start_leaves bytes None c h = absurd h.1
+start_leaves bytes (Some new) c h = (bytes ++ setup_bytes, h.0, h.1 ∙ sym (append_assoc bytes setup_bytes (written_all h.0)), h.2)

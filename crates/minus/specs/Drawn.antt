@@ -43,3 +43,7 @@ Leaves (Some bytes) passed control = (front : List ℕ) × (ops : List Op) × (b
 -- the sink grew by the bytes that set a terminal up, and the written form of such a list
 abbrev pub Begins : Option (List ℕ) → Option (List ℕ) → Control → Type 0
 Begins old_bytes new_bytes control = (ops : List Op) × Appends old_bytes new_bytes (setup_bytes ++ written_all ops) × IsWholeDrawing ops (control ∷ []) control
+
+-- a start leaves its page on a sink that told its bytes
+abbrev pub StartLeavesItsPage : Type 0
+StartLeavesItsPage = (bytes : List ℕ) (new_bytes : Option (List ℕ)) (control : Control) → Begins (Some bytes) new_bytes control → Leaves new_bytes (control ∷ []) control

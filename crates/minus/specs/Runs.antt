@@ -23,9 +23,9 @@ IsLastAnswer done now None = done ≡ 0
 IsLastAnswer done now (Some answer) = (drawing : Drawing) × (1 ≤ done) × IsAnswer drawing answer × (now ≡ status_after drawing)
 
 -- a run: the inputs that were done, in order, the one that was refused, if any, and the rest; the steps of those done, the
--- controls that they passed and what they reached, of which an exit is the last; that one is done or refused where there is
--- one; and, where the sink's bytes ended with a
--- list of operations that takes every screen to the page, they still do as long as the session runs
+-- controls that they passed and what they reached, of which an exit is the last; that an input is done or refused where
+-- there is one; and, where the sink's bytes ended with a list of operations that takes every screen to the page, they still
+-- do as long as the session runs
 pub record IsRun {A K : Type 0} (allows : Allows K) (told : A → Told) (old new : Seen K) (inputs : List A) (done : ℕ) (last : Option Answer) (stopped : Option MinusError) (rest : List A) (old_bytes new_bytes : Option (List ℕ)) : Type 0 where
   pub taken : List A
   pub refused : List A

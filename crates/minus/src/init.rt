@@ -10,7 +10,7 @@ ghost use Rattle.minus.specs.Page.{shown};
 ghost use Rattle.minus.specs.PromptRow.{prompt_row};
 ghost use Rattle.minus.specs.Reads.{IsFormed, control_of, wanted_of};
 ghost use Rattle.minus.specs.Starts.{taken_all, first_control, IsStarted, IsStartRefused, IsEarly, IsShowRefused, ShowBreaksOff, StartBreaksOff, IsStartFault};
-ghost use Rattle.minus.specs.Drawn.{Begins};
+ghost use Rattle.minus.specs.Drawn.{Begins, StartLeavesItsPage};
 ghost use Rattle.minus.specs.Core.{seen_of};
 ghost use Rattle.minus.specs.declared.status.Status.TheVariants as status;
 
@@ -206,3 +206,8 @@ pub fn dynamic_paging<S: OutputSink + Drop>(
         Err(refused) => Err(refused),
     }
 }
+
+/// A law: where a sink told its bytes before a start, they end with the drawing of the first page after it.
+pub fn a_start_leaves_its_page()
+    ensures { StartLeavesItsPage }
+{}

@@ -14,7 +14,7 @@ pub mod state;
 pub mod status;
 
 pub use commands::{Command, Input};
-pub use init::{StartError, dynamic_paging, init_core};
+pub use init::{StartError, a_start_leaves_its_page, dynamic_paging, init_core};
 pub use input::{InputClassifier, InputEvent};
 pub use minus_term::{CleanupError, Event, MinusError, OutputSink, SetupError, WithTty};
 pub use page::Page;
