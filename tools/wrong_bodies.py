@@ -134,12 +134,13 @@ def read(file):
 
 
 def next_round(waiting):
-    """Returns the bodies of a round: as many of those that wait as turn different functions, or one that stands alone."""
-    taken = []
-    for body in waiting:
-        if not any(it.stands_alone() for it in [body, *taken]) and all(body.is_beside(it) for it in taken):
+    """Returns the bodies of a round: the first that waits, alone if it stands alone, else with as many as turn other functions."""
+    first, *others = waiting
+    taken = [first]
+    for body in others:
+        if not any(it.stands_alone() for it in (first, body)) and all(body.is_beside(it) for it in taken):
             taken.append(body)
-    return taken or waiting[:1]
+    return taken
 
 
 def texts_of(bodies, folder):
