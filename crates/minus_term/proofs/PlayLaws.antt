@@ -142,7 +142,7 @@ next_row_below : (m n : ℕ) (r q : Option ℕ) → m ≡ n → Below r q → Be
 next_row_below m n None q e k = tt
 next_row_below m n (Some a) q e k = rw (k, e) (Below-refl (next_row n (Some a)))
 
-play_below : (op : Op) (s t : PlayedScreen) → IsBelow s t → IsBelow (play op s) (play op t)
+pub play_below : (op : Op) (s t : PlayedScreen) → IsBelow s t → IsBelow (play op s) (play op t)
 play_below ClearAll s t h = rw (length_below s.texts t.texts h.texts) (record { texts = AllBelow-refl (replicate (length t.texts) blank); row = h.row; column = h.column })
 play_below ClearRow s t h = record { texts = cleared_below s.texts t.texts s.row t.row h.texts h.row; row = h.row; column = h.column }
 play_below (GoTo x y) s t h = rw (length_below s.texts t.texts h.texts) (record { texts = h.texts; row = refl; column = refl })

@@ -1,6 +1,8 @@
 //! The operations that a screen is drawn by, and their bytes.
 ghost use Rattle.std.specs.Prelude.{◌≡◌, ◌++◌, OnOk, OnErr, IfOk, string_bytes};
 ghost use Rattle.minus_term.specs.FullRedraw.{FullRedrawShowsItsPage};
+ghost use Rattle.minus_term.specs.Append.{AppendShowsItsPage, AppendPutsFew};
+ghost use Rattle.minus_term.specs.Scroll.{ScrollShowsItsPage, ScrollPutsFew};
 ghost use Rattle.minus_term.specs.Operations.{op_of, GoTo};
 ghost use Rattle.minus_term.specs.PlayedScreen.{PlayIsMonotone};
 ghost use Rattle.minus_term.specs.Written.{written, scroll_bytes};
@@ -91,4 +93,24 @@ pub fn play_is_monotone()
 /// A law: the drawing of a whole page shows it, whatever the screen showed before.
 pub fn full_redraw_shows_its_page()
     ensures { FullRedrawShowsItsPage }
+{}
+
+/// A law: a scroll leads from the page at one mark to the page at another.
+pub fn scroll_shows_its_page()
+    ensures { ScrollShowsItsPage }
+{}
+
+/// A law: a scroll puts no more texts than rows were moved.
+pub fn scroll_puts_few()
+    ensures { ScrollPutsFew }
+{}
+
+/// A law: an append leads from the page of the old rows of text to the page of the new ones.
+pub fn append_shows_its_page()
+    ensures { AppendShowsItsPage }
+{}
+
+/// A law: an append puts no more texts than rows from the first that changed on.
+pub fn append_puts_few()
+    ensures { AppendPutsFew }
 {}
