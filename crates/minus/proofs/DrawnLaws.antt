@@ -1,19 +1,27 @@
 -- What is drawn in a step, and at the start.
-use Rattle.std.proofs.Common.{◌≡◌, ℕ, ◌-◌, ◌<◌, ◌≤◌, ◌==◌, ◌&&◌, Bool, true, false, List, [], ◌∷◌, ◌++◌, length, drop, replicate, Option, Some, None, refl, sym, subst, ◌∙◌, arith, append_assoc, inl, inr}
+use Rattle.std.proofs.Common.{◌≡◌, ℕ, ◌-◌, ◌<◌, ◌≤◌, ◌==◌, ◌&&◌, min, Bool, true, false, List, [], ◌∷◌, ◌++◌, length, drop, replicate, Option, Some, None, refl, sym, subst, ◌∙◌, arith, append_assoc, inl, inr}
 use Rattle.std.specs.Io.KnownBytes.{Appends}
 use Rattle.std.proofs.lemmas.List.{length-append, length-map, length-replicate, length-take}
 use Rattle.std.proofs.lemmas.Bool.{cases_Bool, eqb-true}
+use Rattle.std.proofs.KnownBytes.{Appends-nil}
 use Rattle.minus_term.specs.Operations.{Op}
 use Rattle.minus_term.specs.Counts.{AppendsFront}
-use Rattle.minus_term.specs.PlayedScreen.{unknown_screen}
+use Rattle.minus_term.specs.PlayedScreen.{unknown_screen, screen_of}
+use Rattle.minus_term.specs.Scroll.{scroll_ops}
 use Rattle.minus_term.specs.Terminal.{setup_bytes}
 use Rattle.minus_term.specs.Written.{written_all}
 use Rattle.minus_term.specs.FullRedraw.{full_ops, page_of}
+use Rattle.minus_term.proofs.WrittenLaws.{written_all-nil}
+use Rattle.minus_term.proofs.ScrollLaws.{scroll_shows_lem, scroll_puts_lem, IsClean-scroll}
 use Rattle.minus_term.proofs.FullRedrawLaws.{full_redraw_lem, IsClean-full}
-use Rattle.minus.specs.Control.{Control, text_rows, has_size_of}
+use Rattle.minus.specs.Control.{Control, IsClamped, top, text_rows, has_size_of}
 use Rattle.minus.specs.Page.{shown, page}
 use Rattle.minus.specs.PromptRow.{prompt_row}
-use Rattle.minus.specs.Drawn.{screen_before, IsDrawing, Drawn, BrokenOff, IsWholeDrawing, Leaves, Begins}
+use Rattle.minus.specs.declared.commands.Drawing.TheVariants.{Nothing, Full, Scroll}
+use Rattle.minus.specs.Works.{Work, work_of, is_drawn}
+use Rattle.minus.specs.Drawings.{ops_between}
+use Rattle.minus.specs.Table.{Wanted, sets_data, appends_data, moves_mark, resizes, exits, ignores, effect, changed_by}
+use Rattle.minus.specs.Drawn.{IsDrawing, Drawn, BrokenOff, IsWholeDrawing, Leaves, Begins}
 
 -- the list that draws a page whole
 abbrev pub whole_page : Control → List Op
@@ -26,34 +34,81 @@ length_page rows texts prompt l =
 pub shown_fits : (c : Control) → 1 ≤ c.rows → length (shown c) < c.rows
 shown_fits c h = omega (arith, length-take (c.rows - 1) (drop c.mark (text_rows c)))
 
-both_true : (x y : Bool) → (x && y) ≡ true → y ≡ true
+pub both_true : (x y : Bool) → (x && y) ≡ true → y ≡ true
 both_true true y e = e
 both_true false y e = absurd (cc)
 
 pub same_rows : (a b : Control) → has_size_of a b ≡ true → a.rows ≡ b.rows
 same_rows a b e = eqb-true a.rows b.rows (both_true (a.cols == b.cols) (a.rows == b.rows) e)
 
--- the screen that is drawn on has the rows of the new page
-pub length_before : (old new : Control) → 1 ≤ old.rows → length (screen_before old new).texts ≡ new.rows
-length_before old new some = elim (cases_Bool (has_size_of old new)) [
-  | inl e ↦ rw e (length-map (page old).texts Some ∙ length_page old.rows (shown old) (prompt_row old.cols) (shown_fits old some) ∙ same_rows old new e)
-  | inr e ↦ rw e (length-replicate {A = Option (List ℕ)} new.rows None)
-]
+-- a work that is drawn in full, and one that is not drawn
+abbrev pub full_work : Control → Work
+full_work c = record { drawing = Full; left = c }
 
--- a page drawn whole is drawn from any page
-pub whole_draws : (old new : Control) → 1 ≤ old.rows → 1 ≤ new.rows → IsDrawing (whole_page new) old new
-whole_draws old new some new_some = record {
-  shows = full_redraw_lem new.rows (shown new) (prompt_row new.cols) (screen_before old new) (length_before old new some) (shown_fits new new_some);
+abbrev pub quiet_work : Control → Work
+quiet_work c = record { drawing = Nothing; left = c }
+
+-- a page drawn whole is the drawing of a work that is drawn in full
+pub whole_draws : (old new : Control) → 1 ≤ new.rows → IsDrawing (whole_page new) old (full_work new ∷ []) new
+whole_draws old new some = record {
+  shows = full_redraw_lem new.rows (shown new) (prompt_row new.cols) (unknown_screen new.rows) (length-replicate {A = Option (List ℕ)} new.rows None) (shown_fits new some);
   clean = IsClean-full (page old ∷ page new ∷ []) new.rows (shown new) (prompt_row new.cols) (1, omega arith, refl);
+  few = tt;
+  none = λ e. absurd (let drawn : true ≡ false = e in cc);
 }
 
--- a step's drawing, whole or broken off
-pub step_drawn : (a b c : Option (List ℕ)) (bytes : List ℕ) (old new : Control) → 1 ≤ old.rows → 1 ≤ new.rows → bytes ≡ written_all (whole_page new) → b ≡ a → Appends b c bytes → Drawn a c old new
-step_drawn a b c bytes old new some new_some is s h = (whole_page new, rw (← is) (subst (λ (x : Option (List ℕ)). Appends x c bytes) s h), whole_draws old new some new_some)
+pub has_own_size : (c : Control) → has_size_of c c ≡ true
+has_own_size c = let a : (c.cols == c.cols) ≡ true = grind arith in let b : (c.rows == c.rows) ≡ true = grind arith in rw (a, b) refl
 
-pub step_broken : (a b c : Option (List ℕ)) (bytes : List ℕ) (old new : Control) → 1 ≤ old.rows → 1 ≤ new.rows → bytes ≡ written_all (whole_page new) → b ≡ a → AppendsFront b c bytes → BrokenOff a c old new
-step_broken a b c bytes old new some new_some is s h =
-    (whole_page new, subst (λ (x : List ℕ). AppendsFront a c x) is (subst (λ (x : Option (List ℕ)). AppendsFront x c bytes) s h), whole_draws old new some new_some)
+-- no operation is the drawing of a work that is not drawn
+pub quiet_draws : (c : Control) → IsDrawing [] c (quiet_work c ∷ []) c
+quiet_draws c = record {
+  shows = let same : has_size_of c c ≡ true = has_own_size c in rw same (record { texts = refl; cursor = tt });
+  clean = tt;
+  few = omega arith;
+  none = λ e. refl;
+}
+
+-- a work that moves the mark
+abbrev pub scroll_work : Control → Work
+scroll_work c = record { drawing = Scroll; left = c }
+
+-- the way from one mark to another is the drawing of a work that moves it
+pub scroll_draws : (c : Control) (mark : ℕ) → 1 ≤ c.rows → IsDrawing (scroll_ops c.rows c.mark mark (shown (record c { mark = mark })) (prompt_row c.cols)) c (scroll_work (record c { mark = mark }) ∷ []) (record c { mark = mark })
+scroll_draws c mark some =
+    let new : Control = record c { mark = mark } in
+    let same : has_size_of c c ≡ true = has_own_size c in
+    let size : length (screen_of (page c)).texts ≡ c.rows = length-map (page c).texts Some ∙ length_page c.rows (shown c) (prompt_row c.cols) (shown_fits c some) in
+    record {
+      shows = rw same (scroll_shows_lem c.rows c.mark mark (text_rows c) (prompt_row c.cols) (prompt_row c.cols) some);
+      clean = IsClean-scroll (page c ∷ page new ∷ []) c.rows c.mark mark (shown new) (prompt_row c.cols) (1, omega arith, refl);
+      few = rw same (scroll_puts_lem c.rows c.mark mark (text_rows c) (prompt_row c.cols) (screen_of (page c)) some size);
+      none = λ e. absurd (let drawn : true ≡ false = e in cc);
+    }
+
+-- each command is drawn as its work says
+pub command_draws : (c : Control) (w : Wanted) → IsClamped c → 1 ≤ c.rows → 1 ≤ (changed_by (effect c w)).rows → IsDrawing (ops_between (effect c w).drawing c (changed_by (effect c w))) c (work_of (effect c w) ∷ []) (changed_by (effect c w))
+command_draws c (sets_data text) h some new_some = whole_draws c (changed_by (effect c (sets_data text))) new_some
+command_draws c (appends_data text) h some new_some = whole_draws c (changed_by (effect c (appends_data text))) new_some
+command_draws c (moves_mark mark) h some new_some = elim (cases_Bool (min mark (top c) == c.mark)) [
+  | inl e ↦ (let still : min mark (top c) ≡ c.mark = eqb-true (min mark (top c)) c.mark e in rw (e, still) (quiet_draws c))
+  | inr e ↦ rw e (scroll_draws c (min mark (top c)) some)
+]
+command_draws c (resizes cols rows) h some new_some = whole_draws c (changed_by (effect c (resizes cols rows))) new_some
+command_draws c exits h some new_some = let still : min c.mark (top c) ≡ c.mark = omega (arith, h) in rw still (quiet_draws c)
+command_draws c ignores h some new_some = let still : min c.mark (top c) ≡ c.mark = omega (arith, h) in rw still (quiet_draws c)
+
+-- a step's drawing, whole or broken off
+pub step_drawn : (a b c : Option (List ℕ)) (bytes : List ℕ) (old : Control) (w : Wanted) → IsClamped old → 1 ≤ old.rows → 1 ≤ (changed_by (effect old w)).rows → bytes ≡ written_all (ops_between (effect old w).drawing old (changed_by (effect old w))) → b ≡ a → Appends b c bytes → Drawn a c old (work_of (effect old w) ∷ []) (changed_by (effect old w))
+step_drawn a b c bytes old w clamped some new_some is s h = (ops_between (effect old w).drawing old (changed_by (effect old w)), rw (← is) (subst (λ (x : Option (List ℕ)). Appends x c bytes) s h), command_draws old w clamped some new_some)
+
+pub step_broken : (a b c : Option (List ℕ)) (bytes : List ℕ) (old : Control) (w : Wanted) → IsClamped old → 1 ≤ old.rows → 1 ≤ (changed_by (effect old w)).rows → is_drawn (effect old w).drawing ≡ true → bytes ≡ written_all (ops_between (effect old w).drawing old (changed_by (effect old w))) → b ≡ a → AppendsFront b c bytes → BrokenOff a c old (work_of (effect old w) ∷ []) (changed_by (effect old w))
+step_broken a b c bytes old w clamped some new_some drawn is s h =
+    (ops_between (effect old w).drawing old (changed_by (effect old w)), subst (λ (x : List ℕ). AppendsFront a c x) is (subst (λ (x : Option (List ℕ)). AppendsFront x c bytes) s h), command_draws old w clamped some new_some, rw drawn refl)
+
+-- nothing drawn
+pub nothing_drawn : (a : Option (List ℕ)) (c : Control) → Drawn a a c (quiet_work c ∷ []) c
+nothing_drawn a c = ([], subst (λ (bytes : List ℕ). Appends a a bytes) (sym written_all-nil) (Appends-nil a), quiet_draws c)
 
 -- a page drawn whole is drawn from every screen of its size
 pub whole_shows : (c : Control) → 1 ≤ c.rows → IsWholeDrawing (whole_page c) (c ∷ []) c

@@ -1,5 +1,5 @@
 -- What the commands define: the text on show, the size and the mark.
-use Rattle.std.specs.Prelude.{ℕ, ◌-◌, ◌==◌, ◌&&◌, Bool, min, List, length}
+use Rattle.std.specs.Prelude.{ℕ, ◌-◌, ◌≤◌, ◌==◌, ◌&&◌, Bool, min, List, length}
 use Rattle.minus_text.specs.Document.{Document, rows_of}
 
 pub record Control : Type 0 where
@@ -23,6 +23,10 @@ top c = length (text_rows c) - (c.rows - 1)
 -- the mark is at most that
 abbrev pub clamp : Control → Control
 clamp c = record c { mark = min c.mark (top c) }
+
+-- a control whose mark the clamp leaves
+abbrev pub IsClamped : Control → Type 0
+IsClamped c = c.mark ≤ top c
 
 -- whether both have the size of the same terminal
 abbrev pub has_size_of : Control → Control → Bool

@@ -5,6 +5,8 @@ pub mod Table
 pub mod Classified
 pub mod PromptRow
 pub mod Page
+pub mod Works
+pub mod Drawings
 pub mod Drawn
 pub mod Reads
 pub mod NextTexts

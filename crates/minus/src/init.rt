@@ -6,6 +6,7 @@ ghost use Rattle.minus_term.specs.Terminal.{setup_bytes, cleanup_bytes, SetupBre
 ghost use Rattle.minus_term.specs.Written.{written_all};
 ghost use Rattle.minus_term.specs.FullRedraw.{full_ops};
 ghost use Rattle.minus.specs.Sizes.{IsSize};
+ghost use Rattle.minus.specs.Control.{IsClamped};
 ghost use Rattle.minus.specs.Page.{shown};
 ghost use Rattle.minus.specs.PromptRow.{prompt_row};
 ghost use Rattle.minus.specs.Reads.{IsFormed, control_of, wanted_of};
@@ -15,7 +16,7 @@ ghost use Rattle.minus.specs.Core.{seen_of};
 ghost use Rattle.minus.specs.declared.status.Status.TheVariants as status;
 
 use crate::change::NextText;
-use crate::commands::Command;
+use crate::commands::{Command, Drawing};
 use crate::input::ResizeAlone;
 use crate::pager::Pager;
 use crate::session::{Core, Session};
@@ -58,13 +59,14 @@ fn first_page(
     requires { IsSize cols rows }
     ensures control { IfOk result (λ s. control_of s ≡ first_control cols rows (map wanted_of pager.now.queue.items)) }
     ensures formed { IfOk result IsFormed }
+    ensures clamped { IfOk result (λ s. IsClamped (control_of s)) }
     ensures drawn { IfOk result (λ s. drawing.new.items ≡ drawing.old.items ++ written_all (full_ops (control_of s).rows (shown (control_of s)) (prompt_row (control_of s).cols))) }
     ensures memory { IfErr result (λ e. e ≡ MinusError.Memory) }
 {
     let mut state = PagerState::new(pager.alloc, cols, rows)?;
     take_waiting(pager.alloc, &mut state, &pager.queue)?;
     let change = state.change_to(NextText::Same);
-    state.draw_after(pager.alloc, drawing, &change)?;
+    state.draw_after(pager.alloc, drawing, Drawing::Full, &change)?;
     Ok(state)
 }
 
@@ -95,6 +97,7 @@ fn begin<S: OutputSink + Drop>(
     drawing: Vec<u8>,
 ) -> Result<Session<S>, StartError<S>>
     requires formed { IsFormed state }
+    requires clamped { IsClamped (control_of state) }
     requires drawn { drawing.items ≡ written_all (full_ops (control_of state).rows (shown (control_of state)) (prompt_row (control_of state).cols)) }
     ensures seen { IfOk result (λ s. seen_of s ≡ record { control = control_of state; classifier = record {}; mode = mode; status = status.Running }) }
     ensures drawn { IfOk result (λ s. Begins (S.contents sink) (S.contents s.sink) (control_of state)) }

@@ -5,8 +5,8 @@ ghost use Rattle.minus.specs.NextTexts.{next_document, IsNext};
 ghost use Rattle.minus.specs.Sizes.{IsSize};
 
 use crate::change::{Change, NextText};
-use crate::commands::Command;
-use crate::display::{draw_full, format_prompt};
+use crate::commands::{Command, Drawing};
+use crate::display::{draw_full, draw_scroll, format_prompt};
 use crate::input::InputEvent;
 use minus_term::MinusError;
 use minus_text::Screen;
@@ -99,9 +99,9 @@ impl PagerState {
     ghost use Rattle.std.specs.Prelude.{◌≡◌, ◌-◌, [], ◌++◌, map, take, drop, OnOk, OnErr, IfOk, IfErr};
     ghost use Rattle.minus_text.specs.Document.{rows_of};
     ghost use Rattle.minus.specs.Control.{document_of};
-    ghost use Rattle.minus.specs.Table.{effect, moved, changed_by, resizes, IsPossible};
+    ghost use Rattle.minus.specs.Table.{effect, move_drawing, moved, changed_by, resizes, IsPossible};
     ghost use Rattle.minus_term.specs.Written.{written_all};
-    ghost use Rattle.minus_term.specs.FullRedraw.{full_ops};
+    ghost use Rattle.minus.specs.Drawings.{ops_of};
     ghost use Rattle.minus.specs.PromptRow.{prompt_row};
     ghost use Rattle.minus.specs.Reads.{control_of, wanted_of, IsFormed};
     ghost use Rattle.minus.specs.NextTexts.{next_document, IsNext};
@@ -143,6 +143,44 @@ impl PagerState {
             Command::UserInput(_) => {}
         }
         Ok(())
+    }
+
+    // How what comes of a command is drawn.
+    pub(crate) fn drawing_of(&self, command: &Command) -> Drawing
+        requires { IsFormed self.now }
+        ensures { result ≡ (effect (control_of self.now) (wanted_of command.now)).drawing }
+    {
+        match command {
+            Command::UserInput(InputEvent::Exit | InputEvent::Ignore) => Drawing::Nothing,
+            Command::UserInput(InputEvent::UpdateUpperMark(mark)) => self.move_drawing(*mark),
+            Command::SetData(_) | Command::AppendData(_) | Command::UserInput(_) => Drawing::Full,
+        }
+    }
+
+    // How a move of the mark is drawn.
+    fn move_drawing(&self, mark: usize) -> Drawing
+        requires { IsFormed self.now }
+        ensures { result ≡ move_drawing (control_of self.now) mark }
+    {
+        let top = self
+            .screen
+            .formatted_lines_count()
+            .saturating_sub(self.rows - 1);
+        if mark.min(top) == self.upper_mark {
+            Drawing::Nothing
+        } else {
+            Drawing::Scroll
+        }
+    }
+
+    // How the program is to go on after a command that is an exit, and the code that it ends with.
+    pub(crate) fn exit_of(&self, command: &Command) -> Option<(ExitStrategy, u8)>
+        ensures { result ≡ (effect (control_of self.now) (wanted_of command.now)).exits_by }
+    {
+        match command {
+            Command::UserInput(InputEvent::Exit) => Some((ExitStrategy::ProcessQuit, 0)),
+            _ => None,
+        }
     }
 
     // The state as it is, but for the text.
@@ -245,20 +283,35 @@ impl PagerState {
         Ok(shown)
     }
 
-    // Adds the bytes that draw the page that a change leads to.
+    // Adds the bytes that draw the page that a change leads to, in this way.
     pub(crate) fn draw_after<'a>(
         &'a self,
         alloc: Global,
         out: &mut Vec<u8>,
+        drawing: Drawing,
         change: &'a Change,
     ) -> Result<(), AllocError>
         requires { IsNext self.now.screen change.now.text }
-        ensures { OnOk result (out.new.items ≡ out.old.items ++ written_all (full_ops change.now.rows (take (change.now.rows - 1) (drop change.now.mark (rows_of (next_document self.now.screen change.now.text)))) (prompt_row change.now.cols))) }
+        ensures { OnOk result (out.new.items ≡ out.old.items ++ written_all (ops_of drawing change.now.rows self.now.upper_mark change.now.mark (take (change.now.rows - 1) (drop change.now.mark (rows_of (next_document self.now.screen change.now.text)))) (prompt_row change.now.cols))) }
     {
         let shown = self.shown_after(alloc, change)?;
         let prompt = format_prompt(alloc, change.cols)?;
-        draw_full(alloc, out, change.rows as u16, &shown, &prompt)?;
-        Ok(())
+        let rows = change.rows as u16;
+        match drawing {
+            Drawing::Nothing => Ok(()),
+            Drawing::Full => draw_full(alloc, out, rows, &shown, &prompt),
+            Drawing::Scroll => {
+                draw_scroll(
+                    alloc,
+                    out,
+                    rows,
+                    self.upper_mark,
+                    change.mark,
+                    &shown,
+                    &prompt,
+                )
+            }
+        }
     }
 
     // Puts what was formed in its place. An `Err` changes nothing.
