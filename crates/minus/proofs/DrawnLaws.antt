@@ -1,31 +1,26 @@
 -- What is drawn in a step, and at the start.
-use Rattle.std.proofs.Common.{◌≡◌, ℕ, ◌-◌, ◌<◌, ◌≤◌, ◌==◌, ◌&&◌, min, Bool, true, false, List, [], ◌∷◌, ◌++◌, length, drop, replicate, Option, Some, None, refl, sym, subst, ◌∙◌, arith, append_assoc, inl, inr}
+use Rattle.std.proofs.Common.{◌≡◌, ℕ, ◌-◌, ◌<◌, ◌≤◌, ◌==◌, min, true, false, List, [], ◌∷◌, ◌++◌, length, drop, replicate, Option, Some, None, refl, sym, subst, ◌∙◌, arith, append_assoc, inl, inr}
 use Rattle.std.specs.Io.KnownBytes.{Appends}
 use Rattle.std.proofs.lemmas.List.{length-append, length-map, length-replicate, length-take}
 use Rattle.std.proofs.lemmas.Bool.{cases_Bool, eqb-true}
 use Rattle.std.proofs.KnownBytes.{Appends-nil}
-use Rattle.minus_term.specs.Operations.{Op}
 use Rattle.minus_term.specs.Counts.{AppendsFront}
 use Rattle.minus_term.specs.PlayedScreen.{unknown_screen, screen_of}
 use Rattle.minus_term.specs.Scroll.{scroll_ops}
 use Rattle.minus_term.specs.Terminal.{setup_bytes}
 use Rattle.minus_term.specs.Written.{written_all}
-use Rattle.minus_term.specs.FullRedraw.{full_ops, page_of}
+use Rattle.minus_term.specs.FullRedraw.{page_of}
 use Rattle.minus_term.proofs.WrittenLaws.{written_all-nil}
 use Rattle.minus_term.proofs.ScrollLaws.{scroll_shows_lem, scroll_puts_lem, IsClean-scroll}
 use Rattle.minus_term.proofs.FullRedrawLaws.{full_redraw_lem, IsClean-full}
-use Rattle.minus.specs.Control.{Control, IsClamped, top, text_rows, has_size_of}
+use Rattle.minus.specs.Control.{Control, IsClamped, top, text_rows}
 use Rattle.minus.specs.Page.{shown, page}
 use Rattle.minus.specs.PromptRow.{prompt_row}
 use Rattle.minus.specs.declared.commands.Drawing.TheVariants.{Nothing, Full, Scroll}
 use Rattle.minus.specs.Works.{Work, work_of, is_drawn}
-use Rattle.minus.specs.Drawings.{ops_between}
+use Rattle.minus.specs.Drawings.{whole_page, ops_between}
 use Rattle.minus.specs.Table.{Wanted, sets_data, appends_data, moves_mark, resizes, exits, ignores, effect, changed_by}
 use Rattle.minus.specs.Drawn.{IsDrawing, Drawn, BrokenOff, IsWholeDrawing, Leaves, Begins}
-
--- the list that draws a page whole
-abbrev pub whole_page : Control → List Op
-whole_page c = full_ops c.rows (shown c) (prompt_row c.cols)
 
 pub length_page : (rows : ℕ) (texts : List (List ℕ)) (prompt : List ℕ) → length texts < rows → length (page_of rows texts prompt).texts ≡ rows
 length_page rows texts prompt l =
@@ -33,13 +28,6 @@ length_page rows texts prompt l =
 
 pub shown_fits : (c : Control) → 1 ≤ c.rows → length (shown c) < c.rows
 shown_fits c h = omega (arith, length-take (c.rows - 1) (drop c.mark (text_rows c)))
-
-pub both_true : (x y : Bool) → (x && y) ≡ true → y ≡ true
-both_true true y e = e
-both_true false y e = absurd (cc)
-
-pub same_rows : (a b : Control) → has_size_of a b ≡ true → a.rows ≡ b.rows
-same_rows a b e = eqb-true a.rows b.rows (both_true (a.cols == b.cols) (a.rows == b.rows) e)
 
 -- a work that is drawn in full, and one that is not drawn
 abbrev pub full_work : Control → Work
@@ -51,19 +39,16 @@ quiet_work c = record { drawing = Nothing; left = c }
 -- a page drawn whole is the drawing of a work that is drawn in full
 pub whole_draws : (old new : Control) → 1 ≤ new.rows → IsDrawing (whole_page new) old (full_work new ∷ []) new
 whole_draws old new some = record {
-  shows = full_redraw_lem new.rows (shown new) (prompt_row new.cols) (unknown_screen new.rows) (length-replicate {A = Option (List ℕ)} new.rows None) (shown_fits new some);
-  clean = IsClean-full (page old ∷ page new ∷ []) new.rows (shown new) (prompt_row new.cols) (1, omega arith, refl);
+  shows = full_redraw_lem new.rows (shown new) (prompt_row new) (unknown_screen new.rows) (length-replicate {A = Option (List ℕ)} new.rows None) (shown_fits new some);
+  clean = IsClean-full (page old ∷ page new ∷ []) new.rows (shown new) (prompt_row new) (1, omega arith, refl);
   few = tt;
   none = λ e. absurd (let drawn : true ≡ false = e in cc);
 }
 
-pub has_own_size : (c : Control) → has_size_of c c ≡ true
-has_own_size c = let a : (c.cols == c.cols) ≡ true = grind arith in let b : (c.rows == c.rows) ≡ true = grind arith in rw (a, b) refl
-
 -- no operation is the drawing of a work that is not drawn
 pub quiet_draws : (c : Control) → IsDrawing [] c (quiet_work c ∷ []) c
 quiet_draws c = record {
-  shows = let same : has_size_of c c ≡ true = has_own_size c in rw same (record { texts = refl; cursor = tt });
+  shows = record { texts = refl; cursor = tt };
   clean = tt;
   few = omega arith;
   none = λ e. refl;
@@ -74,15 +59,14 @@ abbrev pub scroll_work : Control → Work
 scroll_work c = record { drawing = Scroll; left = c }
 
 -- the way from one mark to another is the drawing of a work that moves it
-pub scroll_draws : (c : Control) (mark : ℕ) → 1 ≤ c.rows → IsDrawing (scroll_ops c.rows c.mark mark (shown (record c { mark = mark })) (prompt_row c.cols)) c (scroll_work (record c { mark = mark }) ∷ []) (record c { mark = mark })
+pub scroll_draws : (c : Control) (mark : ℕ) → 1 ≤ c.rows → IsDrawing (scroll_ops c.rows c.mark mark (shown (record c { mark = mark })) (prompt_row (record c { mark = mark }))) c (scroll_work (record c { mark = mark }) ∷ []) (record c { mark = mark })
 scroll_draws c mark some =
     let new : Control = record c { mark = mark } in
-    let same : has_size_of c c ≡ true = has_own_size c in
-    let size : length (screen_of (page c)).texts ≡ c.rows = length-map (page c).texts Some ∙ length_page c.rows (shown c) (prompt_row c.cols) (shown_fits c some) in
+    let size : length (screen_of (page c)).texts ≡ c.rows = length-map (page c).texts Some ∙ length_page c.rows (shown c) (prompt_row c) (shown_fits c some) in
     record {
-      shows = rw same (scroll_shows_lem c.rows c.mark mark (text_rows c) (prompt_row c.cols) (prompt_row c.cols) some);
-      clean = IsClean-scroll (page c ∷ page new ∷ []) c.rows c.mark mark (shown new) (prompt_row c.cols) (1, omega arith, refl);
-      few = rw same (scroll_puts_lem c.rows c.mark mark (text_rows c) (prompt_row c.cols) (screen_of (page c)) some size);
+      shows = scroll_shows_lem c.rows c.mark mark (text_rows c) (prompt_row c) (prompt_row new) some;
+      clean = IsClean-scroll (page c ∷ page new ∷ []) c.rows c.mark mark (shown new) (prompt_row new) (1, omega arith, refl);
+      few = scroll_puts_lem c.rows c.mark mark (text_rows c) (prompt_row new) (screen_of (page c)) some size;
       none = λ e. absurd (let drawn : true ≡ false = e in cc);
     }
 
@@ -114,8 +98,8 @@ nothing_drawn a c = ([], subst (λ (bytes : List ℕ). Appends a a bytes) (sym w
 pub whole_shows : (c : Control) → 1 ≤ c.rows → IsWholeDrawing (whole_page c) (c ∷ []) c
 whole_shows c some = record {
   here = (0, omega arith, refl);
-  shows = full_redraw_lem c.rows (shown c) (prompt_row c.cols) (unknown_screen c.rows) (length-replicate {A = Option (List ℕ)} c.rows None) (shown_fits c some);
-  clean = IsClean-full (page c ∷ []) c.rows (shown c) (prompt_row c.cols) (0, omega arith, refl);
+  shows = full_redraw_lem c.rows (shown c) (prompt_row c) (unknown_screen c.rows) (length-replicate {A = Option (List ℕ)} c.rows None) (shown_fits c some);
+  clean = IsClean-full (page c ∷ []) c.rows (shown c) (prompt_row c) (0, omega arith, refl);
 }
 
 -- the first drawing, after the setup

@@ -1,24 +1,24 @@
 -- The drawings of some works after those of others are the drawings of them all.
-use Rattle.std.proofs.Common.{◌≡◌, ℕ, ◌+◌, ◌≤◌, ◌==◌, ◌&&◌, ◌||◌, not, Bool, true, false, List, [], ◌∷◌, ◌++◌, length, map, replicate, Option, None, Some, refl, sym, ap, subst, ◌∙◌, arith, inl, inr}
+use Rattle.std.proofs.Common.{◌≡◌, ℕ, ◌+◌, ◌≤◌, ◌||◌, Bool, true, false, List, [], ◌∷◌, ◌++◌, length, map, Option, None, Some, refl, sym, subst, ◌∙◌, arith, inl, inr}
 use Rattle.std.specs.List.{Contains}
-use Rattle.std.proofs.lemmas.Bool.{cases_Bool, eqb-true}
-use Rattle.std.proofs.lemmas.List.{append-nil, map-append, length-map, length-replicate}
+use Rattle.std.proofs.lemmas.Bool.{cases_Bool}
+use Rattle.std.proofs.lemmas.List.{append-nil, map-append, length-replicate}
 use Rattle.std.proofs.lemmas.List.Folds.{list_any-append}
 use Rattle.minus_term.specs.Operations.{Op}
-use Rattle.minus_term.specs.PlayedScreen.{ShownPage, PlayedScreen, Shows, play_all, screen_of, unknown_screen}
+use Rattle.minus_term.specs.PlayedScreen.{PlayedScreen, Shows, play_all, screen_of, unknown_screen}
 use Rattle.minus_term.specs.Puts.{puts}
 use Rattle.minus_term.proofs.JoinLaws.{puts_join, puts_below}
 use Rattle.minus_term.proofs.PlayLaws.{play_all-append, draws_from, shows_below, screen_of_below, unknown_below, length-play_all, play_is_monotone_lem}
-use Rattle.minus.specs.Control.{Control, has_size_of}
+use Rattle.minus.specs.Control.{Control}
 use Rattle.minus.specs.Page.{page}
-use Rattle.minus.specs.Works.{Work, is_full, is_drawn, some_full, some_drawn, passed_in}
-use Rattle.minus.specs.Table.{Wanted, sets_data, appends_data, moves_mark, resizes, exits, ignores, effect, changed_by}
+use Rattle.minus.specs.Works.{Work, WorkedOff, all, one, up_to, is_full, is_drawn, some_full, some_drawn, passed_in}
+use Rattle.minus.specs.Table.{Wanted, Exit}
 use Rattle.minus.specs.declared.commands.Drawing.TheVariants.{Nothing, Full, Scroll}
-use Rattle.minus.proofs.DrawnLaws.{has_own_size, same_rows}
-use Rattle.minus.proofs.LeavesLaws.{pages_before, pages_after}
+use Rattle.minus.proofs.TableLaws.{unresized}
+use Rattle.minus.proofs.LeavesLaws.{last_passed, pages_before, pages_after}
 use Rattle.minus_term.specs.Written.{IsClean}
 use Rattle.minus_term.proofs.WrittenLaws.{IsClean-append, IsClean-more}
-use Rattle.minus.specs.Drawn.{screen_before, most_of, most_puts, then_most, IsWithin, IsDrawing}
+use Rattle.minus.specs.Drawn.{screen_before, most_of, most_puts, then_most, IsWithin, IsDrawing, DrawingsJoin}
 use Rattle.minus.specs.declared.commands.Drawing.{Drawing}
 
 -- the control that works reach
@@ -61,28 +61,6 @@ full_join c xs ys s e h =
     let below = play_is_monotone_lem ys (unknown_screen c.rows) after (unknown_below c.rows after (length-play_all xs s ∙ e)) in
     subst (λ (t : PlayedScreen). Shows t (page c)) (sym (play_all-append xs ys s)) (shows_below (page c) (play_all ys (unknown_screen c.rows)) (play_all ys after) below h)
 
--- a work that changes the size is drawn in full
-pub resized_in_full : (c : Control) (w : Wanted) → has_size_of c (changed_by (effect c w)) ≡ false → (effect c w).drawing ≡ Full
-resized_in_full c (sets_data text) e = refl
-resized_in_full c (appends_data text) e = refl
-resized_in_full c (moves_mark mark) e = absurd (let same : has_size_of c c ≡ true = has_own_size c in let both : true ≡ false = sym same ∙ e in cc)
-resized_in_full c (resizes cols rows) e = refl
-resized_in_full c exits e = absurd (let same : has_size_of c c ≡ true = has_own_size c in let both : true ≡ false = sym same ∙ e in cc)
-resized_in_full c ignores e = absurd (let same : has_size_of c c ≡ true = has_own_size c in let both : true ≡ false = sym same ∙ e in cc)
-
-size_through : (a b c : Control) → has_size_of a b ≡ true → has_size_of b c ≡ true → has_size_of a c ≡ true
-size_through a b c h k =
-    let r : a.rows ≡ c.rows = same_rows a b h ∙ same_rows b c k in
-    let l : a.cols ≡ c.cols = same_cols a b h ∙ same_cols b c k in
-    rw (r, l) (has_own_size c)
-  where
-    left_true : (x y : Bool) → (x && y) ≡ true → x ≡ true
-    left_true true y e = refl
-    left_true false y e = e
-
-    same_cols : (x y : Control) → has_size_of x y ≡ true → x.cols ≡ y.cols
-    same_cols x y e = eqb-true x.cols y.cols (left_true (x.cols == y.cols) (x.rows == y.rows) e)
-
 -- without a bound where one is drawn in full
 no_bound : (c : Control) (works : List Work) → some_full works ≡ true → most_puts c works ≡ None
 no_bound c [] e = absurd (cc)
@@ -100,14 +78,14 @@ no_bound c (w ∷ v ∷ works) e = first (no_bound w.left (v ∷ works)) w.drawi
     first more Scroll f = let none : most_puts w.left (v ∷ works) ≡ None = more f in rw none refl
 
 -- the drawing of works, after which the drawing of others, is the drawing of them all, without one in full among them
-pub partial_drawings : (a b c : Control) (w v : Work) (ws vs : List Work) (xs ys : List Op) → some_full (w ∷ ws) ≡ false → some_full (v ∷ vs) ≡ false → has_size_of a b ≡ true → has_size_of b c ≡ true → b ≡ reached a (w ∷ ws)
+pub partial_drawings : (a b c : Control) (w v : Work) (ws vs : List Work) (xs ys : List Op) → some_full (w ∷ ws) ≡ false → some_full (v ∷ vs) ≡ false → b ≡ reached a (w ∷ ws)
     → IsDrawing xs a (w ∷ ws) b → IsDrawing ys b (v ∷ vs) c
     → Shows (play_all (xs ++ ys) (screen_before a ((w ∷ ws) ++ v ∷ vs) c)) (page c) × IsWithin (puts (xs ++ ys) (screen_before a ((w ∷ ws) ++ v ∷ vs) c)) (most_puts a ((w ∷ ws) ++ v ∷ vs))
-partial_drawings a b c w v ws vs xs ys fw fv sab sbc is h k =
+partial_drawings a b c w v ws vs xs ys fw fv is h k =
     let full : some_full ((w ∷ ws) ++ v ∷ vs) ≡ false = (let e : some_full ((w ∷ ws) ++ v ∷ vs) ≡ (some_full (w ∷ ws) || some_full (v ∷ vs)) = list_any-append (λ (x : Work). is_full x.drawing) (w ∷ ws) (v ∷ vs) in e ∙ both_false (some_full (w ∷ ws)) (some_full (v ∷ vs)) fw fv) in
-    let before : screen_before a ((w ∷ ws) ++ v ∷ vs) c ≡ screen_of (page a) = partial_screen a ((w ∷ ws) ++ v ∷ vs) c full (size_through a b c sab sbc) in
-    let first : screen_before a (w ∷ ws) b ≡ screen_of (page a) = partial_screen a (w ∷ ws) b fw sab in
-    let second : screen_before b (v ∷ vs) c ≡ screen_of (page b) = partial_screen b (v ∷ vs) c fv sbc in
+    let before : screen_before a ((w ∷ ws) ++ v ∷ vs) c ≡ screen_of (page a) = partial_screen a ((w ∷ ws) ++ v ∷ vs) c full in
+    let first : screen_before a (w ∷ ws) b ≡ screen_of (page a) = partial_screen a (w ∷ ws) b fw in
+    let second : screen_before b (v ∷ vs) c ≡ screen_of (page b) = partial_screen b (v ∷ vs) c fv in
     let h_shows : Shows (play_all xs (screen_of (page a))) (page b) = subst (λ (s : PlayedScreen). Shows (play_all xs s) (page b)) first h.shows in
     let k_shows : Shows (play_all ys (screen_of (page b))) (page c) = subst (λ (s : PlayedScreen). Shows (play_all ys s) (page c)) second k.shows in
     let h_few : IsWithin (puts xs (screen_of (page a))) (most_puts a (w ∷ ws)) = subst (λ (s : PlayedScreen). IsWithin (puts xs s) (most_puts a (w ∷ ws))) first h.few in
@@ -122,8 +100,8 @@ partial_drawings a b c w v ws vs xs ys fw fv sab sbc is h k =
     both_false : (x y : Bool) → x ≡ false → y ≡ false → (x || y) ≡ false
     both_false x y e f = rw (e, f) refl
 
-    partial_screen : (x : Control) (works : List Work) (y : Control) → some_full works ≡ false → has_size_of x y ≡ true → screen_before x works y ≡ screen_of (page x)
-    partial_screen x works y e f = rw (e, f) refl
+    partial_screen : (x : Control) (works : List Work) (y : Control) → some_full works ≡ false → screen_before x works y ≡ screen_of (page x)
+    partial_screen x works y e = rw e refl
 
     within_less : (m n : ℕ) (o : Option ℕ) → m ≤ n → IsWithin n o → IsWithin m o
     within_less m n None l i = tt
@@ -143,39 +121,36 @@ full_drawings a b c ws vs xs ys e k =
     last_true false y f = f
 
 -- a drawing in part after one in full
-pub full_then_partial : (a b c : Control) (ws vs : List Work) (xs ys : List Op) → some_full ws ≡ true → some_full vs ≡ false → has_size_of b c ≡ true → IsDrawing xs a ws b → IsDrawing ys b vs c
+pub full_then_partial : (a b c : Control) (ws vs : List Work) (xs ys : List Op) → some_full ws ≡ true → some_full vs ≡ false → b.rows ≡ c.rows → IsDrawing xs a ws b → IsDrawing ys b vs c
     → Shows (play_all (xs ++ ys) (screen_before a (ws ++ vs) c)) (page c) × (most_puts a (ws ++ vs) ≡ None)
-full_then_partial a b c ws vs xs ys fw fv sbc h k =
+full_then_partial a b c ws vs xs ys fw fv rows h k =
     let full : some_full (ws ++ vs) ≡ true = (let f : some_full (ws ++ vs) ≡ (some_full ws || some_full vs) = list_any-append (λ (x : Work). is_full x.drawing) ws vs in f ∙ first_true (some_full ws) (some_full vs) fw) in
     let h_shows : Shows (play_all xs (unknown_screen b.rows)) (page b) = (let i = h.shows in rw fw at i) in
-    let k_shows : Shows (play_all ys (screen_of (page b))) (page c) = (let i = k.shows in rw (fv, sbc) at i) in
+    let k_shows : Shows (play_all ys (screen_of (page b))) (page c) = (let i = k.shows in rw fv at i) in
     let joined : Shows (play_all (xs ++ ys) (unknown_screen b.rows)) (page c) = subst (λ (s : PlayedScreen). Shows s (page c)) (sym (play_all-append xs ys (unknown_screen b.rows))) (draws_from ys (page b) (page c) (play_all xs (unknown_screen b.rows)) k_shows h_shows) in
-    let rows : b.rows ≡ c.rows = same_rows b c sbc in
     (rw full (subst (λ (n : ℕ). Shows (play_all (xs ++ ys) (unknown_screen n)) (page c)) rows joined), no_bound a (ws ++ vs) full)
   where
     first_true : (x y : Bool) → x ≡ true → (x || y) ≡ true
     first_true true y f = refl
     first_true false y f = absurd (cc)
 
--- ---- the drawings of works after others are the drawings of them all
-
 neither : (x y : Bool) → (x || y) ≡ false → (x ≡ false) × (y ≡ false)
 neither false y e = (refl, e)
 neither true y e = absurd (cc)
 
-pub drawings_join : (a b c : Control) (w v : Work) (ws vs : List Work) (xs ys : List Op) → (some_full (w ∷ ws) ≡ false → has_size_of a b ≡ true) → (some_full (v ∷ vs) ≡ false → has_size_of b c ≡ true) → b ≡ reached a (w ∷ ws) → Contains (a ∷ passed_in (w ∷ ws)) b
-    → IsDrawing xs a (w ∷ ws) b → IsDrawing ys b (v ∷ vs) c → IsDrawing (xs ++ ys) a ((w ∷ ws) ++ v ∷ vs) c
-drawings_join a b c w v ws vs xs ys sab sbc is there h k =
+-- the drawings of works after others are the drawings of them all
+some_join : (a b c : Control) (w v : Work) (ws vs : List Work) (xs ys : List Op) → (some_full (v ∷ vs) ≡ false → b.rows ≡ c.rows) → b ≡ reached a (w ∷ ws) → Contains (a ∷ passed_in (w ∷ ws)) b → IsDrawing xs a (w ∷ ws) b → IsDrawing ys b (v ∷ vs) c → IsDrawing (xs ++ ys) a ((w ∷ ws) ++ v ∷ vs) c
+some_join a b c w v ws vs xs ys rows is there h k =
     record {
       shows = by_full.0;
       clean = joined_clean;
       few = by_full.1;
       none = λ e. (
-          let both = neither (some_drawn (w ∷ ws)) (some_drawn (v ∷ vs)) (sym (list_any-append (λ (x : Work). is_drawn x.drawing) (w ∷ ws) (v ∷ vs)) ∙ e) in
-          let x : xs ≡ [] = h.none both.0 in
-          let y : ys ≡ [] = k.none both.1 in
-          rw (x, y) refl
-          );
+        let both = neither (some_drawn (w ∷ ws)) (some_drawn (v ∷ vs)) (sym (list_any-append (λ (x : Work). is_drawn x.drawing) (w ∷ ws) (v ∷ vs)) ∙ e) in
+        let x : xs ≡ [] = h.none both.0 in
+        let y : ys ≡ [] = k.none both.1 in
+        rw (x, y) refl
+      );
     }
   where
     no_limit : (n : ℕ) (o : Option ℕ) → o ≡ None → IsWithin n o
@@ -185,8 +160,8 @@ drawings_join a b c w v ws vs xs ys sab sbc is there h k =
     by_full = elim (cases_Bool (some_full (v ∷ vs))) [
       | inl e ↦ (let p = full_drawings a b c (w ∷ ws) (v ∷ vs) xs ys e k in (p.0, no_limit (puts (xs ++ ys) (screen_before a ((w ∷ ws) ++ v ∷ vs) c)) (most_puts a ((w ∷ ws) ++ v ∷ vs)) p.1))
       | inr e ↦ elim (cases_Bool (some_full (w ∷ ws))) [
-        | inl f ↦ (let p = full_then_partial a b c (w ∷ ws) (v ∷ vs) xs ys f e (sbc e) h k in (p.0, no_limit (puts (xs ++ ys) (screen_before a ((w ∷ ws) ++ v ∷ vs) c)) (most_puts a ((w ∷ ws) ++ v ∷ vs)) p.1))
-        | inr f ↦ partial_drawings a b c w v ws vs xs ys f e (sab f) (sbc e) is h k
+        | inl f ↦ (let p = full_then_partial a b c (w ∷ ws) (v ∷ vs) xs ys f e (rows e) h k in (p.0, no_limit (puts (xs ++ ys) (screen_before a ((w ∷ ws) ++ v ∷ vs) c)) (most_puts a ((w ∷ ws) ++ v ∷ vs)) p.1))
+        | inr f ↦ partial_drawings a b c w v ws vs xs ys f e is h k
       ]
     ]
 
@@ -197,3 +172,23 @@ drawings_join a b c w v ws vs xs ys sab sbc is there h k =
         subst (λ (ps : List Control). IsClean (map page (a ∷ ps)) (xs ++ ys)) (sym pages) (IsClean-append (map page (before ++ passed_in (v ∷ vs))) xs ys
         (IsClean-more (map page before) (map page (before ++ passed_in (v ∷ vs))) (λ p i. pages_before before (passed_in (v ∷ vs)) p i) xs h.clean)
         (IsClean-more (map page (b ∷ passed_in (v ∷ vs))) (map page (before ++ passed_in (v ∷ vs))) (λ p i. pages_after before (passed_in (v ∷ vs)) b p there i) ys k.clean))
+
+-- the control that works reach is the one that they leave
+is_reached : {c d : Control} {ws : List Wanted} {works : List Work} {exit : Option Exit} → WorkedOff c ws works exit d → d ≡ reached c works
+is_reached all = refl
+is_reached (one possible on more) = is_reached more
+is_reached (up_to possible is) = refl
+
+nothing_done : {c d : Control} {ws : List Wanted} {exit : Option Exit} → WorkedOff c ws [] exit d → d ≡ c
+nothing_done all = refl
+
+pub drawings_join_lem : DrawingsJoin
+drawings_join_lem a b c ws vs [] more exit xs ys h k p q =
+    let same : b ≡ a = nothing_done h in
+    let none : xs ≡ [] = p.none refl in
+    rw none (subst (λ (x : Control). IsDrawing ys x more c) same q)
+drawings_join_lem a b c ws vs (w ∷ works) [] exit xs ys h k p q =
+    let same : c ≡ b = nothing_done k in
+    let none : ys ≡ [] = q.none refl in
+    rw (none, append-nil xs, append-nil (w ∷ works)) (subst (λ (x : Control). IsDrawing xs a (w ∷ works) x) (sym same) p)
+drawings_join_lem a b c ws vs (w ∷ works) (v ∷ more) exit xs ys h k p q = some_join a b c w v works more xs ys (unresized k) (is_reached h) (last_passed h) p q

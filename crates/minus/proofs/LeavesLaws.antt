@@ -1,22 +1,22 @@
 -- What a step leaves of the page that the sink's bytes leave.
-use Rattle.std.proofs.Common.{◌≡◌, ℕ, zero, suc, get_or, ◌+◌, ◌<◌, ◌&&◌, not, true, false, inl, inr, List, [], ◌∷◌, ◌++◌, length, map, Option, Some, None, refl, sym, ap, subst, ◌∙◌, arith, append_assoc}
+use Rattle.std.proofs.Common.{◌≡◌, ℕ, zero, suc, get_or, ◌<◌, true, false, inl, inr, List, [], ◌∷◌, ◌++◌, length, map, Option, Some, None, refl, sym, ap, subst, ◌∙◌, arith, append_assoc}
 use Rattle.std.specs.List.{Contains}
 use Rattle.std.proofs.lemmas.Bool.{cases_Bool}
 use Rattle.std.proofs.lemmas.List.Elements.{Contains-append_left, Contains-append_right}
 use Rattle.std.proofs.lemmas.List.{map-append, length-map, get_or-map}
 use Rattle.minus_term.specs.Operations.{Op}
 use Rattle.minus_term.specs.PlayedScreen.{ShownPage, PlayedScreen, Shows, play_all, screen_of, unknown_screen}
-use Rattle.minus_term.specs.Written.{written_all, IsClean}
+use Rattle.minus_term.specs.Written.{written_all}
 use Rattle.minus_term.proofs.PlayLaws.{play_all-append, draws_from}
 use Rattle.minus_term.proofs.WrittenLaws.{written_all-append, IsClean-append, IsClean-more}
 use Rattle.minus.specs.declared.status.Status.TheVariants as status
-use Rattle.minus.specs.Control.{Control, has_size_of}
+use Rattle.minus.specs.Control.{Control}
 use Rattle.minus.specs.Page.{page}
 use Rattle.minus.specs.Table.{Wanted, Exit, effect, changed_by}
 use Rattle.minus.specs.Works.{Work, work_of, WorkedOff, all, one, up_to, passed_in, some_full}
 use Rattle.minus.specs.Drawn.{Drawn, Leaves}
 use Rattle.minus.specs.Steps.{Seen, Works, Writes, status_after}
-use Rattle.minus.proofs.DrawnLaws.{both_true, same_rows}
+use Rattle.minus.proofs.TableLaws.{unresized}
 
 head_there : {X : Type 0} (x : X) (xs : List X) → Contains (x ∷ xs) x
 head_there x xs = (0, omega arith, refl)
@@ -48,8 +48,8 @@ pub pages_before : (before ps : List Control) (p : ShownPage) → Contains (map 
 pages_before before ps p h = rw (map-append page before ps) (Contains-append_left (map page before) (map page ps) p h)
 
 -- a drawing that is partial goes on from what was drawn before
-goes_on : (x y : List ℕ) (old new : Control) (works : List Work) (before : List Control) → (not (some_full works) && has_size_of old new) ≡ true → Contains (old ∷ passed_in works) new → (d : Drawn (Some x) (Some y) old works new) → Leaves (Some x) before old → Leaves (Some y) (before ++ passed_in works) new
-goes_on x y old new works before partial reached d h =
+goes_on : (x y : List ℕ) (old new : Control) (works : List Work) (before : List Control) → some_full works ≡ false → old.rows ≡ new.rows → Contains (old ∷ passed_in works) new → (d : Drawn (Some x) (Some y) old works new) → Leaves (Some x) before old → Leaves (Some y) (before ++ passed_in works) new
+goes_on x y old new works before partial rows reached d h =
     let front : List ℕ = h.0 in
     let ops : List Op = h.1 in
     let whole = h.3 in
@@ -64,13 +64,13 @@ goes_on x y old new works before partial reached d h =
       bytes,
       record {
         here = after_first before ps old new whole.here reached;
-        shows = subst (λ (n : ℕ). Shows (play_all (ops ++ d.0) (unknown_screen n)) (page new)) (same_rows old new (both_true (not (some_full works)) (has_size_of old new) partial)) shows;
+        shows = subst (λ (n : ℕ). Shows (play_all (ops ++ d.0) (unknown_screen n)) (page new)) rows shows;
         clean = IsClean-append pages ops d.0 (IsClean-more (map page before) pages (λ p k. pages_before before ps p k) ops whole.clean) (IsClean-more (map page (old ∷ ps)) pages (λ p k. pages_after before ps old p whole.here k) d.0 d.2.clean);
       },
     )
 
 -- a drawing from the unknown screen begins anew
-begins_anew : (x y : List ℕ) (old new : Control) (works : List Work) (before : List Control) → (not (some_full works) && has_size_of old new) ≡ false → Contains (old ∷ passed_in works) new → (d : Drawn (Some x) (Some y) old works new) → Leaves (Some x) before old → Leaves (Some y) (before ++ passed_in works) new
+begins_anew : (x y : List ℕ) (old new : Control) (works : List Work) (before : List Control) → some_full works ≡ true → Contains (old ∷ passed_in works) new → (d : Drawn (Some x) (Some y) old works new) → Leaves (Some x) before old → Leaves (Some y) (before ++ passed_in works) new
 begins_anew x y old new works before anew reached d h =
     let ps : List Control = passed_in works in
     let whole = h.3 in
@@ -85,15 +85,15 @@ begins_anew x y old new works before anew reached d h =
       },
     )
 
-pub leaves_more : (a b : Option (List ℕ)) (old new : Control) (works : List Work) (before : List Control) → Contains (old ∷ passed_in works) new → Drawn a b old works new → Leaves a before old → Leaves b (before ++ passed_in works) new
-leaves_more None b old new works before reached d h = absurd h
-leaves_more (Some x) None old new works before reached d h = absurd d.1
-leaves_more (Some x) (Some y) old new works before reached d h = elim (cases_Bool (not (some_full works) && has_size_of old new)) [
-  | inl e ↦ goes_on x y old new works before e reached d h
-  | inr e ↦ begins_anew x y old new works before e reached d h
+pub leaves_more : (a b : Option (List ℕ)) (old new : Control) (works : List Work) (before : List Control) → (some_full works ≡ false → old.rows ≡ new.rows) → Contains (old ∷ passed_in works) new → Drawn a b old works new → Leaves a before old → Leaves b (before ++ passed_in works) new
+leaves_more None b old new works before rows reached d h = absurd h
+leaves_more (Some x) None old new works before rows reached d h = absurd d.1
+leaves_more (Some x) (Some y) old new works before rows reached d h = elim (cases_Bool (some_full works)) [
+  | inl e ↦ begins_anew x y old new works before e reached d h
+  | inr e ↦ goes_on x y old new works before e (rows e) reached d h
 ]
 
 -- what works leave of it, as long as the session goes on
 pub leaves_after : {K : Type 0} (old new : Seen K) (items : List Wanted) (works : List Work) (exit : Option Exit) (a b : Option (List ℕ)) (before : List Control) → Works old items works exit (status_after exit) new → Writes exit old.control works new.control a b → Leaves a before old.control → new.status ≡ status.Running → Leaves b (before ++ passed_in works) new.control
-leaves_after old new items works None a b before h writes k running = leaves_more a b old.control new.control works before (last_passed h.worked) writes k
+leaves_after old new items works None a b before h writes k running = leaves_more a b old.control new.control works before (unresized h.worked) (last_passed h.worked) writes k
 leaves_after old new items works (Some exit) a b before h writes k running = let both : status.Running ≡ status.Ended = sym running ∙ ap (λ (x : Seen _). x.status) h.stands in cc

@@ -9,7 +9,8 @@ use Rattle.minus_term.specs.declared.error.MinusError.TheVariants.{Memory, BadSi
 use Rattle.minus_term.specs.Written.{written_all}
 use Rattle.minus.specs.Control.{Control}
 use Rattle.minus.specs.Starts.{IsShowRefused, CleansUp, DrawingBreaksOff, ShowBreaksOff, StartBreaksOff}
-use Rattle.minus.proofs.DrawnLaws.{whole_page, whole_shows}
+use Rattle.minus.specs.Drawings.{whole_page}
+use Rattle.minus.proofs.DrawnLaws.{whole_shows}
 
 pub start_broken : (e : MinusError) (a b : Option (List ℕ)) (m n : Option ℕ) (bytes drawing : List ℕ) (terminal : Bool) (c : Control) → 1 ≤ c.rows → bytes ≡ drawing → drawing ≡ written_all (whole_page c) → IsShowRefused e terminal → ShowBreaksOff e a b m n bytes → StartBreaksOff e a b m n c
 start_broken (Setup cause) a b m n bytes drawing terminal c some e g r h = h

@@ -1,12 +1,12 @@
 -- What commands leave, by how they are drawn.
-use Rattle.std.proofs.Common.{◌≡◌, ℕ, ◌+◌, ◌<◌, List, [], ◌∷◌, ◌++◌, length, get_or, map, take, ap, ◌∙◌, sym, refl, arith, min, ◌==◌, true, false, inl, inr, Option, Some, None}
+use Rattle.std.proofs.Common.{◌≡◌, ℕ, ◌+◌, ◌<◌, List, [], ◌∷◌, ◌++◌, length, get_or, map, take, ap, ◌∙◌, sym, refl, arith, min, ◌==◌, ◌||◌, Bool, true, false, inl, inr, Option, Some}
 use Rattle.std.proofs.lemmas.List.{map_more}
 use Rattle.std.proofs.lemmas.Bool.{cases_Bool, eqb-true}
 use Rattle.minus.specs.declared.commands.Drawing.{Drawing}
 use Rattle.minus.specs.declared.commands.Drawing.TheVariants.{Nothing, Full, Scroll}
 use Rattle.minus.specs.Control.{Control, clamp, top, IsClamped}
 use Rattle.minus.specs.Table.{Wanted, sets_data, appends_data, moves_mark, resizes, exits, ignores, Exit, Effect, effect, move_drawing, changed_by, IsPossible}
-use Rattle.minus.specs.Works.{is_drawn}
+use Rattle.minus.specs.Works.{Work, WorkedOff, all, one, up_to, is_drawn, is_full, some_full, ResizesAreFull}
 use Rattle.minus.specs.Starts.{taken, taken_all, at_start, first_control}
 
 -- what the clamp leaves
@@ -52,6 +52,25 @@ pub drawn_kind : (d : Drawing) → (d ≡ Nothing → ⊥) → is_drawn d ≡ tr
 drawn_kind Nothing h = absurd (h refl)
 drawn_kind Full h = refl
 drawn_kind Scroll h = refl
+
+-- what is not drawn in full keeps the size
+pub resizes_full_lem : ResizesAreFull
+resizes_full_lem c (sets_data text) e = record { same_cols = refl; same_rows = refl }
+resizes_full_lem c (appends_data text) e = record { same_cols = refl; same_rows = refl }
+resizes_full_lem c (moves_mark mark) e = record { same_cols = refl; same_rows = refl }
+resizes_full_lem c (resizes cols rows) e = absurd (let both : true ≡ false = e in cc)
+resizes_full_lem c exits e = record { same_cols = refl; same_rows = refl }
+resizes_full_lem c ignores e = record { same_cols = refl; same_rows = refl }
+
+neither : (x y : Bool) → (x || y) ≡ false → (x ≡ false) × (y ≡ false)
+neither false y e = (refl, e)
+neither true y e = absurd (cc)
+
+-- nor do works change the size of which none is drawn in full
+pub unresized : {c d : Control} {ws : List Wanted} {works : List Work} {exit : Option Exit} → WorkedOff c ws works exit d → some_full works ≡ false → c.rows ≡ d.rows
+unresized all e = refl
+unresized (one {c = c} {w = w} {works = works} possible on more) e = let both = neither (is_full (effect c w).drawing) (some_full works) e in (resizes_full_lem c w both.0).same_rows ∙ unresized more both.1
+unresized (up_to {c = c} {w = w} possible is) e = let both = neither (is_full (effect c w).drawing) false e in (resizes_full_lem c w both.0).same_rows
 
 -- commands that wait move no mark
 pub taken_all_mark : (c : Control) (ws : List Wanted) → (taken_all c ws).mark ≡ c.mark

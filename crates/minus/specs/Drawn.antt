@@ -1,5 +1,5 @@
 -- What the bytes of a sink say of the page.
-use Rattle.std.specs.Prelude.{◌≡◌, ℕ, ◌+◌, ◌-◌, ◌≤◌, min, ◌&&◌, not, false, true, List, [], ◌∷◌, ◌++◌, map, Option, None, Some, if◌then◌else◌}
+use Rattle.std.specs.Prelude.{◌≡◌, ℕ, ◌+◌, ◌-◌, ◌≤◌, min, false, true, List, [], ◌∷◌, ◌++◌, map, Option, None, Some, if◌then◌else◌}
 use Rattle.std.specs.List.{Contains}
 use Rattle.std.specs.Io.KnownBytes.{Appends}
 use Rattle.minus_term.specs.Operations.{Op}
@@ -9,16 +9,17 @@ use Rattle.minus_term.specs.Written.{written_all, IsClean}
 use Rattle.minus_term.specs.Puts.{puts}
 use Rattle.minus_term.specs.Scroll.{distance}
 use Rattle.minus_term.specs.Terminal.{setup_bytes}
-use Rattle.minus.specs.Control.{Control, has_size_of}
+use Rattle.minus.specs.Control.{Control}
 use Rattle.minus.specs.Page.{page}
-use Rattle.minus.specs.Works.{Work, passed_in, some_full, some_drawn}
+use Rattle.minus.specs.Table.{Wanted, Exit}
+use Rattle.minus.specs.Works.{Work, WorkedOff, passed_in, some_full, some_drawn}
 use Rattle.minus.specs.declared.commands.Drawing.{Drawing}
 use Rattle.minus.specs.declared.commands.Drawing.TheVariants.{Nothing, Full, Scroll}
 
--- what is known of the terminal's screen before works are drawn: it shows the page of the old control; where one of them is
--- drawn in full, or the size has changed, nothing
+-- what is known of the terminal's screen before works are drawn: nothing where one of them is drawn in full, as each change
+-- of size is; otherwise it shows the page of the old control
 abbrev pub screen_before : Control → List Work → Control → PlayedScreen
-screen_before old works new = if not (some_full works) && has_size_of old new then screen_of (page old) else unknown_screen new.rows
+screen_before old works new = if some_full works then unknown_screen new.rows else screen_of (page old)
 
 -- how many texts a drawing of the kind may put at most, on the way from one control to the other; without a bound, none
 abbrev pub most_of : Drawing → Control → Control → Option ℕ
@@ -49,6 +50,12 @@ pub record IsDrawing (ops : List Op) (old : Control) (works : List Work) (new : 
   pub clean : IsClean (map page (old ∷ passed_in works)) ops
   pub few : IsWithin (puts ops (screen_before old works new)) (most_puts old works)
   pub none : some_drawn works ≡ false → ops ≡ []
+
+-- the drawings of some works, and after them those of others, are the drawings of them all
+abbrev pub DrawingsJoin : Type 0
+DrawingsJoin =
+    (a b c : Control) (ws vs : List Wanted) (works more : List Work) (exit : Option Exit) (xs ys : List Op) → WorkedOff a ws works None b → WorkedOff b vs more exit c → IsDrawing xs a works b → IsDrawing ys b more c
+    → IsDrawing (xs ++ ys) a (works ++ more) c
 
 -- the sink grew by the written form of one such list of operations
 abbrev pub Drawn : Option (List ℕ) → Option (List ℕ) → Control → List Work → Control → Type 0

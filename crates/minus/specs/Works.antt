@@ -3,7 +3,7 @@ use Rattle.std.specs.Prelude.{◌≡◌, List, [], ◌∷◌, map, Option, None,
 use Rattle.std.specs.List.{list_any}
 use Rattle.minus.specs.declared.commands.Drawing.{Drawing}
 use Rattle.minus.specs.declared.commands.Drawing.TheVariants.{Nothing, Full}
-use Rattle.minus.specs.Control.{Control}
+use Rattle.minus.specs.Control.{Control, SameSize}
 use Rattle.minus.specs.Table.{Wanted, Exit, Effect, effect, changed_by, IsPossible}
 
 -- a work: how what comes of it is drawn, and the control that it leaves
@@ -44,3 +44,7 @@ some_full works = list_any (λ (w : Work). is_full w.drawing) works
 -- whether one of the works is drawn
 abbrev pub some_drawn : List Work → Bool
 some_drawn works = list_any (λ (w : Work). is_drawn w.drawing) works
+
+-- what is not drawn in full keeps the size
+abbrev pub ResizesAreFull : Type 0
+ResizesAreFull = (c : Control) (w : Wanted) → is_full (effect c w).drawing ≡ false → SameSize c (changed_by (effect c w))

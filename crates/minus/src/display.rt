@@ -5,6 +5,7 @@ ghost use Rattle.minus_term.specs.Operations.{Put};
 ghost use Rattle.minus_term.specs.Written.{written_all};
 ghost use Rattle.minus_term.specs.FullRedraw.{full_ops, prompt_ops, row_ops};
 ghost use Rattle.minus_term.specs.Scroll.{down_ops, up_ops, scroll_ops};
+ghost use Rattle.minus.specs.Control.{Control};
 ghost use Rattle.minus.specs.PromptRow.{prompt_row, prompt, fitted};
 
 use minus_term::{DrawOp, write_op};
@@ -174,9 +175,9 @@ fn push_fitted(row: &mut String, cols: usize) -> Result<(), AllocError>
     Ok(())
 }
 
-/// The prompt row for so many columns, in its style.
+/// The prompt row of a page of so many columns, in its style.
 pub fn format_prompt(alloc: Global, cols: usize) -> Result<String, AllocError>
-    ensures { IfOk result (λ row. string_bytes row ≡ prompt_row cols) }
+    ensures { IfOk result (λ row. (c : Control) → c.cols ≡ cols → string_bytes row ≡ prompt_row c) }
 {
     let mut row = String::from_str(alloc, "\x1b[2;40;37m")?;
     push_fitted(&mut row, cols)?;

@@ -4,11 +4,9 @@ ghost use Rattle.std.specs.Io.KnownBytes.{Appends};
 ghost use Rattle.minus_term.specs.Counts.{Stays, Rises, AppendsFront};
 ghost use Rattle.minus_term.specs.Terminal.{setup_bytes, cleanup_bytes, SetupBreaksOff};
 ghost use Rattle.minus_term.specs.Written.{written_all};
-ghost use Rattle.minus_term.specs.FullRedraw.{full_ops};
 ghost use Rattle.minus.specs.Sizes.{IsSize};
 ghost use Rattle.minus.specs.Control.{IsClamped};
-ghost use Rattle.minus.specs.Page.{shown};
-ghost use Rattle.minus.specs.PromptRow.{prompt_row};
+ghost use Rattle.minus.specs.Drawings.{whole_page};
 ghost use Rattle.minus.specs.Reads.{IsFormed, control_of, wanted_of};
 ghost use Rattle.minus.specs.Starts.{taken_all, first_control, IsStarted, IsStartRefused, IsEarly, IsShowRefused, ShowBreaksOff, StartBreaksOff, IsStartFault};
 ghost use Rattle.minus.specs.Drawn.{Begins, StartLeavesItsPage};
@@ -60,7 +58,7 @@ fn first_page(
     ensures control { IfOk result (λ s. control_of s ≡ first_control cols rows (map wanted_of pager.now.queue.items)) }
     ensures formed { IfOk result IsFormed }
     ensures clamped { IfOk result (λ s. IsClamped (control_of s)) }
-    ensures drawn { IfOk result (λ s. drawing.new.items ≡ drawing.old.items ++ written_all (full_ops (control_of s).rows (shown (control_of s)) (prompt_row (control_of s).cols))) }
+    ensures drawn { IfOk result (λ s. drawing.new.items ≡ drawing.old.items ++ written_all (whole_page (control_of s))) }
     ensures memory { IfErr result (λ e. e ≡ MinusError.Memory) }
 {
     let mut state = PagerState::new(pager.alloc, cols, rows)?;
@@ -98,7 +96,7 @@ fn begin<S: OutputSink + Drop>(
 ) -> Result<Session<S>, StartError<S>>
     requires formed { IsFormed state }
     requires clamped { IsClamped (control_of state) }
-    requires drawn { drawing.items ≡ written_all (full_ops (control_of state).rows (shown (control_of state)) (prompt_row (control_of state).cols)) }
+    requires drawn { drawing.items ≡ written_all (whole_page (control_of state)) }
     ensures seen { IfOk result (λ s. seen_of s ≡ record { control = control_of state; classifier = record {}; mode = mode; status = status.Running }) }
     ensures drawn { IfOk result (λ s. Begins (S.contents sink) (S.contents s.sink) (control_of state)) }
     ensures stays { IfOk result (λ s. Stays (S.refused sink) (S.refused s.sink)) }

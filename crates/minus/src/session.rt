@@ -123,12 +123,12 @@ impl<S, P: Parts> Core<S, P> {
     /// [`MinusError::Memory`] where there is no memory for its texts.
     pub fn page(&self) -> Result<Page, MinusError>
         ensures rows { IfOk result (λ p. map string_bytes p.rows.items ≡ (page (seen_of self.now).control).texts) }
-        ensures cursor { IfOk result (λ p. p.cursor ≡ None) }
+        ensures cursor { IfOk result (λ p. p.cursor ≡ (page (seen_of self.now).control).cursor) }
         ensures memory { IfErr result (λ e. e ≡ MinusError.Memory) }
     {
         let change = self.state.change_to(NextText::Same);
         let shown = self.state.shown_after(self.alloc, &change)?;
-        let page = Page::form(self.alloc, self.state.cols, self.state.rows, &shown)?;
+        let page = Page::form(self.alloc, &self.state, &shown)?;
         Ok(page)
     }
 

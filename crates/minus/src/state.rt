@@ -98,11 +98,10 @@ pub struct PagerState {
 impl PagerState {
     ghost use Rattle.std.specs.Prelude.{◌≡◌, ◌-◌, [], ◌++◌, map, take, drop, OnOk, OnErr, IfOk, IfErr};
     ghost use Rattle.minus_text.specs.Document.{rows_of};
-    ghost use Rattle.minus.specs.Control.{document_of};
+    ghost use Rattle.minus.specs.Control.{Control, document_of};
     ghost use Rattle.minus.specs.Table.{effect, move_drawing, moved, changed_by, resizes, IsPossible};
     ghost use Rattle.minus_term.specs.Written.{written_all};
-    ghost use Rattle.minus.specs.Drawings.{ops_of};
-    ghost use Rattle.minus.specs.PromptRow.{prompt_row};
+    ghost use Rattle.minus.specs.Drawings.{ops_between};
     ghost use Rattle.minus.specs.Reads.{control_of, wanted_of, IsFormed};
     ghost use Rattle.minus.specs.NextTexts.{next_document, IsNext};
     ghost use Rattle.minus.specs.Changes.{IsChange, IsUnformed};
@@ -291,8 +290,9 @@ impl PagerState {
         drawing: Drawing,
         change: &'a Change,
     ) -> Result<(), AllocError>
-        requires { IsNext self.now.screen change.now.text }
-        ensures { OnOk result (out.new.items ≡ out.old.items ++ written_all (ops_of drawing change.now.rows self.now.upper_mark change.now.mark (take (change.now.rows - 1) (drop change.now.mark (rows_of (next_document self.now.screen change.now.text)))) (prompt_row change.now.cols))) }
+        requires formed { IsFormed self.now }
+        requires belongs { IsNext self.now.screen change.now.text }
+        ensures { OnOk result ((new : Control) → IsChange (control_of self.now) change.now new → out.new.items ≡ out.old.items ++ written_all (ops_between drawing (control_of self.now) new)) }
     {
         let shown = self.shown_after(alloc, change)?;
         let prompt = format_prompt(alloc, change.cols)?;

@@ -1,5 +1,5 @@
 -- The move, the last rows and the prompt.
-use Rattle.std.proofs.Common.{◌++◌, ◌-◌, [], ◌∷◌, List, ℕ, map, drop, min, length, ap, sym, ◌∙◌}
+use Rattle.std.proofs.Common.{◌++◌, ◌-◌, [], ◌∷◌, List, ℕ, map, drop, min, length, ap, ◌∙◌}
 use Rattle.std.specs.List.{flat_map}
 use Rattle.minus_term.specs.Operations.{Op, ScrollUp, GoTo, ClearRow}
 use Rattle.minus_term.specs.Written.{written_all}

@@ -1,5 +1,5 @@
 -- The move, the first rows and the prompt.
-use Rattle.std.proofs.Common.{◌++◌, [], ◌∷◌, List, ℕ, map, take, min, length, ap, sym, ◌∙◌}
+use Rattle.std.proofs.Common.{◌++◌, [], ◌∷◌, List, ℕ, map, take, min, length, ap, ◌∙◌}
 use Rattle.std.specs.List.{flat_map}
 use Rattle.minus_term.specs.Operations.{Op, ScrollDown, GoTo}
 use Rattle.minus_term.specs.Written.{written_all}

@@ -4,8 +4,6 @@ use Rattle.minus_term.specs.Written.{written_all}
 use Rattle.minus.specs.Drawings.{ops_between}
 use Rattle.minus.specs.Control.{Control}
 use Rattle.minus.specs.Table.{effect, changed_by}
-use Rattle.minus.specs.Page.{shown}
-use Rattle.minus.specs.PromptRow.{prompt_row}
 use Rattle.minus.specs.Reads.{control_of, wanted_of}
 use Rattle.minus.proofs.ChangeLaws.{placed_after}
 use Rattle.minus.proofs.session.Core.take.Goals as goal
