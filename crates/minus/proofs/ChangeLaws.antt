@@ -1,9 +1,10 @@
 -- A change that was put in its place.
-use Rattle.std.proofs.Common.{◌≡◌, ℕ, ◌-◌, List, take, drop, sym, ap, subst, ◌∙◌}
+use Rattle.std.proofs.Common.{◌≡◌, ℕ, ◌-◌, List, take, drop, refl, sym, ap, subst, ◌∙◌}
 use Rattle.minus_text.specs.Document.{Document, rows_of}
 use Rattle.minus.specs.declared.state.PagerState.{PagerState}
 use Rattle.minus.specs.declared.change.Change.{Change}
 use Rattle.minus.specs.declared.change.NextText.{NextText}
+use Rattle.minus.specs.declared.change.NextText.TheVariants.{Same}
 use Rattle.minus.specs.Control.{Control, document_of, text_rows}
 use Rattle.minus.specs.Page.{shown}
 use Rattle.minus.specs.NextTexts.{next_document, IsNext}
@@ -48,3 +49,7 @@ shown_is s change new f h =
     ap (λ (d : Document). take (change.rows - 1) (drop change.mark (rows_of d))) document
     ∙ ap (λ (n : ℕ). take (n - 1) (drop change.mark (text_rows new))) h.rows_are
     ∙ ap (λ (m : ℕ). take (new.rows - 1) (drop m (text_rows new))) h.mark_is
+
+-- a change that changes nothing
+pub unchanged : (s : PagerState) (change : Change) → change.text ≡ Same → change.mark ≡ s.upper_mark → change.cols ≡ s.cols → change.rows ≡ s.rows → IsChange (control_of s) change (control_of s)
+unchanged s change is m c r = record { belongs = rw is tt; document = rw is refl; mark_is = m; cols_are = c; rows_are = r }

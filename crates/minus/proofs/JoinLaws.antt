@@ -146,11 +146,11 @@ some_join a b c w v ws vs xs ys rows is there h k =
       clean = joined_clean;
       few = by_full.1;
       none = λ e. (
-        let both = neither (some_drawn (w ∷ ws)) (some_drawn (v ∷ vs)) (sym (list_any-append (λ (x : Work). is_drawn x.drawing) (w ∷ ws) (v ∷ vs)) ∙ e) in
-        let x : xs ≡ [] = h.none both.0 in
-        let y : ys ≡ [] = k.none both.1 in
-        rw (x, y) refl
-      );
+          let both = neither (some_drawn (w ∷ ws)) (some_drawn (v ∷ vs)) (sym (list_any-append (λ (x : Work). is_drawn x.drawing) (w ∷ ws) (v ∷ vs)) ∙ e) in
+          let x : xs ≡ [] = h.none both.0 in
+          let y : ys ≡ [] = k.none both.1 in
+          rw (x, y) refl
+          );
     }
   where
     no_limit : (n : ℕ) (o : Option ℕ) → o ≡ None → IsWithin n o

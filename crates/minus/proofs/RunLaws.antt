@@ -3,7 +3,7 @@ use Rattle.std.proofs.Common.{◌≡◌, ℕ, ◌+◌, true, false, List, [], �
 use Rattle.std.specs.List.{last_or}
 use Rattle.std.proofs.lemmas.List.{append-nil, reverse-append, length_push, map_push}
 use Rattle.minus_term.specs.declared.error.MinusError.{MinusError}
-use Rattle.minus_term.specs.declared.error.MinusError.TheVariants.{Memory, BadSize, BadMode, Failed, Ended, Setup, Cleanup, Draw, HandleEvent, Cursor, FmtWriteError, Conversion, SearchExpError}
+use Rattle.minus_term.specs.Refusals.{Refusal, refusal_of, for_memory, for_size, for_mode, after_failure, after_exit, at_setup, at_cleanup, at_drawing, of_no_call}
 use Rattle.minus.specs.declared.session.Answer.{Answer}
 use Rattle.minus.specs.declared.status.Status.TheVariants as status
 use Rattle.minus.specs.Answers.{ends_run}
@@ -65,20 +65,16 @@ stays_running : {K : Type 0} (reached new : Seen K) → new ≡ reached → new.
 stays_running reached new e r = ap (λ (x : Seen _). x.status) (sym e) ∙ r
 
 -- what a refused step leaves of the page
-leaves_refused : {K : Type 0} (allows : Allows K) (e : MinusError) (a b : Option (List ℕ)) (reached new : Seen K) (told : Told) (passed : List Control) → Refuses allows e reached told new a b → (reached.status ≡ status.Running → Leaves a passed reached.control) → new.status ≡ status.Running → Leaves b passed new.control
-leaves_refused allows Memory a b reached new told passed h k r = let stays = h.1 in let same = h.2 in let on = stays_running reached new stays r in rw (same, stays) (k on)
-leaves_refused allows (BadSize c d) a b reached new told passed h k r = let stays = h.0.stays in let same = h.1 in let on = stays_running reached new stays r in rw (same, stays) (k on)
-leaves_refused allows Failed a b reached new told passed h k r = let stays = h.1 in let same = h.2 in let on = stays_running reached new stays r in rw (same, stays) (k on)
-leaves_refused allows Ended a b reached new told passed h k r = let stays = h.1 in let same = h.2 in let on = stays_running reached new stays r in rw (same, stays) (k on)
-leaves_refused allows (Cleanup cause) a b reached new told passed h k r = let both : status.Failed ≡ status.Running = sym (ap (λ (x : Seen _). x.status) h.3.worked.stands) ∙ r in cc
-leaves_refused allows (Draw cause) a b reached new told passed h k r = let both : status.Failed ≡ status.Running = sym (ap (λ (x : Seen _). x.status) h.1.worked.stands) ∙ r in cc
-leaves_refused allows BadMode a b reached new told passed h k r = absurd h
-leaves_refused allows (Setup cause) a b reached new told passed h k r = absurd h
-leaves_refused allows (HandleEvent cause) a b reached new told passed h k r = absurd h
-leaves_refused allows (Cursor cause) a b reached new told passed h k r = absurd h
-leaves_refused allows (FmtWriteError cause) a b reached new told passed h k r = absurd h
-leaves_refused allows Conversion a b reached new told passed h k r = absurd h
-leaves_refused allows (SearchExpError cause) a b reached new told passed h k r = absurd h
+leaves_refused : {K : Type 0} (allows : Allows K) (refusal : Refusal) (a b : Option (List ℕ)) (reached new : Seen K) (told : Told) (passed : List Control) → Refuses allows refusal reached told new a b → (reached.status ≡ status.Running → Leaves a passed reached.control) → new.status ≡ status.Running → Leaves b passed new.control
+leaves_refused allows for_memory a b reached new told passed h k r = let stays = h.1 in let same = h.2 in let on = stays_running reached new stays r in rw (same, stays) (k on)
+leaves_refused allows (for_size c d) a b reached new told passed h k r = let stays = h.0.stays in let same = h.1 in let on = stays_running reached new stays r in rw (same, stays) (k on)
+leaves_refused allows after_failure a b reached new told passed h k r = let stays = h.1 in let same = h.2 in let on = stays_running reached new stays r in rw (same, stays) (k on)
+leaves_refused allows after_exit a b reached new told passed h k r = let stays = h.1 in let same = h.2 in let on = stays_running reached new stays r in rw (same, stays) (k on)
+leaves_refused allows (at_cleanup cause) a b reached new told passed h k r = let both : status.Failed ≡ status.Running = sym (ap (λ (x : Seen _). x.status) h.3.worked.stands) ∙ r in cc
+leaves_refused allows at_drawing a b reached new told passed h k r = let both : status.Failed ≡ status.Running = sym (ap (λ (x : Seen _). x.status) h.1.worked.stands) ∙ r in cc
+leaves_refused allows for_mode a b reached new told passed h k r = absurd h
+leaves_refused allows (at_setup cause) a b reached new told passed h k r = absurd h
+leaves_refused allows of_no_call a b reached new told passed h k r = absurd h
 
 -- ---- a run so far
 
@@ -158,7 +154,7 @@ run_ended allows told old now new inputs left rest x done last answer first a b 
 
 -- a run that a refusal stopped
 pub run_stopped : {A K : Type 0} (allows : Allows K) (told : A → Told) (old now new : Seen K) (inputs left rest : List A) (x : A) (done : ℕ) (last : Option Answer) (e : MinusError) (first a b : Option (List ℕ)) → RunSoFar allows told old now inputs left done last first a → left ≡ rest ++ x ∷ []
-    → Refuses allows e now (told x) new a b → IsRun allows told old new inputs done last (Some e) (reverse rest) first b
+    → Refuses allows (refusal_of e) now (told x) new a b → IsRun allows told old new inputs done last (Some e) (reverse rest) first b
 run_stopped allows told old now new inputs left rest x done last e first a b h f r = record {
   taken = h.taken;
   refused = x ∷ [];
@@ -172,5 +168,5 @@ run_stopped allows told old now new inputs left rest x done last e first a b h f
   stop = r;
   stops = stops_on h.answers (Some e) (reverse rest) h.on (λ well. let both : Some e ≡ None = well in cc);
   answer = h.answer;
-  leaves = λ before k running. leaves_refused allows e a b now new (told x) (before ++ h.passed) r (h.leaves before k) running;
+  leaves = λ before k running. leaves_refused allows (refusal_of e) a b now new (told x) (before ++ h.passed) r (h.leaves before k) running;
 }

@@ -3,8 +3,7 @@ use Rattle.std.proofs.Common.{◌≡◌, ℕ, ◌≤◌, true, List, [], ◌∷�
 use Rattle.std.specs.Io.KnownBytes.{Appends}
 use Rattle.minus_term.specs.Counts.{AppendsFront}
 use Rattle.minus_term.specs.declared.error.CleanupError.{CleanupError}
-use Rattle.minus_term.specs.declared.error.MinusError.{MinusError}
-use Rattle.minus_term.specs.declared.error.MinusError.TheVariants.{Memory, BadSize, BadMode, Failed, Ended, Setup, Cleanup, Draw, HandleEvent, Cursor, FmtWriteError, Conversion, SearchExpError}
+use Rattle.minus_term.specs.Refusals.{Refusal, for_memory, for_size, for_mode, after_failure, after_exit, at_setup, at_cleanup, at_drawing, of_no_call}
 use Rattle.minus_term.specs.Terminal.{cleanup_bytes, CleanupBreaksOff}
 use Rattle.minus_term.specs.Written.{written_all}
 use Rattle.minus.specs.declared.commands.Drawing.{Drawing}
@@ -173,19 +172,15 @@ asked_broken allows old new told w works exit asks h = record {
   worked = h.worked;
 }
 
-pub asked_refused : {K : Type 0} (allows : Allows K) (e : MinusError) (old new : Seen K) (told : Told) (w : Wanted) (a c : Option (List ℕ)) → Asks allows old told w → Refuses allows e old (a_command w) new a c → Refuses allows e old told new a c
-asked_refused allows Memory old new told w a c asks h = h
-asked_refused allows (BadSize cols rows) old new told w a c asks h =
+pub asked_refused : {K : Type 0} (allows : Allows K) (refusal : Refusal) (old new : Seen K) (told : Told) (w : Wanted) (a c : Option (List ℕ)) → Asks allows old told w → Refuses allows refusal old (a_command w) new a c → Refuses allows refusal old told new a c
+asked_refused allows for_memory old new told w a c asks h = h
+asked_refused allows (for_size cols rows) old new told w a c asks h =
     let bad = h.0 in
     (record { asked = subst (λ (x : Wanted). Asks allows old told x) (sym bad.asked) asks; running = bad.running; bad = bad.bad; stays = bad.stays }, h.1)
-asked_refused allows BadMode old new told w a c asks h = absurd h
-asked_refused allows Failed old new told w a c asks h = h
-asked_refused allows Ended old new told w a c asks h = h
-asked_refused allows (Setup cause) old new told w a c asks h = absurd h
-asked_refused allows (Cleanup cause) old new told w a c asks h = (h.0, h.1, h.2, asked_broken allows old new told w h.0 (Some h.1) asks h.3, h.4, h.5)
-asked_refused allows (Draw cause) old new told w a c asks h = (h.0, asked_broken allows old new told w h.0 None asks h.1, h.2)
-asked_refused allows (HandleEvent cause) old new told w a c asks h = absurd h
-asked_refused allows (Cursor cause) old new told w a c asks h = absurd h
-asked_refused allows (FmtWriteError cause) old new told w a c asks h = absurd h
-asked_refused allows Conversion old new told w a c asks h = absurd h
-asked_refused allows (SearchExpError cause) old new told w a c asks h = absurd h
+asked_refused allows for_mode old new told w a c asks h = absurd h
+asked_refused allows after_failure old new told w a c asks h = h
+asked_refused allows after_exit old new told w a c asks h = h
+asked_refused allows (at_setup cause) old new told w a c asks h = absurd h
+asked_refused allows (at_cleanup cause) old new told w a c asks h = (h.0, h.1, h.2, asked_broken allows old new told w h.0 (Some h.1) asks h.3, h.4, h.5)
+asked_refused allows at_drawing old new told w a c asks h = (h.0, asked_broken allows old new told w h.0 None asks h.1, h.2)
+asked_refused allows of_no_call old new told w a c asks h = absurd h

@@ -4,7 +4,7 @@ use Rattle.std.proofs.lemmas.List.{map_more}
 use Rattle.std.proofs.lemmas.Bool.{cases_Bool, eqb-true}
 use Rattle.minus.specs.declared.commands.Drawing.{Drawing}
 use Rattle.minus.specs.declared.commands.Drawing.TheVariants.{Nothing, Full, Scroll}
-use Rattle.minus.specs.Control.{Control, clamp, top, IsClamped}
+use Rattle.minus.specs.Control.{Control, clamp, top, IsClamped, SameSize}
 use Rattle.minus.specs.Table.{Wanted, sets_data, appends_data, moves_mark, resizes, exits, ignores, Exit, Effect, effect, move_drawing, changed_by, IsPossible}
 use Rattle.minus.specs.Works.{Work, WorkedOff, all, one, up_to, is_drawn, is_full, some_full, ResizesAreFull}
 use Rattle.minus.specs.Starts.{taken, taken_all, at_start, first_control}
@@ -76,6 +76,11 @@ unresized (up_to {c = c} {w = w} possible is) e = let both = neither (is_full (e
 pub taken_all_mark : (c : Control) (ws : List Wanted) → (taken_all c ws).mark ≡ c.mark
 taken_all_mark c [] = refl
 taken_all_mark c (w ∷ ws) = taken_all_mark (taken c w) ws
+
+-- nor do they change the size
+pub taken_all_size : (c : Control) (ws : List Wanted) → SameSize (taken_all c ws) c
+taken_all_size c [] = record { same_cols = refl; same_rows = refl }
+taken_all_size c (w ∷ ws) = let more = taken_all_size (taken c w) ws in record { same_cols = more.same_cols; same_rows = more.same_rows }
 
 pub first_is_clamped : (cols rows : ℕ) (ws : List Wanted) (c : Control) → c ≡ first_control cols rows ws → IsClamped c
 first_is_clamped cols rows ws c e = let m : c.mark ≡ 0 = ap (λ (x : Control). x.mark) e ∙ taken_all_mark (at_start cols rows) ws in omega (arith, m)

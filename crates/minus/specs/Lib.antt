@@ -16,3 +16,5 @@ pub mod Runs
 pub mod Core
 pub mod Starts
 pub mod Answers
+pub mod SessionSteps
+pub mod SessionStarts

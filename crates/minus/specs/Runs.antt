@@ -2,6 +2,7 @@
 use Rattle.std.specs.Prelude.{◌≡◌, ℕ, Bool, true, false, List, [], ◌∷◌, ◌++◌, length, map, Option, None, Some}
 use Rattle.std.specs.List.{last_or}
 use Rattle.minus_term.specs.declared.error.MinusError.{MinusError}
+use Rattle.minus_term.specs.Refusals.{refusal_of}
 use Rattle.minus.specs.declared.session.Answer.{Answer}
 use Rattle.minus.specs.declared.status.Status.TheVariants as status
 use Rattle.minus.specs.Control.{Control}
@@ -13,7 +14,7 @@ use Rattle.minus.specs.Drawn.{Leaves}
 -- how a run stopped: at the end of its inputs or after a step, or at an input that was refused
 abbrev pub Stops : {A K : Type 0} → Allows K → (A → Told) → Option MinusError → List A → Seen K → Seen K → Option (List ℕ) → Option (List ℕ) → Type 0
 Stops allows told None [] reached new bytes new_bytes = (new ≡ reached) × (new_bytes ≡ bytes)
-Stops allows told (Some e) (x ∷ []) reached new bytes new_bytes = Refuses allows e reached (told x) new bytes new_bytes
+Stops allows told (Some e) (x ∷ []) reached new bytes new_bytes = Refuses allows (refusal_of e) reached (told x) new bytes new_bytes
 Stops allows told stopped refused reached new bytes new_bytes = ⊥
 
 -- after a step that ends a run no input is refused; after any other one is, or there is none
@@ -48,4 +49,4 @@ pub record IsRun {A K : Type 0} (allows : Allows K) (told : A → Told) (old new
 -- a run stopped where the sink refused
 abbrev pub StopsAtSink : Option MinusError → Type 0
 StopsAtSink None = ⊥
-StopsAtSink (Some e) = IsSinkFault e
+StopsAtSink (Some e) = IsSinkFault (refusal_of e)

@@ -1,8 +1,7 @@
 -- What a session is seen as, its steps, and what a refusal leaves.
 use Rattle.std.specs.Prelude.{◌≡◌, ℕ, List, [], ◌∷◌, ◌++◌, Option, None, Some}
 use Rattle.std.specs.Io.KnownBytes.{Appends}
-use Rattle.minus_term.specs.declared.error.MinusError.{MinusError}
-use Rattle.minus_term.specs.declared.error.MinusError.TheVariants.{Memory, BadSize, Failed, Ended, Cleanup, Draw}
+use Rattle.minus_term.specs.Refusals.{Refusal, for_memory, for_size, after_failure, after_exit, at_cleanup, at_drawing}
 use Rattle.minus_term.specs.declared.event.Event.{Event}
 use Rattle.minus_term.specs.Terminal.{cleanup_bytes, CleanupBreaksOff}
 use Rattle.minus_term.specs.declared.error.CleanupError.{CleanupError}
@@ -99,20 +98,20 @@ pub record IsBadSize {K : Type 0} (allows : Allows K) (old : Seen K) (told : Tol
 
 -- what a refused step leaves: all as it was, where memory was wanted, the size is none, or the session had exited or failed
 -- before; where the sink refused, a session that has failed
-abbrev pub Refuses : {K : Type 0} → Allows K → MinusError → Seen K → Told → Seen K → Option (List ℕ) → Option (List ℕ) → Type 0
-Refuses allows Memory old told new old_bytes new_bytes = (old.status ≡ status.Running) × (new ≡ old) × (new_bytes ≡ old_bytes)
-Refuses allows (BadSize cols rows) old told new old_bytes new_bytes = IsBadSize allows old told new cols rows × (new_bytes ≡ old_bytes)
-Refuses allows Failed old told new old_bytes new_bytes = (old.status ≡ status.Failed) × (new ≡ old) × (new_bytes ≡ old_bytes)
-Refuses allows Ended old told new old_bytes new_bytes = (old.status ≡ status.Ended) × (new ≡ old) × (new_bytes ≡ old_bytes)
-Refuses allows (Cleanup cause) old told new old_bytes new_bytes = IsBrokenExit allows cause old told new old_bytes new_bytes
-Refuses allows (Draw cause) old told new old_bytes new_bytes = IsBrokenStep allows old told new old_bytes new_bytes
-Refuses allows e old told new old_bytes new_bytes = ⊥
+abbrev pub Refuses : {K : Type 0} → Allows K → Refusal → Seen K → Told → Seen K → Option (List ℕ) → Option (List ℕ) → Type 0
+Refuses allows for_memory old told new old_bytes new_bytes = (old.status ≡ status.Running) × (new ≡ old) × (new_bytes ≡ old_bytes)
+Refuses allows (for_size cols rows) old told new old_bytes new_bytes = IsBadSize allows old told new cols rows × (new_bytes ≡ old_bytes)
+Refuses allows after_failure old told new old_bytes new_bytes = (old.status ≡ status.Failed) × (new ≡ old) × (new_bytes ≡ old_bytes)
+Refuses allows after_exit old told new old_bytes new_bytes = (old.status ≡ status.Ended) × (new ≡ old) × (new_bytes ≡ old_bytes)
+Refuses allows (at_cleanup cause) old told new old_bytes new_bytes = IsBrokenExit allows cause old told new old_bytes new_bytes
+Refuses allows at_drawing old told new old_bytes new_bytes = IsBrokenStep allows old told new old_bytes new_bytes
+Refuses allows refusal old told new old_bytes new_bytes = ⊥
 
 -- the sink refused a write or a flush, or took nothing
-abbrev pub IsSinkFault : MinusError → Type 0
-IsSinkFault (Cleanup cause) = Unit {0}
-IsSinkFault (Draw cause) = Unit {0}
-IsSinkFault e = ⊥
+abbrev pub IsSinkFault : Refusal → Type 0
+IsSinkFault (at_cleanup cause) = Unit {0}
+IsSinkFault at_drawing = Unit {0}
+IsSinkFault refusal = ⊥
 
 -- what is still to be cleaned up: nothing after an exit
 abbrev pub cleanup_after : Status → List ℕ

@@ -29,11 +29,7 @@ fn push_blanks(alloc: Global, rows: &mut Vec<String>, count: usize) -> Result<()
 }
 
 // The texts of the page of a state that has these rows of text at its top.
-fn page_rows(
-    alloc: Global,
-    state: &PagerState,
-    shown: &[&str],
-) -> Result<Vec<String>, AllocError>
+fn page_rows(alloc: Global, state: &PagerState, shown: &[&str]) -> Result<Vec<String>, AllocError>
     requires { length shown.now < state.now.rows }
     ensures { IfOk result (λ p. map string_bytes p.items ≡ (page_with (control_of state.now) (map (λ r. r.now) shown.now)).texts) }
 {
@@ -59,7 +55,11 @@ impl Page {
     ghost use Rattle.minus.specs.Reads.{control_of};
 
     // The page of a state that has these rows of text at its top.
-    pub(crate) fn form(alloc: Global, state: &PagerState, shown: &[&str]) -> Result<Page, MinusError>
+    pub(crate) fn form(
+        alloc: Global,
+        state: &PagerState,
+        shown: &[&str],
+    ) -> Result<Page, MinusError>
         requires { length shown.now < state.now.rows }
         ensures rows { IfOk result (λ p. map string_bytes p.rows.items ≡ (page_with (control_of state.now) (map (λ r. r.now) shown.now)).texts) }
         ensures cursor { IfOk result (λ p. p.cursor ≡ (page_with (control_of state.now) (map (λ r. r.now) shown.now)).cursor) }

@@ -86,6 +86,7 @@ struct Progress {
 
 impl<S, P: Parts> Core<S, P> {
     ghost use Rattle.std.specs.Prelude.{◌≡◌, ◌++◌, map, None, OnOk, OnErr, IfOk, IfErr, string_bytes};
+    ghost use Rattle.minus_term.specs.Refusals.{refusal_of};
     ghost use Rattle.minus_term.specs.Written.{written_all};
     ghost use Rattle.minus.specs.Control.{Control};
     ghost use Rattle.minus.specs.Page.{page};
@@ -155,7 +156,7 @@ impl<S, P: Parts> Core<S, P> {
         ensures size { OnOk result (IsSize (seen_of self.new).control.cols (seen_of self.new).control.rows) }
         ensures sink { self.new.sink ≡ self.old.sink }
         ensures err { OnErr result (seen_of self.new ≡ seen_of self.old) }
-        ensures unformed { IfErr result (λ e. IsUnformed e (wanted_of command)) }
+        ensures unformed { IfErr result (λ e. IsUnformed (refusal_of e) (wanted_of command)) }
     {
         let change = self.state.prepare(self.alloc, command)?;
         self.draw_change(drawing, &change)?;
@@ -167,15 +168,13 @@ impl<S, P: Parts> Core<S, P> {
 impl<S: OutputSink + Drop, P: Calls> Core<S, P> {
     ghost use Rattle.std.specs.Prelude.{◌≡◌, ◌++◌, ◌↔◌, ℕ, true, [], map, reverse, None, Some, OnOk, OnErr, IfOk, IfErr, IfNone, IsOk, IsErrOf};
     ghost use Rattle.std.specs.Io.KnownBytes.{Appends};
-    ghost use Rattle.minus_term.specs.Counts.{Stays, Rises, AppendsFront};
-    ghost use Rattle.minus_term.specs.Terminal.{cleanup_bytes, CleanupBreaksOff};
-    ghost use Rattle.minus_term.specs.Written.{written_all};
+    ghost use Rattle.minus_term.specs.Counts.{Stays, Rises};
+    ghost use Rattle.minus_term.specs.Terminal.{CleanupBreaksOff};
     ghost use Rattle.minus.specs.Works.{is_drawn};
     ghost use Rattle.minus.specs.Reads.{wanted_of, told_of, a_command};
     ghost use Rattle.minus.specs.Table.{effect};
-    ghost use Rattle.minus.specs.Drawn.{Drawn, BrokenOff};
-    ghost use Rattle.minus.specs.Steps.{Asks, IsStep, Refuses, IsSinkFault, cleanup_after};
-    ghost use Rattle.minus.specs.Runs.{IsRun, StopsAtSink};
+    ghost use Rattle.minus.specs.Steps.{Asks, cleanup_after};
+    ghost use Rattle.minus.specs.SessionSteps.{IsStepOf, IsRefusedStepOf, IsRunOf};
     ghost use Rattle.minus.specs.Answers.{IsAnswer};
     ghost use Rattle.minus.specs.Core.{seen_of};
     ghost use Rattle.minus.specs.declared.status.Status.TheVariants as status;
@@ -186,11 +185,8 @@ impl<S: OutputSink + Drop, P: Calls> Core<S, P> {
         requires drawn { is_drawn drawing ≡ true }
         requires on { (effect (seen_of self.old).control (wanted_of command)).exits_by ≡ None }
         requires running { (seen_of self.old).status ≡ status.Running }
-        ensures step { OnOk result ((answer : Answer) → IsAnswer None answer → IsStep P.Classifier.allows (seen_of self.old) (a_command (wanted_of command)) (seen_of self.new) answer (S.contents self.old.sink) (S.contents self.new.sink)) }
-        ensures stays { OnOk result (Stays (S.refused self.old.sink) (S.refused self.new.sink)) }
-        ensures refused { IfErr result (λ e. Refuses P.Classifier.allows e (seen_of self.old) (a_command (wanted_of command)) (seen_of self.new) (S.contents self.old.sink) (S.contents self.new.sink)) }
-        ensures rises { IfErr result (λ e. IsSinkFault e → Rises (S.refused self.old.sink) (S.refused self.new.sink)) }
-        ensures untouched { IfErr result (λ e. (IsSinkFault e → ⊥) → self.new.sink ≡ self.old.sink) }
+        ensures step { OnOk result ((a : Answer) → IsAnswer None a → IsStepOf S.contents S.refused P.Classifier.allows self.old (a_command (wanted_of command)) self.new a) }
+        ensures refused { IfErr result (λ e. IsRefusedStepOf S.contents S.refused P.Classifier.allows self.old (a_command (wanted_of command)) self.new e) }
     {
         self.take(command, drawing)?;
         if let Err(cause) = draw_bytes(&mut self.sink, &self.drawing) {
@@ -204,11 +200,8 @@ impl<S: OutputSink + Drop, P: Calls> Core<S, P> {
     fn exit(&mut self, command: &Command, exit: (ExitStrategy, u8)) -> Result<Answer, MinusError>
         requires exits { (effect (seen_of self.old).control (wanted_of command.now)).exits_by ≡ Some exit }
         requires running { (seen_of self.old).status ≡ status.Running }
-        ensures step { IfOk result (λ a. IsStep P.Classifier.allows (seen_of self.old) (a_command (wanted_of command.now)) (seen_of self.new) a (S.contents self.old.sink) (S.contents self.new.sink)) }
-        ensures stays { OnOk result (Stays (S.refused self.old.sink) (S.refused self.new.sink)) }
-        ensures refused { IfErr result (λ e. Refuses P.Classifier.allows e (seen_of self.old) (a_command (wanted_of command.now)) (seen_of self.new) (S.contents self.old.sink) (S.contents self.new.sink)) }
-        ensures rises { IfErr result (λ e. IsSinkFault e → Rises (S.refused self.old.sink) (S.refused self.new.sink)) }
-        ensures untouched { IfErr result (λ e. (IsSinkFault e → ⊥) → self.new.sink ≡ self.old.sink) }
+        ensures step { IfOk result (λ a. IsStepOf S.contents S.refused P.Classifier.allows self.old (a_command (wanted_of command.now)) self.new a) }
+        ensures refused { IfErr result (λ e. IsRefusedStepOf S.contents S.refused P.Classifier.allows self.old (a_command (wanted_of command.now)) self.new e) }
     {
         if let Err(cause) = cleanup(&mut self.sink, true) {
             self.status = Status::Failed;
@@ -221,11 +214,8 @@ impl<S: OutputSink + Drop, P: Calls> Core<S, P> {
     // Does what a command asks for, and draws it.
     fn work_off(&mut self, command: Command) -> Result<Answer, MinusError>
         requires { (seen_of self.old).status ≡ status.Running }
-        ensures step { IfOk result (λ a. IsStep P.Classifier.allows (seen_of self.old) (a_command (wanted_of command)) (seen_of self.new) a (S.contents self.old.sink) (S.contents self.new.sink)) }
-        ensures stays { OnOk result (Stays (S.refused self.old.sink) (S.refused self.new.sink)) }
-        ensures refused { IfErr result (λ e. Refuses P.Classifier.allows e (seen_of self.old) (a_command (wanted_of command)) (seen_of self.new) (S.contents self.old.sink) (S.contents self.new.sink)) }
-        ensures rises { IfErr result (λ e. IsSinkFault e → Rises (S.refused self.old.sink) (S.refused self.new.sink)) }
-        ensures untouched { IfErr result (λ e. (IsSinkFault e → ⊥) → self.new.sink ≡ self.old.sink) }
+        ensures step { IfOk result (λ a. IsStepOf S.contents S.refused P.Classifier.allows self.old (a_command (wanted_of command)) self.new a) }
+        ensures refused { IfErr result (λ e. IsRefusedStepOf S.contents S.refused P.Classifier.allows self.old (a_command (wanted_of command)) self.new e) }
     {
         if let Some(exit) = self.state.exit_of(&command) {
             return self.exit(&command, exit);
@@ -262,15 +252,12 @@ impl<S: OutputSink + Drop, P: Calls> Core<S, P> {
     /// [`MinusError::Draw`] and, at an exit, [`MinusError::Cleanup`] where the sink refuses a write or the flush, or
     /// takes nothing: a beginning of the bytes was written, and the session has failed.
     pub fn step(&mut self, input: Input) -> Result<Answer, MinusError>
-        ensures step { IfOk result (λ a. IsStep P.Classifier.allows (seen_of self.old) (told_of input) (seen_of self.new) a (S.contents self.old.sink) (S.contents self.new.sink)) }
-        ensures stays { OnOk result (Stays (S.refused self.old.sink) (S.refused self.new.sink)) }
+        ensures step { IfOk result (λ a. IsStepOf S.contents S.refused P.Classifier.allows self.old (told_of input) self.new a) }
 
         // A refusal: what it leaves, and when it comes.
-        ensures refused { IfErr result (λ e. Refuses P.Classifier.allows e (seen_of self.old) (told_of input) (seen_of self.new) (S.contents self.old.sink) (S.contents self.new.sink)) }
+        ensures refused { IfErr result (λ e. IsRefusedStepOf S.contents S.refused P.Classifier.allows self.old (told_of input) self.new e) }
         ensures failed { IsErrOf result MinusError.Failed ↔ ((seen_of self.old).status ≡ status.Failed) }
         ensures ended { IsErrOf result MinusError.Ended ↔ ((seen_of self.old).status ≡ status.Ended) }
-        ensures rises { IfErr result (λ e. IsSinkFault e → Rises (S.refused self.old.sink) (S.refused self.new.sink)) }
-        ensures untouched { IfErr result (λ e. (IsSinkFault e → ⊥) → self.new.sink ≡ self.old.sink) }
     {
         match self.status {
             Status::Running => {}
@@ -284,9 +271,7 @@ impl<S: OutputSink + Drop, P: Calls> Core<S, P> {
 
     // Works inputs off from the end of a list, until one is refused or the session has exited.
     fn run_from_end(&mut self, left: &mut Vec<Input>) -> Progress
-        ensures run { IsRun P.Classifier.allows told_of (seen_of self.old) (seen_of self.new) (reverse left.old.items) result.done result.last result.stopped (reverse left.new.items) (S.contents self.old.sink) (S.contents self.new.sink) }
-        ensures stays { (StopsAtSink result.stopped → ⊥) → Stays (S.refused self.old.sink) (S.refused self.new.sink) }
-        ensures rises { StopsAtSink result.stopped → Rises (S.refused self.old.sink) (S.refused self.new.sink) }
+        ensures { IsRunOf S.contents S.refused P.Classifier.allows self.old self.new (reverse left.old.items) result.done result.last result.stopped (reverse left.new.items) }
     {
         let mut done = 0;
         let mut last = None;
@@ -322,9 +307,7 @@ impl<S: OutputSink + Drop, P: Calls> Core<S, P> {
     /// Works inputs off in order, until one is refused or the session has exited. An input that is refused is dropped,
     /// and those after it, or after an exit, are handed back.
     pub fn run(&mut self, inputs: Vec<Input>) -> Ran
-        ensures run { IsRun P.Classifier.allows told_of (seen_of self.old) (seen_of self.new) inputs.items result.done result.last result.stopped result.rest.items (S.contents self.old.sink) (S.contents self.new.sink) }
-        ensures stays { (StopsAtSink result.stopped → ⊥) → Stays (S.refused self.old.sink) (S.refused self.new.sink) }
-        ensures rises { StopsAtSink result.stopped → Rises (S.refused self.old.sink) (S.refused self.new.sink) }
+        ensures { IsRunOf S.contents S.refused P.Classifier.allows self.old self.new inputs.items result.done result.last result.stopped result.rest.items }
     {
         let mut left = inputs;
         left.reverse();

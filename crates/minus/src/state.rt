@@ -96,24 +96,33 @@ pub struct PagerState {
 }
 
 impl PagerState {
-    ghost use Rattle.std.specs.Prelude.{◌≡◌, ◌-◌, [], ◌++◌, map, take, drop, OnOk, OnErr, IfOk, IfErr};
+    ghost use Rattle.std.specs.Prelude.{◌≡◌, ◌-◌, ◌++◌, map, take, drop, OnOk, OnErr, IfOk, IfErr};
     ghost use Rattle.minus_text.specs.Document.{rows_of};
     ghost use Rattle.minus.specs.Control.{Control, document_of};
     ghost use Rattle.minus.specs.Table.{effect, move_drawing, moved, changed_by, resizes, IsPossible};
+    ghost use Rattle.minus_term.specs.Refusals.{refusal_of};
     ghost use Rattle.minus_term.specs.Written.{written_all};
     ghost use Rattle.minus.specs.Drawings.{ops_between};
     ghost use Rattle.minus.specs.Reads.{control_of, wanted_of, IsFormed};
     ghost use Rattle.minus.specs.NextTexts.{next_document, IsNext};
-    ghost use Rattle.minus.specs.Changes.{IsChange, IsUnformed};
-    ghost use Rattle.minus.specs.Starts.{taken};
+    ghost use Rattle.minus.specs.Changes.{IsChange, IsUnformed, IsUnformedState};
+    ghost use Rattle.minus.specs.Starts.{at_start, taken};
 
-    /// No text yet.
+    /// No text yet, for a terminal of so many columns and rows.
+    ///
+    /// # Errors
+    ///
+    /// [`MinusError::BadSize`] where the columns or the rows are not from 1 to 65,535, and [`MinusError::Memory`] where
+    /// there is no memory.
     pub fn new(alloc: Global, cols: usize, rows: usize) -> Result<PagerState, MinusError>
-        requires { IsSize cols rows }
-        ensures control { IfOk result (λ s. control_of s ≡ record { text = []; cols = cols; rows = rows; mark = 0 }) }
+        ensures control { IfOk result (λ s. control_of s ≡ at_start cols rows) }
         ensures formed { IfOk result IsFormed }
-        ensures memory { IfErr result (λ e. e ≡ MinusError.Memory) }
+        ensures size { OnOk result (IsSize cols rows) }
+        ensures refused { IfErr result (λ e. IsUnformedState (refusal_of e) cols rows) }
     {
+        if !is_size(cols, rows) {
+            return Err(MinusError::BadSize(cols, rows));
+        }
         let mut screen = Screen::new(alloc);
         let _ = screen.set_text(alloc, "", cols)?;
         Ok(PagerState {
@@ -199,14 +208,11 @@ impl PagerState {
 
     // The state in another size, for which the text is formed anew.
     fn resized(&self, alloc: Global, cols: usize, rows: usize) -> Result<Change, MinusError>
-        requires { IsFormed self.now }
+        requires formed { IsFormed self.now }
+        requires size { IsSize cols rows }
         ensures next { IfOk result (λ c. IsChange (control_of self.now) c (record (control_of self.now) { cols = cols; rows = rows })) }
-        ensures possible { OnOk result (IsSize cols rows) }
-        ensures unformed { IfErr result (λ e. IsUnformed e (resizes cols rows)) }
+        ensures memory { IfErr result (λ e. e ≡ MinusError.Memory) }
     {
-        if !is_size(cols, rows) {
-            return Err(MinusError::BadSize(cols, rows));
-        }
         let text = formed_anew(alloc, self.screen.orig_text(), cols)?;
         Ok(Change {
             text,
@@ -221,7 +227,7 @@ impl PagerState {
         requires { IsFormed self.now }
         ensures next { IfOk result (λ c. IsChange (control_of self.now) c (moved (effect (control_of self.now) (wanted_of command)).changed (effect (control_of self.now) (wanted_of command)).moves_to)) }
         ensures possible { OnOk result (IsPossible (wanted_of command)) }
-        ensures unformed { IfErr result (λ e. IsUnformed e (wanted_of command)) }
+        ensures unformed { IfErr result (λ e. IsUnformed (refusal_of e) (wanted_of command)) }
     {
         match command {
             Command::SetData(text) => Ok(self.change_to(formed_anew(alloc, &text, self.cols)?)),
@@ -235,8 +241,11 @@ impl PagerState {
                 cols: self.cols,
                 rows: self.rows,
             }),
-            Command::UserInput(InputEvent::UpdateTermArea(cols, rows)) => {
+            Command::UserInput(InputEvent::UpdateTermArea(cols, rows)) if is_size(cols, rows) => {
                 self.resized(alloc, cols, rows)
+            }
+            Command::UserInput(InputEvent::UpdateTermArea(cols, rows)) => {
+                Err(MinusError::BadSize(cols, rows))
             }
             Command::UserInput(InputEvent::Exit | InputEvent::Ignore) => {
                 Ok(self.change_to(NextText::Same))
@@ -249,7 +258,7 @@ impl PagerState {
         requires { IsFormed self.now }
         ensures next { IfOk result (λ c. IsChange (control_of self.now) c (changed_by (effect (control_of self.now) (wanted_of command)))) }
         ensures possible { OnOk result (IsPossible (wanted_of command)) }
-        ensures unformed { IfErr result (λ e. IsUnformed e (wanted_of command)) }
+        ensures unformed { IfErr result (λ e. IsUnformed (refusal_of e) (wanted_of command)) }
     {
         let mut change = self.next_text(alloc, command)?;
         let top = change

@@ -6,7 +6,7 @@ use Rattle.std.specs.Io.KnownBytes.{Appends, Consumes, IsAtEnd}
 use Rattle.minus_term.specs.declared.error.MinusError.{MinusError}
 use Rattle.minus_term.specs.declared.error.MinusError.TheVariants.{Cleanup}
 use Rattle.minus_term.specs.declared.error.CleanupError.{CleanupError}
-use Rattle.minus_term.specs.Refusals.{number_of}
+use Rattle.minus_term.specs.Refusals.{number_of, refusal_of}
 use Rattle.minus_term.specs.Terminal.{CleanupBreaksOff}
 use Rattle.minus.specs.declared.input.ResizeAlone.{ResizeAlone}
 use Rattle.minus.specs.declared.session.Answer.{Answer}
@@ -85,7 +85,7 @@ pub record IsStepRefused (e : MinusError) (cols rows : ℕ) (told : List Told) :
   pub taken : IsTaken cols rows told answers reached bytes (refused ∷ rest)
   pub left : Seen ResizeAlone
   pub left_bytes : Option (List ℕ)
-  pub refuses : Refuses resize_alone e reached refused left bytes left_bytes
+  pub refuses : Refuses resize_alone (refusal_of e) reached refused left bytes left_bytes
 
 -- all was taken, and the cleanup at the end was refused, whose bytes are asked for
 pub record IsFinishRefused (e : MinusError) (mode : Mode) (cols rows : ℕ) (told : List Told) : Type 0 where
@@ -103,7 +103,7 @@ pub record IsFinishRefused (e : MinusError) (mode : Mode) (cols rows : ℕ) (tol
 
 -- why the pager refuses: at its start, at a step, or at its end
 abbrev pub PagerRefuses : MinusError → Mode → ℕ → ℕ → List Told → Type 0
-PagerRefuses e mode cols rows told = IsStartRefused e Dynamic cols rows true ⊎ (IsStepRefused e cols rows told ⊎ IsFinishRefused e mode cols rows told)
+PagerRefuses e mode cols rows told = IsStartRefused (refusal_of e) Dynamic cols rows true ⊎ (IsStepRefused e cols rows told ⊎ IsFinishRefused e mode cols rows told)
 
 -- memory ran out, or the pager refuses, by its number
 abbrev pub IsRefusal : ℕ → Mode → ℕ → ℕ → List Told → Type 0

@@ -4,7 +4,7 @@ ghost use Rattle.minus_term.specs.FullRedraw.{FullRedrawShowsItsPage};
 ghost use Rattle.minus_term.specs.Append.{AppendShowsItsPage, AppendPutsFew};
 ghost use Rattle.minus_term.specs.Scroll.{ScrollShowsItsPage, ScrollPutsFew};
 ghost use Rattle.minus_term.specs.Operations.{op_of, GoTo};
-ghost use Rattle.minus_term.specs.PlayedScreen.{PlayIsMonotone};
+ghost use Rattle.minus_term.specs.PlayedScreen.{PlayIsMonotone, UnknownStandsForAll};
 ghost use Rattle.minus_term.specs.Written.{written, scroll_bytes};
 
 use std::alloc::{AllocError, Global};
@@ -88,6 +88,12 @@ pub fn write_op(alloc: Global, out: &mut Vec<u8>, op: &DrawOp<'_>) -> Result<(),
 /// is known.
 pub fn play_is_monotone()
     ensures { PlayIsMonotone }
+{}
+
+/// A law: what operations show on a screen of which nothing is known, they show on every screen of
+/// that size.
+pub fn the_unknown_screen_stands_for_all()
+    ensures { UnknownStandsForAll }
 {}
 
 /// A law: the drawing of a whole page shows it, whatever the screen showed before.
