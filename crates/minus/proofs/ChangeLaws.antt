@@ -1,10 +1,12 @@
 -- A change that was put in its place.
-use Rattle.std.proofs.Common.{◌≡◌, ℕ, List, sym, ap, subst, ◌∙◌}
-use Rattle.minus_text.specs.Document.{Document}
+use Rattle.std.proofs.Common.{◌≡◌, ℕ, ◌-◌, List, take, drop, refl, sym, ap, subst, ◌∙◌}
+use Rattle.minus_text.specs.Document.{Document, rows_of}
 use Rattle.minus.specs.declared.state.PagerState.{PagerState}
 use Rattle.minus.specs.declared.change.Change.{Change}
 use Rattle.minus.specs.declared.change.NextText.{NextText}
-use Rattle.minus.specs.Control.{Control, document_of}
+use Rattle.minus.specs.declared.change.NextText.TheVariants.{Same}
+use Rattle.minus.specs.Control.{Control, document_of, text_rows}
+use Rattle.minus.specs.Page.{shown}
 use Rattle.minus.specs.NextTexts.{next_document, IsNext}
 use Rattle.minus.specs.Changes.{IsChange}
 use Rattle.minus.specs.Reads.{control_of, IsFormed}
@@ -39,3 +41,15 @@ change_anew s change next text cols new is belongs formed t k m c r = record {
   cols_are = c;
   rows_are = r;
 }
+
+-- the rows of text on the page that a change leads to
+pub shown_is : (s : PagerState) (change : Change) (new : Control) → IsFormed s → IsChange (control_of s) change new → take (change.rows - 1) (drop change.mark (rows_of (next_document s.screen change.text))) ≡ shown new
+shown_is s change new f h =
+    let document : next_document s.screen change.text ≡ document_of new = ap (λ (d : Document). next_document d change.text) f.document ∙ h.document in
+    ap (λ (d : Document). take (change.rows - 1) (drop change.mark (rows_of d))) document
+    ∙ ap (λ (n : ℕ). take (n - 1) (drop change.mark (text_rows new))) h.rows_are
+    ∙ ap (λ (m : ℕ). take (new.rows - 1) (drop m (text_rows new))) h.mark_is
+
+-- a change that changes nothing
+pub unchanged : (s : PagerState) (change : Change) → change.text ≡ Same → change.mark ≡ s.upper_mark → change.cols ≡ s.cols → change.rows ≡ s.rows → IsChange (control_of s) change (control_of s)
+unchanged s change is m c r = record { belongs = rw is tt; document = rw is refl; mark_is = m; cols_are = c; rows_are = r }

@@ -1,12 +1,11 @@
 -- What a command leaves, formed beside the state.
-use Rattle.std.specs.Prelude.{◌≡◌}
+use Rattle.std.specs.Prelude.{◌≡◌, ℕ}
 use Rattle.minus.specs.declared.change.Change.{Change}
 use Rattle.minus.specs.NextTexts.{next_document, IsNext}
 use Rattle.minus.specs.Control.{Control, document_of}
 use Rattle.minus.specs.Sizes.{IsSize}
 use Rattle.minus.specs.Table.{Wanted, resizes}
-use Rattle.minus_term.specs.declared.error.MinusError.{MinusError}
-use Rattle.minus_term.specs.declared.error.MinusError.TheVariants.{Memory, BadSize}
+use Rattle.minus_term.specs.Refusals.{Refusal, for_memory, for_size}
 
 -- the change leads from one control to the other
 pub record IsChange (old : Control) (change : Change) (new : Control) : Type 0 where
@@ -17,7 +16,13 @@ pub record IsChange (old : Control) (change : Change) (new : Control) : Type 0 w
   pub rows_are : change.rows ≡ new.rows
 
 -- why a command was not formed: for want of memory, or for a size that is none of a terminal
-abbrev pub IsUnformed : MinusError → Wanted → Type 0
-IsUnformed Memory w = Unit {0}
-IsUnformed (BadSize cols rows) w = (w ≡ resizes cols rows) × (IsSize cols rows → ⊥)
-IsUnformed e w = ⊥
+abbrev pub IsUnformed : Refusal → Wanted → Type 0
+IsUnformed for_memory w = Unit {0}
+IsUnformed (for_size cols rows) w = (w ≡ resizes cols rows) × (IsSize cols rows → ⊥)
+IsUnformed refusal w = ⊥
+
+-- why a state of so many columns and rows was not formed: for its size, or, where that is one, for want of memory
+abbrev pub IsUnformedState : Refusal → ℕ → ℕ → Type 0
+IsUnformedState for_memory cols rows = IsSize cols rows
+IsUnformedState (for_size c r) cols rows = (c ≡ cols) × (r ≡ rows) × (IsSize cols rows → ⊥)
+IsUnformedState refusal cols rows = ⊥

@@ -1,5 +1,5 @@
 -- What the commands define: the text on show, the size and the mark.
-use Rattle.std.specs.Prelude.{ℕ, ◌-◌, ◌==◌, ◌&&◌, Bool, min, List, length}
+use Rattle.std.specs.Prelude.{◌≡◌, ℕ, ◌-◌, ◌≤◌, min, List, length}
 use Rattle.minus_text.specs.Document.{Document, rows_of}
 
 pub record Control : Type 0 where
@@ -24,6 +24,11 @@ top c = length (text_rows c) - (c.rows - 1)
 abbrev pub clamp : Control → Control
 clamp c = record c { mark = min c.mark (top c) }
 
--- whether both have the size of the same terminal
-abbrev pub has_size_of : Control → Control → Bool
-has_size_of a b = a.cols == b.cols && a.rows == b.rows
+-- a control whose mark the clamp leaves
+abbrev pub IsClamped : Control → Type 0
+IsClamped c = c.mark ≤ top c
+
+-- both have the size of the same terminal
+pub record SameSize (a b : Control) : Type 0 where
+  pub same_cols : a.cols ≡ b.cols
+  pub same_rows : a.rows ≡ b.rows

@@ -1,8 +1,4 @@
 //! What a pager is told.
-ghost use Rattle.std.specs.Prelude.{◌≡◌};
-ghost use Rattle.minus.specs.Table.{drawing_of};
-ghost use Rattle.minus.specs.Reads.{wanted_of};
-
 use crate::input::InputEvent;
 use minus_term::Event;
 
@@ -26,26 +22,13 @@ pub enum Input {
     Event(Event),
 }
 
-/// How what a command does is drawn.
+/// How what comes of a command is drawn.
 #[derive(Clone, Copy, Debug, PartialEq, Eq)]
 pub enum Drawing {
-    /// Not at all: nothing has changed.
+    /// Not at all: the page stays as it is.
     Nothing,
     /// The whole page.
     Full,
-    /// The terminal is cleaned up.
-    Ending,
-}
-
-impl Command {
-    // How it is drawn.
-    pub(crate) fn drawing(&self) -> Drawing
-        ensures { result ≡ drawing_of (wanted_of self.now) }
-    {
-        match self {
-            Command::UserInput(InputEvent::Exit) => Drawing::Ending,
-            Command::UserInput(InputEvent::Ignore) => Drawing::Nothing,
-            Command::SetData(_) | Command::AppendData(_) | Command::UserInput(_) => Drawing::Full,
-        }
-    }
+    /// The rows that a move of the mark brings onto the page.
+    Scroll,
 }

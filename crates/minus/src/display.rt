@@ -1,9 +1,11 @@
 //! Drawings, as bytes in a buffer.
-ghost use Rattle.std.specs.Prelude.{◌≡◌, ◌==◌, [], ◌∷◌, ◌++◌, ◌-◌, length, replicate, if◌then◌else◌, map, OnOk, IfOk, string_bytes};
+ghost use Rattle.std.specs.Prelude.{◌≡◌, ◌==◌, [], ◌∷◌, ◌++◌, ◌-◌, ◌≤◌, length, replicate, if◌then◌else◌, map, OnOk, IfOk, string_bytes};
 ghost use Rattle.std.specs.List.{flat_map};
 ghost use Rattle.minus_term.specs.Operations.{Put};
 ghost use Rattle.minus_term.specs.Written.{written_all};
 ghost use Rattle.minus_term.specs.FullRedraw.{full_ops, prompt_ops, row_ops};
+ghost use Rattle.minus_term.specs.Scroll.{down_ops, up_ops, scroll_ops};
+ghost use Rattle.minus.specs.Control.{Control};
 ghost use Rattle.minus.specs.PromptRow.{prompt_row, prompt, fitted};
 
 use minus_term::{DrawOp, write_op};
@@ -77,6 +79,83 @@ pub fn draw_full(
     Ok(())
 }
 
+// Adds the bytes that move the page's rows up by k, and draw the last k rows of text and the prompt row.
+fn draw_down(
+    alloc: Global,
+    out: &mut Vec<u8>,
+    rows: u16,
+    k: u16,
+    shown: &[&str],
+    prompt: &str,
+) -> Result<(), AllocError>
+    requires some { 1 ≤ rows }
+    requires within { k ≤ rows - 1 }
+    ensures { OnOk result (out.new.items ≡ out.old.items ++ written_all (down_ops rows k (map (λ r. r.now) shown.now) prompt.now)) }
+{
+    let last = usize::from(rows - 1 - k).min(shown.len());
+    write_op(alloc, out, &DrawOp::ScrollUp(k))?;
+    write_op(alloc, out, &DrawOp::GoTo(0, rows - k - 1))?;
+    write_op(alloc, out, &DrawOp::ClearRow)?;
+    write_rows(alloc, out, &shown[last..])?;
+    write_prompt(alloc, out, rows, prompt)?;
+    Ok(())
+}
+
+// Adds the bytes that move the page's rows down by k, and draw the first k rows of text and the prompt row.
+fn draw_up(
+    alloc: Global,
+    out: &mut Vec<u8>,
+    rows: u16,
+    k: u16,
+    shown: &[&str],
+    prompt: &str,
+) -> Result<(), AllocError>
+    ensures { OnOk result (out.new.items ≡ out.old.items ++ written_all (up_ops rows k (map (λ r. r.now) shown.now) prompt.now)) }
+{
+    let first = usize::from(k).min(shown.len());
+    write_op(alloc, out, &DrawOp::ScrollDown(k))?;
+    write_op(alloc, out, &DrawOp::GoTo(0, 0))?;
+    write_rows(alloc, out, &shown[..first])?;
+    write_prompt(alloc, out, rows, prompt)?;
+    Ok(())
+}
+
+/// Adds the bytes that draw the page at the second mark over the page at the first.
+pub fn draw_scroll(
+    alloc: Global,
+    out: &mut Vec<u8>,
+    rows: u16,
+    from: usize,
+    to: usize,
+    shown: &[&str],
+    prompt: &str,
+) -> Result<(), AllocError>
+    requires { 1 ≤ rows }
+    ensures { OnOk result (out.new.items ≡ out.old.items ++ written_all (scroll_ops rows from to (map (λ r. r.now) shown.now) prompt.now)) }
+{
+    let most = usize::from(rows - 1);
+    if from <= to {
+        draw_down(
+            alloc,
+            out,
+            rows,
+            (to - from).min(most) as u16,
+            shown,
+            prompt,
+        )?;
+    } else {
+        draw_up(
+            alloc,
+            out,
+            rows,
+            (from - to).min(most) as u16,
+            shown,
+            prompt,
+        )?;
+    }
+    Ok(())
+}
+
 // Adds so many spaces.
 fn push_spaces(row: &mut String, count: usize) -> Result<(), AllocError>
     ensures { OnOk result (string_bytes row.new ≡ string_bytes row.old ++ replicate count 32) }
@@ -96,9 +175,9 @@ fn push_fitted(row: &mut String, cols: usize) -> Result<(), AllocError>
     Ok(())
 }
 
-/// The prompt row for so many columns, in its style.
+/// The prompt row of a page of so many columns, in its style.
 pub fn format_prompt(alloc: Global, cols: usize) -> Result<String, AllocError>
-    ensures { IfOk result (λ row. string_bytes row ≡ prompt_row cols) }
+    ensures { IfOk result (λ row. (c : Control) → c.cols ≡ cols → string_bytes row ≡ prompt_row c) }
 {
     let mut row = String::from_str(alloc, "\x1b[2;40;37m")?;
     push_fitted(&mut row, cols)?;

@@ -5,8 +5,8 @@ ghost use Rattle.minus.specs.NextTexts.{next_document, IsNext};
 ghost use Rattle.minus.specs.Sizes.{IsSize};
 
 use crate::change::{Change, NextText};
-use crate::commands::Command;
-use crate::display::{draw_full, format_prompt};
+use crate::commands::{Command, Drawing};
+use crate::display::{draw_full, draw_scroll, format_prompt};
 use crate::input::InputEvent;
 use minus_term::MinusError;
 use minus_text::Screen;
@@ -96,25 +96,33 @@ pub struct PagerState {
 }
 
 impl PagerState {
-    ghost use Rattle.std.specs.Prelude.{◌≡◌, ◌-◌, [], ◌++◌, map, take, drop, OnOk, OnErr, IfOk, IfErr};
+    ghost use Rattle.std.specs.Prelude.{◌≡◌, ◌-◌, ◌++◌, map, take, drop, OnOk, OnErr, IfOk, IfErr};
     ghost use Rattle.minus_text.specs.Document.{rows_of};
-    ghost use Rattle.minus.specs.Control.{document_of};
-    ghost use Rattle.minus.specs.Table.{effect, moved, changed_by, resizes, IsPossible};
+    ghost use Rattle.minus.specs.Control.{Control, document_of};
+    ghost use Rattle.minus.specs.Table.{effect, move_drawing, moved, changed_by, resizes, IsPossible};
+    ghost use Rattle.minus_term.specs.Refusals.{refusal_of};
     ghost use Rattle.minus_term.specs.Written.{written_all};
-    ghost use Rattle.minus_term.specs.FullRedraw.{full_ops};
-    ghost use Rattle.minus.specs.PromptRow.{prompt_row};
+    ghost use Rattle.minus.specs.Drawings.{ops_between};
     ghost use Rattle.minus.specs.Reads.{control_of, wanted_of, IsFormed};
     ghost use Rattle.minus.specs.NextTexts.{next_document, IsNext};
-    ghost use Rattle.minus.specs.Changes.{IsChange, IsUnformed};
-    ghost use Rattle.minus.specs.Starts.{taken};
+    ghost use Rattle.minus.specs.Changes.{IsChange, IsUnformed, IsUnformedState};
+    ghost use Rattle.minus.specs.Starts.{at_start, taken};
 
-    /// No text yet.
+    /// No text yet, for a terminal of so many columns and rows.
+    ///
+    /// # Errors
+    ///
+    /// [`MinusError::BadSize`] where the columns or the rows are not from 1 to 65,535, and [`MinusError::Memory`] where
+    /// there is no memory.
     pub fn new(alloc: Global, cols: usize, rows: usize) -> Result<PagerState, MinusError>
-        requires { IsSize cols rows }
-        ensures control { IfOk result (λ s. control_of s ≡ record { text = []; cols = cols; rows = rows; mark = 0 }) }
+        ensures control { IfOk result (λ s. control_of s ≡ at_start cols rows) }
         ensures formed { IfOk result IsFormed }
-        ensures memory { IfErr result (λ e. e ≡ MinusError.Memory) }
+        ensures size { OnOk result (IsSize cols rows) }
+        ensures refused { IfErr result (λ e. IsUnformedState (refusal_of e) cols rows) }
     {
+        if !is_size(cols, rows) {
+            return Err(MinusError::BadSize(cols, rows));
+        }
         let mut screen = Screen::new(alloc);
         let _ = screen.set_text(alloc, "", cols)?;
         Ok(PagerState {
@@ -145,6 +153,44 @@ impl PagerState {
         Ok(())
     }
 
+    // How what comes of a command is drawn.
+    pub(crate) fn drawing_of(&self, command: &Command) -> Drawing
+        requires { IsFormed self.now }
+        ensures { result ≡ (effect (control_of self.now) (wanted_of command.now)).drawing }
+    {
+        match command {
+            Command::UserInput(InputEvent::Exit | InputEvent::Ignore) => Drawing::Nothing,
+            Command::UserInput(InputEvent::UpdateUpperMark(mark)) => self.move_drawing(*mark),
+            Command::SetData(_) | Command::AppendData(_) | Command::UserInput(_) => Drawing::Full,
+        }
+    }
+
+    // How a move of the mark is drawn.
+    fn move_drawing(&self, mark: usize) -> Drawing
+        requires { IsFormed self.now }
+        ensures { result ≡ move_drawing (control_of self.now) mark }
+    {
+        let top = self
+            .screen
+            .formatted_lines_count()
+            .saturating_sub(self.rows - 1);
+        if mark.min(top) == self.upper_mark {
+            Drawing::Nothing
+        } else {
+            Drawing::Scroll
+        }
+    }
+
+    // How the program is to go on after a command that is an exit, and the code that it ends with.
+    pub(crate) fn exit_of(&self, command: &Command) -> Option<(ExitStrategy, u8)>
+        ensures { result ≡ (effect (control_of self.now) (wanted_of command.now)).exits_by }
+    {
+        match command {
+            Command::UserInput(InputEvent::Exit) => Some((ExitStrategy::ProcessQuit, 0)),
+            _ => None,
+        }
+    }
+
     // The state as it is, but for the text.
     pub(crate) fn change_to(&self, text: NextText) -> Change
         ensures text { result.text ≡ text }
@@ -162,14 +208,11 @@ impl PagerState {
 
     // The state in another size, for which the text is formed anew.
     fn resized(&self, alloc: Global, cols: usize, rows: usize) -> Result<Change, MinusError>
-        requires { IsFormed self.now }
+        requires formed { IsFormed self.now }
+        requires size { IsSize cols rows }
         ensures next { IfOk result (λ c. IsChange (control_of self.now) c (record (control_of self.now) { cols = cols; rows = rows })) }
-        ensures possible { OnOk result (IsSize cols rows) }
-        ensures unformed { IfErr result (λ e. IsUnformed e (resizes cols rows)) }
+        ensures memory { IfErr result (λ e. e ≡ MinusError.Memory) }
     {
-        if !is_size(cols, rows) {
-            return Err(MinusError::BadSize(cols, rows));
-        }
         let text = formed_anew(alloc, self.screen.orig_text(), cols)?;
         Ok(Change {
             text,
@@ -184,7 +227,7 @@ impl PagerState {
         requires { IsFormed self.now }
         ensures next { IfOk result (λ c. IsChange (control_of self.now) c (moved (effect (control_of self.now) (wanted_of command)).changed (effect (control_of self.now) (wanted_of command)).moves_to)) }
         ensures possible { OnOk result (IsPossible (wanted_of command)) }
-        ensures unformed { IfErr result (λ e. IsUnformed e (wanted_of command)) }
+        ensures unformed { IfErr result (λ e. IsUnformed (refusal_of e) (wanted_of command)) }
     {
         match command {
             Command::SetData(text) => Ok(self.change_to(formed_anew(alloc, &text, self.cols)?)),
@@ -198,8 +241,11 @@ impl PagerState {
                 cols: self.cols,
                 rows: self.rows,
             }),
-            Command::UserInput(InputEvent::UpdateTermArea(cols, rows)) => {
+            Command::UserInput(InputEvent::UpdateTermArea(cols, rows)) if is_size(cols, rows) => {
                 self.resized(alloc, cols, rows)
+            }
+            Command::UserInput(InputEvent::UpdateTermArea(cols, rows)) => {
+                Err(MinusError::BadSize(cols, rows))
             }
             Command::UserInput(InputEvent::Exit | InputEvent::Ignore) => {
                 Ok(self.change_to(NextText::Same))
@@ -212,7 +258,7 @@ impl PagerState {
         requires { IsFormed self.now }
         ensures next { IfOk result (λ c. IsChange (control_of self.now) c (changed_by (effect (control_of self.now) (wanted_of command)))) }
         ensures possible { OnOk result (IsPossible (wanted_of command)) }
-        ensures unformed { IfErr result (λ e. IsUnformed e (wanted_of command)) }
+        ensures unformed { IfErr result (λ e. IsUnformed (refusal_of e) (wanted_of command)) }
     {
         let mut change = self.next_text(alloc, command)?;
         let top = change
@@ -245,20 +291,36 @@ impl PagerState {
         Ok(shown)
     }
 
-    // Adds the bytes that draw the page that a change leads to.
+    // Adds the bytes that draw the page that a change leads to, in this way.
     pub(crate) fn draw_after<'a>(
         &'a self,
         alloc: Global,
         out: &mut Vec<u8>,
+        drawing: Drawing,
         change: &'a Change,
     ) -> Result<(), AllocError>
-        requires { IsNext self.now.screen change.now.text }
-        ensures { OnOk result (out.new.items ≡ out.old.items ++ written_all (full_ops change.now.rows (take (change.now.rows - 1) (drop change.now.mark (rows_of (next_document self.now.screen change.now.text)))) (prompt_row change.now.cols))) }
+        requires formed { IsFormed self.now }
+        requires belongs { IsNext self.now.screen change.now.text }
+        ensures { OnOk result ((new : Control) → IsChange (control_of self.now) change.now new → out.new.items ≡ out.old.items ++ written_all (ops_between drawing (control_of self.now) new)) }
     {
         let shown = self.shown_after(alloc, change)?;
         let prompt = format_prompt(alloc, change.cols)?;
-        draw_full(alloc, out, change.rows as u16, &shown, &prompt)?;
-        Ok(())
+        let rows = change.rows as u16;
+        match drawing {
+            Drawing::Nothing => Ok(()),
+            Drawing::Full => draw_full(alloc, out, rows, &shown, &prompt),
+            Drawing::Scroll => {
+                draw_scroll(
+                    alloc,
+                    out,
+                    rows,
+                    self.upper_mark,
+                    change.mark,
+                    &shown,
+                    &prompt,
+                )
+            }
+        }
     }
 
     // Puts what was formed in its place. An `Err` changes nothing.

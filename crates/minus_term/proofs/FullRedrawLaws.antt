@@ -20,7 +20,7 @@ abbrev pub column_after : List (List ℕ) → Option ℕ → Option ℕ
 column_after [] column = column
 column_after (text ∷ texts) column = None
 
-column_none : (texts : List (List ℕ)) → column_after texts None ≡ None
+pub column_none : (texts : List (List ℕ)) → column_after texts None ≡ None
 column_none [] = refl
 column_none (text ∷ texts) = refl
 
@@ -68,7 +68,7 @@ play_prompt rows prompt s xs y e l =
     let first : play_all (GoTo 0 rows ∷ Return ∷ ClearRow ∷ []) s ≡ record { texts = xs ++ blank ∷ []; row = Some (length xs); column = Some 0 } = rw (e, last, cleared) refl in
     ap (λ (c : PlayedScreen). (play_all (cond (nat_eq (length prompt) 0) [] (Put prompt ∷ [])) c).texts) first ∙ put_last prompt xs (Some 0)
 
-map_blank : (k : ℕ) → map Some (replicate k []) ≡ replicate k blank
+pub map_blank : (k : ℕ) → map Some (replicate k []) ≡ replicate k blank
 map_blank zero = refl
 map_blank (suc k) = ap (λ xs. blank ∷ xs) (map_blank k)
 
