@@ -343,7 +343,7 @@ fn the_bytes_of_a_push(rt: HostRuntime) -> Result<(), Fail> {
     let alloc = rt.alloc();
     let prompt = "\x1b[6;1H\r\x1b[2K\x1b[2;40;37mminus               \x1b[0m";
     let first = format!(in alloc; "\x1b[1;1H\x1b[2J{prompt}")?;
-    let second = format!(in alloc; "\x1b[1;1H\x1b[2J\rone\n\rtwo\n\rthree\n{prompt}")?;
+    let second = "\x1b[1;1H\x1b[2Kone\x1b[2;1H\x1b[2Ktwo\x1b[3;1H\x1b[2Kthree";
     assert_eq!(rt;
         printed_in(alloc, Mode::Bytes, 20, 5, "push one\\ntwo\\nthree")?.as_str(),
         format!(in alloc; "{SETUP}{first}{second}{CLEANUP}")?.as_str()
