@@ -80,6 +80,15 @@ pub fn draw_full(
     Ok(())
 }
 
+// Adds a row of the page that is made blank, where the cursor stays.
+fn clear_row(alloc: Global, out: &mut Vec<u8>, row: u16) -> Result<(), AllocError>
+    ensures { OnOk result (out.new.items ≡ out.old.items ++ written_all (GoTo 0 row ∷ ClearRow ∷ [])) }
+{
+    write_op(alloc, out, &DrawOp::GoTo(0, row))?;
+    write_op(alloc, out, &DrawOp::ClearRow)?;
+    Ok(())
+}
+
 // Adds the bytes that move the page's rows up by k, and draw the last k rows of text and the prompt row.
 fn draw_down(
     alloc: Global,
@@ -95,8 +104,7 @@ fn draw_down(
 {
     let last = usize::from(rows - 1 - k).min(shown.len());
     write_op(alloc, out, &DrawOp::ScrollUp(k))?;
-    write_op(alloc, out, &DrawOp::GoTo(0, rows - k - 1))?;
-    write_op(alloc, out, &DrawOp::ClearRow)?;
+    clear_row(alloc, out, rows - k - 1)?;
     write_rows(alloc, out, &shown[last..])?;
     write_prompt(alloc, out, rows, prompt)?;
     Ok(())
@@ -161,8 +169,7 @@ pub fn draw_scroll(
 fn write_anew(alloc: Global, out: &mut Vec<u8>, row: u16, text: &str) -> Result<(), AllocError>
     ensures { OnOk result (out.new.items ≡ out.old.items ++ written_all (GoTo 0 row ∷ ClearRow ∷ Put text.now ∷ [])) }
 {
-    write_op(alloc, out, &DrawOp::GoTo(0, row))?;
-    write_op(alloc, out, &DrawOp::ClearRow)?;
+    clear_row(alloc, out, row)?;
     write_op(alloc, out, &DrawOp::Put(text))?;
     Ok(())
 }
@@ -189,8 +196,7 @@ fn write_blanks(alloc: Global, out: &mut Vec<u8>, first: u16, count: u16) -> Res
     ensures { OnOk result (out.new.items ≡ out.old.items ++ written_all (rows_anew first [] count)) }
 {
     for i in 0..count {
-        write_op(alloc, out, &DrawOp::GoTo(0, first + i))?;
-        write_op(alloc, out, &DrawOp::ClearRow)?;
+        clear_row(alloc, out, first + i)?;
     }
     Ok(())
 }

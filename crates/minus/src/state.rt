@@ -315,18 +315,11 @@ impl PagerState {
                 draw_full(alloc, out, change.rows as u16, &shown, &prompt)
             }
             Drawing::Scroll => {
+                let (from, to) = (self.upper_mark, change.mark);
                 let shown = self.shown_after(alloc, change)?;
                 let prompt = format_prompt(alloc, change.cols)?;
                 let rows = change.rows as u16;
-                draw_scroll(
-                    alloc,
-                    out,
-                    rows,
-                    self.upper_mark,
-                    change.mark,
-                    &shown,
-                    &prompt,
-                )
+                draw_scroll(alloc, out, rows, from, to, &shown, &prompt)
             }
         }
     }
