@@ -32,6 +32,3 @@ pub use sink::{OutputSink, draw_bytes, write_bytes};
 pub use term::{cleanup, setup};
 pub use with_tty::WithTty;
 pub use writes::{clear_entire_screen, move_cursor, write_raw_lines};
-
-#[cfg(test)]
-mod tests;

@@ -1,10 +1,22 @@
-use crate::{CleanupError, Hook, MinusError, RegexError, SetupError, TermError};
+//! The texts and numbers of the errors.
+use minus_term::{CleanupError, Hook, MinusError, RegexError, SetupError, TermError};
+use std::alloc::{AllocError, Global};
 use std::io::ErrorKind;
 use std::test::Fail;
 use std::{fmt, io};
 
 fn broken() -> TermError {
     TermError::from(io::Error::from(ErrorKind::BrokenPipe))
+}
+
+// Whether a value is shown as this text.
+fn is_shown<T: fmt::Display>(alloc: Global, value: &T, text: &str) -> Result<bool, AllocError> {
+    Ok(format!(in alloc; "{value}")?.as_str() == text)
+}
+
+// Whether an error has this number and text.
+fn is_named(alloc: Global, error: &MinusError, number: u8, text: &str) -> Result<bool, AllocError> {
+    Ok(error.number() == number && is_shown(alloc, error, text)?)
 }
 
 #[test]
@@ -52,16 +64,14 @@ fn names_each_error(rt: HostRuntime) -> Result<(), Fail> {
             "Failed to convert between some primitives",
         ),
     ];
-    for (error, number, text) in table {
-        assert_eq!(rt; error.number(), number);
-        assert_eq!(rt; format!(in alloc; "{error}")?.as_str(), text);
+    for (error, number, text) in &table {
+        assert!(rt; is_named(alloc, error, *number, text)?, "at {text}");
     }
     Ok(())
 }
 
 #[test]
 fn names_each_error_of_a_setup(rt: HostRuntime) -> Result<(), Fail> {
-    let alloc = rt.alloc();
     let table = [
         (
             SetupError::InvalidTerminal,
@@ -85,15 +95,14 @@ fn names_each_error_of_a_setup(rt: HostRuntime) -> Result<(), Fail> {
             "Couldn't determine the terminal size",
         ),
     ];
-    for (error, text) in table {
-        assert_eq!(rt; format!(in alloc; "{error}")?.as_str(), text);
+    for (error, text) in &table {
+        assert!(rt; is_shown(rt.alloc(), error, text)?, "at {text}");
     }
     Ok(())
 }
 
 #[test]
 fn names_each_error_of_a_cleanup(rt: HostRuntime) -> Result<(), Fail> {
-    let alloc = rt.alloc();
     let table = [
         (
             CleanupError::DisableMouseCapture(broken()),
@@ -112,33 +121,34 @@ fn names_each_error_of_a_cleanup(rt: HostRuntime) -> Result<(), Fail> {
             "Failed to switch back to main screen",
         ),
     ];
-    for (error, text) in table {
-        assert_eq!(rt; format!(in alloc; "{error}")?.as_str(), text);
+    for (error, text) in &table {
+        assert!(rt; is_shown(rt.alloc(), error, text)?, "at {text}");
     }
     Ok(())
 }
 
 #[test]
 fn names_a_cause_by_its_own_text(rt: HostRuntime) -> Result<(), Fail> {
+    assert!(rt; is_shown(rt.alloc(), &broken(), "broken pipe")?);
+    Ok(())
+}
+
+#[test]
+fn names_a_faulty_pattern_by_its_cause(rt: HostRuntime) -> Result<(), Fail> {
     let alloc = rt.alloc();
-    assert_eq!(rt; format!(in alloc; "{}", broken())?.as_str(), "broken pipe");
     let cause = regex::Error::CompiledTooBig;
     let text = format!(in alloc; "{cause}")?;
     let error = RegexError::from(cause);
-    assert_eq!(rt; format!(in alloc; "{error}")?.as_str(), text.as_str());
-    let error = MinusError::from(error);
-    assert_eq!(rt; format!(in alloc; "{error}")?.as_str(), text.as_str());
-    assert_eq!(rt; error.number(), 15);
+    let is_shown_so = is_shown(alloc, &error, text.as_str())?;
+    assert!(rt; is_shown_so && is_named(alloc, &MinusError::from(error), 15, text.as_str())?);
     Ok(())
 }
 
 #[test]
 fn names_a_hook(rt: HostRuntime) -> Result<(), Fail> {
     let hook = Hook::PostPagerExit;
-    assert_eq!(rt;
-        format!(in rt.alloc(); "{hook:?}")?.as_str(),
-        "PostPagerExit"
-    );
-    assert!(rt; hook == Hook::PostPagerExit && hook != Hook::PrePagerExit);
+    let is_told_apart = hook == Hook::PostPagerExit && hook != Hook::PrePagerExit;
+    let name = format!(in rt.alloc(); "{hook:?}")?;
+    assert!(rt; is_told_apart && name.as_str() == "PostPagerExit");
     Ok(())
 }

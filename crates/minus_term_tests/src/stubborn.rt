@@ -1,7 +1,7 @@
 //! A sink that refuses a write or a flush.
 ghost use Rattle.std.specs.Prelude.{Some};
 
-use crate::OutputSink;
+use minus_term::OutputSink;
 use std::alloc::{AllocError, Global};
 use std::io;
 use std::io::{ErrorKind, Write};
@@ -35,6 +35,11 @@ impl Stubborn {
             refused_flush: 0,
             refusal,
         }
+    }
+
+    /// Whether it holds these bytes, and was asked for so many writes and flushes.
+    pub fn has_taken(&self, bytes: &[u8], writes: u32, flushes: u32) -> bool {
+        self.held.as_slice() == bytes && self.writes == writes && self.flushes == flushes
     }
 }
 
