@@ -1,10 +1,8 @@
 -- What is drawn in a step, and at the start.
-use Rattle.std.proofs.Common.{◌≡◌, ℕ, ◌-◌, ◌<◌, ◌≤◌, ◌==◌, min, true, false, List, [], ◌∷◌, ◌++◌, length, drop, replicate, Option, Some, None, refl, sym, subst, ◌∙◌, arith, append_assoc, inl, inr}
+use Rattle.std.proofs.Common.{◌≡◌, ℕ, ◌-◌, ◌<◌, ◌≤◌, true, false, List, [], ◌∷◌, ◌++◌, length, drop, replicate, Option, Some, None, refl, sym, subst, ◌∙◌, arith, append_assoc}
 use Rattle.std.specs.Io.KnownBytes.{Appends}
 use Rattle.std.proofs.lemmas.List.{length-append, length-map, length-replicate, length-take}
-use Rattle.std.proofs.lemmas.Bool.{cases_Bool, eqb-true}
 use Rattle.std.proofs.KnownBytes.{Appends-nil}
-use Rattle.minus_term.specs.Counts.{AppendsFront}
 use Rattle.minus_term.specs.PlayedScreen.{unknown_screen, screen_of}
 use Rattle.minus_term.specs.Scroll.{scroll_ops}
 use Rattle.minus_term.specs.Terminal.{setup_bytes}
@@ -13,14 +11,13 @@ use Rattle.minus_term.specs.FullRedraw.{page_of}
 use Rattle.minus_term.proofs.WrittenLaws.{written_all-nil}
 use Rattle.minus_term.proofs.ScrollLaws.{scroll_shows_lem, scroll_puts_lem, IsClean-scroll}
 use Rattle.minus_term.proofs.FullRedrawLaws.{full_redraw_lem, IsClean-full}
-use Rattle.minus.specs.Control.{Control, IsClamped, top, text_rows}
+use Rattle.minus.specs.Control.{Control, text_rows}
 use Rattle.minus.specs.Page.{shown, page}
 use Rattle.minus.specs.PromptRow.{prompt_row}
 use Rattle.minus.specs.declared.commands.Drawing.TheVariants.{Nothing, Full, Scroll}
-use Rattle.minus.specs.Works.{Work, work_of, is_drawn}
-use Rattle.minus.specs.Drawings.{whole_page, ops_between}
-use Rattle.minus.specs.Table.{Wanted, sets_data, appends_data, moves_mark, resizes, exits, ignores, effect, changed_by}
-use Rattle.minus.specs.Drawn.{IsDrawing, Drawn, BrokenOff, IsWholeDrawing, Leaves, Begins}
+use Rattle.minus.specs.Works.{Work}
+use Rattle.minus.specs.Drawings.{whole_page}
+use Rattle.minus.specs.Drawn.{IsDrawing, Drawn, IsWholeDrawing, Leaves, Begins}
 
 pub length_page : (rows : ℕ) (texts : List (List ℕ)) (prompt : List ℕ) → length texts < rows → length (page_of rows texts prompt).texts ≡ rows
 length_page rows texts prompt l =
@@ -69,26 +66,6 @@ scroll_draws c mark some =
       few = scroll_puts_lem c.rows c.mark mark (text_rows c) (prompt_row new) (screen_of (page c)) some size;
       none = λ e. absurd (let drawn : true ≡ false = e in cc);
     }
-
--- each command is drawn as its work says
-pub command_draws : (c : Control) (w : Wanted) → IsClamped c → 1 ≤ c.rows → 1 ≤ (changed_by (effect c w)).rows → IsDrawing (ops_between (effect c w).drawing c (changed_by (effect c w))) c (work_of (effect c w) ∷ []) (changed_by (effect c w))
-command_draws c (sets_data text) h some new_some = whole_draws c (changed_by (effect c (sets_data text))) new_some
-command_draws c (appends_data text) h some new_some = whole_draws c (changed_by (effect c (appends_data text))) new_some
-command_draws c (moves_mark mark) h some new_some = elim (cases_Bool (min mark (top c) == c.mark)) [
-  | inl e ↦ (let still : min mark (top c) ≡ c.mark = eqb-true (min mark (top c)) c.mark e in rw (e, still) (quiet_draws c))
-  | inr e ↦ rw e (scroll_draws c (min mark (top c)) some)
-]
-command_draws c (resizes cols rows) h some new_some = whole_draws c (changed_by (effect c (resizes cols rows))) new_some
-command_draws c exits h some new_some = let still : min c.mark (top c) ≡ c.mark = omega (arith, h) in rw still (quiet_draws c)
-command_draws c ignores h some new_some = let still : min c.mark (top c) ≡ c.mark = omega (arith, h) in rw still (quiet_draws c)
-
--- a step's drawing, whole or broken off
-pub step_drawn : (a b c : Option (List ℕ)) (bytes : List ℕ) (old : Control) (w : Wanted) → IsClamped old → 1 ≤ old.rows → 1 ≤ (changed_by (effect old w)).rows → bytes ≡ written_all (ops_between (effect old w).drawing old (changed_by (effect old w))) → b ≡ a → Appends b c bytes → Drawn a c old (work_of (effect old w) ∷ []) (changed_by (effect old w))
-step_drawn a b c bytes old w clamped some new_some is s h = (ops_between (effect old w).drawing old (changed_by (effect old w)), rw (← is) (subst (λ (x : Option (List ℕ)). Appends x c bytes) s h), command_draws old w clamped some new_some)
-
-pub step_broken : (a b c : Option (List ℕ)) (bytes : List ℕ) (old : Control) (w : Wanted) → IsClamped old → 1 ≤ old.rows → 1 ≤ (changed_by (effect old w)).rows → is_drawn (effect old w).drawing ≡ true → bytes ≡ written_all (ops_between (effect old w).drawing old (changed_by (effect old w))) → b ≡ a → AppendsFront b c bytes → BrokenOff a c old (work_of (effect old w) ∷ []) (changed_by (effect old w))
-step_broken a b c bytes old w clamped some new_some drawn is s h =
-    (ops_between (effect old w).drawing old (changed_by (effect old w)), subst (λ (x : List ℕ). AppendsFront a c x) is (subst (λ (x : Option (List ℕ)). AppendsFront x c bytes) s h), command_draws old w clamped some new_some, rw drawn refl)
 
 -- nothing drawn
 pub nothing_drawn : (a : Option (List ℕ)) (c : Control) → Drawn a a c (quiet_work c ∷ []) c

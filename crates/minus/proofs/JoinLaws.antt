@@ -13,7 +13,7 @@ use Rattle.minus.specs.Control.{Control}
 use Rattle.minus.specs.Page.{page}
 use Rattle.minus.specs.Works.{Work, WorkedOff, all, one, up_to, is_full, is_drawn, some_full, some_drawn, passed_in}
 use Rattle.minus.specs.Table.{Wanted, Exit}
-use Rattle.minus.specs.declared.commands.Drawing.TheVariants.{Nothing, Full, Scroll}
+use Rattle.minus.specs.declared.commands.Drawing.TheVariants.{Nothing, Full, Scroll, Append}
 use Rattle.minus.proofs.TableLaws.{unresized}
 use Rattle.minus.proofs.LeavesLaws.{last_passed, pages_before, pages_after}
 use Rattle.minus_term.specs.Written.{IsClean}
@@ -70,12 +70,14 @@ no_bound c (w ∷ []) e = alone w.drawing e
     alone Nothing f = absurd (cc)
     alone Full f = refl
     alone Scroll f = absurd (cc)
+    alone Append f = absurd (cc)
 no_bound c (w ∷ v ∷ works) e = first (no_bound w.left (v ∷ works)) w.drawing e
   where
     first : (some_full (v ∷ works) ≡ true → most_puts w.left (v ∷ works) ≡ None) → (d : Drawing) → (is_full d || some_full (v ∷ works)) ≡ true → then_most (most_of d c w.left) (most_puts w.left (v ∷ works)) ≡ None
     first more Full f = refl
     first more Nothing f = let none : most_puts w.left (v ∷ works) ≡ None = more f in rw none refl
     first more Scroll f = let none : most_puts w.left (v ∷ works) ≡ None = more f in rw none refl
+    first more Append f = let none : most_puts w.left (v ∷ works) ≡ None = more f in rw none refl
 
 -- the drawing of works, after which the drawing of others, is the drawing of them all, without one in full among them
 pub partial_drawings : (a b c : Control) (w v : Work) (ws vs : List Work) (xs ys : List Op) → some_full (w ∷ ws) ≡ false → some_full (v ∷ vs) ≡ false → b ≡ reached a (w ∷ ws)

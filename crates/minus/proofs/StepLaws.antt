@@ -1,6 +1,8 @@
 -- A step, from what its parts ensure.
 use Rattle.std.proofs.Common.{◌≡◌, ℕ, ◌≤◌, true, List, [], ◌∷◌, Option, None, Some, refl, sym, ap, subst, ◌∙◌}
 use Rattle.std.specs.Io.KnownBytes.{Appends}
+use Rattle.std.proofs.KnownBytes.{Appends-nil}
+use Rattle.minus_term.proofs.WrittenLaws.{written_all-nil}
 use Rattle.minus_term.specs.Counts.{AppendsFront}
 use Rattle.minus_term.specs.declared.error.CleanupError.{CleanupError}
 use Rattle.minus_term.specs.Refusals.{Refusal, for_memory, for_size, for_mode, after_failure, after_exit, at_setup, at_cleanup, at_drawing, of_no_call}
@@ -21,7 +23,8 @@ use Rattle.minus.specs.Works.{Work, work_of, WorkedOff, all, one, up_to, items_o
 use Rattle.minus.specs.Drawings.{ops_between}
 use Rattle.minus.specs.Steps.{Seen, Allows, Asks, Works, Writes, IsStep, IsBroken, IsBrokenStep, IsBrokenExit, Refuses, status_after}
 use Rattle.minus.proofs.TableLaws.{undrawn, exit_quiet}
-use Rattle.minus.proofs.DrawnLaws.{quiet_work, step_drawn, step_broken, nothing_drawn}
+use Rattle.minus.proofs.CommandLaws.{step_drawn, step_broken}
+use Rattle.minus.proofs.DrawnLaws.{quiet_work, nothing_drawn}
 use Rattle.minus.proofs.LeavesLaws.{leaves_after}
 
 -- the work of one item, on its own
@@ -93,18 +96,11 @@ quiet_drawn : (a : Option (List ℕ)) (c new : Control) (w : Wanted) → IsClamp
 quiet_drawn a c new w clamped quiet same = let work : work_of (effect c w) ≡ quiet_work c = work_is (effect c w) drawing.Nothing c quiet (undrawn c w clamped quiet) in rw (work, same) (nothing_drawn a c)
 
 -- a command that is not drawn
-pub quiet_step : {K : Type 0} (allows : Allows K) (old new : Seen K) (w : Wanted) (answer : Answer) (a b : Option (List ℕ)) → IsClamped old.control → (effect old.control w).drawing ≡ drawing.Nothing → (effect old.control w).exits_by ≡ None → old.status ≡ status.Running → IsPossible w → new ≡ old → b ≡ a → IsAnswer None answer
-    → IsStep allows old (a_command w) new answer a b
-quiet_step allows old new w answer a b clamped quiet on running possible same bytes answers =
-    let control : new.control ≡ old.control = ap (λ (x : Seen _). x.control) same in
-    let writes : Drawn a b old.control (work_of (effect old.control w) ∷ []) new.control = rw bytes (quiet_drawn a old.control new.control w clamped quiet control) in
-    made_step allows old new w (work_of (effect old.control w) ∷ []) None answer a b
-    (record {
-      running = running;
-      worked = one_work old.control new.control w possible on (undrawn old.control w clamped quiet ∙ sym control);
-      stands = same ∙ ap (λ (x : Control). let r : Seen _ = record old { control = x } in r) (sym control) ∙ ap (λ (x : Status). let r : Seen _ = record old { control = new.control; status = x } in r) running;
-    })
-    answers writes
+pub quiet_step : {K : Type 0} (allows : Allows K) (old new : Seen K) (w : Wanted) (kind : Drawing) (answer : Answer) (a b : Option (List ℕ)) → kind ≡ (effect old.control w).drawing → kind ≡ drawing.Nothing → (effect old.control w).exits_by ≡ None → IsClamped old.control → old.status ≡ status.Running → IsPossible w
+    → IsSize old.control.cols old.control.rows → IsSize new.control.cols new.control.rows → new ≡ record old { control = changed_by (effect old.control w) } → b ≡ a → IsAnswer None answer → IsStep allows old (a_command w) new answer a b
+quiet_step allows old new w kind answer a b is_kind quiet on clamped running possible size new_size done same answers =
+    let none : [] ≡ written_all (ops_between kind old.control new.control) = rw quiet (sym written_all-nil) in
+    drawn_step allows old new new w kind answer a a b [] is_kind on clamped running possible size new_size done refl none refl (rw same (Appends-nil a)) answers
 
 exit_worked : (c new : Control) (w : Wanted) (x : Exit) → IsClamped c → (effect c w).exits_by ≡ Some x → new ≡ c → WorkedOff c (w ∷ []) (work_of (effect c w) ∷ []) (Some x) new
 exit_worked c new w x clamped is same =

@@ -3,9 +3,9 @@ use Rattle.std.proofs.Common.{◌≡◌, ℕ, ◌+◌, ◌<◌, List, [], ◌∷
 use Rattle.std.proofs.lemmas.List.{map_more}
 use Rattle.std.proofs.lemmas.Bool.{cases_Bool, eqb-true}
 use Rattle.minus.specs.declared.commands.Drawing.{Drawing}
-use Rattle.minus.specs.declared.commands.Drawing.TheVariants.{Nothing, Full, Scroll}
+use Rattle.minus.specs.declared.commands.Drawing.TheVariants.{Nothing, Full, Scroll, Append}
 use Rattle.minus.specs.Control.{Control, clamp, top, IsClamped, SameSize}
-use Rattle.minus.specs.Table.{Wanted, sets_data, appends_data, moves_mark, resizes, exits, ignores, Exit, Effect, effect, move_drawing, changed_by, IsPossible}
+use Rattle.minus.specs.Table.{Wanted, sets_data, appends_data, moves_mark, resizes, exits, ignores, Exit, Effect, effect, move_drawing, append_drawing, changed_by, IsPossible}
 use Rattle.minus.specs.Works.{Work, WorkedOff, all, one, up_to, is_drawn, is_full, some_full, ResizesAreFull}
 use Rattle.minus.specs.Starts.{taken, taken_all, at_start, first_control}
 
@@ -20,7 +20,12 @@ changed_is_clamped e = omega arith
 -- what is not drawn leaves the control as it is
 pub undrawn : (c : Control) (w : Wanted) → IsClamped c → (effect c w).drawing ≡ Nothing → changed_by (effect c w) ≡ c
 undrawn c (sets_data text) h e = cc
-undrawn c (appends_data text) h e = cc
+undrawn c (appends_data text) h e =
+    let new : Control = record c { text = c.text ++ text } in
+    elim (cases_Bool (min c.mark (top new) == c.mark)) [
+      | inl s ↦ absurd (let d : append_drawing c new ≡ Append = rw s refl in let both : Append ≡ Nothing = sym d ∙ e in cc)
+      | inr s ↦ absurd (let d : append_drawing c new ≡ Full = rw s refl in let both : Full ≡ Nothing = sym d ∙ e in cc)
+    ]
 undrawn c (moves_mark mark) h e = elim (cases_Bool (min mark (top c) == c.mark)) [
   | inl s ↦ (let m : min mark (top c) ≡ c.mark = eqb-true (min mark (top c)) c.mark s in ap (λ (n : ℕ). let k : Control = record c { mark = n } in k) m)
   | inr s ↦ absurd (let d : move_drawing c mark ≡ Scroll = rw s refl in let both : Scroll ≡ Nothing = sym d ∙ e in cc)
@@ -38,20 +43,12 @@ exit_quiet c (resizes cols rows) x e = cc
 exit_quiet c exits x e = (tt, refl)
 exit_quiet c ignores x e = cc
 
--- what is not drawn can be done
-pub quiet_possible : (c : Control) (w : Wanted) → (effect c w).drawing ≡ Nothing → IsPossible w
-quiet_possible c (sets_data text) e = tt
-quiet_possible c (appends_data text) e = tt
-quiet_possible c (moves_mark mark) e = tt
-quiet_possible c (resizes cols rows) e = cc
-quiet_possible c exits e = tt
-quiet_possible c ignores e = tt
-
 -- what is not Nothing is drawn
 pub drawn_kind : (d : Drawing) → (d ≡ Nothing → ⊥) → is_drawn d ≡ true
 drawn_kind Nothing h = absurd (h refl)
 drawn_kind Full h = refl
 drawn_kind Scroll h = refl
+drawn_kind Append h = refl
 
 -- what is not drawn in full keeps the size
 pub resizes_full_lem : ResizesAreFull

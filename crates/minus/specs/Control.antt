@@ -1,6 +1,6 @@
 -- What the commands define: the text on show, the size and the mark.
 use Rattle.std.specs.Prelude.{◌≡◌, ℕ, ◌-◌, ◌≤◌, min, List, length}
-use Rattle.minus_text.specs.Document.{Document, rows_of}
+use Rattle.minus_text.specs.Document.{Document, rows_of, unfinished_rows}
 
 pub record Control : Type 0 where
   pub text : List ℕ
@@ -15,6 +15,10 @@ document_of c = record { text = c.text; cols = c.cols }
 -- the texts of its rows
 abbrev pub text_rows : Control → List (List ℕ)
 text_rows c = rows_of (document_of c)
+
+-- the first row that an append may change: that of the line that no newline ends, or the first new one
+abbrev pub first_changed : Control → ℕ
+first_changed c = length (text_rows c) - unfinished_rows (document_of c)
 
 -- the greatest mark: the last page is full where there are rows enough
 abbrev pub top : Control → ℕ

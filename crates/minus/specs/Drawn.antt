@@ -1,5 +1,5 @@
 -- What the bytes of a sink say of the page.
-use Rattle.std.specs.Prelude.{◌≡◌, ℕ, ◌+◌, ◌-◌, ◌≤◌, min, false, true, List, [], ◌∷◌, ◌++◌, map, Option, None, Some, if◌then◌else◌}
+use Rattle.std.specs.Prelude.{◌≡◌, ℕ, ◌+◌, ◌-◌, ◌≤◌, min, false, true, List, [], ◌∷◌, ◌++◌, length, map, Option, None, Some, if◌then◌else◌}
 use Rattle.std.specs.List.{Contains}
 use Rattle.std.specs.Io.KnownBytes.{Appends}
 use Rattle.minus_term.specs.Operations.{Op}
@@ -9,12 +9,12 @@ use Rattle.minus_term.specs.Written.{written_all, IsClean}
 use Rattle.minus_term.specs.Puts.{puts}
 use Rattle.minus_term.specs.Scroll.{distance}
 use Rattle.minus_term.specs.Terminal.{setup_bytes}
-use Rattle.minus.specs.Control.{Control}
+use Rattle.minus.specs.Control.{Control, text_rows, first_changed}
 use Rattle.minus.specs.Page.{page}
 use Rattle.minus.specs.Table.{Wanted, Exit}
 use Rattle.minus.specs.Works.{Work, WorkedOff, passed_in, some_full, some_drawn}
 use Rattle.minus.specs.declared.commands.Drawing.{Drawing}
-use Rattle.minus.specs.declared.commands.Drawing.TheVariants.{Nothing, Full, Scroll}
+use Rattle.minus.specs.declared.commands.Drawing.TheVariants.{Nothing, Full, Scroll, Append}
 
 -- what is known of the terminal's screen before works are drawn: nothing where one of them is drawn in full, as each change
 -- of size is; otherwise it shows the page of the old control
@@ -26,6 +26,7 @@ abbrev pub most_of : Drawing → Control → Control → Option ℕ
 most_of Nothing old new = Some 0
 most_of Full old new = None
 most_of Scroll old new = Some (min (distance old.mark new.mark) (new.rows - 1))
+most_of Append old new = Some (length (text_rows new) - first_changed old)
 
 -- one drawing after another: the last text of the first, which is not counted where it is the last of all, is one more
 abbrev pub then_most : Option ℕ → Option ℕ → Option ℕ

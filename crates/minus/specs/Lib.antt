@@ -16,5 +16,6 @@ pub mod Runs
 pub mod Core
 pub mod Starts
 pub mod Answers
+pub mod SessionDrawings
 pub mod SessionSteps
 pub mod SessionStarts

@@ -6,15 +6,21 @@ use Rattle.minus_term.specs.declared.error.MinusError.{MinusError}
 use Rattle.minus.specs.declared.commands.Input.{Input}
 use Rattle.minus.specs.declared.session.Answer.{Answer}
 use Rattle.minus.specs.declared.session.Core.{Core}
+use Rattle.minus.specs.Answers.{IsAnswer}
 use Rattle.minus.specs.Core.{seen_of}
 use Rattle.minus.specs.Reads.{Told, told_of}
 use Rattle.minus.specs.Runs.{IsRun, StopsAtSink}
+use Rattle.minus.specs.Table.{Exit}
 use Rattle.minus.specs.Steps.{Allows, IsStep, Refuses, IsSinkFault}
 
 -- a step that ends well: the sink refused nothing
 pub record IsStepOf {S P K : Type 0} (contents : S → Option (List ℕ)) (count : S → Option ℕ) (allows : Allows K) (old : Core S P K) (told : Told) (new : Core S P K) (answer : Answer) : Type 0 where
   pub step : IsStep allows (seen_of old) told (seen_of new) answer (contents old.sink) (contents new.sink)
   pub stays : Stays (count old.sink) (count new.sink)
+
+-- a step that ends well with an exit, or with none, whatever answer says so
+abbrev pub StepsOf : {S P K : Type 0} → (S → Option (List ℕ)) → (S → Option ℕ) → Allows K → Core S P K → Told → Core S P K → Option Exit → Type 0
+StepsOf contents count allows old told new exit = (answer : Answer) → IsAnswer exit answer → IsStepOf contents count allows old told new answer
 
 -- a step that is refused: what it leaves, and that the sink refused where that is said, and was left alone where it is not
 pub record IsRefusedStepOf {S P K : Type 0} (contents : S → Option (List ℕ)) (count : S → Option ℕ) (allows : Allows K) (old : Core S P K) (told : Told) (new : Core S P K) (e : MinusError) : Type 0 where

@@ -31,4 +31,6 @@ pub enum Drawing {
     Full,
     /// The rows that a move of the mark brings onto the page.
     Scroll,
+    /// The rows of the page that an append has changed or added.
+    Append,
 }

@@ -1,7 +1,8 @@
 //! Drawings, as bytes in a buffer.
-ghost use Rattle.std.specs.Prelude.{◌≡◌, ◌==◌, [], ◌∷◌, ◌++◌, ◌-◌, ◌≤◌, length, replicate, if◌then◌else◌, map, OnOk, IfOk, string_bytes};
+ghost use Rattle.std.specs.Prelude.{◌≡◌, ◌==◌, [], ◌∷◌, ◌++◌, ◌+◌, ◌-◌, ◌^◌, ◌<◌, ◌≤◌, length, replicate, if◌then◌else◌, map, OnOk, IfOk, string_bytes};
 ghost use Rattle.std.specs.List.{flat_map};
-ghost use Rattle.minus_term.specs.Operations.{Put};
+ghost use Rattle.minus_term.specs.Append.{rows_anew, append_ops};
+ghost use Rattle.minus_term.specs.Operations.{GoTo, ClearRow, Put};
 ghost use Rattle.minus_term.specs.Written.{written_all};
 ghost use Rattle.minus_term.specs.FullRedraw.{full_ops, prompt_ops, row_ops};
 ghost use Rattle.minus_term.specs.Scroll.{down_ops, up_ops, scroll_ops};
@@ -79,6 +80,15 @@ pub fn draw_full(
     Ok(())
 }
 
+// Adds a row of the page that is made blank, where the cursor stays.
+fn clear_row(alloc: Global, out: &mut Vec<u8>, row: u16) -> Result<(), AllocError>
+    ensures { OnOk result (out.new.items ≡ out.old.items ++ written_all (GoTo 0 row ∷ ClearRow ∷ [])) }
+{
+    write_op(alloc, out, &DrawOp::GoTo(0, row))?;
+    write_op(alloc, out, &DrawOp::ClearRow)?;
+    Ok(())
+}
+
 // Adds the bytes that move the page's rows up by k, and draw the last k rows of text and the prompt row.
 fn draw_down(
     alloc: Global,
@@ -94,8 +104,7 @@ fn draw_down(
 {
     let last = usize::from(rows - 1 - k).min(shown.len());
     write_op(alloc, out, &DrawOp::ScrollUp(k))?;
-    write_op(alloc, out, &DrawOp::GoTo(0, rows - k - 1))?;
-    write_op(alloc, out, &DrawOp::ClearRow)?;
+    clear_row(alloc, out, rows - k - 1)?;
     write_rows(alloc, out, &shown[last..])?;
     write_prompt(alloc, out, rows, prompt)?;
     Ok(())
@@ -153,6 +162,62 @@ pub fn draw_scroll(
             prompt,
         )?;
     }
+    Ok(())
+}
+
+// Adds a row of the page that is made blank, and its text.
+fn write_anew(alloc: Global, out: &mut Vec<u8>, row: u16, text: &str) -> Result<(), AllocError>
+    ensures { OnOk result (out.new.items ≡ out.old.items ++ written_all (GoTo 0 row ∷ ClearRow ∷ Put text.now ∷ [])) }
+{
+    clear_row(alloc, out, row)?;
+    write_op(alloc, out, &DrawOp::Put(text))?;
+    Ok(())
+}
+
+// Adds rows of the page that are made blank, from one on, and their texts.
+fn write_texts_anew(
+    alloc: Global,
+    out: &mut Vec<u8>,
+    first: u16,
+    texts: &[&str],
+) -> Result<(), AllocError>
+    requires { first + length texts.now < 2 ^ 16 }
+    ensures { OnOk result (out.new.items ≡ out.old.items ++ written_all (rows_anew first (map (λ r. r.now) texts.now) 0)) }
+{
+    for (i, text) in texts.iter().enumerate() {
+        write_anew(alloc, out, first + i as u16, text)?;
+    }
+    Ok(())
+}
+
+// Adds so many rows of the page that are made blank, from one on.
+fn write_blanks(alloc: Global, out: &mut Vec<u8>, first: u16, count: u16) -> Result<(), AllocError>
+    requires { first + count < 2 ^ 16 }
+    ensures { OnOk result (out.new.items ≡ out.old.items ++ written_all (rows_anew first [] count)) }
+{
+    for i in 0..count {
+        clear_row(alloc, out, first + i)?;
+    }
+    Ok(())
+}
+
+/// Adds the bytes that draw the rows of text of a page from the first on that has changed, counted from 0 on the page,
+/// where so many were shown before.
+pub fn draw_append_text(
+    alloc: Global,
+    out: &mut Vec<u8>,
+    first: usize,
+    were: usize,
+    shown: &[&str],
+) -> Result<(), AllocError>
+    requires first { first ≤ length shown.now }
+    requires few { length shown.now < 2 ^ 16 }
+    requires were_few { were < 2 ^ 16 }
+    ensures { OnOk result (out.new.items ≡ out.old.items ++ written_all (append_ops first were (map (λ r. r.now) shown.now))) }
+{
+    let blanks = were.saturating_sub(shown.len());
+    write_texts_anew(alloc, out, first as u16, &shown[first..])?;
+    write_blanks(alloc, out, shown.len() as u16, blanks as u16)?;
     Ok(())
 }
 

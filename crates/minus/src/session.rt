@@ -87,10 +87,9 @@ struct Progress {
 impl<S, P: Parts> Core<S, P> {
     ghost use Rattle.std.specs.Prelude.{◌≡◌, ◌++◌, map, None, OnOk, OnErr, IfOk, IfErr, string_bytes};
     ghost use Rattle.minus_term.specs.Refusals.{refusal_of};
-    ghost use Rattle.minus_term.specs.Written.{written_all};
     ghost use Rattle.minus.specs.Control.{Control};
     ghost use Rattle.minus.specs.Page.{page};
-    ghost use Rattle.minus.specs.Drawings.{ops_between};
+    ghost use Rattle.minus.specs.SessionDrawings.{DrawsBetween, with_control};
     ghost use Rattle.minus.specs.Reads.{control_of, wanted_of};
     ghost use Rattle.minus.specs.NextTexts.{IsNext};
     ghost use Rattle.minus.specs.Changes.{IsChange, IsUnformed};
@@ -133,10 +132,10 @@ impl<S, P: Parts> Core<S, P> {
         Ok(page)
     }
 
-    // Draws the page that a change leads to into the buffer of drawings, in this way.
+    // Draws the page that a change leads to into the buffer of drawings.
     fn draw_change(&mut self, drawing: Drawing, change: &Change) -> Result<(), MinusError>
         requires { IsNext self.old.state.screen change.now.text }
-        ensures drawn { OnOk result ((new : Control) → IsChange (seen_of self.old).control change.now new → self.new.drawing.items ≡ written_all (ops_between drawing (seen_of self.old).control new)) }
+        ensures drawn { OnOk result ((new : Control) → IsChange (control_of self.old.state) change.now new → DrawsBetween self.new drawing (control_of self.old.state) new) }
         ensures state { self.new.state ≡ self.old.state }
         ensures seen { seen_of self.new ≡ seen_of self.old }
         ensures sink { self.new.sink ≡ self.old.sink }
@@ -149,19 +148,21 @@ impl<S, P: Parts> Core<S, P> {
     }
 
     // Forms the change of a command, draws it into the buffer and puts it in its place. An `Err` changes nothing.
-    fn take(&mut self, command: Command, drawing: Drawing) -> Result<(), MinusError>
-        ensures done { OnOk result (seen_of self.new ≡ record (seen_of self.old) { control = changed_by (effect (seen_of self.old).control (wanted_of command)) }) }
+    fn take(&mut self, command: Command) -> Result<Drawing, MinusError>
+        ensures kind { IfOk result (λ kind. kind ≡ (effect (control_of self.old.state) (wanted_of command)).drawing) }
+        ensures done { OnOk result (seen_of self.new ≡ with_control self.old (changed_by (effect (control_of self.old.state) (wanted_of command)))) }
         ensures possible { OnOk result (IsPossible (wanted_of command)) }
-        ensures drawn { OnOk result (self.new.drawing.items ≡ written_all (ops_between drawing (seen_of self.old).control (seen_of self.new).control)) }
-        ensures size { OnOk result (IsSize (seen_of self.new).control.cols (seen_of self.new).control.rows) }
+        ensures drawn { IfOk result (λ kind. DrawsBetween self.new kind (control_of self.old.state) (control_of self.new.state)) }
+        ensures size { OnOk result (IsSize self.new.state.cols self.new.state.rows) }
         ensures sink { self.new.sink ≡ self.old.sink }
         ensures err { OnErr result (seen_of self.new ≡ seen_of self.old) }
         ensures unformed { IfErr result (λ e. IsUnformed (refusal_of e) (wanted_of command)) }
     {
         let change = self.state.prepare(self.alloc, command)?;
+        let drawing = change.drawing(self.state.upper_mark);
         self.draw_change(drawing, &change)?;
         self.state.place(self.alloc, change)?;
-        Ok(())
+        Ok(drawing)
     }
 }
 
@@ -170,25 +171,25 @@ impl<S: OutputSink + Drop, P: Calls> Core<S, P> {
     ghost use Rattle.std.specs.Io.KnownBytes.{Appends};
     ghost use Rattle.minus_term.specs.Counts.{Stays, Rises};
     ghost use Rattle.minus_term.specs.Terminal.{CleanupBreaksOff};
-    ghost use Rattle.minus.specs.Works.{is_drawn};
     ghost use Rattle.minus.specs.Reads.{wanted_of, told_of, a_command};
     ghost use Rattle.minus.specs.Table.{effect};
     ghost use Rattle.minus.specs.Steps.{Asks, cleanup_after};
-    ghost use Rattle.minus.specs.SessionSteps.{IsStepOf, IsRefusedStepOf, IsRunOf};
+    ghost use Rattle.minus.specs.SessionSteps.{IsStepOf, StepsOf, IsRefusedStepOf, IsRunOf};
     ghost use Rattle.minus.specs.Answers.{IsAnswer};
     ghost use Rattle.minus.specs.Core.{seen_of};
     ghost use Rattle.minus.specs.declared.status.Status.TheVariants as status;
 
-    // Does what a command asks for that is drawn, and draws it. A refusal of the sink fails the session.
-    fn change(&mut self, command: Command, drawing: Drawing) -> Result<(), MinusError>
-        requires is { drawing ≡ (effect (seen_of self.old).control (wanted_of command)).drawing }
-        requires drawn { is_drawn drawing ≡ true }
+    // Does what a command asks for that is no exit, and draws it. A refusal of the sink fails the session.
+    fn change(&mut self, command: Command) -> Result<(), MinusError>
         requires on { (effect (seen_of self.old).control (wanted_of command)).exits_by ≡ None }
         requires running { (seen_of self.old).status ≡ status.Running }
-        ensures step { OnOk result ((a : Answer) → IsAnswer None a → IsStepOf S.contents S.refused P.Classifier.allows self.old (a_command (wanted_of command)) self.new a) }
+        ensures step { OnOk result (StepsOf S.contents S.refused P.Classifier.allows self.old (a_command (wanted_of command)) self.new None) }
         ensures refused { IfErr result (λ e. IsRefusedStepOf S.contents S.refused P.Classifier.allows self.old (a_command (wanted_of command)) self.new e) }
     {
-        self.take(command, drawing)?;
+        let drawing = self.take(command)?;
+        if drawing == Drawing::Nothing {
+            return Ok(());
+        }
         if let Err(cause) = draw_bytes(&mut self.sink, &self.drawing) {
             self.status = Status::Failed;
             return Err(MinusError::Draw(cause));
@@ -220,13 +221,8 @@ impl<S: OutputSink + Drop, P: Calls> Core<S, P> {
         if let Some(exit) = self.state.exit_of(&command) {
             return self.exit(&command, exit);
         }
-        match self.state.drawing_of(&command) {
-            Drawing::Nothing => Ok(Answer::of_exit(self.alloc, None)),
-            drawing => {
-                self.change(command, drawing)?;
-                Ok(Answer::of_exit(self.alloc, None))
-            }
-        }
+        self.change(command)?;
+        Ok(Answer::of_exit(self.alloc, None))
     }
 
     // The command that an input is: for an event, what the classifier answers.

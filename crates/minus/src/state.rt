@@ -1,12 +1,11 @@
 //! What is on show, and how.
 ghost use Rattle.std.specs.Prelude.{◌≡◌, ◌↔◌, IsTrue, OnOk, OnErr, IfOk, IfErr};
-ghost use Rattle.minus_text.specs.Document.{Document};
 ghost use Rattle.minus.specs.NextTexts.{next_document, IsNext};
 ghost use Rattle.minus.specs.Sizes.{IsSize};
 
 use crate::change::{Change, NextText};
 use crate::commands::{Command, Drawing};
-use crate::display::{draw_full, draw_scroll, format_prompt};
+use crate::display::{draw_append_text, draw_full, draw_scroll, format_prompt};
 use crate::input::InputEvent;
 use minus_term::MinusError;
 use minus_text::Screen;
@@ -20,14 +19,15 @@ pub fn is_size(cols: usize, rows: usize) -> bool
 }
 
 // A text with its rows for so many columns.
-fn formed_anew(alloc: Global, text: &str, cols: usize) -> Result<NextText, MinusError>
-    ensures next { IfOk result (λ n. (d : Document) → next_document d n ≡ record { text = text.now; cols = cols }) }
-    ensures belongs { IfOk result (λ n. (d : Document) → IsNext d n) }
+fn formed(alloc: Global, text: &str, cols: usize) -> Result<Screen, MinusError>
+    ensures ok { IfOk result (λ s. s ≡ record { text = text.now; cols = cols }) }
     ensures memory { IfErr result (λ e. e ≡ MinusError.Memory) }
 {
     let mut screen = Screen::new(alloc);
-    let _ = screen.set_text(alloc, text, cols)?;
-    Ok(NextText::Whole(screen))
+    match screen.set_text(alloc, text, cols) {
+        Ok(_) => Ok(screen),
+        Err(cause) => Err(cause),
+    }
 }
 
 // Puts a text that was formed in its place. An `Err` changes nothing.
@@ -97,15 +97,14 @@ pub struct PagerState {
 
 impl PagerState {
     ghost use Rattle.std.specs.Prelude.{◌≡◌, ◌-◌, ◌++◌, map, take, drop, OnOk, OnErr, IfOk, IfErr};
-    ghost use Rattle.minus_text.specs.Document.{rows_of};
-    ghost use Rattle.minus.specs.Control.{Control, document_of};
-    ghost use Rattle.minus.specs.Table.{effect, move_drawing, moved, changed_by, resizes, IsPossible};
+    ghost use Rattle.minus.specs.Control.{Control, document_of, first_changed};
+    ghost use Rattle.minus.specs.Table.{effect, moved_by, changed_by, resizes, IsPossible};
     ghost use Rattle.minus_term.specs.Refusals.{refusal_of};
     ghost use Rattle.minus_term.specs.Written.{written_all};
     ghost use Rattle.minus.specs.Drawings.{ops_between};
     ghost use Rattle.minus.specs.Reads.{control_of, wanted_of, IsFormed};
     ghost use Rattle.minus.specs.NextTexts.{next_document, IsNext};
-    ghost use Rattle.minus.specs.Changes.{IsChange, IsUnformed, IsUnformedState};
+    ghost use Rattle.minus.specs.Changes.{IsChange, IsTextFor, shown_by, IsUnformed, IsUnformedState};
     ghost use Rattle.minus.specs.Starts.{at_start, taken};
 
     /// No text yet, for a terminal of so many columns and rows.
@@ -123,10 +122,8 @@ impl PagerState {
         if !is_size(cols, rows) {
             return Err(MinusError::BadSize(cols, rows));
         }
-        let mut screen = Screen::new(alloc);
-        let _ = screen.set_text(alloc, "", cols)?;
         Ok(PagerState {
-            screen,
+            screen: formed(alloc, "", cols)?,
             upper_mark: 0,
             cols,
             rows,
@@ -151,34 +148,6 @@ impl PagerState {
             Command::UserInput(_) => {}
         }
         Ok(())
-    }
-
-    // How what comes of a command is drawn.
-    pub(crate) fn drawing_of(&self, command: &Command) -> Drawing
-        requires { IsFormed self.now }
-        ensures { result ≡ (effect (control_of self.now) (wanted_of command.now)).drawing }
-    {
-        match command {
-            Command::UserInput(InputEvent::Exit | InputEvent::Ignore) => Drawing::Nothing,
-            Command::UserInput(InputEvent::UpdateUpperMark(mark)) => self.move_drawing(*mark),
-            Command::SetData(_) | Command::AppendData(_) | Command::UserInput(_) => Drawing::Full,
-        }
-    }
-
-    // How a move of the mark is drawn.
-    fn move_drawing(&self, mark: usize) -> Drawing
-        requires { IsFormed self.now }
-        ensures { result ≡ move_drawing (control_of self.now) mark }
-    {
-        let top = self
-            .screen
-            .formatted_lines_count()
-            .saturating_sub(self.rows - 1);
-        if mark.min(top) == self.upper_mark {
-            Drawing::Nothing
-        } else {
-            Drawing::Scroll
-        }
     }
 
     // How the program is to go on after a command that is an exit, and the code that it ends with.
@@ -211,11 +180,11 @@ impl PagerState {
         requires formed { IsFormed self.now }
         requires size { IsSize cols rows }
         ensures next { IfOk result (λ c. IsChange (control_of self.now) c (record (control_of self.now) { cols = cols; rows = rows })) }
+        ensures text { IfOk result (λ c. IsTextFor c.text (resizes cols rows)) }
         ensures memory { IfErr result (λ e. e ≡ MinusError.Memory) }
     {
-        let text = formed_anew(alloc, self.screen.orig_text(), cols)?;
         Ok(Change {
-            text,
+            text: NextText::Whole(formed(alloc, self.screen.orig_text(), cols)?),
             mark: self.upper_mark,
             cols,
             rows,
@@ -225,12 +194,16 @@ impl PagerState {
     // The text and the mark that a command leaves, before the mark is clamped.
     fn next_text(&self, alloc: Global, command: Command) -> Result<Change, MinusError>
         requires { IsFormed self.now }
-        ensures next { IfOk result (λ c. IsChange (control_of self.now) c (moved (effect (control_of self.now) (wanted_of command)).changed (effect (control_of self.now) (wanted_of command)).moves_to)) }
+        ensures next { IfOk result (λ c. IsChange (control_of self.now) c (moved_by (effect (control_of self.now) (wanted_of command)))) }
+        ensures text { IfOk result (λ c. IsTextFor c.text (wanted_of command)) }
         ensures possible { OnOk result (IsPossible (wanted_of command)) }
         ensures unformed { IfErr result (λ e. IsUnformed (refusal_of e) (wanted_of command)) }
     {
         match command {
-            Command::SetData(text) => Ok(self.change_to(formed_anew(alloc, &text, self.cols)?)),
+            Command::SetData(text) => {
+                let next = formed(alloc, &text, self.cols)?;
+                Ok(self.change_to(NextText::Whole(next)))
+            }
             Command::AppendData(text) => {
                 let pending = self.screen.prepare_push(alloc, &text, self.cols)?;
                 Ok(self.change_to(NextText::Pushed(text, pending)))
@@ -257,6 +230,7 @@ impl PagerState {
     pub(crate) fn prepare(&self, alloc: Global, command: Command) -> Result<Change, MinusError>
         requires { IsFormed self.now }
         ensures next { IfOk result (λ c. IsChange (control_of self.now) c (changed_by (effect (control_of self.now) (wanted_of command)))) }
+        ensures text { IfOk result (λ c. IsTextFor c.text (wanted_of command)) }
         ensures possible { OnOk result (IsPossible (wanted_of command)) }
         ensures unformed { IfErr result (λ e. IsUnformed (refusal_of e) (wanted_of command)) }
     {
@@ -276,7 +250,7 @@ impl PagerState {
         change: &'a Change,
     ) -> Result<Vec<&'a str>, AllocError>
         requires { IsNext self.now.screen change.now.text }
-        ensures { IfOk result (λ v. map (λ r. r.now) v.items ≡ take (change.now.rows - 1) (drop change.now.mark (rows_of (next_document self.now.screen change.now.text)))) }
+        ensures { IfOk result (λ v. map (λ r. r.now) v.items ≡ shown_by self.now.screen change.now) }
     {
         let left = change
             .text
@@ -291,6 +265,35 @@ impl PagerState {
         Ok(shown)
     }
 
+    // The first row that an append may change.
+    fn first_changed(&self) -> usize
+        requires { IsFormed self.now }
+        ensures { result ≡ first_changed (control_of self.now) }
+    {
+        self.screen
+            .formatted_lines_count()
+            .saturating_sub(self.screen.unterminated())
+    }
+
+    // Adds the bytes that draw the rows which an append has changed.
+    fn draw_append<'a>(
+        &'a self,
+        alloc: Global,
+        out: &mut Vec<u8>,
+        change: &'a Change,
+    ) -> Result<(), AllocError>
+        requires formed { IsFormed self.now }
+        requires belongs { IsNext self.now.screen change.now.text }
+        ensures { OnOk result ((new : Control) → IsChange (control_of self.now) change.now new → out.new.items ≡ out.old.items ++ written_all (ops_between Drawing.Append (control_of self.now) new)) }
+    {
+        let shown = self.shown_after(alloc, change)?;
+        let rows = self.screen.formatted_lines_count();
+        let were = rows.saturating_sub(self.upper_mark).min(self.rows - 1);
+        let first = self.first_changed().saturating_sub(self.upper_mark);
+        draw_append_text(alloc, out, first.min(shown.len()), were, &shown)?;
+        Ok(())
+    }
+
     // Adds the bytes that draw the page that a change leads to, in this way.
     pub(crate) fn draw_after<'a>(
         &'a self,
@@ -303,22 +306,20 @@ impl PagerState {
         requires belongs { IsNext self.now.screen change.now.text }
         ensures { OnOk result ((new : Control) → IsChange (control_of self.now) change.now new → out.new.items ≡ out.old.items ++ written_all (ops_between drawing (control_of self.now) new)) }
     {
-        let shown = self.shown_after(alloc, change)?;
-        let prompt = format_prompt(alloc, change.cols)?;
-        let rows = change.rows as u16;
         match drawing {
             Drawing::Nothing => Ok(()),
-            Drawing::Full => draw_full(alloc, out, rows, &shown, &prompt),
+            Drawing::Append => self.draw_append(alloc, out, change),
+            Drawing::Full => {
+                let shown = self.shown_after(alloc, change)?;
+                let prompt = format_prompt(alloc, change.cols)?;
+                draw_full(alloc, out, change.rows as u16, &shown, &prompt)
+            }
             Drawing::Scroll => {
-                draw_scroll(
-                    alloc,
-                    out,
-                    rows,
-                    self.upper_mark,
-                    change.mark,
-                    &shown,
-                    &prompt,
-                )
+                let (from, to) = (self.upper_mark, change.mark);
+                let shown = self.shown_after(alloc, change)?;
+                let prompt = format_prompt(alloc, change.cols)?;
+                let rows = change.rows as u16;
+                draw_scroll(alloc, out, rows, from, to, &shown, &prompt)
             }
         }
     }

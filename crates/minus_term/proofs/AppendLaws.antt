@@ -1,5 +1,5 @@
 -- An append.
-use Rattle.std.proofs.Common.{◌≡◌, ℕ, zero, suc, ◌+◌, ◌-◌, ◌<◌, ◌≤◌, min, List, [], ◌∷◌, ◌++◌, length, map, take, drop, replicate, set, get_or, Option, Some, None, refl, sym, ap, subst, ◌∙◌, arith, append_assoc}
+use Rattle.std.proofs.Common.{◌≡◌, ℕ, zero, suc, ◌+◌, ◌-◌, ◌<◌, ◌≤◌, min, List, [], ◌∷◌, ◌++◌, length, map, take, drop, replicate, set, get_or, Option, Some, None, refl, sym, ap, subst, ◌∙◌, arith, inr, append_assoc}
 use Rattle.std.proofs.Math.ListN.{drop_of_length-le}
 use Rattle.std.proofs.lemmas.List.{length-append, length-map, length-take, length-drop, get_or_at, set_at, map-append, append-nil, take-append-drop}
 use Rattle.minus_term.specs.Append.{rows_anew, append_ops, AppendShowsItsPage, AppendPutsFew}
@@ -7,9 +7,13 @@ use Rattle.minus_term.specs.FullRedraw.{page_of}
 use Rattle.minus_term.specs.Operations.{Op, GoTo, ClearRow, Put}
 use Rattle.minus_term.specs.PlayedScreen.{PlayedScreen, blank, play, play_all, screen_of}
 use Rattle.minus_term.specs.Puts.{puts}
-use Rattle.minus_term.proofs.FullRedrawLaws.{map_blank}
+use Rattle.std.specs.List.{Contains}
+use Rattle.std.proofs.lemmas.List.Elements.{Contains-append_left}
+use Rattle.minus_term.specs.PlayedScreen.{ShownPage}
+use Rattle.minus_term.specs.Written.{IsClean, IsRowOf}
+use Rattle.minus_term.proofs.FullRedrawLaws.{map_blank, Contains-head, Contains-tail}
 use Rattle.minus_term.proofs.PlayLaws.{Texts}
-use Rattle.minus_term.proofs.ScrollLaws.{fit, length-fit, fit_is, drop-fit, take-fit, one_put}
+use Rattle.minus_term.proofs.ScrollLaws.{fit, length-fit, fit_is, drop-fit, take-fit, one_put, in_rest}
 
 abbrev pub screen : Texts → Option ℕ → Option ℕ → PlayedScreen
 screen texts row column = record { texts = texts; row = row; column = column }
@@ -141,3 +145,14 @@ puts-anew i (t ∷ ts) b s =
 
 pub append_puts_lem : AppendPutsFew
 append_puts_lem first were new s = let few = puts-anew first (drop first new) (were - length new) s in omega (arith, few, length-drop first new)
+
+-- nothing but rows of the page is put
+IsClean-anew : (pages : List ShownPage) (i : ℕ) (texts : List (List ℕ)) (blanks : ℕ) → ((text : List ℕ) → Contains texts text → IsRowOf pages text) → IsClean pages (rows_anew i texts blanks)
+IsClean-anew pages i [] zero rows = tt
+IsClean-anew pages i [] (suc b) rows = (tt, (tt, IsClean-anew pages (i + 1) [] b rows))
+IsClean-anew pages i (t ∷ ts) b rows = (tt, (tt, (inr (rows t (Contains-head t ts)), IsClean-anew pages (i + 1) ts b (λ text h. rows text (Contains-tail t ts text h)))))
+
+pub IsClean-changed : (pages : List ShownPage) (rows first were : ℕ) (shown : List (List ℕ)) (prompt : List ℕ) → Contains pages (page_of rows shown prompt) → IsClean pages (append_ops first were shown)
+IsClean-changed pages rows first were shown prompt h =
+    let blanks : List (List ℕ) = replicate (rows - 1 - length shown) [] in
+    IsClean-anew pages first (drop first shown) (were - length shown) (λ text k. (page_of rows shown prompt, h, Contains-append_left (shown ++ blanks) (prompt ∷ []) text (Contains-append_left shown blanks text (in_rest first shown text k))))

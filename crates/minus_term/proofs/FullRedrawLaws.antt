@@ -91,10 +91,10 @@ full_redraw_lem rows shown prompt s e l =
     map-append Some (shown ++ replicate k []) (prompt ∷ []) ∙ ap (λ xs. xs ++ Some prompt ∷ []) (map-append Some shown (replicate k []) ∙ ap (λ xs. map Some shown ++ xs) (map_blank k)) in
     record { texts = ap (λ (p : PlayedScreen). p.texts) all ∙ play_prompt rows prompt after (map Some shown ++ replicate k blank) blank texts n ∙ sym page; cursor = tt }
 
-Contains-head : {X : Type 0} (x : X) (xs : List X) → Contains (x ∷ xs) x
+pub Contains-head : {X : Type 0} (x : X) (xs : List X) → Contains (x ∷ xs) x
 Contains-head x xs = (0, omega arith, refl)
 
-Contains-tail : {X : Type 0} (x : X) (xs : List X) (y : X) → Contains xs y → Contains (x ∷ xs) y
+pub Contains-tail : {X : Type 0} (x : X) (xs : List X) (y : X) → Contains xs y → Contains (x ∷ xs) y
 Contains-tail x xs y h = (suc h.0, omega (arith, h.1), h.2)
 
 -- rows of text are clean where each is a row of one of the pages

@@ -261,7 +261,7 @@ scroll_puts_lem rows from to text new s some e = elim (cases_Bool (leb from to))
 
 -- ---- a scroll is clean of each list of pages that contains the page that it leads to
 
-in_rest : {X : Type 0} (j : ℕ) (xs : List X) (x : X) → Contains (drop j xs) x → Contains xs x
+pub in_rest : {X : Type 0} (j : ℕ) (xs : List X) (x : X) → Contains (drop j xs) x → Contains xs x
 in_rest j xs x h = subst (λ (ys : List _). Contains ys x) (take-append-drop j xs) (Contains-append_right (take j xs) (drop j xs) x h)
 
 in_front : {X : Type 0} (j : ℕ) (xs : List X) (x : X) → Contains (take j xs) x → Contains xs x

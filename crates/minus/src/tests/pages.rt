@@ -1,4 +1,4 @@
-use super::{CLEANUP, FIFTH_ROW, PROMPT_ROW, SETUP, append, ask, session_on, terminal};
+use super::{CLEANUP, PROMPT_ROW, SETUP, append, ask, session_on, terminal};
 use crate::{Command, Input, InputEvent, Page};
 use std::test::Fail;
 
@@ -27,9 +27,7 @@ fn a_session_draws_each_page(rt: HostRuntime) -> Result<(), Fail> {
     let rows = ["one", "two", "three", "", PROMPT_ROW];
     assert!(rt; has_rows(&session.page()?, &rows));
     assert_eq!(rt; session.state().screen.formatted_lines_count(), 3);
-    let bytes = format!(in alloc;
-        "\x1b[1;1H\x1b[2J\rone\n\rtwo\n\rthree\n{FIFTH_ROW}{PROMPT_ROW}"
-    )?;
+    let bytes = "\x1b[1;1H\x1b[2Kone\x1b[2;1H\x1b[2Ktwo\x1b[3;1H\x1b[2Kthree";
     assert_eq!(rt; session.sink.inner.as_slice(), bytes.as_bytes());
     Ok(())
 }

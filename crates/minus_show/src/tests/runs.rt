@@ -37,10 +37,9 @@ fn the_bytes_of_an_empty_script(rt: HostRuntime) -> Result<(), Fail> {
 #[test]
 fn the_bytes_of_a_push(rt: HostRuntime) -> Result<(), Fail> {
     let alloc = rt.alloc();
-    let prompt = "\x1b[6;1H\r\x1b[2K\x1b[2;40;37mminus               \x1b[0m";
-    let bytes = format!(in alloc;
-        "{SETUP}\x1b[1;1H\x1b[2J{prompt}\x1b[1;1H\x1b[2J\rone\n\rtwo\n\rthree\n{prompt}{CLEANUP}"
-    )?;
+    let first = "\x1b[1;1H\x1b[2J\x1b[6;1H\r\x1b[2K\x1b[2;40;37mminus               \x1b[0m";
+    let second = "\x1b[1;1H\x1b[2Kone\x1b[2;1H\x1b[2Ktwo\x1b[3;1H\x1b[2Kthree";
+    let bytes = format!(in alloc; "{SETUP}{first}{second}{CLEANUP}")?;
     let script = "push one\\ntwo\\nthree";
     assert_eq!(rt;
         printed_in(alloc, Mode::Bytes, 20, 5, script)?.as_str(),

@@ -1,5 +1,5 @@
 -- The first state has the size that was asked for.
-use Rattle.std.proofs.Common.{ℕ, map, ap, sym, ◌∙◌}
+use Rattle.std.proofs.Common.{rules, ℕ, map, ap, sym, ◌∙◌}
 use Rattle.minus.specs.Control.{Control}
 use Rattle.minus.specs.Reads.{wanted_of}
 use Rattle.minus.specs.Starts.{at_start, first_control}
@@ -34,3 +34,12 @@ returns-in-Ok-clause-refused g c =
     let rows = ap (λ (x : Control). x.rows) is ∙ size.same_rows in
     let begun = c.begin.ensures.refused in
     rw (cols, rows) at begun
+
+pub returns-then-is_uninitialized-clause-refused : goal.returns-then-is_uninitialized-clause-refused
+returns-then-is_uninitialized-clause-refused g c = search rules
+
+pub returns-in-Err-clause-refused : goal.returns-in-Err-clause-refused
+returns-in-Err-clause-refused g c = search rules
+
+pub begin-requires-clause-runs : goal.begin-requires-clause-runs
+begin-requires-clause-runs g c = search rules
