@@ -23,6 +23,3 @@ pub use page::Page;
 pub use pager::Pager;
 pub use session::{Answer, Ran, Session};
 pub use state::{ExitStrategy, PagerState, RunMode};
-
-#[cfg(test)]
-mod tests;

@@ -1,42 +1,59 @@
-//! A sink that refuses a write or a flush.
+//! A sink that refuses writes and a flush.
 ghost use Rattle.std.specs.Prelude.{Some};
 
-use crate::{OutputSink, WithTty};
+use minus::WithTty;
 use std::alloc::{AllocError, Global};
 use std::io;
 use std::io::{ErrorKind, Write};
 
-/// Takes one byte a write, and refuses one write and one flush, each named by its number from 1; 0
-/// names none.
-#[derive(Debug, Drop)]
+/// Which calls a sink refuses, by their numbers from 1; 0 names none.
+#[derive(Clone, Copy)]
+pub struct Refused {
+    /// This write.
+    pub write: usize,
+    /// So many writes from that one on.
+    pub writes: usize,
+    /// This flush.
+    pub flush: usize,
+}
+
+/// Takes one byte a write.
+#[derive(Drop)]
 pub struct Stubborn {
     pub held: Vec<u8>,
-    writes: u32,
-    flushes: u32,
-    refused_write: u32,
-    refused_flush: u32,
+    writes: usize,
+    flushes: usize,
+    refused: Refused,
 }
 
 impl Stubborn {
-    /// A terminal that refuses this write.
-    pub fn terminal(alloc: Global, refused_write: u32) -> WithTty<Stubborn> {
+    /// A terminal that refuses these calls.
+    pub fn terminal(alloc: Global, refused: Refused) -> WithTty<Stubborn> {
         let inner = Stubborn {
             held: Vec::new(alloc),
             writes: 0,
             flushes: 0,
-            refused_write,
-            refused_flush: 0,
+            refused,
         };
         WithTty::new(inner, true)
     }
+}
 
-    /// Forgets what it holds, and refuses this write and this flush from now on.
-    pub fn refuse(&mut self, write: u32, flush: u32) {
-        self.held.clear();
-        self.writes = 0;
-        self.flushes = 0;
-        self.refused_write = write;
-        self.refused_flush = flush;
+/// Refuses one write.
+pub fn write(number: usize) -> Refused {
+    Refused {
+        write: number,
+        writes: 1,
+        flush: 0,
+    }
+}
+
+/// Refuses one flush.
+pub fn flush(number: usize) -> Refused {
+    Refused {
+        write: 0,
+        writes: 0,
+        flush: number,
     }
 }
 
@@ -45,7 +62,8 @@ impl Write for Stubborn {
 
     fn write(&mut self, bytes: &[u8]) -> io::Result<usize> {
         self.writes = self.writes.saturating_add(1);
-        if self.writes == self.refused_write {
+        let past = self.writes.checked_sub(self.refused.write);
+        if self.refused.write > 0 && past.is_some_and(|past| past < self.refused.writes) {
             return Err(io::Error::from(ErrorKind::BrokenPipe));
         }
         let Some(byte) = bytes.first() else {
@@ -59,7 +77,7 @@ impl Write for Stubborn {
 
     fn flush(&mut self) -> io::Result<()> {
         self.flushes = self.flushes.saturating_add(1);
-        if self.flushes == self.refused_flush {
+        if self.flushes == self.refused.flush {
             return Err(io::Error::from(ErrorKind::BrokenPipe));
         }
         Ok(())
