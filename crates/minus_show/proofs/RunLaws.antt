@@ -5,7 +5,7 @@ use Rattle.std.proofs.lemmas.List.{map-append}
 use Rattle.minus_term.specs.declared.error.MinusError.{MinusError}
 use Rattle.minus_term.specs.declared.error.MinusError.TheVariants.{Cleanup}
 use Rattle.minus_term.specs.Refusals.{number_of}
-use Rattle.minus.specs.declared.input.ResizeAlone.{ResizeAlone}
+use Rattle.minus.specs.declared.stand_in.ResizeAlone.{ResizeAlone}
 use Rattle.minus.specs.declared.session.Answer.{Answer}
 use Rattle.minus.specs.declared.state.RunMode.TheVariants.{Dynamic}
 use Rattle.minus.specs.Answers.{ends_run}

@@ -8,7 +8,7 @@ use Rattle.minus_term.specs.declared.error.MinusError.TheVariants.{Cleanup}
 use Rattle.minus_term.specs.declared.error.CleanupError.{CleanupError}
 use Rattle.minus_term.specs.Refusals.{number_of, refusal_of}
 use Rattle.minus_term.specs.Terminal.{CleanupBreaksOff}
-use Rattle.minus.specs.declared.input.ResizeAlone.{ResizeAlone}
+use Rattle.minus.specs.declared.stand_in.ResizeAlone.{ResizeAlone}
 use Rattle.minus.specs.declared.session.Answer.{Answer}
 use Rattle.minus.specs.declared.state.RunMode.TheVariants.{Dynamic}
 use Rattle.minus.specs.Classified.{resize_alone}

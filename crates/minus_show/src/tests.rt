@@ -6,8 +6,9 @@ use crate::{
     Arguments, Mode, ProgramFault, ScriptFault, parse_arguments, parse_script, parse_usize,
     print_row, print_rows, read_script, run_script,
 };
-use minus::{Command, Event, Input, InputEvent};
-use minus_term::{KeyCode, KeyEvent, KeyEventKind, KeyEventState, KeyModifiers};
+use minus::{
+    Command, Event, Input, InputEvent, KeyCode, KeyEvent, KeyEventKind, KeyEventState, KeyModifiers,
+};
 use std::alloc::Global;
 use std::io;
 use std::io::{ErrorKind, Read, Write};
