@@ -5,6 +5,7 @@ use crate::{
 };
 use std::alloc::{AllocError, Global};
 
+mod drawings;
 mod endings;
 mod inputs;
 mod pages;
