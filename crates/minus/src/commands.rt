@@ -3,7 +3,7 @@ use crate::input::InputEvent;
 use minus_term::Event;
 
 /// A command.
-#[derive(Debug, Drop)]
+#[derive(Debug, Drop, PartialEq, Eq)]
 pub enum Command {
     /// Put this text in the place of the text on show.
     SetData(String),
@@ -24,7 +24,7 @@ pub enum Input {
 
 /// How what comes of a command is drawn.
 #[derive(Clone, Copy, Debug, PartialEq, Eq)]
-pub enum Drawing {
+pub(crate) enum Drawing {
     /// Not at all: the page stays as it is.
     Nothing,
     /// The whole page.

@@ -47,7 +47,7 @@ fn write_some(alloc: Global, out: &mut Vec<u8>, text: &str) -> Result<(), AllocE
 }
 
 /// Adds the bytes that draw the prompt row in the last of so many rows. An empty one is not put.
-pub fn write_prompt(
+pub(crate) fn write_prompt(
     alloc: Global,
     out: &mut Vec<u8>,
     rows: u16,
@@ -64,7 +64,7 @@ pub fn write_prompt(
 
 /// Adds the bytes that draw a whole page of so many rows: these rows of text from its top, and the
 /// prompt row.
-pub fn draw_full(
+pub(crate) fn draw_full(
     alloc: Global,
     out: &mut Vec<u8>,
     rows: u16,
@@ -81,11 +81,11 @@ pub fn draw_full(
 }
 
 // Adds a row of the page that is made blank, where the cursor stays.
-fn clear_row(alloc: Global, out: &mut Vec<u8>, row: u16) -> Result<(), AllocError>
-    ensures { OnOk result (out.new.items ≡ out.old.items ++ written_all (GoTo 0 row ∷ ClearRow ∷ [])) }
+fn clear_row(alloc: Global, drawing: &mut Vec<u8>, row: u16) -> Result<(), AllocError>
+    ensures { OnOk result (drawing.new.items ≡ drawing.old.items ++ written_all (GoTo 0 row ∷ ClearRow ∷ [])) }
 {
-    write_op(alloc, out, &DrawOp::GoTo(0, row))?;
-    write_op(alloc, out, &DrawOp::ClearRow)?;
+    write_op(alloc, drawing, &DrawOp::GoTo(0, row))?;
+    write_op(alloc, drawing, &DrawOp::ClearRow)?;
     Ok(())
 }
 
@@ -130,7 +130,7 @@ fn draw_up(
 }
 
 /// Adds the bytes that draw the page at the second mark over the page at the first.
-pub fn draw_scroll(
+pub(crate) fn draw_scroll(
     alloc: Global,
     out: &mut Vec<u8>,
     rows: u16,
@@ -203,7 +203,7 @@ fn write_blanks(alloc: Global, out: &mut Vec<u8>, first: u16, count: u16) -> Res
 
 /// Adds the bytes that draw the rows of text of a page from the first on that has changed, counted from 0 on the page,
 /// where so many were shown before.
-pub fn draw_append_text(
+pub(crate) fn draw_append_text(
     alloc: Global,
     out: &mut Vec<u8>,
     first: usize,
@@ -241,7 +241,7 @@ fn push_fitted(row: &mut String, cols: usize) -> Result<(), AllocError>
 }
 
 /// The prompt row of a page of so many columns, in its style.
-pub fn format_prompt(alloc: Global, cols: usize) -> Result<String, AllocError>
+pub(crate) fn format_prompt(alloc: Global, cols: usize) -> Result<String, AllocError>
     ensures { IfOk result (λ row. (c : Control) → c.cols ≡ cols → string_bytes row ≡ prompt_row c) }
 {
     let mut row = String::from_str(alloc, "\x1b[2;40;37m")?;

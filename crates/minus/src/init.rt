@@ -16,9 +16,9 @@ ghost use Rattle.minus.specs.Starts.{taken_all, first_control, IsShowRefused, Sh
 
 use crate::change::NextText;
 use crate::commands::{Command, Drawing};
-use crate::input::ResizeAlone;
 use crate::pager::Pager;
 use crate::session::{Core, Session};
+use crate::stand_in::ResizeAlone;
 use crate::state::{PagerState, RunMode};
 use crate::status::Status;
 use minus_term::{MinusError, OutputSink, cleanup, draw_bytes, setup};

@@ -4,9 +4,10 @@ ghost use Rattle.minus.specs.Reads.{control_of, IsFormed};
 
 use crate::change::{Change, NextText};
 use crate::commands::{Command, Drawing, Input};
-use crate::input::{InputClassifier, InputEvent, ResizeAlone};
+use crate::input::{InputClassifier, InputEvent};
 use crate::page::Page;
 use crate::parts::{Calls, Kinds, Parts};
+use crate::stand_in::ResizeAlone;
 use crate::state::{ExitStrategy, PagerState, RunMode};
 use crate::status::Status;
 use minus_term::{CleanupError, MinusError, OutputSink, cleanup, draw_bytes};

@@ -12,7 +12,7 @@ use minus_text::Screen;
 use std::alloc::{AllocError, Global};
 
 /// Whether these are columns and rows of a terminal: each from 1 to 65,535.
-pub fn is_size(cols: usize, rows: usize) -> bool
+pub(crate) fn is_size(cols: usize, rows: usize) -> bool
     ensures { IsTrue result ↔ IsSize cols rows }
 {
     (1..=65_535).contains(&cols) && (1..=65_535).contains(&rows)

@@ -6,7 +6,7 @@ use Rattle.std.proofs.lemmas.List.{map-append}
 use Rattle.minus_term.specs.declared.error.MinusError.{MinusError}
 use Rattle.minus_term.specs.declared.error.MinusError.TheVariants.{Memory, BadSize, BadMode, Failed, Ended, Setup, Cleanup, Draw, HandleEvent, Cursor, FmtWriteError, Conversion, SearchExpError}
 use Rattle.minus_term.specs.Refusals.{number_of, refusal_of}
-use Rattle.minus.specs.declared.input.ResizeAlone.{ResizeAlone}
+use Rattle.minus.specs.declared.stand_in.ResizeAlone.{ResizeAlone}
 use Rattle.minus.specs.declared.session.Answer.{Answer}
 use Rattle.minus.specs.declared.state.RunMode.TheVariants.{Dynamic, Uninitialized}
 use Rattle.minus.specs.declared.status.Status.{Status}

@@ -4,7 +4,7 @@ use Rattle.std.specs.List.{last_or}
 use Rattle.std.specs.Option.{option_and_then, option_map}
 use Rattle.std.specs.Io.KnownBytes.{Appends, Consumes, IsAtEnd}
 use Rattle.minus_term.specs.Counts.{AppendsFront}
-use Rattle.minus.specs.declared.input.ResizeAlone.{ResizeAlone}
+use Rattle.minus.specs.declared.stand_in.ResizeAlone.{ResizeAlone}
 use Rattle.minus.specs.declared.session.Answer.{Answer}
 use Rattle.minus.specs.declared.state.RunMode.TheVariants.{Dynamic}
 use Rattle.minus.specs.Classified.{resize_alone}

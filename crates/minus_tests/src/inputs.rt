@@ -1,7 +1,6 @@
 //! What events and bad sizes come to.
 use crate::sessions::{Asked, draws, number_of, session_on, shows, terminal};
-use minus::Event;
-use minus_term::{KeyCode, KeyEvent, KeyEventKind, KeyEventState, KeyModifiers};
+use minus::{Event, KeyCode, KeyEvent, KeyEventKind, KeyEventState, KeyModifiers};
 use std::alloc::Global;
 use std::test::Fail;
 

@@ -1,7 +1,8 @@
 //! Scripts as a person writes them, and their faulty lines.
 use crate::parse_script;
-use minus::{Command, Event, Input, InputEvent};
-use minus_term::{KeyCode, KeyEvent, KeyEventKind, KeyEventState, KeyModifiers};
+use minus::{
+    Command, Event, Input, InputEvent, KeyCode, KeyEvent, KeyEventKind, KeyEventState, KeyModifiers,
+};
 use std::alloc::Global;
 use std::test::Fail;
 

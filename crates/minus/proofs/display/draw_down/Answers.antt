@@ -11,7 +11,7 @@ pub returns : goal.returns
 returns c =
     let old = c.args.out.now.items in
     let a = c.write_op.new.out.items in
-    let d = c.clear_row.new.out.items in
+    let d = c.clear_row.new.drawing.items in
     let e = c.write_rows.new.out.items in
     let up : List Op = ScrollUp c.args.k ∷ [] in
     let start : List Op = ScrollUp c.args.k ∷ GoTo 0 (c.args.rows - c.args.k - 1) ∷ ClearRow ∷ [] in
