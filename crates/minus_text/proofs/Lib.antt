@@ -7,6 +7,8 @@ pub mod WordsLaws
 pub mod RowsMeasured
 pub mod PiecesLaws
 pub mod RowsLaws
+pub mod PlainLaws
+pub mod FewColumnsLaws
 pub mod ColumnsLaws
 pub mod RowsFitLaws
 pub mod DigitsLaws

@@ -1,6 +1,7 @@
 -- What the contracts cite.
 pub mod Cuts
 pub mod Units
+pub mod Plain
 pub mod Runs
 pub mod RunsLaws
 pub mod TheRuns

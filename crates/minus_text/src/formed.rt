@@ -7,7 +7,7 @@ ghost use Rattle.minus_text.specs.Kept.{line_stored, row_behind, place_behind, I
 
 use crate::lines::{split_line, without_return};
 use crate::lines_row_map::LinesRowMap;
-use crate::wrap::{columns, wrap_line};
+use crate::wrap::{columns, is_one_row, wrap_line};
 use std::alloc::{AllocError, Global};
 
 // A row: the number of its line, from 0, and the two places in the text, in bytes, of its ends.
@@ -99,6 +99,14 @@ fn push_rows(
     ensures items { OnOk result (rows.new.items ≡ rows.old.items ++ line_stored cols place.lines place.bytes line.now) }
     ensures len { OnOk result (length rows.new.items ≡ length rows.old.items + length (line_rows cols line.now)) }
 {
+    if is_one_row(line, cols) {
+        rows.push(StoredRow {
+            line: place.lines,
+            start: place.bytes,
+            end: place.bytes + line.len(),
+        })?;
+        return Ok(());
+    }
     let places = wrap_line(alloc, line, cols)?;
     for part in &places {
         rows.push(StoredRow {
@@ -126,7 +134,9 @@ fn add_line(
 {
     push_rows(alloc, &mut forming.rows, place, line, cols)?;
     forming.first_rows.push(place.rows)?;
-    forming.longest = forming.longest.max(columns(line));
+    if line.len() > forming.longest {
+        forming.longest = forming.longest.max(columns(line));
+    }
     Ok(())
 }
 

@@ -7,15 +7,15 @@ use Rattle.minus_text.proofs.RowsLaws.{line_places-are}
 use Rattle.minus_text.proofs.FormLaws.{length-places, place_within}
 use Rattle.minus_text.proofs.formed.push_rows.Goals as goal
 
-pub overflow_add-place : goal.overflow_add-place
-overflow_add-place c =
+pub overflow_add-place-in-loop-part : goal.overflow_add-place-in-loop-part
+overflow_add-place-in-loop-part c =
     let d : Span = record { start = 0; end = 0 } in
     let are : ArePlaces c.args.line.now c.deref-part-items.result.now (line_rows c.args.cols c.args.line.now) = rw (c.deref-part-items.ensures.value, c.in_ok-places.ensures.places) (line_places-are c.args.cols c.args.line.now c.utf8.line) in
     let h = place_within c.args.line.now c.deref-part-items.result.now (line_rows c.args.cols c.args.line.now) c.loop-part.part-index d are c.loop-part-test.true in
     omega (arith, h.0, h.1)
 
-pub overflow_add-place-in-loop-part : goal.overflow_add-place-in-loop-part
-overflow_add-place-in-loop-part c =
+pub overflow_add-place-in-loop-part-2 : goal.overflow_add-place-in-loop-part-2
+overflow_add-place-in-loop-part-2 c =
     let d : Span = record { start = 0; end = 0 } in
     let are : ArePlaces c.args.line.now c.deref-part-items.result.now (line_rows c.args.cols c.args.line.now) = rw (c.deref-part-items.ensures.value, c.in_ok-places.ensures.places) (line_places-are c.args.cols c.args.line.now c.utf8.line) in
     let h = place_within c.args.line.now c.deref-part-items.result.now (line_rows c.args.cols c.args.line.now) c.loop-part.part-index d are c.loop-part-test.true in
@@ -28,3 +28,9 @@ returns-clause-len c =
     ap length c.loop-part.invariant
     ∙ length-append c.args.rows.now.items (map (stored_at c.args.place.lines c.args.place.bytes) (take c.loop-part.part-index c.deref-part-items.result.now))
     ∙ ap (λ n. length c.args.rows.now.items + n) (length-map (take c.loop-part.part-index c.deref-part-items.result.now) (stored_at c.args.place.lines c.args.place.bytes) ∙ ap length all ∙ many)
+
+pub returns-then-is_one_row-clause-len : goal.returns-then-is_one_row-clause-len
+returns-then-is_one_row-clause-len c =
+    let one = c.is_one_row.ensures c.if-is_one_row.true in
+    let many = length-places c.args.line.now (line_places c.args.cols c.args.line.now) (line_rows c.args.cols c.args.line.now) (line_places-are c.args.cols c.args.line.now c.utf8.line) in
+    omega (arith, many, ap length one, c.in_ok-push.ensures.len)

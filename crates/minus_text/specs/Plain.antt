@@ -1,0 +1,11 @@
+-- Printable ASCII.
+use Rattle.std.specs.Prelude.{ℕ, ◌==◌, ◌&&◌, Bool, not}
+use Rattle.std.specs.Int.{is_in_range}
+
+-- a space, or a character of ASCII that is seen: it takes one byte and one column
+abbrev pub is_printable : ℕ → Bool
+is_printable c = is_in_range 0x20 0x7E c
+
+-- one that is no hyphen either
+abbrev pub is_plain : ℕ → Bool
+is_plain c = is_printable c && not (c == 45)
