@@ -8,6 +8,9 @@ pub mod RowsMeasured
 pub mod PiecesLaws
 pub mod RowsLaws
 pub mod PlainLaws
+pub mod PiecesSomeLaws
+pub mod RestartLaws
+pub mod GoesOnLaws
 pub mod FewColumnsLaws
 pub mod ColumnsLaws
 pub mod RowsFitLaws
@@ -17,9 +20,9 @@ pub mod LinesLaws
 pub mod DocumentLaws
 pub mod FormLaws
 pub mod PlacesLaws
+pub mod PreparedLaws
+pub mod SeamLaws
 pub mod ScreenLaws
 pub mod RowTextLaws
 pub mod FormatResultLaws
 pub mod PendingLaws
-pub mod MovedLaws
-pub mod PlacedLaws

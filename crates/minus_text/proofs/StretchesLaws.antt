@@ -43,7 +43,7 @@ stretch_stops p (y ∷ ys) c zs e = elim (cases_Bool (p y)) [
   | inr t ↦ rw t refl
 ]
 
-one_space : IsAscii (32 ∷ [])
+pub one_space : IsAscii (32 ∷ [])
 one_space zero = omega arith
 one_space (suc i) = omega arith
 

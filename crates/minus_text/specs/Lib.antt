@@ -14,5 +14,7 @@ pub mod Lines
 pub mod Document
 pub mod LineMaps
 pub mod Kept
+pub mod Seams
+pub mod Forms
 pub mod FormatResults
 pub mod Pending

@@ -7,6 +7,7 @@ pub mod lines;
 pub mod lines_row_map;
 pub mod pending;
 pub mod screen;
+mod seams;
 #[cfg(test)]
 mod tests;
 pub mod wrap;
