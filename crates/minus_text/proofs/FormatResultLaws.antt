@@ -1,5 +1,5 @@
 -- What the result of a push tells.
-use Rattle.std.proofs.Common.{◌≡◌, ℕ, ◌+◌, ◌-◌, ◌≤◌, Bool, true, eqb, cond, List, [], ◌++◌, length, refl, sym, subst, ap, ◌∙◌, arith, inl, inr}
+use Rattle.std.proofs.Common.{◌≡◌, ℕ, ◌+◌, ◌-◌, ◌≤◌, true, eqb, cond, List, [], ◌++◌, length, refl, sym, subst, ap, ◌∙◌, arith, inl, inr}
 use Rattle.std.specs.List.{sum_by}
 use Rattle.std.specs.Str.Lines.{lines}
 use Rattle.std.proofs.lemmas.Bool.{cases_Bool, eqb-true, eq-eqb}
@@ -13,7 +13,7 @@ use Rattle.minus_text.specs.declared.formed.Formed.{Formed}
 use Rattle.minus_text.specs.declared.screen.FormatResult.{FormatResult}
 use Rattle.minus_text.specs.Lines.{cut, unfinished_line}
 use Rattle.minus_text.specs.Document.{Document, rows_of_lines, first_rows, rows_of, longest, unfinished_rows}
-use Rattle.minus_text.specs.Kept.{bytes_of, IsFormOf, IsFormed, IsRestartOf, kept_lines, line_going_on, piece_behind}
+use Rattle.minus_text.specs.Kept.{bytes_of, IsFormOf, IsFormed, IsRestartOf, line_going_on, piece_behind}
 use Rattle.minus_text.specs.FormatResults.{Tells, formed_by, first_formed, is_clean}
 use Rattle.minus_text.proofs.LinesLaws.{open_at}
 use Rattle.minus_text.proofs.DocumentLaws.{length-rows_of_lines, length-first_rows}

@@ -22,6 +22,7 @@ pub mod FormLaws
 pub mod PlacesLaws
 pub mod PreparedLaws
 pub mod SeamLaws
+pub mod BorderLaws
 pub mod ScreenLaws
 pub mod RowTextLaws
 pub mod FormatResultLaws

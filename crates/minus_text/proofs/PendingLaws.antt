@@ -1,23 +1,22 @@
 -- The rows that a push would leave.
-use Rattle.std.proofs.Common.{◌≡◌, ℕ, ◌+◌, ◌-◌, ◌≤◌, ◌<◌, zero, suc, Bool, true, false, cond, eqb, List, [], ◌∷◌, ◌++◌, length, map, take, drop, Some, None, refl, sym, ap, subst, ◌∙◌, arith, append_assoc, inl, inr}
-use Rattle.std.specs.List.{slice_get, slice_range}
+use Rattle.std.proofs.Common.{◌≡◌, ℕ, ◌+◌, ◌-◌, ◌≤◌, ◌<◌, zero, suc, cond, eqb, List, [], ◌∷◌, ◌++◌, length, map, take, drop, refl, sym, ap, subst, ◌∙◌, arith, append_assoc, inl, inr}
+use Rattle.std.specs.List.{slice_get}
 use Rattle.std.specs.Str.{IsUtf8}
 use Rattle.std.specs.Str.Lines.{lines, strip_carriage_return}
 use Rattle.std.proofs.Math.Seq.{take-append-add}
 use Rattle.std.proofs.lemmas.Bool.{cases_Bool, eqb-true}
-use Rattle.std.proofs.lemmas.List.{append-nil, length-append, take_all, take_at, length-take-le}
+use Rattle.std.proofs.lemmas.List.{append-nil, length-append, length-take-le}
 use Rattle.std.proofs.lemmas.List.Concat.{flat_map-append}
 use Rattle.minus_text.specs.declared.formed.Restart.{Restart}
 use Rattle.minus_text.specs.Rows.{line_rows}
 use Rattle.minus_text.specs.Lines.{Cut, cut, whole, behind, finished_lines, unfinished_line}
-use Rattle.minus_text.specs.Document.{Document, rows_of, rows_of_lines, unfinished_rows, pushed}
-use Rattle.minus_text.specs.Kept.{open_rows, GoesOn, IsRestart, IsRestartOf, kept_lines, line_going_on, piece_behind}
+use Rattle.minus_text.specs.Document.{Document, rows_of, rows_of_lines, pushed}
+use Rattle.minus_text.specs.Kept.{open_rows, IsRestart, IsRestartOf, line_going_on, piece_behind}
 use Rattle.minus_text.specs.Pending.{Pending, IsPending}
 use Rattle.minus_text.proofs.LinesLaws.{cut-append, lines-cut}
-use Rattle.minus_text.proofs.DocumentLaws.{lines_closed, lines_open, length-rows_of_lines}
 use Rattle.minus_text.proofs.PlacesLaws.{joined, cut_joined, sides}
-use Rattle.minus_text.proofs.PreparedLaws.{first_goes_on, front_cut, whole_append, whole_drop}
-use Rattle.minus_text.proofs.ScreenLaws.{lines_front, open_count}
+use Rattle.minus_text.proofs.PreparedLaws.{front_cut, whole_append, whole_drop}
+use Rattle.minus_text.proofs.ScreenLaws.{lines_front}
 
 -- ---- the rows of a line that goes on, and of the lines behind it
 
@@ -128,7 +127,6 @@ get_behind : {X : Type 0} (xs ys : List X) (i : ℕ) → length xs ≤ i → sli
 get_behind [] ys i l = let z : i - 0 ≡ i = omega arith in rw z refl
 get_behind (x ∷ xs) ys zero l = absurd (omega arith)
 get_behind (x ∷ xs) ys (suc i) l = let z : suc i - suc (length xs) ≡ i - length xs = omega arith in rw z (get_behind xs ys i (omega arith))
-
 
 -- a row that stays, and a row that is formed
 pub row_staying : (d : Document) (piece : List ℕ) (cols : ℕ) (p : Pending) (i : ℕ) → IsPending d piece cols p → i < p.kept_rows → slice_get (rows_of (pushed d piece cols)) i ≡ slice_get (rows_of d) i

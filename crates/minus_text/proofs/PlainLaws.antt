@@ -30,7 +30,7 @@ use Rattle.minus_text.proofs.RowsLaws.{empty_places}
 
 -- ---- characters and units
 
-printable_column : (c : ℕ) → is_printable c ≡ true → char_columns c ≡ 1
+pub printable_column : (c : ℕ) → is_printable c ≡ true → char_columns c ≡ 1
 unfolding char_columns char_width
 printable_column c h = grind (arith, nat_tests, h)
 

@@ -3,11 +3,10 @@ use Rattle.std.proofs.Common.{◌≡◌, ℕ, zero, suc, ◌+◌, ◌-◌, ◌<�
 use Rattle.std.specs.List.{sum_by}
 use Rattle.std.specs.Str.{IsUtf8, IsCharBoundary}
 use Rattle.std.specs.Str.Lines.{lines, strip_carriage_return}
-use Rattle.std.proofs.lemmas.Bool.{cases_Bool, ne_eqb, eqb-true}
-use Rattle.std.proofs.lemmas.List.{append-nil, length-append, length-drop, length-take, length-take-le, drop-drop, drop-append-le, take-append-le, take-append-drop, drop_all, take_all, get_or-drop}
+use Rattle.std.proofs.lemmas.Bool.{cases_Bool, ne_eqb}
+use Rattle.std.proofs.lemmas.List.{append-nil, length-append, length-drop, length-take, length-take-le, drop-drop, drop-append-le, take-append-le, take-append-drop, drop_all}
 use Rattle.std.proofs.lemmas.List.Sums.{sum_by-cons}
 use Rattle.std.proofs.lemmas.Str.{IsCharBoundary-start, IsCharBoundary-from_take, IsCharBoundary-from_drop, IsUtf8-take, IsUtf8-drop, IsUtf8-nil}
-use Rattle.minus_text.specs.declared.wrap.Span.{Span}
 use Rattle.minus_text.specs.declared.formed.Finished.{Finished}
 use Rattle.minus_text.specs.declared.formed.Border.{Border}
 use Rattle.minus_text.specs.declared.formed.Restart.{Restart}
@@ -15,12 +14,11 @@ use Rattle.minus_text.specs.declared.formed.Formed.{Formed}
 use Rattle.minus_text.specs.declared.formed.Forming.{Forming}
 use Rattle.minus_text.specs.Units.{columns}
 use Rattle.minus_text.specs.Rows.{line_rows}
-use Rattle.minus_text.specs.Lines.{Cut, onto, cut, whole, behind, finished_lines, unfinished_line}
+use Rattle.minus_text.specs.Lines.{Cut, onto, cut, whole, behind, unfinished_line}
 use Rattle.minus_text.specs.Document.{rows_of_lines, first_rows, longest_of}
-use Rattle.minus_text.specs.Kept.{line_stored, closed_stored, open_stored, open_rows, stored_from, bytes_of, Reaches, IsBorder, GoesOn, IsRestart, IsFormOf, IsPrepared}
+use Rattle.minus_text.specs.Kept.{line_stored, closed_stored, open_stored, open_rows, stored_from, bytes_of, Reaches, IsBorder, IsRestart, IsFormOf, IsPrepared}
 use Rattle.minus_text.specs.Forms.{IsBegun, IsFormOfLines}
 use Rattle.minus_text.proofs.LinesLaws.{lines-cut, open_at, open_boundary}
-use Rattle.minus_text.proofs.DocumentLaws.{lines_open, length-rows_of_lines-append}
 use Rattle.minus_text.proofs.FewColumnsLaws.{columns_few}
 use Rattle.minus_text.proofs.PlacesLaws.{joined, cut_joined, sides, stripped}
 use Rattle.minus_text.proofs.FormLaws.{Reaches-trans}
@@ -191,7 +189,7 @@ border_few line border u h =
     omega (arith, one, ap columns nil, columns_few (take border.bytes line) (IsUtf8-take line border.bytes u h.boundary), len)
 
 -- what is left of a line behind a restart, and behind a border that is no earlier
-left_twice : (line more : List ℕ) (at to : ℕ) → at ≤ to → to ≤ length line → drop (to - at) (drop at line ++ more) ≡ drop to line ++ more
+pub left_twice : (line more : List ℕ) (at to : ℕ) → at ≤ to → to ≤ length line → drop (to - at) (drop at line ++ more) ≡ drop to line ++ more
 left_twice line more at to le within =
     let e : at + (to - at) ≡ to = omega arith in
     drop-append-le (to - at) (drop at line) more (omega (arith, length-drop at line)) ∙ ap (λ xs. xs ++ more) (drop-drop (to - at) at line ∙ ap (λ n. drop n line) e)
@@ -216,7 +214,8 @@ rest_few cols text start line piece r u t =
 -- ---- what is formed of a text that no newline ends
 
 pub unfinished_prepared : (cols : ℕ) (text : List ℕ) (start : Restart) (g : Forming) (f : Formed) → cut text ≡ whole text → 0 < length text → IsBegun cols text start g
-    → f.rows.items ≡ g.rows.items → f.first_rows ≡ g.first_rows.items → f.finished ≡ start.finished → f.border ≡ start.border → f.longest ≡ g.longest → IsPrepared cols text start f
+    → f.rows.items ≡ g.rows.items → f.first_rows ≡ g.first_rows.items → f.finished ≡ start.finished
+    → ((line piece : List ℕ) → IsRestart cols line start → IsUtf8 (line ++ piece) → text ≡ drop start.bytes line ++ piece → IsBorder (line ++ piece) f.border) → f.longest ≡ g.longest → IsPrepared cols text start f
 unfinished_prepared cols text start g f e some h fr ff fp fb fl =
     let at : ℕ = start.finished.bytes + start.bytes in
     record {
@@ -246,7 +245,7 @@ unfinished_prepared cols text start g f e some h fr ff fp fb fl =
           its_map = ff ∙ h.its_map ∙ ap (first_rows cols start.finished.rows) (sym its_lines);
           its_finish = rw (fp, ap (λ (c : Cut). c.closed) is) (record { by_lines = omega arith; by_rows = omega arith; by_bytes = omega arith; longest_line = omega arith });
           its_longest = fl ∙ h.its_longest ∙ ap (λ x. start.border.columns + columns x) rest ∙ sym (columns_on line piece start.border r.text u r.measured) ∙ (let z : columns all ≡ longest_of (all ∷ []) = omega arith in z) ∙ ap longest_of (sym its_lines);
-          its_border = rw (fb, ap (λ (c : Cut). c.open_line) is) (border_grows line piece start.border r.text u r.measured);
+          its_border = rw (ap (λ (c : Cut). c.open_line) is) (fb line piece r u t);
         }
 
 -- nothing is formed of no text
@@ -314,9 +313,10 @@ ended_boundary cols first start line p r u e =
     let size : length text ≡ length (strip_carriage_return (line ++ p)) - start.bytes = ap length behind_it ∙ length-drop start.bytes (strip_carriage_return (line ++ p)) in
     let taken : length (take start.border.bytes line) ≡ start.border.bytes = length-take-le start.border.bytes line within in
     let most = ap length whole_line ∙ length-append (take start.border.bytes line) (strip_carriage_return (drop start.border.bytes line ++ p)) in
-    let room : start.border.bytes - start.bytes ≤ length text = omega (arith, size, most, taken) in
-    (IsCharBoundary-from_drop text (start.border.bytes - start.bytes) room (rw left (stripped (drop start.border.bytes line ++ p) (left_of_front line p start.border.bytes r.text u r.measured.boundary)).3),
-     omega (arith, border_few line start.border r.text r.measured, room, le))
+    let room : start.border.bytes - start.bytes ≤ length text = omega (arith, size, most, taken) in (
+      IsCharBoundary-from_drop text (start.border.bytes - start.bytes) room (rw left (stripped (drop start.border.bytes line ++ p) (left_of_front line p start.border.bytes r.text u r.measured.boundary)).3),
+      omega (arith, border_few line start.border r.text r.measured, room, le),
+    )
 
 -- it is no longer than it was
 pub strip_few : (xs : List ℕ) → length (strip_carriage_return xs) ≤ length xs

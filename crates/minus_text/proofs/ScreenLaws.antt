@@ -1,12 +1,12 @@
 -- What is kept beside a text, and what a push leaves.
-use Rattle.std.proofs.Common.{◌≡◌, ◌≢◌, ℕ, ◌+◌, ◌-◌, ◌<◌, ◌≤◌, Bool, true, false, eqb, cond, List, [], ◌∷◌, ◌++◌, length, map, max, take, drop, refl, sym, subst, ap, ◌∙◌, arith, append_assoc, inl, inr}
+use Rattle.std.proofs.Common.{◌≡◌, ℕ, ◌+◌, ◌-◌, ◌≤◌, true, false, eqb, cond, List, [], ◌∷◌, ◌++◌, length, map, max, take, drop, refl, sym, subst, ap, ◌∙◌, arith, append_assoc, inl, inr}
 use Rattle.std.specs.List.{sum_by, All}
 use Rattle.std.specs.List.Sorted.{IsStrictlyIncreasing}
 use Rattle.std.specs.Str.{IsUtf8, IsCharBoundary}
 use Rattle.std.specs.Str.Lines.{lines, strip_carriage_return}
 use Rattle.std.proofs.Math.Seq.{take-append-add}
 use Rattle.std.proofs.lemmas.Bool.{cases_Bool, eqb-true, eq-eqb}
-use Rattle.std.proofs.lemmas.Str.{IsCharBoundary-start, IsCharBoundary-from_rest, IsUtf8-nil, IsUtf8-append}
+use Rattle.std.proofs.lemmas.Str.{IsCharBoundary-from_rest, IsUtf8-nil, IsUtf8-append}
 use Rattle.std.proofs.lemmas.List.{append-nil, length-append, length-map, length-take-le, map-append, take_at, drop_at, drop-drop}
 use Rattle.std.proofs.lemmas.List.Elements.{All-map}
 use Rattle.std.proofs.lemmas.List.Sums.{sum_by-append, sum_by-cons}
@@ -15,7 +15,7 @@ use Rattle.minus_text.specs.declared.formed.Finished.{Finished}
 use Rattle.minus_text.specs.declared.formed.Border.{Border}
 use Rattle.minus_text.specs.declared.formed.Restart.{Restart}
 use Rattle.minus_text.specs.declared.formed.Formed.{Formed}
-use Rattle.minus_text.specs.Rows.{line_rows, line_places}
+use Rattle.minus_text.specs.Rows.{line_places}
 use Rattle.minus_text.specs.Lines.{Cut, cut, whole, finished_lines, unfinished_line}
 use Rattle.minus_text.specs.Document.{Document, rows_of_lines, first_rows, longest_of, rows_of, line_map, line_count, longest, unfinished_rows}
 use Rattle.minus_text.specs.Kept.{moved, bytes_of, line_stored, closed_stored, open_stored, open_rows, stored_from, Reaches, GoesOn, IsRestart, IsFormOf, IsFormed, IsRestartOf, kept_lines, line_going_on, piece_behind, at_start}

@@ -1,16 +1,16 @@
 -- Where two later rows of an unfinished line begin with words, the rows before them stay.
-use Rattle.std.proofs.Common.{◌≡◌, ◌≢◌, ◌⊎◌, ℕ, zero, suc, ◌+◌, ◌-◌, ◌<◌, ◌≤◌, Bool, true, false, eqb, List, [], ◌∷◌, ◌++◌, length, map, take, drop, get_or, chars, encode_utf8, arith, refl, sym, ap, ◌∙◌, append_assoc, inl, inr}
+use Rattle.std.proofs.Common.{◌≡◌, ◌≢◌, ℕ, zero, suc, ◌+◌, ◌-◌, ◌<◌, ◌≤◌, false, eqb, List, [], ◌∷◌, ◌++◌, length, map, take, drop, get_or, chars, encode_utf8, arith, refl, sym, ap, ◌∙◌, append_assoc, inl, inr}
 use Rattle.std.specs.Str.{IsUtf8, IsCharBoundary, encode_utf8_all}
 use Rattle.std.specs.Str.Lines.{strip_carriage_return}
 use Rattle.std.proofs.lemmas.Bool.{cases_Bool, eqb-true, ne_eqb}
-use Rattle.std.proofs.lemmas.List.{append-nil, length-append, length-drop, length-take-le, length-map, drop-drop, drop-append-le, drop_more, take-append-drop, take_all, map-append, take-map, get_or-drop, get_or-map, get_or_append_left, take_more}
+use Rattle.std.proofs.lemmas.List.{append-nil, length-append, length-drop, length-take-le, length-map, drop-drop, take-append-drop, map-append, take-map, get_or-drop, get_or-map, get_or_append_left, take_more}
 use Rattle.std.proofs.lemmas.List.Concat.{flat_map-append}
-use Rattle.std.proofs.lemmas.Str.{IsUtf8-take, IsUtf8-drop, IsUtf8-between, IsUtf8-from_ascii, IsCharBoundary-start, IsCharBoundary-after_ascii, IsCharBoundary-before_ascii, chars-append, chars-IsAscii, encodes-IsAscii, encodes-append, encodes-chars, length-le-encodes}
+use Rattle.std.proofs.lemmas.Str.{IsUtf8-take, IsUtf8-drop, IsUtf8-between, IsCharBoundary-start, IsCharBoundary-after_ascii, IsCharBoundary-before_ascii, chars-append, chars-IsAscii, encodes-IsAscii, encodes-append, encodes-chars, length-le-encodes}
 use Rattle.minus_text.specs.declared.wrap.Span.{Span}
 use Rattle.minus_text.specs.Pieces.{Piece, pieces, piece_text, is_space}
 use Rattle.minus_text.specs.RowRuns.{fits_row}
 use Rattle.minus_text.specs.RunsLaws.{two_fronts}
-use Rattle.minus_text.specs.Rows.{the_rows, run_text, row_text, line_runs, line_rows, line_places, places}
+use Rattle.minus_text.specs.Rows.{the_rows, run_text, line_runs, line_rows, line_places, places}
 use Rattle.minus_text.specs.Kept.{moved, line_stored, open_stored, open_rows, GoesOn}
 use Rattle.minus_text.specs.Seams.{WordBeginsAt}
 use Rattle.minus_text.proofs.StretchesLaws.{one_space}
@@ -106,7 +106,7 @@ moved_twice n m (s ∷ ss) =
     let f : n + (m + s.end) ≡ (n + m) + s.end = omega arith in
     rw (e, f) (ap (λ rs. moved (n + m) s ∷ rs) (moved_twice n m ss))
 
-strip_behind : (xs ys : List ℕ) → 0 < length ys → strip_carriage_return (xs ++ ys) ≡ xs ++ strip_carriage_return ys
+pub strip_behind : (xs ys : List ℕ) → 0 < length ys → strip_carriage_return (xs ++ ys) ≡ xs ++ strip_carriage_return ys
 strip_behind [] ys some = refl
 strip_behind (b ∷ xs) ys some = strip_cons b (xs ++ ys) (omega (arith, some, length-append xs ys)) ∙ ap (λ zs. b ∷ zs) (strip_behind xs ys some)
 
@@ -182,16 +182,16 @@ seam_goes_on cols line at later i d u w v lt l e =
     let left_some : (more : List ℕ) → 0 < length (vs ++ more) = λ more. omega (arith, length-append vs more) in
     let ended_rest : (more : List ℕ) → us ++ strip_carriage_return (vs ++ more) ≡ strip_carriage_return (drop at line ++ more) = λ more. sym (strip_behind us (vs ++ more) (left_some more)) ∙ ap strip_carriage_return (open_rest more) in
     let ended_text : (more : List ℕ) → xs ++ (us ++ strip_carriage_return (vs ++ more)) ≡ strip_carriage_return (line ++ more) = λ more.
-        ap (λ ys. xs ++ ys) (sym (strip_behind us (vs ++ more) (left_some more))) ∙ sym (strip_behind xs (us ++ (vs ++ more)) (omega (arith, left_some more, length-append us (vs ++ more)))) ∙ ap strip_carriage_return (open_text more) in
+    ap (λ ys. xs ++ ys) (sym (strip_behind us (vs ++ more) (left_some more))) ∙ sym (strip_behind xs (us ++ (vs ++ more)) (omega (arith, left_some more, length-append us (vs ++ more)))) ∙ ap strip_carriage_return (open_text more) in
     let rows_on : (ws : List ℕ) → BeginsWord (chars ws) → line_rows cols (xs ++ (us ++ ws)) ≡ take i (line_rows cols line) ++ line_rows cols (us ++ ws) = λ ws bw.
-        line_rows_go_on cols xs us vs ws before after seam bv bw divided texts ∙ ap (λ n. take n (line_rows cols (xs ++ (us ++ vs))) ++ line_rows cols (us ++ ws)) count ∙ ap (λ ys. take i (line_rows cols ys) ++ line_rows cols (us ++ ws)) whole_line in
+    line_rows_go_on cols xs us vs ws before after seam bv bw divided texts ∙ ap (λ n. take n (line_rows cols (xs ++ (us ++ vs))) ++ line_rows cols (us ++ ws)) count ∙ ap (λ ys. take i (line_rows cols ys) ++ line_rows cols (us ++ ws)) whole_line in
     let places_on : (ws : List ℕ) → BeginsWord (chars ws) → line_places cols (xs ++ (us ++ ws)) ≡ take i (line_places cols line) ++ map (moved at) (line_places cols (us ++ ws)) = λ ws bw.
-        line_places_go_on cols xs us vs ws before after seam bv bw divided texts ∙ ap (λ n. take n (line_places cols (xs ++ (us ++ vs))) ++ map (moved (length xs)) (line_places cols (us ++ ws))) count
-        ∙ ap (λ ys. take i (line_places cols ys) ++ map (moved (length xs)) (line_places cols (us ++ ws))) whole_line ∙ ap (λ n. take i (line_places cols line) ++ map (moved n) (line_places cols (us ++ ws))) xs_long in
+    line_places_go_on cols xs us vs ws before after seam bv bw divided texts ∙ ap (λ n. take n (line_places cols (xs ++ (us ++ vs))) ++ map (moved (length xs)) (line_places cols (us ++ ws))) count
+    ∙ ap (λ ys. take i (line_places cols ys) ++ map (moved (length xs)) (line_places cols (us ++ ws))) whole_line ∙ ap (λ n. take i (line_places cols line) ++ map (moved n) (line_places cols (us ++ ws))) xs_long in
     let stored_on : (n : ℕ) (ws : List ℕ) → BeginsWord (chars ws) → line_stored cols n (xs ++ (us ++ ws)) ≡ take i (line_stored cols n line) ++ line_stored cols (n + at) (us ++ ws) = λ n ws bw.
-        ap (map (moved n)) (places_on ws bw) ∙ map-append (moved n) (take i (line_places cols line)) (map (moved at) (line_places cols (us ++ ws)))
-        ∙ ap (λ rs. rs ++ map (moved n) (map (moved at) (line_places cols (us ++ ws)))) (sym (take-map (moved n) i (line_places cols line)))
-        ∙ ap (λ rs. take i (line_stored cols n line) ++ rs) (moved_twice n at (line_places cols (us ++ ws))) in
+    ap (map (moved n)) (places_on ws bw) ∙ map-append (moved n) (take i (line_places cols line)) (map (moved at) (line_places cols (us ++ ws)))
+    ∙ ap (λ rs. rs ++ map (moved n) (map (moved at) (line_places cols (us ++ ws)))) (sym (take-map (moved n) i (line_places cols line)))
+    ∙ ap (λ rs. take i (line_stored cols n line) ++ rs) (moved_twice n at (line_places cols (us ++ ws))) in
     let more_some : (more : List ℕ) → 0 < length (line ++ more) = λ more. omega (arith, length-append line more) in
     let rest_some : (more : List ℕ) → 0 < length (drop at line ++ more) = λ more. omega (arith, length-append (drop at line) more) in
     record {

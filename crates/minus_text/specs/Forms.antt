@@ -2,7 +2,6 @@
 use Rattle.std.specs.Prelude.{◌≡◌, ℕ, ◌+◌, ◌-◌, List, [], ◌∷◌, ◌++◌, length, max, drop}
 use Rattle.std.specs.Str.Lines.{lines}
 use Rattle.minus_text.specs.declared.formed.Finished.{Finished}
-use Rattle.minus_text.specs.declared.formed.Border.{Border}
 use Rattle.minus_text.specs.declared.formed.Restart.{Restart}
 use Rattle.minus_text.specs.declared.formed.Formed.{Formed}
 use Rattle.minus_text.specs.declared.formed.Forming.{Forming}

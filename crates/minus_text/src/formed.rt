@@ -4,12 +4,12 @@ ghost use Rattle.std.specs.Str.{IsUtf8, IsCharBoundary};
 ghost use Rattle.minus_text.specs.Lines.{cut, whole};
 ghost use Rattle.minus_text.specs.Rows.{line_rows};
 ghost use Rattle.minus_text.specs.Units.{columns};
-ghost use Rattle.minus_text.specs.Kept.{line_stored, IsRestart, IsPrepared};
+ghost use Rattle.minus_text.specs.Kept.{line_stored, IsBorder, IsRestart, IsPrepared};
 ghost use Rattle.minus_text.specs.Forms.{IsBegun, IsFormOfLines};
 
 use crate::lines::{split_line, without_return};
 use crate::lines_row_map::LinesRowMap;
-use crate::wrap::{Span, columns, is_one_row, wrap_line};
+use crate::wrap::{Span, columns, is_one_row, is_unescaped, wrap_line};
 use std::alloc::{AllocError, Global};
 
 // How far lines go that a newline ends: how many lines, rows and bytes, and the columns of the
@@ -191,12 +191,7 @@ fn form_lines(
 }
 
 // What is formed of the line that a text goes on in, whose rows begin at a place.
-fn begin_line(
-    alloc: Global,
-    start: Restart,
-    line: &str,
-    cols: usize,
-) -> Result<Forming, AllocError>
+fn begin_line(alloc: Global, start: Restart, line: &str, cols: usize) -> Result<Forming, AllocError>
     requires bytes { (start.finished.bytes + start.bytes) + length line.now < 2 ^ 64 }
     requires behind { start.bytes ≤ start.border.bytes }
     requires boundary { IsCharBoundary line.now (start.border.bytes - start.bytes) }
@@ -213,6 +208,25 @@ fn begin_line(
     let at = start.finished.bytes + start.bytes;
     push_rows(alloc, &mut forming.rows, at, line, cols)?;
     Ok(forming)
+}
+
+// How far a line is measured whose columns are known: to its end, if the rest of it has no ESC, with
+// which what follows could make a sequence, and no carriage return that a newline could take away.
+fn grown_border(start: Restart, text: &str, width: usize) -> Border
+    requires bytes { start.bytes + length text.now < 2 ^ 64 }
+    requires behind { start.bytes ≤ start.border.bytes }
+    requires boundary { IsCharBoundary text.now (start.border.bytes - start.bytes) }
+    requires columns { width ≡ start.border.columns + columns (drop (start.border.bytes - start.bytes) text.now) }
+    ensures { (cols : ℕ) (line piece : List ℕ) → IsRestart cols line start → IsUtf8 (line ++ piece) → text.now ≡ drop start.bytes line ++ piece → IsBorder (line ++ piece) result }
+{
+    let unmeasured = &text[start.border.bytes - start.bytes..];
+    if unmeasured.ends_with('\r') || !is_unescaped(unmeasured) {
+        return start.border;
+    }
+    Border {
+        bytes: start.bytes + text.len(),
+        columns: width,
+    }
 }
 
 // Forms a text that no newline ends, and that goes on in an unfinished line.
@@ -241,7 +255,7 @@ fn form_unfinished(
         rows: forming.rows,
         first_rows: LinesRowMap::from_first_rows(forming.first_rows),
         finished: start.finished,
-        border: start.border,
+        border: grown_border(start, text, forming.longest),
         longest: forming.longest,
     })
 }

@@ -8,8 +8,6 @@ pub mod lines_row_map;
 pub mod pending;
 pub mod screen;
 mod seams;
-#[cfg(test)]
-mod tests;
 pub mod wrap;
 
 pub use line_numbers::digits;

@@ -25,13 +25,7 @@ fn begins_word(line: &str, at: usize) -> bool
 // The last place of a line, no later than a border, before which all rows stay: a row and a later
 // one begin there with words. It is the line's start where there is none. The line's rows are those
 // from the first on, and it begins at a place of the text.
-pub(crate) fn last_seam(
-    line: &str,
-    rows: &[Span],
-    first: usize,
-    base: usize,
-    border: usize,
-) -> Seam
+pub(crate) fn last_seam(line: &str, rows: &[Span], first: usize, base: usize, border: usize) -> Seam
     requires rows { first ≤ length rows.now }
     requires behind { All (λ r. base ≤ r.start) (drop first rows.now) }
     ensures goes_on { (cols : ℕ) → IsUtf8 line.now → drop first rows.now ≡ open_stored cols base line.now → GoesOn cols line.now result.rows result.bytes }

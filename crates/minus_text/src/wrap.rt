@@ -5,7 +5,7 @@ ghost use Rattle.std.specs.Str.{encode_utf8_all};
 ghost use Rattle.std.specs.List.{flat_map, prefix_len, position_or_len, sum_by, list_all};
 ghost use Rattle.std.specs.Option.{SomeIff};
 ghost use Rattle.minus_text.specs.Units.{char_columns, is_final, begins_sequence, units, unit_columns, body_of, columns};
-ghost use Rattle.minus_text.specs.Plain.{is_printable, is_plain};
+ghost use Rattle.minus_text.specs.Plain.{is_printable, is_plain, is_unescaped};
 ghost use Rattle.minus_text.specs.Runs.{IsRun, AreRuns};
 ghost use Rattle.minus_text.specs.Pieces.{pieces, body_len, parts, fronts, with_spaces, part_len_after, begins_alphanumeric};
 ghost use Rattle.minus_text.specs.Rows.{line_places, line_rows, ArePlaces, RowsAreDetermined, PiecesJoin, RowsFit};
@@ -92,6 +92,17 @@ fn is_plain(text: &str) -> bool
     plain
 }
 
+// Whether a text has no ESC: a byte that is 27 is one wherever it stands.
+pub(crate) fn is_unescaped(text: &str) -> bool
+    ensures { result ≡ list_all is_unescaped text.now }
+{
+    let mut unescaped = true;
+    for &b in text.as_bytes() {
+        unescaped &= b != 0x1b;
+    }
+    unescaped
+}
+
 // What follows the characters of a class at the start of a text.
 fn past(text: &str, class: Class) -> &str
     ensures chars { chars result.now ≡ drop (prefix_len (class_test class) (chars text.now)) (chars text.now) }
@@ -153,12 +164,15 @@ fn split_unit(text: &str) -> Option<(usize, &str)>
     ensures less { IfSome result (λ x. length x.1.now < length text.now) }
     ensures none { IfNone result (length text.now ≡ 0) }
 {
-    if let Some(inside) = strip_escape(text) {
-        return Some((0, past_sequence(inside)));
+    let Some((c, rest)) = split_char(text) else {
+        return None;
+    };
+    if c != '\x1b' {
+        return Some((char_columns(c), rest));
     }
-    match split_char(text) {
-        Some((c, rest)) => Some((char_columns(c), rest)),
-        None => None,
+    match strip_escape(text) {
+        Some(inside) => Some((0, past_sequence(inside))),
+        None => Some((char_columns(c), rest)),
     }
 }
 
@@ -471,6 +485,19 @@ fn units_columns(text: &str) -> usize
     width
 }
 
+// The columns of the characters of a text.
+fn chars_columns(text: &str) -> usize
+    ensures { result ≡ sum_by char_columns (chars text.now) }
+{
+    let mut width = 0;
+    let mut rest = text;
+    while let Some((c, after)) = split_char(rest) {
+        width += char_columns(c);
+        rest = after;
+    }
+    width
+}
+
 /// The columns of a text taken as one piece: an `ESC[` sequence up to its final character takes none, any other
 /// character those of `unicode_width`, one without width none, and a space at the end one.
 pub fn columns(text: &str) -> usize
@@ -478,6 +505,9 @@ pub fn columns(text: &str) -> usize
 {
     if is_printable(text) {
         return text.len();
+    }
+    if is_unescaped(text) {
+        return chars_columns(text);
     }
     let body = without_spaces(text);
     units_columns(body) + (text.len() - body.len())

@@ -1,7 +1,5 @@
 -- The first line goes on what is kept, and the others follow it.
-use Rattle.std.proofs.Common.{◌≡◌, ◌+◌, ◌-◌, ◌<◌, ◌∷◌, ℕ, List, length, ap, arith, ◌∙◌}
-use Rattle.std.specs.Str.{IsUtf8}
-use Rattle.std.specs.Str.Lines.{strip_carriage_return}
+use Rattle.std.proofs.Common.{◌≡◌, ◌+◌, length, ap, arith, ◌∙◌}
 use Rattle.minus_text.proofs.RowsLaws.{line_rows-some}
 use Rattle.minus_text.proofs.PreparedLaws.{ended_is, ended_boundary, ended_prepared, strip_few}
 use Rattle.minus_text.proofs.formed.form.Goals as goal

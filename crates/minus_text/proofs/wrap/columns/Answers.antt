@@ -3,6 +3,7 @@ use Rattle.std.proofs.Common.{length, ap, arith, sym, ◌∙◌}
 use Rattle.std.specs.List.{sum_by}
 use Rattle.minus_text.specs.Units.{units, unit_columns, text_columns, columns}
 use Rattle.minus_text.proofs.PlainLaws.{columns_plain}
+use Rattle.minus_text.proofs.BorderLaws.{columns_unescaped}
 use Rattle.minus_text.proofs.wrap.columns.Goals as goal
 
 pub returns : goal.returns
@@ -17,3 +18,6 @@ returns c =
 
 pub returns-then-is_printable : goal.returns-then-is_printable
 returns-then-is_printable c = sym (columns_plain c.args.text.now (sym c.is_printable.ensures ∙ c.if-is_printable.true))
+
+pub returns-then-is_unescaped : goal.returns-then-is_unescaped
+returns-then-is_unescaped c = c.chars_columns.ensures ∙ sym (columns_unescaped c.args.text.now c.utf8.text (sym c.is_unescaped.ensures ∙ c.if-is_unescaped.true))

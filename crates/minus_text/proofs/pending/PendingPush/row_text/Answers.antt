@@ -1,5 +1,5 @@
 -- The row is a part of the tail.
-use Rattle.std.proofs.Common.{◌≡◌, ◌+◌, ◌-◌, length, Some, None, refl, sym, ap, ◌∙◌, arith}
+use Rattle.std.proofs.Common.{◌≡◌, ◌+◌, length, Some, refl, sym, ap}
 use Rattle.std.specs.List.{slice_get}
 use Rattle.std.specs.String.{string_bytes}
 use Rattle.std.proofs.lemmas.Option.{slice_get_read}

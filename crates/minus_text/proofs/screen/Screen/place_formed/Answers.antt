@@ -2,7 +2,6 @@
 use Rattle.std.proofs.Common.{true, cond, eqb, ◌-◌, ◌≡◌, ℕ, ◌+◌, ◌++◌, List, length, take, max, refl, ap, arith, ◌∙◌}
 use Rattle.std.specs.String.{string_bytes}
 use Rattle.std.proofs.lemmas.Str.{IsUtf8-string_bytes}
-use Rattle.minus_text.specs.declared.screen.FormatResult.{FormatResult}
 use Rattle.minus_text.specs.declared.wrap.Span.{Span}
 use Rattle.minus_text.specs.Kept.{kept_lines, line_going_on, piece_behind}
 use Rattle.minus_text.proofs.ScreenLaws.{front_is, push_formed, formed-ascends, form-unfinished}

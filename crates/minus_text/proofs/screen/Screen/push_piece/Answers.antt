@@ -1,6 +1,5 @@
 -- What is formed of the rest and the piece is what the push forms.
-use Rattle.std.proofs.Common.{◌+◌, ◌++◌, length, drop, ap, refl, arith, ◌∙◌}
-use Rattle.std.specs.String.{string_bytes}
+use Rattle.std.proofs.Common.{◌+◌, length, drop, ap, arith, ◌∙◌}
 use Rattle.std.proofs.lemmas.List.{length-append, length-drop}
 use Rattle.minus_text.specs.Kept.{line_going_on, piece_behind}
 use Rattle.minus_text.proofs.ScreenLaws.{push_start}
@@ -10,7 +9,7 @@ pub form-requires-clause-bytes : goal.form-requires-clause-bytes
 form-requires-clause-bytes c =
     let r = c.restart-start.ensures in
     let tail = c.deref.ensures ∙ c.in_ok-tail.ensures in
-    omega (arith, r.place.0, r.small, ap length tail, length-append (drop (c.restart-start.result.finished.bytes + c.restart-start.result.bytes) c.args.self.now.text) c.args.piece.now, length-drop (c.restart-start.result.finished.bytes + c.restart-start.result.bytes) c.args.self.now.text, c.type_inv.piece)
+    omega (arith, r.place.0, r.small, ap length tail, length-append (drop (c.restart-start.result.finished.bytes + c.restart-start.result.bytes) c.args.self.now.text) c.args.piece.now, length-drop (c.restart-start.result.finished.bytes + c.restart-start.result.bytes) c.args.self.now.text)
 
 pub form-requires-clause-lines : goal.form-requires-clause-lines
 form-requires-clause-lines c =

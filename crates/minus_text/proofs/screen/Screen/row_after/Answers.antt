@@ -1,5 +1,5 @@
 -- A row stays, or is formed.
-use Rattle.std.proofs.Common.{◌≡◌, ◌-◌, ◌≤◌, ◌<◌, ap, sym, arith, ◌∙◌}
+use Rattle.std.proofs.Common.{◌-◌, ap, sym, arith, ◌∙◌}
 use Rattle.std.specs.List.{slice_get}
 use Rattle.minus_text.specs.Document.{rows_of}
 use Rattle.minus_text.proofs.PendingLaws.{row_staying, row_forming}
