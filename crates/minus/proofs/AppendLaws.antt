@@ -7,7 +7,7 @@ use Rattle.minus_term.specs.PlayedScreen.{screen_of}
 use Rattle.minus_term.proofs.AppendLaws.{append_shows_lem, append_puts_lem, IsClean-changed}
 use Rattle.minus_text.specs.Document.{Document, rows_of, unfinished_rows}
 use Rattle.minus_text.specs.FormatResults.{formed_by, first_formed}
-use Rattle.minus_text.proofs.PendingLaws.{rows_pushed}
+use Rattle.minus_text.proofs.PushedLaws.{rows_pushed}
 use Rattle.minus.specs.declared.commands.Drawing.TheVariants.{Append}
 use Rattle.minus.specs.Control.{Control, document_of, text_rows, first_changed}
 use Rattle.minus.specs.Drawn.{IsDrawing}

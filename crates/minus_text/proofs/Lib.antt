@@ -26,4 +26,5 @@ pub mod BorderLaws
 pub mod ScreenLaws
 pub mod RowTextLaws
 pub mod FormatResultLaws
+pub mod PushedLaws
 pub mod PendingLaws
