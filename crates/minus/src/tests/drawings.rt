@@ -1,5 +1,8 @@
 use super::{PROMPT_ROW, append, ask, terminal};
-use crate::{Input, InputEvent, Pager, RunMode, init_core};
+use crate::{
+    Input, InputEvent, Pager, PagerState, RunMode, draw_append_text, draw_for_change, draw_full,
+    init_core, write_prompt,
+};
 use std::alloc::Global;
 use std::test::Fail;
 
@@ -86,5 +89,29 @@ fn an_append_below_the_page_writes_nothing(rt: HostRuntime) -> Result<(), Fail> 
     let on_page = written(alloc, (20, 4), (TEN_LINES, 7), append(alloc, "x")?)?;
     let below = written(alloc, (20, 4), (TEN_LINES, 0), append(alloc, "x")?)?;
     assert!(rt; on_page.as_str() == "\x1b[3;1H\x1b[2Kl9x" && below.is_empty());
+    Ok(())
+}
+
+// A state of ten lines on 20 columns and 4 rows.
+fn ten_lines(alloc: Global) -> Result<PagerState, Fail> {
+    let mut state = PagerState::new(alloc, 20, 4)?;
+    let _ = state.screen.set_text(alloc, TEN_LINES, 20)?;
+    Ok(state)
+}
+
+#[test]
+fn a_state_is_drawn_on_a_sink(rt: HostRuntime) -> Result<(), Fail> {
+    let alloc = rt.alloc();
+    let mut state = ten_lines(alloc)?;
+    let mut sink = Vec::new(alloc);
+    let mut mark = 9;
+    draw_full(alloc, &mut sink, &mut state)?;
+    draw_for_change(alloc, &mut sink, &mut state, &mut mark)?;
+    draw_append_text(alloc, &mut sink, &state, 9, 10)?;
+    write_prompt(alloc, &mut sink, "end", 4)?;
+    let bytes = format!(in alloc;
+        "\x1b[1;1H\x1b[2J\rl0\n\rl1\n\rl2\n\x1b[5;1H\r\x1b[2K{PROMPT_ROW}\x1b[3S\x1b[1;1H\x1b[2K\rl7\n\rl8\n\rl9\n\x1b[5;1H\r\x1b[2K{PROMPT_ROW}\x1b[3;1H\x1b[2Kl9\x1b[5;1H\r\x1b[2Kend"
+    )?;
+    assert!(rt; sink.as_slice() == bytes.as_bytes() && mark == 7 && state.upper_mark == 7);
     Ok(())
 }
