@@ -1,15 +1,20 @@
 -- A page to which a text was appended.
-use Rattle.std.proofs.Common.{◌≡◌, ℕ, ◌+◌, ◌-◌, ◌≤◌, ◌==◌, min, leb, Bool, true, false, cond, List, [], ◌∷◌, ◌++◌, length, take, drop, refl, sym, ap, ◌∙◌, arith, inl, inr}
+use Rattle.std.proofs.Common.{◌≡◌, ℕ, ◌+◌, ◌-◌, ◌≤◌, min, leb, true, false, List, [], ◌∷◌, ◌++◌, length, take, drop, refl, sym, ap, ◌∙◌, arith, inl, inr}
 use Rattle.std.proofs.lemmas.Bool.{cases_Bool, leb-true, leb-false}
-use Rattle.std.proofs.lemmas.List.{length-take, length-take-le, length-drop, take-take, take_at, drop-take}
+use Rattle.std.proofs.lemmas.List.{append-nil, length-take, length-drop, take-take, take_at, drop-take}
 use Rattle.minus_term.specs.Append.{append_ops}
 use Rattle.minus_term.specs.PlayedScreen.{screen_of}
 use Rattle.minus_term.proofs.AppendLaws.{append_shows_lem, append_puts_lem, IsClean-changed}
-use Rattle.minus_text.specs.Document.{Document, rows_of, unfinished_rows}
-use Rattle.minus_text.specs.FormatResults.{formed_by, first_formed}
-use Rattle.minus_text.proofs.PendingLaws.{rows_pushed}
+use Rattle.std.specs.Str.Lines.{lines}
+use Rattle.std.proofs.lemmas.List.Concat.{flat_map-append}
+use Rattle.minus_text.specs.Document.{rows_of, rows_of_lines}
+use Rattle.minus_text.specs.Lines.{cut, finished_lines, unfinished_line}
+use Rattle.minus_text.specs.Rows.{line_rows}
+use Rattle.minus_text.proofs.DocumentLaws.{length-rows_of_lines}
+use Rattle.minus_text.proofs.LinesLaws.{cut-append}
+use Rattle.minus_text.proofs.ScreenLaws.{lines_front}
 use Rattle.minus.specs.declared.commands.Drawing.TheVariants.{Append}
-use Rattle.minus.specs.Control.{Control, document_of, text_rows, first_changed}
+use Rattle.minus.specs.Control.{Control, text_rows, first_changed}
 use Rattle.minus.specs.Drawn.{IsDrawing}
 use Rattle.minus.specs.Page.{shown, page}
 use Rattle.minus.specs.PromptRow.{prompt_row}
@@ -29,16 +34,23 @@ agree_shown xs ys k m n f e l w = take-take f n (drop m xs) w ∙ shown_so ∙ s
       | inr s ↦ (let past = leb-false m k s in let none : f ≡ 0 = omega arith in rw none refl)
     ]
 
+-- the rows of the lines that a newline ends come first, whatever is appended
+front_stays : (text piece : List ℕ) (cols n : ℕ) → n ≡ length (rows_of_lines cols (finished_lines text)) → take n (rows_of_lines cols (lines (text ++ piece))) ≡ rows_of_lines cols (finished_lines text)
+front_stays text piece cols n e =
+    let more : List (List ℕ) = rows_of_lines cols (lines (unfinished_line text ++ piece)) in
+    let parts : rows_of_lines cols (lines (text ++ piece)) ≡ rows_of_lines cols (finished_lines text) ++ more =
+    ap (rows_of_lines cols) (lines_front (text ++ piece) (unfinished_line text ++ piece) (cut text).closed (cut-append text piece)) ∙ flat_map-append (line_rows cols) (finished_lines text) (lines (unfinished_line text ++ piece)) in
+    ap (take n) parts ∙ take_at (rows_of_lines cols (finished_lines text)) more n (sym e)
+
+front_is : (text : List ℕ) (cols n : ℕ) → n ≡ length (rows_of_lines cols (finished_lines text)) → take n (rows_of_lines cols (lines text)) ≡ rows_of_lines cols (finished_lines text)
+front_is text cols n e = ap (λ (ts : List ℕ). take n (rows_of_lines cols (lines ts))) (sym (append-nil text)) ∙ front_stays text [] cols n e
+
 -- the rows before the first that an append changes stay
 rows_stay : (c : Control) (text : List ℕ) → take (first_changed c) (text_rows c) ≡ take (first_changed c) (text_rows (record c { text = c.text ++ text }))
+unfolding rows_of
 rows_stay c text =
-    let d : Document = document_of c in
-    let same : (c.cols == c.cols) ≡ true = grind arith in
-    let first : first_formed d c.cols ≡ first_changed c = ap (λ (b : Bool). cond b (length (rows_of d) - unfinished_rows d) 0) same in
-    let more : List (List ℕ) = rows_of (formed_by d text c.cols) in
-    let is : text_rows (record c { text = c.text ++ text }) ≡ take (first_changed c) (text_rows c) ++ more = rows_pushed d text c.cols ∙ ap (λ (n : ℕ). take n (rows_of d) ++ more) first in
-    let count : length (take (first_changed c) (text_rows c)) ≡ first_changed c = length-take-le (first_changed c) (text_rows c) (omega arith) in
-    sym (ap (take (first_changed c)) is ∙ take_at (take (first_changed c) (text_rows c)) more (first_changed c) count)
+    let first : first_changed c ≡ length (rows_of_lines c.cols (finished_lines c.text)) = omega (arith, length-rows_of_lines c.text c.cols) in
+    front_is c.text c.cols (first_changed c) first ∙ sym (front_stays c.text text c.cols (first_changed c) first)
 
 same_prompt : (a b : Control) → a.cols ≡ b.cols → prompt_row a ≡ prompt_row b
 unfolding prompt_row

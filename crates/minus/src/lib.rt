@@ -61,6 +61,3 @@ pub use sink::{
     write_raw_lines,
 };
 pub use state::{ExitStrategy, PagerState, RunMode};
-
-#[cfg(test)]
-mod tests;

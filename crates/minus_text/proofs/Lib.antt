@@ -7,6 +7,11 @@ pub mod WordsLaws
 pub mod RowsMeasured
 pub mod PiecesLaws
 pub mod RowsLaws
+pub mod PlainLaws
+pub mod PiecesSomeLaws
+pub mod RestartLaws
+pub mod GoesOnLaws
+pub mod FewColumnsLaws
 pub mod ColumnsLaws
 pub mod RowsFitLaws
 pub mod DigitsLaws
@@ -15,9 +20,10 @@ pub mod LinesLaws
 pub mod DocumentLaws
 pub mod FormLaws
 pub mod PlacesLaws
+pub mod PreparedLaws
+pub mod SeamLaws
+pub mod BorderLaws
 pub mod ScreenLaws
 pub mod RowTextLaws
 pub mod FormatResultLaws
 pub mod PendingLaws
-pub mod MovedLaws
-pub mod PlacedLaws

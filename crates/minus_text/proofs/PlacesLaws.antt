@@ -8,47 +8,36 @@ use Rattle.std.proofs.lemmas.List.{length-append, get_or_append_left, get_or-app
 use Rattle.std.proofs.lemmas.List.Concat.{flat_map-append}
 use Rattle.std.proofs.lemmas.Str.{IsCharBoundary-after_ascii, IsCharBoundary-before_ascii, IsCharBoundary-from_rest, IsUtf8-take, IsUtf8-drop}
 use Rattle.minus_text.specs.declared.wrap.Span.{Span}
-use Rattle.minus_text.specs.declared.formed.StoredRow.{StoredRow}
 use Rattle.minus_text.specs.Rows.{line_rows, line_places, IsPlace, ArePlaces}
 use Rattle.minus_text.specs.Lines.{Cut, cut, onto, finished_lines, unfinished_line}
 use Rattle.minus_text.specs.Document.{rows_of_lines}
-use Rattle.minus_text.specs.Kept.{stored_at, line_stored, closed_stored, stored_from, bytes_of}
+use Rattle.minus_text.specs.Kept.{moved, line_stored, closed_stored, stored_from, bytes_of}
 use Rattle.minus_text.proofs.RowsLaws.{line_places-are}
 use Rattle.minus_text.proofs.LinesLaws.{open_at, open_boundary}
 use Rattle.minus_text.proofs.DocumentLaws.{lines_closed, lines_open}
 
--- the place of a stored row
-abbrev pub span_of : StoredRow → Span
-span_of r = record { start = r.start; end = r.end }
+-- the places of some rows, and then those of others
+pub ArePlaces-append : (text : List ℕ) (xs ys : List Span) (ts us : List (List ℕ)) → ArePlaces text xs ts → ArePlaces text ys us → ArePlaces text (xs ++ ys) (ts ++ us)
+ArePlaces-append text [] ys [] us h k = k
+ArePlaces-append text [] ys (t ∷ ts) us h k = absurd h
+ArePlaces-append text (x ∷ xs) ys [] us h k = absurd h
+ArePlaces-append text (x ∷ xs) ys (t ∷ ts) us h k = (h.0, ArePlaces-append text xs ys ts us h.1 k)
 
--- stored rows cut the texts out of a text
-abbrev pub AreStored : List ℕ → List StoredRow → List (List ℕ) → Type 0
-AreStored text [] [] = Unit {0}
-AreStored text [] (t ∷ ts) = ⊥
-AreStored text (r ∷ rs) [] = ⊥
-AreStored text (r ∷ rs) (t ∷ ts) = IsPlace text (span_of r) t × AreStored text rs ts
-
-AreStored-append : (text : List ℕ) (xs ys : List StoredRow) (ts us : List (List ℕ)) → AreStored text xs ts → AreStored text ys us → AreStored text (xs ++ ys) (ts ++ us)
-AreStored-append text [] ys [] us h k = k
-AreStored-append text [] ys (t ∷ ts) us h k = absurd h
-AreStored-append text (x ∷ xs) ys [] us h k = absurd h
-AreStored-append text (x ∷ xs) ys (t ∷ ts) us h k = (h.0, AreStored-append text xs ys ts us h.1 k)
-
-pub length-stored : (text : List ℕ) (rs : List StoredRow) (ts : List (List ℕ)) → AreStored text rs ts → length rs ≡ length ts
+pub length-stored : (text : List ℕ) (rs : List Span) (ts : List (List ℕ)) → ArePlaces text rs ts → length rs ≡ length ts
 length-stored text [] [] h = refl
 length-stored text [] (t ∷ ts) h = absurd h
 length-stored text (r ∷ rs) [] h = absurd h
 length-stored text (r ∷ rs) (t ∷ ts) h = ap suc (length-stored text rs ts h.1)
 
 -- the row at a number, if there is one
-pub stored_some : (text : List ℕ) (rs : List StoredRow) (ts : List (List ℕ)) (i : ℕ) (r : StoredRow) → AreStored text rs ts → slice_get rs i ≡ Some r → (t : List ℕ) × (slice_get ts i ≡ Some t) × IsPlace text (span_of r) t
+pub stored_some : (text : List ℕ) (rs : List Span) (ts : List (List ℕ)) (i : ℕ) (r : Span) → ArePlaces text rs ts → slice_get rs i ≡ Some r → (t : List ℕ) × (slice_get ts i ≡ Some t) × IsPlace text r t
 stored_some text [] [] i r h e = absurd cc
 stored_some text [] (t ∷ ts) i r h e = absurd h
 stored_some text (x ∷ rs) [] i r h e = absurd h
-stored_some text (x ∷ rs) (t ∷ ts) zero r h e = let same : x ≡ r = cc in (t, refl, subst (λ (y : StoredRow). IsPlace text (span_of y) t) same h.0)
+stored_some text (x ∷ rs) (t ∷ ts) zero r h e = let same : x ≡ r = cc in (t, refl, subst (λ (y : Span). IsPlace text y t) same h.0)
 stored_some text (x ∷ rs) (t ∷ ts) (suc i) r h e = stored_some text rs ts i r h.1 e
 
-pub stored_none : (text : List ℕ) (rs : List StoredRow) (ts : List (List ℕ)) (i : ℕ) → AreStored text rs ts → slice_get rs i ≡ None → slice_get ts i ≡ None
+pub stored_none : (text : List ℕ) (rs : List Span) (ts : List (List ℕ)) (i : ℕ) → ArePlaces text rs ts → slice_get rs i ≡ None → slice_get ts i ≡ None
 stored_none text [] [] i h e = refl
 stored_none text [] (t ∷ ts) i h e = absurd h
 stored_none text (x ∷ rs) [] i h e = absurd h
@@ -91,17 +80,17 @@ moved_place text x rest row at s le e a one =
           ∙ take-append-le (s.end - s.start) (drop s.start x) rest (omega arith) ∙ one.value);
     }
 
-moved_places : (text x rest : List ℕ) (line at : ℕ) (ss : List Span) (rs : List (List ℕ)) → at ≤ length text → drop at text ≡ x ++ rest → (0 < length rest → get_or rest 0 0 < 128) → ArePlaces x ss rs → AreStored text (map (stored_at line at) ss) rs
-moved_places text x rest line at [] [] le e a h = tt
-moved_places text x rest line at [] (r ∷ rs) le e a h = absurd h
-moved_places text x rest line at (s ∷ ss) [] le e a h = absurd h
-moved_places text x rest line at (s ∷ ss) (r ∷ rs) le e a h = (moved_place text x rest r at s le e a h.0, moved_places text x rest line at ss rs le e a h.1)
+moved_places : (text x rest : List ℕ) (at : ℕ) (ss : List Span) (rs : List (List ℕ)) → at ≤ length text → drop at text ≡ x ++ rest → (0 < length rest → get_or rest 0 0 < 128) → ArePlaces x ss rs → ArePlaces text (map (moved at) ss) rs
+moved_places text x rest at [] [] le e a h = tt
+moved_places text x rest at [] (r ∷ rs) le e a h = absurd h
+moved_places text x rest at (s ∷ ss) [] le e a h = absurd h
+moved_places text x rest at (s ∷ ss) (r ∷ rs) le e a h = (moved_place text x rest r at s le e a h.0, moved_places text x rest at ss rs le e a h.1)
 
-line_stored-are : (text x rest : List ℕ) (cols line at : ℕ) → at ≤ length text → drop at text ≡ x ++ rest → (0 < length rest → get_or rest 0 0 < 128) → IsUtf8 x → AreStored text (line_stored cols line at x) (line_rows cols x)
-line_stored-are text x rest cols line at le e a u = moved_places text x rest line at (line_places cols x) (line_rows cols x) le e a (line_places-are cols x u)
+line_stored-are : (text x rest : List ℕ) (cols at : ℕ) → at ≤ length text → drop at text ≡ x ++ rest → (0 < length rest → get_or rest 0 0 < 128) → IsUtf8 x → ArePlaces text (line_stored cols at x) (line_rows cols x)
+line_stored-are text x rest cols at le e a u = moved_places text x rest at (line_places cols x) (line_rows cols x) le e a (line_places-are cols x u)
 
 -- a line without its carriage return
-stripped : (x : List ℕ) → IsUtf8 x → (rest : List ℕ) × (x ≡ strip_carriage_return x ++ rest) × (0 < length rest → get_or rest 0 0 < 128) × IsUtf8 (strip_carriage_return x)
+pub stripped : (x : List ℕ) → IsUtf8 x → (rest : List ℕ) × (x ≡ strip_carriage_return x ++ rest) × (0 < length rest → get_or rest 0 0 < 128) × IsUtf8 (strip_carriage_return x)
 stripped x u = elim (cases_Bool (eqb (get_or x (length x - 1) 0) 13)) [
   | inl e ↦
       let n : ℕ = length x - 1 in
@@ -118,11 +107,11 @@ stripped x u = elim (cases_Bool (eqb (get_or x (length x - 1) 0) 13)) [
     some (b ∷ x) h = omega arith
 
 -- closed lines and what follows them, as one text
-abbrev joined : List (List ℕ) → List ℕ → List ℕ
+abbrev pub joined : List (List ℕ) → List ℕ → List ℕ
 joined [] o = o
 joined (x ∷ xs) o = x ++ 10 ∷ joined xs o
 
-cut_joined : (bs : List ℕ) → bs ≡ joined (cut bs).closed (cut bs).open_line
+pub cut_joined : (bs : List ℕ) → bs ≡ joined (cut bs).closed (cut bs).open_line
 cut_joined [] = refl
 cut_joined (b ∷ bs) = elim (cases_Bool (eqb b 10)) [
   | inl t ↦ let e : b ≡ 10 = eqb-true b 10 t in rw t (ap (λ x. x ∷ bs) e ∙ ap (λ xs. 10 ∷ xs) (cut_joined bs))
@@ -134,7 +123,7 @@ cut_joined (b ∷ bs) = elim (cases_Bool (eqb b 10)) [
     onto_joined b (x ∷ c) o = refl
 
 -- the two sides of a newline
-sides : (x more : List ℕ) → IsUtf8 (x ++ 10 ∷ more) → IsUtf8 x × IsUtf8 more
+pub sides : (x more : List ℕ) → IsUtf8 (x ++ 10 ∷ more) → IsUtf8 x × IsUtf8 more
 sides x more u =
     let all : List ℕ = x ++ 10 ∷ more in
     let len : length all ≡ length x + suc (length more) = length-append x (10 ∷ more) in
@@ -149,10 +138,10 @@ small_head : (xs ys : List ℕ) → (0 < length xs → get_or xs 0 0 < 128) → 
 small_head [] ys h k = k
 small_head (x ∷ xs) ys h k = h (omega arith)
 
-closed_stored-are : (text : List ℕ) (cols line at : ℕ) (xs : List (List ℕ)) (o : List ℕ) → at ≤ length text → drop at text ≡ joined xs o → IsUtf8 (joined xs o)
-    → AreStored text (closed_stored cols line at xs) (rows_of_lines cols (map strip_carriage_return xs))
-closed_stored-are text cols line at [] o le e u = tt
-closed_stored-are text cols line at (x ∷ xs) o le e u =
+closed_stored-are : (text : List ℕ) (cols at : ℕ) (xs : List (List ℕ)) (o : List ℕ) → at ≤ length text → drop at text ≡ joined xs o → IsUtf8 (joined xs o)
+    → ArePlaces text (closed_stored cols at xs) (rows_of_lines cols (map strip_carriage_return xs))
+closed_stored-are text cols at [] o le e u = tt
+closed_stored-are text cols at (x ∷ xs) o le e u =
     let more : List ℕ = joined xs o in
     let both = sides x more u in
     let w = stripped x both.0 in
@@ -160,16 +149,16 @@ closed_stored-are text cols line at (x ∷ xs) o le e u =
     let len : length text - at ≡ length x + suc (length more) = sym (length-drop at text) ∙ ap length e ∙ length-append x (10 ∷ more) in
     let one : length x + 1 ≡ suc (length x) = omega arith in
     let next : drop (at + bytes_of x) text ≡ more = sym (drop-drop (length x + 1) at text) ∙ ap (drop (length x + 1)) e ∙ sym (drop-drop 1 (length x) (x ++ 10 ∷ more)) ∙ ap (drop 1) (drop_at x (10 ∷ more) (length x) refl) in
-    AreStored-append text (line_stored cols line at (strip_carriage_return x)) (closed_stored cols (line + 1) (at + bytes_of x) xs) (line_rows cols (strip_carriage_return x)) (rows_of_lines cols (map strip_carriage_return xs))
-    (line_stored-are text (strip_carriage_return x) (w.0 ++ 10 ∷ more) cols line at le here (λ _. small_head w.0 (10 ∷ more) w.2 (omega arith)) w.3)
-    (closed_stored-are text cols (line + 1) (at + bytes_of x) xs o (omega arith) next both.1)
+    ArePlaces-append text (line_stored cols at (strip_carriage_return x)) (closed_stored cols (at + bytes_of x) xs) (line_rows cols (strip_carriage_return x)) (rows_of_lines cols (map strip_carriage_return xs))
+    (line_stored-are text (strip_carriage_return x) (w.0 ++ 10 ∷ more) cols at le here (λ _. small_head w.0 (10 ∷ more) w.2 (omega arith)) w.3)
+    (closed_stored-are text cols (at + bytes_of x) xs o (omega arith) next both.1)
 
 -- the stored rows of the finished lines
-pub finished-are : (text : List ℕ) (cols : ℕ) → IsUtf8 text → AreStored text (closed_stored cols 0 0 (cut text).closed) (rows_of_lines cols (finished_lines text))
-finished-are text cols u = closed_stored-are text cols 0 0 (cut text).closed (cut text).open_line (omega arith) (cut_joined text) (rw (cut_joined text) at u)
+pub finished-are : (text : List ℕ) (cols : ℕ) → IsUtf8 text → ArePlaces text (closed_stored cols 0 (cut text).closed) (rows_of_lines cols (finished_lines text))
+finished-are text cols u = closed_stored-are text cols 0 (cut text).closed (cut text).open_line (omega arith) (cut_joined text) (rw (cut_joined text) at u)
 
 -- the stored rows of a text
-pub stored-are : (text : List ℕ) (cols : ℕ) → IsUtf8 text → AreStored text (stored_from cols 0 0 (cut text)) (rows_of_lines cols (lines text))
+pub stored-are : (text : List ℕ) (cols : ℕ) → IsUtf8 text → ArePlaces text (stored_from cols 0 (cut text)) (rows_of_lines cols (lines text))
 stored-are text cols u =
     let c : Cut = cut text in
     let h = open_at text in
@@ -180,9 +169,9 @@ stored-are text cols u =
     let uo : IsUtf8 c.open_line = rw h.rest at (IsUtf8-drop text at u b) in
     let front = finished-are text cols u in
     elim (cases_Bool (eqb (length (unfinished_line text)) 0)) [
-      | inl none ↦ rw (lines_closed text none, none, append-nil (closed_stored cols 0 0 c.closed)) front
+      | inl none ↦ rw (lines_closed text none, none, append-nil (closed_stored cols 0 c.closed)) front
       | inr some ↦
-          let last = line_stored-are text c.open_line [] cols (0 + length c.closed) at h.within (h.rest ∙ sym (append-nil c.open_line)) (λ l. absurd (omega arith)) uo in
+          let last = line_stored-are text c.open_line [] cols at h.within (h.rest ∙ sym (append-nil c.open_line)) (λ l. absurd (omega arith)) uo in
           rw (lines_open text some, some, z, flat_map-append (line_rows cols) (finished_lines text) (c.open_line ∷ []))
-          (AreStored-append text (closed_stored cols 0 0 c.closed) (line_stored cols (0 + length c.closed) at c.open_line) (rows_of_lines cols (finished_lines text)) (line_rows cols c.open_line ++ []) front (rw (append-nil (line_rows cols c.open_line)) last))
+          (ArePlaces-append text (closed_stored cols 0 c.closed) (line_stored cols at c.open_line) (rows_of_lines cols (finished_lines text)) (line_rows cols c.open_line ++ []) front (rw (append-nil (line_rows cols c.open_line)) last))
     ]

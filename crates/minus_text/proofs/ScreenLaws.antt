@@ -1,155 +1,234 @@
 -- What is kept beside a text, and what a push leaves.
-use Rattle.std.proofs.Common.{◌≡◌, ℕ, ◌+◌, ◌-◌, ◌≤◌, Bool, eqb, cond, List, [], ◌∷◌, ◌++◌, length, map, max, take, drop, refl, sym, subst, ap, ◌∙◌, arith, append_assoc, inl, inr}
-use Rattle.std.specs.List.{sum_by}
+use Rattle.std.proofs.Common.{◌≡◌, ℕ, ◌+◌, ◌-◌, ◌≤◌, true, false, eqb, cond, List, [], ◌∷◌, ◌++◌, length, map, max, take, drop, refl, sym, subst, ap, ◌∙◌, arith, append_assoc, inl, inr}
+use Rattle.std.specs.List.{sum_by, All}
 use Rattle.std.specs.List.Sorted.{IsStrictlyIncreasing}
 use Rattle.std.specs.Str.{IsUtf8, IsCharBoundary}
 use Rattle.std.specs.Str.Lines.{lines, strip_carriage_return}
-use Rattle.std.proofs.lemmas.Bool.{cases_Bool, eqb-true}
-use Rattle.std.proofs.lemmas.Str.{IsCharBoundary-start}
-use Rattle.std.proofs.lemmas.List.{append-nil, length-append, length-map, map-append, take_at}
+use Rattle.std.proofs.Math.Seq.{take-append-add}
+use Rattle.std.proofs.lemmas.Bool.{cases_Bool, eqb-true, eq-eqb}
+use Rattle.std.proofs.lemmas.Str.{IsCharBoundary-from_rest, IsUtf8-nil, IsUtf8-append}
+use Rattle.std.proofs.lemmas.List.{append-nil, length-append, length-map, length-take-le, map-append, take_at, drop_at, drop-drop}
+use Rattle.std.proofs.lemmas.List.Elements.{All-map}
 use Rattle.std.proofs.lemmas.List.Sums.{sum_by-append, sum_by-cons}
-use Rattle.minus_text.specs.declared.formed.StoredRow.{StoredRow}
+use Rattle.minus_text.specs.declared.wrap.Span.{Span}
 use Rattle.minus_text.specs.declared.formed.Finished.{Finished}
+use Rattle.minus_text.specs.declared.formed.Border.{Border}
+use Rattle.minus_text.specs.declared.formed.Restart.{Restart}
 use Rattle.minus_text.specs.declared.formed.Formed.{Formed}
-use Rattle.minus_text.specs.Lines.{Cut, cut, finished_lines, unfinished_line}
+use Rattle.minus_text.specs.Rows.{line_places}
+use Rattle.minus_text.specs.Lines.{Cut, cut, whole, finished_lines, unfinished_line}
 use Rattle.minus_text.specs.Document.{Document, rows_of_lines, first_rows, longest_of, rows_of, line_map, line_count, longest, unfinished_rows}
-use Rattle.minus_text.specs.Kept.{bytes_of, line_stored, closed_stored, open_stored, stored_from, Reaches, IsFormOf, IsFormed, at_start, kept_of}
-use Rattle.minus_text.proofs.LinesLaws.{cut-append, lines-cut, open_at, open_boundary, lines-le-bytes}
+use Rattle.minus_text.specs.Kept.{moved, bytes_of, line_stored, closed_stored, open_stored, open_rows, stored_from, Reaches, GoesOn, IsRestart, IsFormOf, IsFormed, IsRestartOf, kept_lines, line_going_on, piece_behind, at_start}
+use Rattle.minus_text.proofs.LinesLaws.{cut-append, lines-cut, open_at, lines-le-bytes}
 use Rattle.minus_text.proofs.DocumentLaws.{length-rows_of_lines-append, length-rows_of_lines, first_rows-append, length-first_rows, first_rows-ascend, longest_of-append}
-use Rattle.minus_text.proofs.PlacesLaws.{finished-are, length-stored}
+use Rattle.minus_text.proofs.FormLaws.{length-places, Reaches-trans}
+use Rattle.minus_text.proofs.PlacesLaws.{finished-are}
+use Rattle.minus_text.proofs.PreparedLaws.{no_border, open_utf8}
+use Rattle.minus_text.proofs.SeamLaws.{start_goes_on}
 
 -- what is kept, as what the document has
-pub formed-rows : (text : List ℕ) (cols : ℕ) (rows : List StoredRow) (firsts : List ℕ) (finished : Finished) (n : ℕ) (d : Document) → (let e : Document = record { text = text; cols = cols } in e) ≡ d → IsFormed text cols rows firsts finished n → length rows ≡ length (rows_of d)
+pub formed-rows : (text : List ℕ) (cols : ℕ) (rows : List Span) (firsts : List ℕ) (finished : Finished) (n : ℕ) (b : Border) (d : Document) → (let e : Document = record { text = text; cols = cols } in e) ≡ d → IsFormed text cols rows firsts finished n b → length rows ≡ length (rows_of d)
 unfolding rows_of
-formed-rows text cols rows firsts finished n d v h = subst (λ (x : Document). length rows ≡ length (rows_of x)) v h.its_count
+formed-rows text cols rows firsts finished n b d v h = subst (λ (x : Document). length rows ≡ length (rows_of x)) v h.its_count
 
-pub formed-map : (text : List ℕ) (cols : ℕ) (rows : List StoredRow) (firsts : List ℕ) (finished : Finished) (n : ℕ) (d : Document) → (let e : Document = record { text = text; cols = cols } in e) ≡ d → IsFormed text cols rows firsts finished n → firsts ≡ line_map d
+pub formed-map : (text : List ℕ) (cols : ℕ) (rows : List Span) (firsts : List ℕ) (finished : Finished) (n : ℕ) (b : Border) (d : Document) → (let e : Document = record { text = text; cols = cols } in e) ≡ d → IsFormed text cols rows firsts finished n b → firsts ≡ line_map d
 unfolding line_map
-formed-map text cols rows firsts finished n d v h = subst (λ (x : Document). firsts ≡ line_map x) v h.its_map
+formed-map text cols rows firsts finished n b d v h = subst (λ (x : Document). firsts ≡ line_map x) v h.its_map
 
-pub formed-lines : (text : List ℕ) (cols : ℕ) (rows : List StoredRow) (firsts : List ℕ) (finished : Finished) (n : ℕ) (d : Document) → (let e : Document = record { text = text; cols = cols } in e) ≡ d → IsFormed text cols rows firsts finished n → length firsts ≡ line_count d
-formed-lines text cols rows firsts finished n d v h = subst (λ (x : Document). length firsts ≡ line_count x) v (ap length h.its_map ∙ length-first_rows cols 0 (lines text))
+pub formed-lines : (text : List ℕ) (cols : ℕ) (rows : List Span) (firsts : List ℕ) (finished : Finished) (n : ℕ) (b : Border) (d : Document) → (let e : Document = record { text = text; cols = cols } in e) ≡ d → IsFormed text cols rows firsts finished n b → length firsts ≡ line_count d
+formed-lines text cols rows firsts finished n b d v h = subst (λ (x : Document). length firsts ≡ line_count x) v (ap length h.its_map ∙ length-first_rows cols 0 (lines text))
 
-pub formed-longest : (text : List ℕ) (cols : ℕ) (rows : List StoredRow) (firsts : List ℕ) (finished : Finished) (n : ℕ) (d : Document) → (let e : Document = record { text = text; cols = cols } in e) ≡ d → IsFormed text cols rows firsts finished n → n ≡ longest d
+pub formed-longest : (text : List ℕ) (cols : ℕ) (rows : List Span) (firsts : List ℕ) (finished : Finished) (n : ℕ) (b : Border) (d : Document) → (let e : Document = record { text = text; cols = cols } in e) ≡ d → IsFormed text cols rows firsts finished n b → n ≡ longest d
 unfolding longest
-formed-longest text cols rows firsts finished n d v h = subst (λ (x : Document). n ≡ longest x) v h.its_longest
+formed-longest text cols rows firsts finished n b d v h = subst (λ (x : Document). n ≡ longest x) v h.its_longest
 
-pub formed-unfinished : (text : List ℕ) (cols : ℕ) (rows : List StoredRow) (firsts : List ℕ) (finished : Finished) (n : ℕ) (d : Document) → (let e : Document = record { text = text; cols = cols } in e) ≡ d → IsFormed text cols rows firsts finished n
+pub formed-unfinished : (text : List ℕ) (cols : ℕ) (rows : List Span) (firsts : List ℕ) (finished : Finished) (n : ℕ) (b : Border) (d : Document) → (let e : Document = record { text = text; cols = cols } in e) ≡ d → IsFormed text cols rows firsts finished n b
     → (finished.rows ≤ length rows) × (length rows - finished.rows ≡ unfinished_rows d)
-formed-unfinished text cols rows firsts finished n d v h =
+formed-unfinished text cols rows firsts finished n b d v h =
     let all = length-rows_of_lines text cols in
     let here : length rows - finished.rows ≡ unfinished_rows (record { text = text; cols = cols }) = omega (arith, h.its_count, h.its_finish.by_rows) in
     (omega (arith, h.its_count, h.its_finish.by_rows), subst (λ (x : Document). length rows - finished.rows ≡ unfinished_rows x) v here)
 
 -- nothing is formed of no text
-pub none_formed : (text : List ℕ) (cols : ℕ) (rows : List StoredRow) (firsts : List ℕ) → text ≡ [] → rows ≡ [] → firsts ≡ [] → IsFormed text cols rows firsts at_start 0
-none_formed text cols rows firsts e f g = rw (e, f, g) (record { its_rows = refl; its_count = refl; its_map = refl; its_finish = record { by_lines = refl; by_rows = refl; by_bytes = refl; longest_line = refl }; its_longest = refl })
+pub none_formed : (text : List ℕ) (cols : ℕ) (rows : List Span) (firsts : List ℕ) → text ≡ [] → rows ≡ [] → firsts ≡ [] → IsFormed text cols rows firsts at_start 0 (record { bytes = 0; columns = 0 })
+none_formed text cols rows firsts e f g = rw (e, f, g) (record { its_rows = refl; its_count = refl; its_map = refl; its_finish = record { by_lines = refl; by_rows = refl; by_bytes = refl; longest_line = refl }; its_longest = refl; its_border = no_border [] IsUtf8-nil })
 
--- what stays in a push: the finished lines that are kept, and the rest of the text
-pub record IsFront (text piece : List ℕ) (cols : ℕ) (rows : List StoredRow) (firsts : List ℕ) (kept : Finished) (front : List (List ℕ)) (rest : List ℕ) : Type 0 where
-  pub its_cut : cut (text ++ piece) ≡ record { closed = front ++ (cut (rest ++ piece)).closed; open_line = (cut (rest ++ piece)).open_line }
-  pub its_rows : take kept.rows rows ≡ closed_stored cols 0 0 front
-  pub its_count : kept.rows ≡ length (closed_stored cols 0 0 front)
-  pub its_map : take kept.lines firsts ≡ first_rows cols 0 (map strip_carriage_return front)
-  pub its_reach : Reaches cols at_start front kept
-  pub its_rest : drop kept.bytes text ≡ rest
-  pub within : kept.bytes ≤ length text
-  pub few : kept.rows ≤ length rows
-  pub fewer : kept.lines ≤ kept.bytes
+-- ---- where a push begins
 
--- all finished lines where the columns stay
-front_finished : (text piece : List ℕ) (cols : ℕ) (rows : List StoredRow) (firsts : List ℕ) (finished : Finished) (n : ℕ) → IsUtf8 text → IsFormed text cols rows firsts finished n → IsFront text piece cols rows firsts finished (cut text).closed (unfinished_line text)
-front_finished text piece cols rows firsts finished n u h =
-    let c : Cut = cut text in
-    let front : List StoredRow = closed_stored cols 0 0 c.closed in
-    let more : List StoredRow = open_stored cols (0 + length c.closed) (0 + sum_by bytes_of c.closed) c.open_line in
-    let many : length front ≡ length (rows_of_lines cols (finished_lines text)) = length-stored text front (rows_of_lines cols (finished_lines text)) (finished-are text cols u) in
-    let reach : finished.rows ≡ length front = omega (arith, many, h.its_finish.by_rows) in
-    let all : length rows ≡ length front + length more = ap length h.its_rows ∙ length-append front more in
-    let line : finished.lines ≡ length c.closed = omega (arith, h.its_finish.by_lines) in
-    let byte : finished.bytes ≡ sum_by bytes_of c.closed = omega (arith, h.its_finish.by_bytes) in
+-- how many unfinished rows there are
+pub open_count : (text : List ℕ) (cols : ℕ) → length (open_rows cols (unfinished_line text)) ≡ unfinished_rows (record { text = text; cols = cols })
+unfolding unfinished_rows
+open_count text cols = elim (cases_Bool (eqb (length (unfinished_line text)) 0)) [ inl t ↦ rw t refl | inr f ↦ rw f refl ]
+
+-- the unfinished line has no newline
+same_cut : (c : Cut) (o : List ℕ) → c.closed ≡ [] → c.open_line ≡ o → c ≡ whole o
+same_cut c o e f = ap (λ ls. let r : Cut = record { closed = ls; open_line = c.open_line } in r) e ∙ ap (λ l. let r : Cut = record { closed = []; open_line = l } in r) f
+
+pub open_whole : (text : List ℕ) → cut (unfinished_line text) ≡ whole (unfinished_line text)
+open_whole text =
+    let o : List ℕ = (cut text).open_line in
+    let nil : o ++ [] ≡ o = append-nil o in
+    let again : cut text ≡ record { closed = (cut text).closed ++ (cut o).closed; open_line = (cut o).open_line } = rw nil at (ap cut (sym (append-nil text)) ∙ cut-append text []) in
+    let size : length (cut text).closed ≡ length (cut text).closed + length (cut o).closed = ap (λ (c : Cut). length c.closed) again ∙ length-append (cut text).closed (cut o).closed in
+    same_cut (cut o) o (none (cut o).closed (omega arith)) (sym (ap (λ (c : Cut). c.open_line) again))
+  where
+    none : (xs : List (List ℕ)) → length xs ≡ 0 → xs ≡ []
+    none [] e = refl
+    none (x ∷ xs) e = absurd (omega arith)
+
+-- the rows that are kept: those of the finished lines, and the unfinished ones
+pub rows_are : (text : List ℕ) (cols : ℕ) (rows : List Span) (firsts : List ℕ) (finished : Finished) (n : ℕ) (b : Border) → IsUtf8 text → IsFormed text cols rows firsts finished n b
+    → (rows ≡ closed_stored cols 0 (cut text).closed ++ open_stored cols finished.bytes (unfinished_line text)) × (length (closed_stored cols 0 (cut text).closed) ≡ finished.rows)
+rows_are text cols rows firsts finished n b u h =
+    let byte : 0 + sum_by bytes_of (cut text).closed ≡ finished.bytes = omega (arith, h.its_finish.by_bytes) in
+    let many = length-places text (closed_stored cols 0 (cut text).closed) (rows_of_lines cols (finished_lines text)) (finished-are text cols u) in
+    (h.its_rows ∙ ap (λ m. closed_stored cols 0 (cut text).closed ++ open_stored cols m (unfinished_line text)) byte, omega (arith, many, h.its_finish.by_rows))
+
+pub rows_left : (text : List ℕ) (cols : ℕ) (rows : List Span) (firsts : List ℕ) (finished : Finished) (n : ℕ) (b : Border) → IsUtf8 text → IsFormed text cols rows firsts finished n b
+    → drop finished.rows rows ≡ open_stored cols finished.bytes (unfinished_line text)
+rows_left text cols rows firsts finished n b u h =
+    let are = rows_are text cols rows firsts finished n b u h in
+    ap (drop finished.rows) are.0 ∙ drop_at (closed_stored cols 0 (cut text).closed) (open_stored cols finished.bytes (unfinished_line text)) finished.rows are.1
+
+-- no row begins before its line
+pub open_behind : (cols base : ℕ) (line : List ℕ) → All (λ r. base ≤ r.start) (open_stored cols base line)
+open_behind cols base line = elim (cases_Bool (eqb (length line) 0)) [
+  | inl t ↦ rw t (λ k d l. absurd (omega arith))
+  | inr f ↦ rw f (All-map (λ r. base ≤ r.start) (moved base) (line_places cols line) (λ k d l. omega arith))
+]
+
+-- how far finished lines go
+pub finished_at : (text : List ℕ) (cols : ℕ) (rows : List Span) (firsts : List ℕ) (finished : Finished) (n : ℕ) (b : Border) → IsUtf8 text → IsFormed text cols rows firsts finished n b
+    → (finished.bytes ≤ length text) × (drop finished.bytes text ≡ unfinished_line text) × (finished.lines ≤ length text) × (finished.rows + length (open_rows cols (unfinished_line text)) ≡ length rows)
+finished_at text cols rows firsts finished n b u h =
     let o = open_at text in
+    let byte : finished.bytes ≡ sum_by bytes_of (cut text).closed = omega (arith, h.its_finish.by_bytes) in
+    let within : sum_by bytes_of (cut text).closed ≤ length text = o.within in
+    let few = lines-le-bytes (cut text).closed in
+    (omega arith, rw byte o.rest, omega (arith, h.its_finish.by_lines), omega (arith, h.its_finish.by_rows, h.its_count, length-rows_of_lines text cols, open_count text cols))
+
+-- a push goes on in the unfinished line
+pub restart_same : (text : List ℕ) (cols : ℕ) (rows : List Span) (firsts : List ℕ) (finished : Finished) (n : ℕ) (b : Border) (start : Restart) (d : Document) → IsUtf8 text → (let e : Document = record { text = text; cols = cols } in e) ≡ d → IsFormed text cols rows firsts finished n b
+    → start.finished ≡ finished → start.border ≡ b → GoesOn cols (unfinished_line text) start.rows start.bytes → start.bytes ≤ b.bytes → IsRestartOf d cols start
+restart_same text cols rows firsts finished n b start d u v h ef eb g le =
+    let yes : eqb cols cols ≡ true = eq-eqb cols cols refl in
+    subst (λ (x : Document). IsRestartOf x cols start) v (record {
+      reaches = rw (yes, ef) h.its_finish;
+      restarts = rw yes (record { text = open_utf8 text u; one_line = open_whole text; goes_on = g; measured = rw eb h.its_border; behind = rw eb le });
+    })
+
+-- or forms all anew
+pub restart_anew : (text : List ℕ) (old_cols cols : ℕ) (d : Document) → (let e : Document = record { text = text; cols = old_cols } in e) ≡ d → eqb cols old_cols ≡ false
+    → IsRestartOf d cols (record { finished = at_start; rows = 0; bytes = 0; border = record { bytes = 0; columns = 0 } })
+restart_anew text old_cols cols d v f =
+    subst (λ (x : Document). IsRestartOf x cols (record { finished = at_start; rows = 0; bytes = 0; border = record { bytes = 0; columns = 0 } })) v (record {
+      reaches = rw f (record { by_lines = refl; by_rows = refl; by_bytes = refl; longest_line = refl });
+      restarts = rw f (record { text = IsUtf8-nil; one_line = refl; goes_on = start_goes_on cols [] IsUtf8-nil; measured = no_border [] IsUtf8-nil; behind = omega arith });
+    })
+
+-- where it begins is a place of the text
+pub restart_place : (text : List ℕ) (cols : ℕ) (rows : List Span) (firsts : List ℕ) (finished : Finished) (n : ℕ) (b : Border) (bytes kept : ℕ) → IsUtf8 text → IsFormed text cols rows firsts finished n b → GoesOn cols (unfinished_line text) kept bytes
+    → IsCharBoundary text (finished.bytes + bytes) × (finished.rows + kept ≤ length rows)
+restart_place text cols rows firsts finished n b bytes kept u h g =
+    let at = finished_at text cols rows firsts finished n b u h in
+    let few : kept ≤ length (open_rows cols (unfinished_line text)) = g.few in
+    (IsCharBoundary-from_rest text finished.bytes bytes at.0 (rw at.1 g.boundary), omega (arith, few, at.3))
+
+-- ---- what stays in a push, and what it goes on
+
+pub record IsFront (text piece : List ℕ) (cols : ℕ) (rows : List Span) (firsts : List ℕ) (start : Restart) (front : List (List ℕ)) (line more : List ℕ) : Type 0 where
+  pub its_cut : cut (text ++ piece) ≡ record { closed = front ++ (cut (line ++ more)).closed; open_line = (cut (line ++ more)).open_line }
+  pub its_rows : take (start.finished.rows + start.rows) rows ≡ closed_stored cols 0 front ++ take start.rows (open_stored cols start.finished.bytes line)
+  pub its_map : take start.finished.lines firsts ≡ first_rows cols 0 (map strip_carriage_return front)
+  pub its_reach : Reaches cols at_start front start.finished
+  pub its_tail : drop (start.finished.bytes + start.bytes) text ++ piece ≡ drop start.bytes line ++ more
+  pub few : start.finished.rows + start.rows ≤ length rows
+
+front_same : (text piece : List ℕ) (cols : ℕ) (rows : List Span) (firsts : List ℕ) (finished : Finished) (n : ℕ) (b : Border) (start : Restart) → IsUtf8 text → IsFormed text cols rows firsts finished n b → Reaches cols at_start (cut text).closed start.finished
+    → IsRestart cols (unfinished_line text) start → IsFront text piece cols rows firsts start (cut text).closed (unfinished_line text) piece
+front_same text piece cols rows firsts finished n b start u h reach r =
+    let c : Cut = cut text in
+    let are = rows_are text cols rows firsts finished n b u h in
+    let at = finished_at text cols rows firsts finished n b u h in
+    let row : length (closed_stored cols 0 c.closed) ≡ start.finished.rows = omega (arith, are.1, h.its_finish.by_rows, reach.by_rows) in
+    let byte : finished.bytes ≡ start.finished.bytes = omega (arith, h.its_finish.by_bytes, reach.by_bytes) in
     let stripped : length (finished_lines text) ≡ length c.closed = length-map c.closed strip_carriage_return in
-    let firsts_len : length (first_rows cols 0 (finished_lines text)) ≡ finished.lines = length-first_rows cols 0 (finished_lines text) ∙ stripped ∙ sym line in
+    let firsts_len : length (first_rows cols 0 (finished_lines text)) ≡ start.finished.lines = omega (arith, length-first_rows cols 0 (finished_lines text), stripped, reach.by_lines) in
     let tail : List (List ℕ) = cond (eqb (length (unfinished_line text)) 0) [] (unfinished_line text ∷ []) in
     let map_is : firsts ≡ first_rows cols 0 (finished_lines text) ++ first_rows cols (0 + length (rows_of_lines cols (finished_lines text))) tail = h.its_map ∙ ap (first_rows cols 0) (lines-cut text) ∙ first_rows-append cols 0 (finished_lines text) tail in
-    let le = lines-le-bytes c.closed in
-    let at_most : sum_by bytes_of c.closed ≤ length text = o.within in
+    let kept : start.rows ≤ length (open_rows cols (unfinished_line text)) = r.goes_on.few in
     record {
       its_cut = cut-append text piece;
-      its_rows = rw h.its_rows (take_at front more finished.rows (sym reach));
-      its_count = reach;
-      its_map = rw map_is (take_at (first_rows cols 0 (finished_lines text)) (first_rows cols (0 + length (rows_of_lines cols (finished_lines text))) tail) finished.lines firsts_len);
-      its_reach = h.its_finish;
-      its_rest = rw byte o.rest;
-      within = omega arith;
-      few = omega arith;
-      fewer = omega arith;
+      its_rows = ap (take (start.finished.rows + start.rows)) are.0 ∙ ap (λ m. take (m + start.rows) (closed_stored cols 0 c.closed ++ open_stored cols finished.bytes (unfinished_line text))) (sym row)
+          ∙ take-append-add (closed_stored cols 0 c.closed) (open_stored cols finished.bytes (unfinished_line text)) start.rows
+          ∙ ap (λ m. closed_stored cols 0 c.closed ++ take start.rows (open_stored cols m (unfinished_line text))) byte;
+      its_map = rw map_is (take_at (first_rows cols 0 (finished_lines text)) (first_rows cols (0 + length (rows_of_lines cols (finished_lines text))) tail) start.finished.lines firsts_len);
+      its_reach = reach;
+      its_tail = ap (λ xs. xs ++ piece) (sym (drop-drop start.bytes start.finished.bytes text) ∙ ap (drop start.bytes) (ap (λ m. drop m text) (sym byte) ∙ at.1));
+      few = omega (arith, kept, at.3, row, are.1);
     }
 
--- none where they change
-front_none : (text piece : List ℕ) (cols : ℕ) (rows : List StoredRow) (firsts : List ℕ) → IsFront text piece cols rows firsts at_start [] text
-front_none text piece cols rows firsts = record {
-  its_cut = refl;
-  its_rows = refl;
-  its_count = refl;
-  its_map = refl;
-  its_reach = record { by_lines = refl; by_rows = refl; by_bytes = refl; longest_line = refl };
-  its_rest = refl;
-  within = omega arith;
-  few = omega arith;
-  fewer = omega arith;
-}
-
-abbrev pub front_of : List ℕ → ℕ → ℕ → List (List ℕ)
-front_of text old_cols cols = cond (eqb cols old_cols) (cut text).closed []
-
-abbrev pub rest_of : List ℕ → ℕ → ℕ → List ℕ
-rest_of text old_cols cols = cond (eqb cols old_cols) (unfinished_line text) text
-
--- what stays in a push under these columns
-pub front_is : (text piece : List ℕ) (old_cols cols : ℕ) (rows : List StoredRow) (firsts : List ℕ) (finished : Finished) (n : ℕ) (kept : Finished) → IsUtf8 text → IsFormed text old_cols rows firsts finished n → kept ≡ kept_of finished old_cols cols
-    → IsFront text piece cols rows firsts kept (front_of text old_cols cols) (rest_of text old_cols cols)
-front_is text piece old_cols cols rows firsts finished n kept u h e = elim (cases_Bool (eqb cols old_cols)) [
-  | inl t ↦
-      let same : cols ≡ old_cols = eqb-true cols old_cols t in
-      let k : kept ≡ finished = e ∙ ap (λ (b : Bool). cond b finished at_start) t in
-      rw (k, t) (rw same (front_finished text piece old_cols rows firsts finished n u h))
-  | inr f ↦
-      let k : kept ≡ at_start = e ∙ ap (λ (b : Bool). cond b finished at_start) f in
-      rw (k, f) (front_none text piece cols rows firsts)
-]
-
--- it is followed by the rest at a boundary
-pub front_boundary : (text : List ℕ) (old_cols cols : ℕ) (rows : List StoredRow) (firsts : List ℕ) (finished : Finished) (n : ℕ) (kept : Finished) → IsUtf8 text → IsFormed text old_cols rows firsts finished n → kept ≡ kept_of finished old_cols cols → IsCharBoundary text kept.bytes
-front_boundary text old_cols cols rows firsts finished n kept u h e = elim (cases_Bool (eqb cols old_cols)) [
-  | inl t ↦
-      let byte : finished.bytes ≡ sum_by bytes_of (cut text).closed = omega (arith, h.its_finish.by_bytes) in
-      let k : kept.bytes ≡ sum_by bytes_of (cut text).closed = ap (λ (x : Finished). x.bytes) (e ∙ ap (λ (b : Bool). cond b finished at_start) t) ∙ byte in
-      let nil : text ++ [] ≡ text = append-nil text in
-      rw k (rw nil at (open_boundary text [] (rw nil u)))
-  | inr f ↦
-      let k : kept.bytes ≡ 0 = ap (λ (x : Finished). x.bytes) (e ∙ ap (λ (b : Bool). cond b finished at_start) f) in
-      rw k (IsCharBoundary-start text u)
-]
-
-Reaches-trans : (cols : ℕ) (from mid to : Finished) (xs ys : List (List ℕ)) → Reaches cols from xs mid → Reaches cols mid ys to → Reaches cols from (xs ++ ys) to
-Reaches-trans cols from mid to xs ys h k =
-    let both : map strip_carriage_return (xs ++ ys) ≡ map strip_carriage_return xs ++ map strip_carriage_return ys = map-append strip_carriage_return xs ys in
+front_anew : (text piece : List ℕ) (cols : ℕ) (rows : List Span) (firsts : List ℕ) (start : Restart) → Reaches cols at_start [] start.finished → IsRestart cols [] start → IsFront text piece cols rows firsts start [] [] (text ++ piece)
+front_anew text piece cols rows firsts start reach r =
+    let kept : start.rows ≡ 0 = let few : start.rows ≤ 0 = r.goes_on.few in omega arith in
+    let at : start.bytes ≡ 0 = let few : start.bytes ≤ 0 = r.goes_on.boundary.0 in omega arith in
+    let row : start.finished.rows ≡ 0 = omega (arith, reach.by_rows) in
+    let byte : start.finished.bytes ≡ 0 = omega (arith, reach.by_bytes) in
+    let line : start.finished.lines ≡ 0 = omega (arith, reach.by_lines) in
+    let none : start.finished.rows + start.rows ≡ 0 = omega arith in
+    let first : start.finished.bytes + start.bytes ≡ 0 = omega arith in
     record {
-      by_lines = omega (arith, h.by_lines, k.by_lines, length-append xs ys);
-      by_rows = rw both (omega (arith, h.by_rows, k.by_rows, length-rows_of_lines-append cols (map strip_carriage_return xs) (map strip_carriage_return ys)));
-      by_bytes = omega (arith, h.by_bytes, k.by_bytes, sum_by-append bytes_of xs ys);
-      longest_line = rw both (omega (arith, h.longest_line, k.longest_line, longest_of-append (map strip_carriage_return xs) (map strip_carriage_return ys)));
+      its_cut = refl;
+      its_rows = ap (λ m. take m rows) none ∙ sym (ap (λ m. take m (open_stored cols start.finished.bytes [])) kept);
+      its_map = ap (λ m. take m firsts) line;
+      its_reach = reach;
+      its_tail = ap (λ m. drop m text ++ piece) first ∙ sym (ap (λ m. drop m [] ++ (text ++ piece)) at);
+      few = omega arith;
     }
 
-closed_stored-append : (cols line at : ℕ) (xs ys : List (List ℕ)) → closed_stored cols line at (xs ++ ys) ≡ closed_stored cols line at xs ++ closed_stored cols (line + length xs) (at + sum_by bytes_of xs) ys
-closed_stored-append cols line at [] ys = let e : line + 0 ≡ line = omega arith in let f : at + 0 ≡ at = omega arith in rw (e, f) refl
-closed_stored-append cols line at (x ∷ xs) ys =
-    let e : (line + 1) + length xs ≡ line + length (x ∷ xs) = omega arith in
+pub front_is : (text piece : List ℕ) (old_cols cols : ℕ) (rows : List Span) (firsts : List ℕ) (finished : Finished) (n : ℕ) (b : Border) (start : Restart) (d : Document) → IsUtf8 text → (let e : Document = record { text = text; cols = old_cols } in e) ≡ d → IsFormed text old_cols rows firsts finished n b → IsRestartOf d cols start
+    → IsFront text piece cols rows firsts start (kept_lines d cols) (line_going_on d cols) (piece_behind d cols piece)
+front_is text piece old_cols cols rows firsts finished n b start d u v h k =
+    let old : Document = record { text = text; cols = old_cols } in
+    let here : IsRestartOf old cols start = subst (λ (x : Document). IsRestartOf x cols start) (sym v) k in
+    subst (λ (x : Document). IsFront text piece cols rows firsts start (kept_lines x cols) (line_going_on x cols) (piece_behind x cols piece)) v (elim (cases_Bool (eqb cols old_cols)) [
+      | inl t ↦
+          let same : cols ≡ old_cols = eqb-true cols old_cols t in
+          let is : IsFormed text cols rows firsts finished n b = rw (← same) at h in
+          let reach : Reaches cols at_start (cut text).closed start.finished = rw t at here.reaches in
+          let r : IsRestart cols (unfinished_line text) start = rw t at here.restarts in
+          rw t (front_same text piece cols rows firsts finished n b start u is reach r)
+      | inr f ↦
+          let reach : Reaches cols at_start [] start.finished = rw f at here.reaches in
+          let r : IsRestart cols [] start = rw f at here.restarts in
+          rw f (front_anew text piece cols rows firsts start reach r)
+    ])
+
+-- what is formed begins in the line that goes on
+pub push_start : (d : Document) (cols : ℕ) (start : Restart) (piece : List ℕ) → IsUtf8 d.text → IsUtf8 piece → IsRestartOf d cols start
+    → IsUtf8 (line_going_on d cols ++ piece_behind d cols piece) × (drop (start.finished.bytes + start.bytes) d.text ++ piece ≡ drop start.bytes (line_going_on d cols) ++ piece_behind d cols piece)
+push_start d cols start piece u v k = elim (cases_Bool (eqb cols d.cols)) [
+  | inl t ↦
+      let reach : Reaches cols at_start (cut d.text).closed start.finished = rw t at k.reaches in
+      let byte : start.finished.bytes ≡ sum_by bytes_of (cut d.text).closed = omega (arith, reach.by_bytes) in
+      let rest : drop start.finished.bytes d.text ≡ unfinished_line d.text = rw byte (open_at d.text).rest in
+      rw t (IsUtf8-append (unfinished_line d.text) piece (open_utf8 d.text u) v, ap (λ xs. xs ++ piece) (sym (drop-drop start.bytes start.finished.bytes d.text) ∙ ap (drop start.bytes) rest))
+  | inr f ↦
+      let reach : Reaches cols at_start [] start.finished = rw f at k.reaches in
+      let r : IsRestart cols [] start = rw f at k.restarts in
+      let at : start.bytes ≡ 0 = let few : start.bytes ≤ 0 = r.goes_on.boundary.0 in omega arith in
+      let first : start.finished.bytes + start.bytes ≡ 0 = omega (arith, reach.by_bytes) in
+      rw f (IsUtf8-append d.text piece u v, ap (λ m. drop m d.text ++ piece) first ∙ sym (ap (λ m. drop m [] ++ (d.text ++ piece)) at))
+]
+
+-- ---- what a push leaves
+
+closed_stored-append : (cols at : ℕ) (xs ys : List (List ℕ)) → closed_stored cols at (xs ++ ys) ≡ closed_stored cols at xs ++ closed_stored cols (at + sum_by bytes_of xs) ys
+closed_stored-append cols at [] ys = let f : at + 0 ≡ at = omega arith in rw f refl
+closed_stored-append cols at (x ∷ xs) ys =
     let f : (at + bytes_of x) + sum_by bytes_of xs ≡ at + sum_by bytes_of (x ∷ xs) = omega (arith, sum_by-cons bytes_of x xs) in
-    let ih = closed_stored-append cols (line + 1) (at + bytes_of x) xs ys in
-    rw (← e, ← f) (ap (λ rs. line_stored cols line at (strip_carriage_return x) ++ rs) ih ∙ sym (append_assoc (line_stored cols line at (strip_carriage_return x)) (closed_stored cols (line + 1) (at + bytes_of x) xs) (closed_stored cols ((line + 1) + length xs) ((at + bytes_of x) + sum_by bytes_of xs) ys)))
+    let ih = closed_stored-append cols (at + bytes_of x) xs ys in
+    rw (← f) (ap (λ rs. line_stored cols at (strip_carriage_return x) ++ rs) ih ∙ sym (append_assoc (line_stored cols at (strip_carriage_return x)) (closed_stored cols (at + bytes_of x) xs) (closed_stored cols ((at + bytes_of x) + sum_by bytes_of xs) ys)))
 
 -- the lines of a text whose cut has a front
 pub lines_front : (text joined : List ℕ) (front : List (List ℕ)) → cut text ≡ record { closed = front ++ (cut joined).closed; open_line = (cut joined).open_line } → lines text ≡ map strip_carriage_return front ++ lines joined
@@ -162,44 +241,44 @@ lines_front text joined front e =
     ∙ append_assoc (map strip_carriage_return front) (map strip_carriage_return more.closed) tail
     ∙ ap (λ ls. map strip_carriage_return front ++ ls) (sym (lines-cut joined))
 
+stored_split : (cols : ℕ) (front : List (List ℕ)) (c : Cut) → stored_from cols 0 (record { closed = front ++ c.closed; open_line = c.open_line }) ≡ closed_stored cols 0 front ++ stored_from cols (0 + sum_by bytes_of front) c
+stored_split cols front c =
+    let bytes : 0 + sum_by bytes_of (front ++ c.closed) ≡ (0 + sum_by bytes_of front) + sum_by bytes_of c.closed = omega (arith, sum_by-append bytes_of front c.closed) in
+    ap (λ rs. rs ++ open_stored cols (0 + sum_by bytes_of (front ++ c.closed)) c.open_line) (closed_stored-append cols 0 front c.closed)
+    ∙ append_assoc (closed_stored cols 0 front) (closed_stored cols (0 + sum_by bytes_of front) c.closed) (open_stored cols (0 + sum_by bytes_of (front ++ c.closed)) c.open_line)
+    ∙ ap (λ m. closed_stored cols 0 front ++ (closed_stored cols (0 + sum_by bytes_of front) c.closed ++ open_stored cols m c.open_line)) bytes
+
 -- what a push leaves is formed of the text that went on
-pub push_formed : (text piece joined all : List ℕ) (cols : ℕ) (rows news : List StoredRow) (firsts first_news : List ℕ) (kept : Finished) (front : List (List ℕ)) (rest : List ℕ) (f : Formed) (widest : ℕ)
-    → IsFront text piece cols rows firsts kept front rest → joined ≡ rest ++ piece → all ≡ text ++ piece → IsFormOf f joined kept cols
-    → news ≡ take kept.rows rows ++ f.rows.items → first_news ≡ take kept.lines firsts ++ f.first_rows → widest ≡ max kept.longest f.longest
-    → IsFormed all cols news first_news f.finished widest
-push_formed text piece joined all cols rows news firsts first_news kept front rest f widest h ej ea k en em ew =
-    let more : Cut = cut joined in
+pub push_formed : (text piece all : List ℕ) (cols : ℕ) (rows news : List Span) (firsts first_news : List ℕ) (start : Restart) (front : List (List ℕ)) (line more : List ℕ) (f : Formed) (widest : ℕ)
+    → IsFront text piece cols rows firsts start front line more → all ≡ text ++ piece → IsFormOf cols line more start f
+    → news ≡ take (start.finished.rows + start.rows) rows ++ f.rows.items → first_news ≡ take start.finished.lines firsts ++ f.first_rows → widest ≡ max start.finished.longest f.longest
+    → IsFormed all cols news first_news f.finished widest f.border
+push_formed text piece all cols rows news firsts first_news start front line more f widest h ea k en em ew =
+    let joined : List ℕ = line ++ more in
+    let c : Cut = cut joined in
     let stripped : List (List ℕ) = map strip_carriage_return front in
-    let cuts : cut all ≡ record { closed = front ++ more.closed; open_line = more.open_line } = ap cut ea ∙ h.its_cut ∙ ap (λ t. let c : Cut = record { closed = front ++ (cut t).closed; open_line = (cut t).open_line } in c) (sym ej) in
-    let closes : (cut all).closed ≡ front ++ more.closed = ap (λ (c : Cut). c.closed) cuts in
+    let cuts : cut all ≡ record { closed = front ++ c.closed; open_line = c.open_line } = ap cut ea ∙ h.its_cut in
     let all_lines : lines all ≡ stripped ++ lines joined = lines_front all joined front cuts in
-    let line : kept.lines ≡ 0 + length front = h.its_reach.by_lines in
-    let byte : kept.bytes ≡ 0 + sum_by bytes_of front = h.its_reach.by_bytes in
-    let row : kept.rows ≡ 0 + length (rows_of_lines cols stripped) = h.its_reach.by_rows in
-    let wide : kept.longest ≡ longest_of stripped = omega (arith, h.its_reach.longest_line) in
-    let lines_on : (0 + length front) + length more.closed ≡ 0 + length (front ++ more.closed) = omega (arith, length-append front more.closed) in
-    let bytes_on : (0 + sum_by bytes_of front) + sum_by bytes_of more.closed ≡ 0 + sum_by bytes_of (front ++ more.closed) = omega (arith, sum_by-append bytes_of front more.closed) in
-    let fresh_is : f.rows.items ≡ stored_from cols (0 + length front) (0 + sum_by bytes_of front) more = rw (← line, ← byte) k.its_rows in
-    let firsts_is : f.first_rows ≡ first_rows cols (0 + length (rows_of_lines cols stripped)) (lines joined) = rw (← row) k.its_map in
-    let taken : length (take kept.rows rows) ≡ kept.rows = ap length h.its_rows ∙ sym h.its_count in
+    let byte : start.finished.bytes ≡ 0 + sum_by bytes_of front = h.its_reach.by_bytes in
+    let row : start.finished.rows ≡ 0 + length (rows_of_lines cols stripped) = h.its_reach.by_rows in
+    let wide : start.finished.longest ≡ longest_of stripped = omega (arith, h.its_reach.longest_line) in
+    let taken : length (take (start.finished.rows + start.rows) rows) ≡ start.finished.rows + start.rows = length-take-le (start.finished.rows + start.rows) rows h.few in
     record {
-      its_rows = en ∙ rw (h.its_rows, fresh_is)
-          (sym (append_assoc (closed_stored cols 0 0 front) (closed_stored cols (0 + length front) (0 + sum_by bytes_of front) more.closed) (open_stored cols ((0 + length front) + length more.closed) ((0 + sum_by bytes_of front) + sum_by bytes_of more.closed) more.open_line))
-          ∙ ap (λ rs. rs ++ open_stored cols ((0 + length front) + length more.closed) ((0 + sum_by bytes_of front) + sum_by bytes_of more.closed) more.open_line) (sym (closed_stored-append cols 0 0 front more.closed))
-          ∙ ap (λ l. closed_stored cols 0 0 (front ++ more.closed) ++ open_stored cols l ((0 + sum_by bytes_of front) + sum_by bytes_of more.closed) more.open_line) lines_on
-          ∙ ap (λ b. closed_stored cols 0 0 (front ++ more.closed) ++ open_stored cols (0 + length (front ++ more.closed)) b more.open_line) bytes_on
-          ∙ ap (stored_from cols 0 0) (sym cuts));
-      its_count = rw all_lines (omega (arith, ap length en, length-append (take kept.rows rows) f.rows.items, taken, row, k.its_count, length-rows_of_lines-append cols stripped (lines joined)));
-      its_map = em ∙ rw (h.its_map, firsts_is) (sym (first_rows-append cols 0 stripped (lines joined)) ∙ ap (first_rows cols 0) (sym all_lines));
-      its_finish = rw closes (Reaches-trans cols at_start kept f.finished front more.closed h.its_reach k.its_finish);
+      its_rows = en ∙ ap (λ rs. rs ++ f.rows.items) h.its_rows ∙ append_assoc (closed_stored cols 0 front) (take start.rows (open_stored cols start.finished.bytes line)) f.rows.items
+          ∙ ap (λ rs. closed_stored cols 0 front ++ rs) (sym k.its_rows ∙ ap (λ m. stored_from cols m c) byte) ∙ sym (stored_split cols front c) ∙ ap (stored_from cols 0) (sym cuts);
+      its_count = rw all_lines (omega (arith, ap length en, length-append (take (start.finished.rows + start.rows) rows) f.rows.items, taken, row, k.its_count, length-rows_of_lines-append cols stripped (lines joined)));
+      its_map = em ∙ rw (h.its_map, k.its_map) (ap (λ m. first_rows cols 0 stripped ++ first_rows cols m (lines joined)) row ∙ sym (first_rows-append cols 0 stripped (lines joined)) ∙ ap (first_rows cols 0) (sym all_lines));
+      its_finish = rw (ap (λ (x : Cut). x.closed) cuts) (Reaches-trans cols at_start start.finished f.finished front c.closed h.its_reach k.its_finish);
       its_longest = rw all_lines (omega (arith, ew, wide, k.its_longest, longest_of-append stripped (lines joined)));
+      its_border = rw (ap (λ (x : Cut). x.open_line) cuts) k.its_border;
     }
 
-pub formed-ascends : (text : List ℕ) (cols : ℕ) (rows : List StoredRow) (firsts : List ℕ) (finished : Finished) (n : ℕ) → IsFormed text cols rows firsts finished n → IsStrictlyIncreasing firsts
-formed-ascends text cols rows firsts finished n h = let e : firsts ≡ first_rows cols 0 (lines text) = h.its_map in rw e (first_rows-ascend cols 0 (lines text))
+pub formed-ascends : (text : List ℕ) (cols : ℕ) (rows : List Span) (firsts : List ℕ) (finished : Finished) (n : ℕ) (b : Border) → IsFormed text cols rows firsts finished n b → IsStrictlyIncreasing firsts
+formed-ascends text cols rows firsts finished n b h = let e : firsts ≡ first_rows cols 0 (lines text) = h.its_map in rw e (first_rows-ascend cols 0 (lines text))
 
 -- how many rows are unfinished of what a push formed
-pub form-unfinished : (f : Formed) (text : List ℕ) (from : Finished) (cols : ℕ) → IsFormOf f text from cols → (f.finished.rows ≤ from.rows + length f.rows.items) × ((from.rows + length f.rows.items) - f.finished.rows ≡ unfinished_rows (record { text = text; cols = cols }))
-form-unfinished f text from cols h =
-    let all = length-rows_of_lines text cols in
-    (omega (arith, h.its_count, h.its_finish.by_rows), omega (arith, h.its_count, h.its_finish.by_rows))
+pub form-unfinished : (cols : ℕ) (line piece : List ℕ) (start : Restart) (f : Formed) → IsFormOf cols line piece start f
+    → (f.finished.rows ≤ start.finished.rows + (start.rows + length f.rows.items)) × ((start.finished.rows + (start.rows + length f.rows.items)) - f.finished.rows ≡ unfinished_rows (record { text = line ++ piece; cols = cols }))
+form-unfinished cols line piece start f h =
+    let all = length-rows_of_lines (line ++ piece) cols in
+    (omega (arith, all, h.its_count, h.its_finish.by_rows), omega (arith, all, h.its_count, h.its_finish.by_rows))

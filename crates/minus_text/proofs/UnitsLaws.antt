@@ -1,7 +1,7 @@
 -- Laws on units and their columns.
-use Rattle.std.proofs.Common.{◌≡◌, ℕ, ◌+◌, ◌*◌, ◌≤◌, ◌<◌, false, unwrap_or, suc, List, [], ◌∷◌, take, drop, zero-add, arith, refl, sym, ap, ◌∙◌, inl, inr}
+use Rattle.std.proofs.Common.{◌≡◌, ◌≢◌, ℕ, eqb, ◌+◌, ◌*◌, ◌≤◌, ◌<◌, false, unwrap_or, suc, List, [], ◌∷◌, take, drop, zero-add, arith, refl, sym, ap, ◌∙◌, inl, inr}
 use Rattle.std.specs.Char.{len_utf8}
-use Rattle.std.proofs.lemmas.Bool.{cases_Bool, cases_lt}
+use Rattle.std.proofs.lemmas.Bool.{cases_Bool, cases_lt, ne_eqb}
 use Rattle.std.proofs.lemmas.Bool.Decides.{nat_tests}
 use Rattle.std.proofs.lemmas.Str.{len_utf8_ascii}
 use Rattle.unicode_width.specs.Width.{char_width}
@@ -58,6 +58,11 @@ unit_sequence cs inside rest e f =
       first = cut;
       columns = refl;
     })
+
+-- no sequence begins with another character than ESC
+pub no_escape : (cs rest : List ℕ) (c : ℕ) → cs ≡ c ∷ rest → c ≢ 27 → begins_sequence cs ≡ false
+no_escape cs [] c e n = ap begins_sequence e
+no_escape cs (d ∷ rest) c e n = let f : eqb c 27 ≡ false = ne_eqb c 27 n in rw e (rw f refl)
 
 -- any other character is a unit
 pub unit_character : (cs rest : List ℕ) (c width : ℕ) → cs ≡ c ∷ rest → begins_sequence cs ≡ false → width ≡ char_columns c → SplitsUnit cs width rest

@@ -112,7 +112,7 @@ fronts_some cols cs l = some_runs (fronts cols cs) (the_runs (fits_front cols) (
     some_runs [] h = let n = some_cuts unit_len unit_rule cs l in let z : length (units cs) ≡ 0 = ap length h in absurd (omega arith)
     some_runs (r ∷ rs) h = omega arith
 
-take_some : (n : ℕ) (xs : List ℕ) → 0 < n → 0 < length xs → 0 < length (take n xs)
+pub take_some : (n : ℕ) (xs : List ℕ) → 0 < n → 0 < length xs → 0 < length (take n xs)
 take_some zero xs a b = absurd (omega arith)
 take_some (suc n) [] a b = absurd (omega arith)
 take_some (suc n) (x ∷ xs) a b = omega arith

@@ -1,6 +1,7 @@
 -- What the contracts cite.
 pub mod Cuts
 pub mod Units
+pub mod Plain
 pub mod Runs
 pub mod RunsLaws
 pub mod TheRuns
@@ -13,5 +14,7 @@ pub mod Lines
 pub mod Document
 pub mod LineMaps
 pub mod Kept
+pub mod Seams
+pub mod Forms
 pub mod FormatResults
 pub mod Pending

@@ -5,7 +5,7 @@ use Rattle.std.specs.Str.{encode_utf8_all}
 use Rattle.minus_text.specs.declared.wrap.Span.{Span}
 use Rattle.minus_text.specs.declared.wrap.Measured.{Measured}
 use Rattle.minus_text.specs.declared.wrap.Class.{Class}
-use Rattle.minus_text.specs.declared.wrap.Class.TheVariants.{Body, Spaces, Parameters}
+use Rattle.minus_text.specs.declared.wrap.Class.TheVariants.{Spaces, Parameters}
 use Rattle.minus_text.specs.Runs.{IsRun}
 use Rattle.minus_text.specs.Units.{units, unit_columns, is_final}
 use Rattle.minus_text.specs.Fronts.{fits_front}
@@ -38,7 +38,6 @@ measured_places at (run ∷ runs) = record { start = at; end = end_of at run } �
 
 -- what a stretch of characters is made of
 abbrev pub class_test : Class → ℕ → Bool
-class_test Body = λ c. not (is_space c)
 class_test Spaces = is_space
 class_test Parameters = λ c. not (is_final c)
 

@@ -1,10 +1,14 @@
 -- A push before it is made.
-use Rattle.std.specs.Prelude.{◌≡◌, ℕ, List}
-use Rattle.minus_text.specs.declared.pending.PendingPush.{PendingPush}
-use Rattle.minus_text.specs.Document.{Document}
-use Rattle.minus_text.specs.FormatResults.{formed_by, first_formed}
+use Rattle.std.specs.Prelude.{◌≡◌, ℕ, ◌≤◌, List, ◌++◌, length, take}
+use Rattle.minus_text.specs.Document.{Document, rows_of, pushed}
+
+-- how many rows stay, and the text whose rows follow them, for its columns
+pub record Pending : Type 0 where
+  pub kept_rows : ℕ
+  pub tail : Document
 
 -- what a push of a piece would form, and how many rows stay in front of it
-pub record IsPending (d : Document) (piece : List ℕ) (cols : ℕ) (p : PendingPush) : Type 0 where
-  pub formed : p.tail ≡ formed_by d piece cols
-  pub kept : p.kept_rows ≡ first_formed d cols
+pub record IsPending (d : Document) (piece : List ℕ) (cols : ℕ) (p : Pending) : Type 0 where
+  pub rows : rows_of (pushed d piece cols) ≡ take p.kept_rows (rows_of d) ++ rows_of p.tail
+  pub few : p.kept_rows ≤ length (rows_of d)
+  pub its_cols : p.tail.cols ≡ cols

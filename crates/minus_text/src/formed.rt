@@ -1,26 +1,20 @@
 //! Rows formed of a text, beside what is kept.
-ghost use Rattle.std.specs.Prelude.{◌≡◌, ℕ, ◌+◌, ◌^◌, ◌<◌, ◌≤◌, ◌∷◌, [], ◌++◌, length, map, max, IfOk, OnOk};
-ghost use Rattle.std.specs.List.{All};
+ghost use Rattle.std.specs.Prelude.{◌≡◌, ℕ, List, ◌+◌, ◌-◌, ◌^◌, ◌<◌, ◌≤◌, ◌∷◌, [], ◌++◌, length, drop, max, IsTrue, IfOk, OnOk};
+ghost use Rattle.std.specs.Str.{IsUtf8, IsCharBoundary};
+ghost use Rattle.minus_text.specs.Lines.{cut, whole};
 ghost use Rattle.minus_text.specs.Rows.{line_rows};
 ghost use Rattle.minus_text.specs.Units.{columns};
-ghost use Rattle.minus_text.specs.Kept.{line_stored, row_behind, place_behind, IsFormOf};
+ghost use Rattle.minus_text.specs.Kept.{line_stored, IsBorder, IsRestart, IsPrepared};
+ghost use Rattle.minus_text.specs.Forms.{IsBegun, IsFormOfLines};
 
 use crate::lines::{split_line, without_return};
 use crate::lines_row_map::LinesRowMap;
-use crate::wrap::{columns, wrap_line};
+use crate::wrap::{Span, columns, is_one_row, is_unescaped, wrap_line};
 use std::alloc::{AllocError, Global};
-
-// A row: the number of its line, from 0, and the two places in the text, in bytes, of its ends.
-#[derive(Clone, Copy, Debug, PartialEq, Eq)]
-pub(crate) struct StoredRow {
-    pub(crate) line: usize,
-    pub(crate) start: usize,
-    pub(crate) end: usize,
-}
 
 // How far lines go that a newline ends: how many lines, rows and bytes, and the columns of the
 // longest of them.
-#[derive(Clone, Copy, Debug, PartialEq, Eq)]
+#[derive(Clone, Copy, Debug)]
 pub(crate) struct Finished {
     pub(crate) lines: usize,
     pub(crate) rows: usize,
@@ -37,74 +31,99 @@ impl Finished {
         longest: 0,
     };
 
-    // This place, counted from behind finished lines in the stead of the start.
-    pub(crate) fn behind(self, from: Finished) -> Finished
-        requires lines { from.lines + self.lines < 2 ^ 64 }
-        requires rows { from.rows + self.rows < 2 ^ 64 }
-        requires bytes { from.bytes + self.bytes < 2 ^ 64 }
-        ensures { result ≡ place_behind from self }
+    // Whether another is the same place.
+    fn is_same(self, other: Finished) -> bool
+        ensures { IsTrue result → self ≡ other }
     {
-        Finished {
-            lines: from.lines + self.lines,
-            rows: from.rows + self.rows,
-            bytes: from.bytes + self.bytes,
-            longest: from.longest.max(self.longest),
-        }
+        self.lines == other.lines
+            && self.rows == other.rows
+            && self.bytes == other.bytes
+            && self.longest == other.longest
     }
 }
 
-// Moves rows behind finished lines.
-pub(crate) fn move_rows(rows: &mut [StoredRow], from: Finished)
-    requires lines { All (λ r. from.lines + r.line < 2 ^ 64) rows.old }
-    requires starts { All (λ r. from.bytes + r.start < 2 ^ 64) rows.old }
-    requires ends { All (λ r. from.bytes + r.end < 2 ^ 64) rows.old }
-    ensures { rows.new ≡ map (row_behind from) rows.old }
-{
-    for row in rows.iter_mut() {
-        *row = StoredRow {
-            line: from.lines + row.line,
-            start: from.bytes + row.start,
-            end: from.bytes + row.end,
-        };
+// How far the unfinished line is measured: so many bytes of it take so many columns, whatever
+// follows them.
+#[derive(Clone, Copy, Debug)]
+pub(crate) struct Border {
+    pub(crate) bytes: usize,
+    pub(crate) columns: usize,
+}
+
+impl Border {
+    // Before the line.
+    pub(crate) const START: Border = Border {
+        bytes: 0,
+        columns: 0,
+    };
+}
+
+// Where forming goes on: behind finished lines, and behind so many rows and bytes of the
+// unfinished line that stay whatever follows it.
+#[derive(Clone, Copy, Debug)]
+pub(crate) struct Restart {
+    pub(crate) finished: Finished,
+    pub(crate) rows: usize,
+    pub(crate) bytes: usize,
+    pub(crate) border: Border,
+}
+
+impl Restart {
+    // Whether another is the same place.
+    pub(crate) fn is_same(self, other: Restart) -> bool
+        ensures { IsTrue result → self ≡ other }
+    {
+        self.finished.is_same(other.finished)
+            && self.rows == other.rows
+            && self.bytes == other.bytes
+            && self.border.bytes == other.border.bytes
+            && self.border.columns == other.border.columns
     }
 }
 
-// What is formed of a text: its rows, the first row of each line, how far its finished lines go,
-// and the columns of its longest line.
+// What is formed of a text: the places of its rows, the first row of each line, how far its
+// finished lines go, how far its unfinished line is measured, and the columns of its longest line.
 #[derive(Debug, Drop)]
 pub(crate) struct Formed {
-    pub(crate) rows: Vec<StoredRow>,
+    pub(crate) rows: Vec<Span>,
     pub(crate) first_rows: LinesRowMap,
     pub(crate) finished: Finished,
+    pub(crate) border: Border,
     pub(crate) longest: usize,
 }
 
 // What is formed of the lines so far.
 #[derive(Drop)]
 struct Forming {
-    rows: Vec<StoredRow>,
+    rows: Vec<Span>,
     first_rows: Vec<usize>,
     longest: usize,
 }
 
-// Adds the rows of a line that begins at a place.
+// Adds the rows of a line that begins at a place of the text.
 fn push_rows(
     alloc: Global,
-    rows: &mut Vec<StoredRow>,
-    place: Finished,
+    rows: &mut Vec<Span>,
+    at: usize,
     line: &str,
     cols: usize,
 ) -> Result<(), AllocError>
-    requires { place.bytes + length line.now < 2 ^ 64 }
-    ensures items { OnOk result (rows.new.items ≡ rows.old.items ++ line_stored cols place.lines place.bytes line.now) }
+    requires { at + length line.now < 2 ^ 64 }
+    ensures items { OnOk result (rows.new.items ≡ rows.old.items ++ line_stored cols at line.now) }
     ensures len { OnOk result (length rows.new.items ≡ length rows.old.items + length (line_rows cols line.now)) }
 {
+    if is_one_row(line, cols) {
+        rows.push(Span {
+            start: at,
+            end: at + line.len(),
+        })?;
+        return Ok(());
+    }
     let places = wrap_line(alloc, line, cols)?;
     for part in &places {
-        rows.push(StoredRow {
-            line: place.lines,
-            start: place.bytes + part.start,
-            end: place.bytes + part.end,
+        rows.push(Span {
+            start: at + part.start,
+            end: at + part.end,
         })?;
     }
     Ok(())
@@ -119,40 +138,42 @@ fn add_line(
     cols: usize,
 ) -> Result<(), AllocError>
     requires { place.bytes + length line.now < 2 ^ 64 }
-    ensures rows { OnOk result (forming.new.rows.items ≡ forming.old.rows.items ++ line_stored cols place.lines place.bytes line.now) }
+    ensures rows { OnOk result (forming.new.rows.items ≡ forming.old.rows.items ++ line_stored cols place.bytes line.now) }
     ensures count { OnOk result (length forming.new.rows.items ≡ length forming.old.rows.items + length (line_rows cols line.now)) }
     ensures first_row { OnOk result (forming.new.first_rows.items ≡ forming.old.first_rows.items ++ place.rows ∷ []) }
     ensures longest { OnOk result (forming.new.longest ≡ max forming.old.longest (columns line.now)) }
 {
-    push_rows(alloc, &mut forming.rows, place, line, cols)?;
+    push_rows(alloc, &mut forming.rows, place.bytes, line, cols)?;
     forming.first_rows.push(place.rows)?;
-    forming.longest = forming.longest.max(columns(line));
+    if line.len() > forming.longest {
+        forming.longest = forming.longest.max(columns(line));
+    }
     Ok(())
 }
 
-// Forms the rows of a text that stands behind finished lines.
-pub(crate) fn form(
+// Forms the lines of a text that begin at a place, behind others that are formed.
+fn form_lines(
     alloc: Global,
+    mut forming: Forming,
+    kept: usize,
     text: &str,
     from: Finished,
     cols: usize,
 ) -> Result<Formed, AllocError>
     requires bytes { from.bytes + length text.now < 2 ^ 64 }
     requires lines { from.lines + length text.now < 2 ^ 64 }
-    requires rows { from.rows < 2 ^ 63 }
-    ensures { IfOk result (λ f. IsFormOf f text.now from cols) }
+    requires kept { kept < 2 ^ 63 }
+    requires rows { from.rows ≡ kept + length forming.rows.items }
+    requires longest { forming.longest ≤ from.longest }
+    requires first_row { (row : ℕ) × (forming.first_rows.items ≡ row ∷ []) × (row < from.rows) }
+    ensures { IfOk result (λ f. IsFormOfLines cols forming text.now from f) }
 {
-    let mut forming = Forming {
-        rows: Vec::new(alloc),
-        first_rows: Vec::new(alloc),
-        longest: 0,
-    };
     let mut place = from;
     let mut rest = text;
     while let Some((first, more)) = split_line(rest) {
         add_line(alloc, &mut forming, place, without_return(first), cols)?;
         place.lines += 1;
-        place.rows = from.rows + forming.rows.len();
+        place.rows = kept + forming.rows.len();
         place.bytes += first.len() + 1;
         rest = more;
     }
@@ -164,6 +185,105 @@ pub(crate) fn form(
         rows: forming.rows,
         first_rows: LinesRowMap::from_first_rows(forming.first_rows),
         finished: place,
+        border: Border::START,
         longest: forming.longest,
     })
+}
+
+// What is formed of the line that a text goes on in, whose rows begin at a place.
+fn begin_line(alloc: Global, start: Restart, line: &str, cols: usize) -> Result<Forming, AllocError>
+    requires bytes { (start.finished.bytes + start.bytes) + length line.now < 2 ^ 64 }
+    requires behind { start.bytes ≤ start.border.bytes }
+    requires boundary { IsCharBoundary line.now (start.border.bytes - start.bytes) }
+    requires columns { start.border.columns + (length line.now - (start.border.bytes - start.bytes)) < 2 ^ 64 }
+    ensures { IfOk result (λ f. IsBegun cols line.now start f) }
+{
+    let unmeasured = &line[start.border.bytes - start.bytes..];
+    let mut forming = Forming {
+        rows: Vec::new(alloc),
+        first_rows: Vec::new(alloc),
+        longest: start.border.columns + columns(unmeasured),
+    };
+    forming.first_rows.push(start.finished.rows)?;
+    let at = start.finished.bytes + start.bytes;
+    push_rows(alloc, &mut forming.rows, at, line, cols)?;
+    Ok(forming)
+}
+
+// How far a line is measured whose columns are known: to its end, if the rest of it has no ESC, with
+// which what follows could make a sequence, and no carriage return that a newline could take away.
+fn grown_border(start: Restart, text: &str, width: usize) -> Border
+    requires bytes { start.bytes + length text.now < 2 ^ 64 }
+    requires behind { start.bytes ≤ start.border.bytes }
+    requires boundary { IsCharBoundary text.now (start.border.bytes - start.bytes) }
+    requires columns { width ≡ start.border.columns + columns (drop (start.border.bytes - start.bytes) text.now) }
+    ensures { (cols : ℕ) (line piece : List ℕ) → IsRestart cols line start → IsUtf8 (line ++ piece) → text.now ≡ drop start.bytes line ++ piece → IsBorder (line ++ piece) result }
+{
+    let unmeasured = &text[start.border.bytes - start.bytes..];
+    if unmeasured.ends_with('\r') || !is_unescaped(unmeasured) {
+        return start.border;
+    }
+    Border {
+        bytes: start.bytes + text.len(),
+        columns: width,
+    }
+}
+
+// Forms a text that no newline ends, and that goes on in an unfinished line.
+fn form_unfinished(
+    alloc: Global,
+    text: &str,
+    start: Restart,
+    cols: usize,
+) -> Result<Formed, AllocError>
+    requires bytes { (start.finished.bytes + start.bytes) + length text.now < 2 ^ 64 }
+    requires whole { cut text.now ≡ whole text.now }
+    requires start { (line : List ℕ) × (piece : List ℕ) × IsRestart cols line start × IsUtf8 (line ++ piece) × (text.now ≡ drop start.bytes line ++ piece) }
+    ensures { IfOk result (λ f. IsPrepared cols text.now start f) }
+{
+    if text.is_empty() {
+        return Ok(Formed {
+            rows: Vec::new(alloc),
+            first_rows: LinesRowMap::new(alloc),
+            finished: start.finished,
+            border: start.border,
+            longest: 0,
+        });
+    }
+    let forming = begin_line(alloc, start, text, cols)?;
+    Ok(Formed {
+        rows: forming.rows,
+        first_rows: LinesRowMap::from_first_rows(forming.first_rows),
+        finished: start.finished,
+        border: grown_border(start, text, forming.longest),
+        longest: forming.longest,
+    })
+}
+
+// Forms the rows of a text that goes on in an unfinished line.
+pub(crate) fn form(
+    alloc: Global,
+    text: &str,
+    start: Restart,
+    cols: usize,
+) -> Result<Formed, AllocError>
+    requires bytes { (start.finished.bytes + start.bytes) + length text.now < 2 ^ 64 }
+    requires lines { start.finished.lines + length text.now < 2 ^ 64 }
+    requires rows { start.finished.rows + start.rows < 2 ^ 63 }
+    requires start { (line : List ℕ) × (piece : List ℕ) × IsRestart cols line start × IsUtf8 (line ++ piece) × (text.now ≡ drop start.bytes line ++ piece) }
+    ensures { IfOk result (λ f. IsPrepared cols text.now start f) }
+{
+    let Some((first, more)) = split_line(text) else {
+        return form_unfinished(alloc, text, start, cols);
+    };
+    let forming = begin_line(alloc, start, without_return(first), cols)?;
+    let kept = start.finished.rows + start.rows;
+    let place = Finished {
+        lines: start.finished.lines + 1,
+        rows: kept + forming.rows.len(),
+        bytes: start.finished.bytes + start.bytes + first.len() + 1,
+        longest: start.finished.longest.max(forming.longest),
+    };
+    let formed = form_lines(alloc, forming, kept, more, place, cols)?;
+    Ok(formed)
 }

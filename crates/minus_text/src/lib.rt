@@ -7,8 +7,7 @@ pub mod lines;
 pub mod lines_row_map;
 pub mod pending;
 pub mod screen;
-#[cfg(test)]
-mod tests;
+mod seams;
 pub mod wrap;
 
 pub use line_numbers::digits;

@@ -44,16 +44,6 @@ fn kept_len(len: usize, clean: bool) -> usize
     if clean { len } else { len.saturating_sub(1) }
 }
 
-// Adds a number to each entry.
-fn add_to_each(entries: &mut [usize], more: usize)
-    requires { All (λ n. more + n < 2 ^ 64) entries.old }
-    ensures { entries.new ≡ map (λ n. more + n) entries.old }
-{
-    for entry in entries.iter_mut() {
-        *entry += more;
-    }
-}
-
 impl LinesRowMap {
     /// A map of no line.
     pub fn new(alloc: Global) -> Self
@@ -107,14 +97,6 @@ impl LinesRowMap {
     {
         replace_behind(&mut self.first_rows, keep, fresh.first_rows.as_slice())?;
         Ok(())
-    }
-
-    // Counts the rows from behind more of them.
-    pub(crate) fn move_behind(&mut self, rows: usize)
-        requires { All (λ n. rows + n < 2 ^ 64) self.old }
-        ensures { self.new ≡ map (λ n. rows + n) self.old }
-    {
-        add_to_each(self.first_rows.as_mut_slice(), rows);
     }
 
     /// The number of the first row of a line, both from 0.

@@ -1,11 +1,57 @@
 //! A push before it is made.
-use crate::screen::Screen;
+ghost use Rattle.std.specs.Prelude.{◌≡◌, ℕ, ◌^◌, ◌<◌, slice_get, option_map, length};
+ghost use Rattle.minus_text.specs.Document.{rows_of};
+
+use crate::formed::{Formed, Restart};
+use std::marker::Model;
 
 /// What a push would form, beside the rows that would stay: `Screen::prepare_push` makes it.
 #[derive(Debug, Drop)]
 pub struct PendingPush {
-    // The unfinished line and the text, or all of both where the columns change, as a screen.
-    pub(crate) tail: Screen,
-    // How many rows stay in front of it.
-    pub(crate) kept_rows: usize,
+    // What stands in the text from the restart on, followed by the pushed text.
+    pub(crate) tail: String,
+    pub(crate) start: Restart,
+    pub(crate) formed: Formed,
+    pub(crate) cols: usize,
+}
+
+impl Model for PendingPush {
+    ghost use Rattle.std.specs.Prelude.{◌+◌, ◌^◌, ◌<◌, string_bytes};
+    ghost use Rattle.minus_text.specs.Pending.{Pending};
+    ghost use Rattle.minus_text.specs.Kept.{IsPrepared};
+
+    ghost Value = { Pending };
+
+    ghost view = { λ p. record { kept_rows = p.start.finished.rows + p.start.rows; tail = record { text = string_bytes p.tail; cols = p.cols } } };
+
+    ghost invariant = { λ p. IsPrepared p.cols (string_bytes p.tail) p.start p.formed × (p.start.finished.rows + p.start.rows < 2 ^ 63) × (p.start.finished.bytes + p.start.bytes < 2 ^ 63) };
+}
+
+impl PendingPush {
+    // How many rows stay in front of what is formed.
+    pub(crate) fn kept_rows(&self) -> usize
+        ensures { result ≡ self.now.kept_rows }
+    {
+        self.start.finished.rows + self.start.rows
+    }
+
+    // How many rows are formed.
+    pub(crate) fn formed_rows(&self) -> usize
+        ensures value { result ≡ length (rows_of self.now.tail) }
+        ensures few { result < 2 ^ 63 }
+    {
+        self.formed.rows.len()
+    }
+
+    // The text of a row that is formed, counted from 0.
+    pub(crate) fn row_text(&self, i: usize) -> Option<&str>
+        ensures { option_map (λ r. r.now) result ≡ slice_get (rows_of self.now.tail) i }
+    {
+        let at = self.start.finished.bytes + self.start.bytes;
+        let text = self.tail.as_str();
+        match self.formed.rows.get(i) {
+            Some(row) => Some(&text[row.start - at..row.end - at]),
+            None => None,
+        }
+    }
 }

@@ -1,15 +1,18 @@
 //! A text and its rows.
-ghost use Rattle.std.specs.Prelude.{◌≡◌, ℕ, List, ◌+◌, ◌^◌, ◌<◌, ◌≤◌, [], ◌++◌, length, take, true, ◌==◌, if◌then◌else◌, ◌↔◌, IsTrue, IfOk, IfErr, OnOk, OnErr, slice_get, option_map, string_bytes, vec_len, vec_capacity};
+ghost use Rattle.std.specs.Prelude.{◌≡◌, ℕ, List, ◌+◌, ◌^◌, ◌<◌, ◌≤◌, [], ◌++◌, length, take, drop, true, ◌==◌, if◌then◌else◌, IsTrue, IfOk, IfErr, OnOk, OnErr, slice_get, option_map, string_bytes, vec_len, vec_capacity};
 ghost use Rattle.std.specs.List.Sorted.{IsStrictlyIncreasing};
+ghost use Rattle.std.specs.Str.{IsUtf8, IsCharBoundary};
 ghost use Rattle.std.specs.String.{string_len, string_capacity};
 ghost use Rattle.minus_text.specs.Document.{rows_of, line_map, line_count, longest, unfinished_rows, pushed, PushesJoin, LineMapAscends};
-ghost use Rattle.minus_text.specs.Kept.{kept_of, IsFormOf, IsKept};
+ghost use Rattle.minus_text.specs.Kept.{IsFormOf, IsRestartOf, line_going_on, piece_behind};
 ghost use Rattle.minus_text.specs.Pending.{IsPending};
 ghost use Rattle.minus_text.specs.FormatResults.{Tells, formed_by, first_formed, is_clean};
 
-use crate::formed::{Finished, Formed, StoredRow, form, move_rows};
+use crate::formed::{Border, Finished, Formed, Restart, form};
 use crate::lines_row_map::LinesRowMap;
 use crate::pending::PendingPush;
+use crate::seams::last_seam;
+use crate::wrap::Span;
 use minus_term::error::MinusError;
 use std::alloc::{AllocError, Global};
 use std::marker::Model;
@@ -52,11 +55,13 @@ pub struct FormatResult {
 pub struct Screen {
     text: String,
     cols: usize,
-    rows: Vec<StoredRow>,
+    rows: Vec<Span>,
     first_rows: LinesRowMap,
-    // How far the lines go that a newline ends, and the columns of the longest line of all.
+    // How far the lines go that a newline ends, the columns of the longest line of all, and how
+    // far the unfinished line is measured.
     finished: Finished,
     longest: usize,
+    border: Border,
 }
 
 impl Model for Screen {
@@ -68,18 +73,7 @@ impl Model for Screen {
 
     ghost view = { λ s. record { text = string_bytes s.text; cols = s.cols } };
 
-    ghost invariant = { λ s. IsFormed (string_bytes s.text) s.cols s.rows.items s.first_rows s.finished s.longest };
-}
-
-// How far the finished lines go that stay as they are under these columns.
-fn kept_under(finished: Finished, old_cols: usize, cols: usize) -> Finished
-    ensures { result ≡ kept_of finished old_cols cols }
-{
-    if cols == old_cols {
-        finished
-    } else {
-        Finished::START
-    }
+    ghost invariant = { λ s. IsFormed (string_bytes s.text) s.cols s.rows.items s.first_rows s.finished s.longest s.border };
 }
 
 // Whether the finished lines take all of the text, or the whole is formed anew.
@@ -90,7 +84,7 @@ fn attaches_nothing(finished: Finished, len: usize, old_cols: usize, cols: usize
 }
 
 // Puts rows at the end, for which there is room.
-fn push_reserved(rows: &mut Vec<StoredRow>, fresh: &[StoredRow])
+fn push_reserved(rows: &mut Vec<Span>, fresh: &[Span])
     requires { vec_len rows.old + length fresh.now ≤ vec_capacity rows.old }
     ensures { rows.new.items ≡ rows.old.items ++ fresh.now }
 {
@@ -114,24 +108,25 @@ fn push_str_reserved(text: &mut String, piece: &str)
 // Puts a piece, its rows and their lines' first rows behind what is kept. An `Err` changes nothing.
 fn replace_end(
     text: &mut String,
-    rows: &mut Vec<StoredRow>,
+    rows: &mut Vec<Span>,
     first_rows: &mut LinesRowMap,
-    kept: Finished,
+    start: Restart,
     piece: &str,
     formed: &Formed,
 ) -> Result<(), AllocError>
-    requires { IsStrictlyIncreasing (take kept.lines first_rows.old ++ formed.now.first_rows) }
+    requires rows { start.finished.rows + start.rows < 2 ^ 64 }
+    requires first_rows { IsStrictlyIncreasing (take start.finished.lines first_rows.old ++ formed.now.first_rows) }
     ensures text { OnOk result (string_bytes text.new ≡ string_bytes text.old ++ piece.now) }
-    ensures rows { OnOk result (rows.new.items ≡ take kept.rows rows.old.items ++ formed.now.rows.items) }
-    ensures first_rows { OnOk result (first_rows.new ≡ take kept.lines first_rows.old ++ formed.now.first_rows) }
+    ensures rows { OnOk result (rows.new.items ≡ take (start.finished.rows + start.rows) rows.old.items ++ formed.now.rows.items) }
+    ensures first_rows { OnOk result (first_rows.new ≡ take start.finished.lines first_rows.old ++ formed.now.first_rows) }
     ensures text_stays { OnErr result (string_bytes text.new ≡ string_bytes text.old) }
     ensures rows_stay { OnErr result (rows.new.items ≡ rows.old.items) }
     ensures first_rows_stay { OnErr result (first_rows.new ≡ first_rows.old) }
 {
     text.reserve(piece.len())?;
     rows.reserve(formed.rows.len())?;
-    first_rows.replace_behind(kept.lines, &formed.first_rows)?;
-    rows.truncate(kept.rows);
+    first_rows.replace_behind(start.finished.lines, &formed.first_rows)?;
+    rows.truncate(start.finished.rows + start.rows);
     push_reserved(rows, formed.rows.as_slice());
     push_str_reserved(text, piece);
     Ok(())
@@ -149,6 +144,7 @@ impl Screen {
             first_rows: LinesRowMap::new(alloc),
             finished: Finished::START,
             longest: 0,
+            border: Border::START,
         }
     }
 
@@ -228,6 +224,50 @@ impl Screen {
         }
     }
 
+    // Where a push under these columns begins to form.
+    fn restart(&self, cols: usize) -> Restart
+        ensures start { IsRestartOf self.now cols result }
+        ensures text { IsUtf8 self.now.text }
+        ensures small { length self.now.text < 2 ^ 63 }
+        ensures place { IsCharBoundary self.now.text (result.finished.bytes + result.bytes) }
+        ensures lines { result.finished.lines ≤ length self.now.text }
+        ensures rows { result.finished.rows + result.rows < 2 ^ 63 }
+    {
+        if cols != self.cols {
+            return Restart {
+                finished: Finished::START,
+                rows: 0,
+                bytes: 0,
+                border: Border::START,
+            };
+        }
+        let finished = self.finished;
+        let line = &self.text[finished.bytes..];
+        let seam = last_seam(
+            line,
+            self.rows.as_slice(),
+            finished.rows,
+            finished.bytes,
+            self.border.bytes,
+        );
+        Restart {
+            finished,
+            rows: seam.rows,
+            bytes: seam.bytes,
+            border: self.border,
+        }
+    }
+
+    // What stands in the text from a place on, and a piece behind it.
+    fn tail(&self, alloc: Global, at: usize, piece: &str) -> Result<String, AllocError>
+        requires { IsCharBoundary self.now.text at }
+        ensures { IfOk result (λ t. string_bytes t ≡ drop at self.now.text ++ piece.now) }
+    {
+        let mut tail = String::from_str(alloc, &self.text[at..])?;
+        tail.push_str(piece)?;
+        Ok(tail)
+    }
+
     // Puts a piece behind the text. What is formed is formed beside what is kept, so that an `Err`
     // changes nothing.
     fn push_piece(
@@ -240,12 +280,10 @@ impl Screen {
         ensures told { IfOk result (λ r. Tells r (formed_by self.old piece.now cols) (first_formed self.old cols) (is_clean self.old cols)) }
         ensures err { OnErr result (self.new ≡ self.old) }
     {
-        let kept = kept_under(self.finished, self.cols, cols);
-        let mut joined = String::from_str(alloc, &self.text[kept.bytes..])?;
-        joined.push_str(piece)?;
-        let formed = form(alloc, &joined, kept, cols)?;
-        let told = self.place_formed(piece, kept, formed, cols)?;
-        Ok(told)
+        let start = self.restart(cols);
+        let tail = self.tail(alloc, start.finished.bytes + start.bytes, piece)?;
+        let formed = form(alloc, &tail, start, cols)?;
+        self.place_formed(piece, start, formed, cols)
     }
 
     // Puts a piece, and what is formed of it and of what it goes on, behind what is kept. An `Err`
@@ -253,12 +291,12 @@ impl Screen {
     fn place_formed(
         &mut self,
         piece: &str,
-        kept: Finished,
+        start: Restart,
         formed: Formed,
         cols: usize,
     ) -> Result<FormatResult, AllocError>
-        requires kept { IsKept self.old cols kept }
-        requires formed { IsFormOf formed (formed_by self.old piece.now cols).text kept cols }
+        requires start { IsRestartOf self.old cols start }
+        requires formed { IsFormOf cols (line_going_on self.old cols) (piece_behind self.old cols piece.now) start formed }
         ensures ok { OnOk result (self.new ≡ pushed self.old piece.now cols) }
         ensures told { IfOk result (λ r. Tells r (formed_by self.old piece.now cols) (first_formed self.old cols) (is_clean self.old cols)) }
         ensures err { OnErr result (self.new ≡ self.old) }
@@ -268,54 +306,36 @@ impl Screen {
             &mut self.text,
             &mut self.rows,
             &mut self.first_rows,
-            kept,
+            start,
             piece,
             &formed,
         )?;
         self.cols = cols;
         self.finished = formed.finished;
-        self.longest = kept.longest.max(formed.longest);
-        let rows_formatted = formed.rows.len();
+        self.longest = start.finished.longest.max(formed.longest);
+        self.border = formed.border;
+        let rows_formatted = start.rows + formed.rows.len();
         Ok(FormatResult {
             lines_formatted: formed.first_rows.len(),
             rows_formatted,
-            num_unterminated: kept.rows + rows_formatted - formed.finished.rows,
+            num_unterminated: start.finished.rows + rows_formatted - formed.finished.rows,
             lines_to_row_map: formed.first_rows,
             max_line_length: formed.longest,
             clean_append: clean,
         })
     }
 
-    // What is formed of the text, where it stands behind finished lines.
-    fn into_formed(self, from: Finished) -> Formed
-        requires lines { from.lines < 2 ^ 63 }
-        requires rows { from.rows < 2 ^ 63 }
-        requires bytes { from.bytes < 2 ^ 63 }
-        ensures { IsFormOf result self.text from self.cols }
+    // Whether a push of this piece begins there, and forms this text.
+    fn forms(&self, start: Restart, tail: &str, piece: &str, cols: usize) -> bool
+        ensures text { IsUtf8 self.now.text }
+        ensures start { IsTrue result → IsRestartOf self.now cols start }
+        ensures tail { IsTrue result → tail.now ≡ drop (start.finished.bytes + start.bytes) self.now.text ++ piece.now }
     {
-        let Screen {
-            mut rows,
-            mut first_rows,
-            finished,
-            longest,
-            ..
-        } = self;
-        move_rows(rows.as_mut_slice(), from);
-        first_rows.move_behind(from.rows);
-        Formed {
-            rows,
-            first_rows,
-            finished: finished.behind(from),
-            longest,
+        let own = self.restart(cols);
+        if !start.is_same(own) {
+            return false;
         }
-    }
-
-    // Whether a tail has the text that a push of a piece forms for its columns.
-    fn is_tail(&self, tail: &Screen, piece: &str) -> bool
-        ensures { IsTrue result ↔ tail.now.text ≡ (formed_by self.now piece.now tail.now.cols).text }
-    {
-        let kept = kept_under(self.finished, self.cols, tail.cols);
-        match tail.text.strip_prefix(&self.text[kept.bytes..]) {
+        match tail.strip_prefix(&self.text[own.finished.bytes + own.bytes..]) {
             Some(rest) => rest == piece,
             None => false,
         }
@@ -356,14 +376,14 @@ impl Screen {
         ensures ok { IfOk result (λ p. IsPending self.now text.now cols p) }
         ensures memory { IfErr result (λ e. e ≡ MinusError.Memory) }
     {
-        let kept = kept_under(self.finished, self.cols, cols);
-        let mut joined = String::from_str(alloc, &self.text[kept.bytes..])?;
-        joined.push_str(text)?;
-        let mut tail = Screen::new(alloc);
-        let _ = tail.set_text(alloc, &joined, cols)?;
+        let start = self.restart(cols);
+        let tail = self.tail(alloc, start.finished.bytes + start.bytes, text)?;
+        let formed = form(alloc, &tail, start, cols)?;
         Ok(PendingPush {
             tail,
-            kept_rows: kept.rows,
+            start,
+            formed,
+            cols,
         })
     }
 
@@ -371,23 +391,24 @@ impl Screen {
     pub fn rows_after(&self, pending: &PendingPush) -> usize
         ensures { (piece : List ℕ) (cols : ℕ) → IsPending self.now piece cols pending.now → result ≡ length (rows_of (pushed self.now piece cols)) }
     {
-        let staying = pending.kept_rows.min(self.formatted_lines_count());
-        staying + pending.tail.formatted_lines_count()
+        let staying = pending.kept_rows().min(self.formatted_lines_count());
+        staying + pending.formed_rows()
     }
 
     /// The text of a row, counted from 0, as it would be after the push. It takes no memory.
     pub fn row_after<'a>(&'a self, pending: &'a PendingPush, i: usize) -> Option<&'a str>
         ensures { (piece : List ℕ) (cols : ℕ) → IsPending self.now piece cols pending.now → option_map (λ r. r.now) result ≡ slice_get (rows_of (pushed self.now piece cols)) i }
     {
-        if i < pending.kept_rows {
+        let kept = pending.kept_rows();
+        if i < kept {
             self.row_text(i)
         } else {
-            pending.tail.row_text(i - pending.kept_rows)
+            pending.row_text(i - kept)
         }
     }
 
-    /// Makes the push that was prepared, of the same text. What was formed then is put in place as
-    /// it is; where it is not what this push forms, the push is formed anew.
+    /// Pushes a text for the columns of a push that was prepared. What was formed then is put in
+    /// place as it is; where it is not what this push forms, the push is formed anew.
     ///
     /// # Errors
     ///
@@ -398,18 +419,21 @@ impl Screen {
         text: TextBlock<'_>,
         pending: PendingPush,
     ) -> Result<FormatResult, MinusError>
-        ensures ok { OnOk result ((cols : ℕ) → IsPending self.old text.now cols pending → self.new ≡ pushed self.old text.now cols) }
-        ensures told { IfOk result (λ r. (cols : ℕ) → IsPending self.old text.now cols pending → Tells r (formed_by self.old text.now cols) (first_formed self.old cols) (is_clean self.old cols)) }
+        ensures ok { OnOk result (self.new ≡ pushed self.old text.now pending.tail.cols) }
+        ensures told { IfOk result (λ r. Tells r (formed_by self.old text.now pending.tail.cols) (first_formed self.old pending.tail.cols) (is_clean self.old pending.tail.cols)) }
         ensures err { OnErr result (self.new ≡ self.old) }
         ensures memory { IfErr result (λ e. e ≡ MinusError.Memory) }
     {
-        let tail = pending.tail;
-        let cols = tail.cols();
-        if !self.is_tail(&tail, text) {
+        let PendingPush {
+            tail,
+            start,
+            formed,
+            cols,
+        } = pending;
+        if !self.forms(start, &tail, text, cols) {
             return Ok(self.push_piece(alloc, text, cols)?);
         }
-        let kept = kept_under(self.finished, self.cols, cols);
-        Ok(self.place_formed(text, kept, tail.into_formed(kept), cols)?)
+        Ok(self.place_formed(text, start, formed, cols)?)
     }
 
     /// Puts a text in the place of all that there is.

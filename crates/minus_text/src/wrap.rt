@@ -1,12 +1,13 @@
 //! The rows that a line fills.
-ghost use Rattle.std.specs.Prelude.{◌≡◌, ℕ, ◌+◌, ◌*◌, ◌^◌, ◌<◌, ◌≤◌, List, [], ◌∷◌, ◌++◌, length, take, drop, map, chars, encode_utf8, false, nat_le, nat_lt, ◌||◌, ◌&&◌, ◌==◌, if◌then◌else◌, string_bytes, IfOk, IfSome, IfNone, OnOk, MatchOption};
+ghost use Rattle.std.specs.Prelude.{◌≡◌, ℕ, ◌+◌, ◌*◌, ◌^◌, ◌<◌, ◌≤◌, List, [], ◌∷◌, ◌++◌, length, take, drop, map, chars, encode_utf8, false, nat_le, nat_lt, ◌||◌, ◌&&◌, ◌==◌, if◌then◌else◌, string_bytes, IsTrue, IfOk, IfSome, IfNone, OnOk, MatchOption};
 ghost use Rattle.std.specs.Char.{len_utf8};
 ghost use Rattle.std.specs.Str.{encode_utf8_all};
-ghost use Rattle.std.specs.List.{flat_map, prefix_len, position_or_len, sum_by};
+ghost use Rattle.std.specs.List.{flat_map, prefix_len, position_or_len, sum_by, list_all};
 ghost use Rattle.std.specs.Option.{SomeIff};
 ghost use Rattle.minus_text.specs.Units.{char_columns, is_final, begins_sequence, units, unit_columns, body_of, columns};
+ghost use Rattle.minus_text.specs.Plain.{is_printable, is_plain, is_unescaped};
 ghost use Rattle.minus_text.specs.Runs.{IsRun, AreRuns};
-ghost use Rattle.minus_text.specs.Pieces.{pieces, parts, fronts, with_spaces, part_len_after, begins_alphanumeric};
+ghost use Rattle.minus_text.specs.Pieces.{pieces, body_len, parts, fronts, with_spaces, part_len_after, begins_alphanumeric};
 ghost use Rattle.minus_text.specs.Rows.{line_places, line_rows, ArePlaces, RowsAreDetermined, PiecesJoin, RowsFit};
 ghost use Rattle.minus_text.specs.Measures.{measure, size, end_of, fits_measured, measured_places, class_test, SplitsUnit, SplitsFront, SplitsPart, SplitsWord};
 
@@ -29,10 +30,9 @@ struct Measured {
     spaces: usize,
 }
 
-// What a stretch of characters is made of: no spaces, spaces alone, or what an escape sequence has before its end.
+// What a stretch of characters is made of: spaces alone, or what an escape sequence has before its end.
 #[derive(Clone, Copy)]
 enum Class {
-    Body,
     Spaces,
     Parameters,
 }
@@ -42,7 +42,6 @@ impl Class {
         ensures { result ≡ class_test self c }
     {
         match self {
-            Class::Body => c != ' ',
             Class::Spaces => c == ' ',
             Class::Parameters => !matches!(c, '\x40'..='\x7e'),
         }
@@ -71,6 +70,39 @@ fn char_columns(c: char) -> usize
     c.width().unwrap_or(0)
 }
 
+// Whether a text is of printable ASCII alone.
+fn is_printable(text: &str) -> bool
+    ensures { result ≡ list_all is_printable text.now }
+{
+    let mut printable = true;
+    for &b in text.as_bytes() {
+        printable &= matches!(b, b' '..=b'~');
+    }
+    printable
+}
+
+// Whether it has no hyphen either.
+fn is_plain(text: &str) -> bool
+    ensures { result ≡ list_all is_plain text.now }
+{
+    let mut plain = true;
+    for &b in text.as_bytes() {
+        plain &= matches!(b, b' '..=b'~') && b != b'-';
+    }
+    plain
+}
+
+// Whether a text has no ESC: a byte that is 27 is one wherever it stands.
+pub(crate) fn is_unescaped(text: &str) -> bool
+    ensures { result ≡ list_all is_unescaped text.now }
+{
+    let mut unescaped = true;
+    for &b in text.as_bytes() {
+        unescaped &= b != 0x1b;
+    }
+    unescaped
+}
+
 // What follows the characters of a class at the start of a text.
 fn past(text: &str, class: Class) -> &str
     ensures chars { chars result.now ≡ drop (prefix_len (class_test class) (chars text.now)) (chars text.now) }
@@ -84,6 +116,19 @@ fn past(text: &str, class: Class) -> &str
         rest = more;
     }
     rest
+}
+
+// What follows the body of the first word: a byte that is 32 is a space wherever it stands.
+fn past_body(text: &str) -> &str
+    ensures chars { chars result.now ≡ drop (body_len (chars text.now)) (chars text.now) }
+    ensures room { length result.now ≤ length text.now }
+{
+    let bytes = text.as_bytes();
+    let mut at = 0;
+    while at < bytes.len() && bytes[at] != b' ' {
+        at += 1;
+    }
+    &text[at..]
 }
 
 // What follows the end of an escape sequence whose `ESC[` is gone.
@@ -119,12 +164,15 @@ fn split_unit(text: &str) -> Option<(usize, &str)>
     ensures less { IfSome result (λ x. length x.1.now < length text.now) }
     ensures none { IfNone result (length text.now ≡ 0) }
 {
-    if let Some(inside) = strip_escape(text) {
-        return Some((0, past_sequence(inside)));
+    let Some((c, rest)) = split_char(text) else {
+        return None;
+    };
+    if c != '\x1b' {
+        return Some((char_columns(c), rest));
     }
-    match split_char(text) {
-        Some((c, rest)) => Some((char_columns(c), rest)),
-        None => None,
+    match strip_escape(text) {
+        Some(inside) => Some((0, past_sequence(inside))),
+        None => Some((char_columns(c), rest)),
     }
 }
 
@@ -159,6 +207,15 @@ fn push_part(
 ) -> Result<(), AllocError>
     ensures { OnOk result (pieces.new.items ≡ pieces.old.items ++ map measure (with_spaces (fronts cols (chars part.now)) spaces)) }
 {
+    let len = part.len();
+    if len <= cols && is_printable(part) {
+        pieces.push(Measured {
+            len,
+            width: len,
+            spaces,
+        })?;
+        return Ok(());
+    }
     let mut rest = part;
     loop {
         let (width, more) = split_front(rest, cols);
@@ -227,6 +284,15 @@ fn push_word(
 ) -> Result<(), AllocError>
     ensures { OnOk result (pieces.new.items ≡ pieces.old.items ++ map measure (with_spaces (flat_map (fronts cols) (parts (chars body.now))) spaces)) }
 {
+    let len = body.len();
+    if len <= cols && is_plain(body) {
+        pieces.push(Measured {
+            len,
+            width: len,
+            spaces,
+        })?;
+        return Ok(());
+    }
     let mut rest = body;
     while let Some((part, more)) = split_part(rest) {
         push_part(pieces, part, 0, cols)?;
@@ -249,7 +315,7 @@ fn split_word(line: &str) -> Word<'_>
     ensures word { 0 < length line.now → SplitsWord (chars line.now) (chars result.body.now) result.spaces (chars result.rest.now) }
     ensures less { 0 < length line.now → length result.rest.now < length line.now }
 {
-    let after = past(line, Class::Body);
+    let after = past_body(line);
     let rest = past(after, Class::Spaces);
     Word {
         body: front(line, after),
@@ -262,7 +328,7 @@ fn split_word(line: &str) -> Word<'_>
 fn line_pieces(alloc: Global, line: &str, cols: usize) -> Result<Vec<Measured>, AllocError>
     ensures { IfOk result (λ v. v.items ≡ map measure (pieces cols (chars line.now))) }
 {
-    let mut pieces = Vec::new(alloc);
+    let mut pieces = Vec::with_capacity(alloc, line.len() / 5)?;
     let mut rest = line;
     while !rest.is_empty() {
         let word = split_word(rest);
@@ -333,7 +399,7 @@ fn fit(alloc: Global, pieces: &[Measured], cols: usize) -> Result<Vec<Span>, All
     requires { sum_by size pieces.now < 2 ^ 64 }
     ensures { IfOk result (λ rows. (runs : List (List Measured)) × AreRuns (fits_measured cols) pieces.now runs × (rows.items ≡ measured_places 0 runs)) }
 {
-    let mut rows = Vec::new(alloc);
+    let mut rows = Vec::with_capacity(alloc, pieces.len() / 2)?;
     let mut at = 0;
     let mut done = 0;
     while done < pieces.len() {
@@ -348,6 +414,16 @@ fn fit(alloc: Global, pieces: &[Measured], cols: usize) -> Result<Vec<Span>, All
     Ok(rows)
 }
 
+// Whether a line of printable ASCII is one row, all of it: it fits and does not end with a space.
+pub(crate) fn is_one_row(line: &str, cols: usize) -> bool
+    ensures { IsTrue result → line_places cols line.now ≡ record { start = 0; end = length line.now } ∷ [] }
+{
+    if line.len() <= cols && !line.ends_with(' ') {
+        return is_printable(line);
+    }
+    false
+}
+
 /// The rows of a line for so many columns, as places in its bytes.
 ///
 /// The line is cut into words with the spaces after them, a word after each hyphen between ASCII letters or digits,
@@ -357,9 +433,12 @@ pub fn wrap_line(alloc: Global, line: &str, cols: usize) -> Result<Vec<Span>, Al
     ensures places { IfOk result (λ spans. spans.items ≡ line_places cols line.now) }
     ensures rows { IfOk result (λ spans. ArePlaces line.now spans.items (line_rows cols line.now)) }
 {
-    if line.is_empty() {
+    if line.is_empty() || is_one_row(line, cols) {
         let mut rows = Vec::new(alloc);
-        rows.push(Span { start: 0, end: 0 })?;
+        rows.push(Span {
+            start: 0,
+            end: line.len(),
+        })?;
         return Ok(rows);
     }
     let pieces = line_pieces(alloc, line, cols)?;
@@ -406,11 +485,30 @@ fn units_columns(text: &str) -> usize
     width
 }
 
+// The columns of the characters of a text.
+fn chars_columns(text: &str) -> usize
+    ensures { result ≡ sum_by char_columns (chars text.now) }
+{
+    let mut width = 0;
+    let mut rest = text;
+    while let Some((c, after)) = split_char(rest) {
+        width += char_columns(c);
+        rest = after;
+    }
+    width
+}
+
 /// The columns of a text taken as one piece: an `ESC[` sequence up to its final character takes none, any other
 /// character those of `unicode_width`, one without width none, and a space at the end one.
 pub fn columns(text: &str) -> usize
     ensures { result ≡ columns text.now }
 {
+    if is_printable(text) {
+        return text.len();
+    }
+    if is_unescaped(text) {
+        return chars_columns(text);
+    }
     let body = without_spaces(text);
     units_columns(body) + (text.len() - body.len())
 }

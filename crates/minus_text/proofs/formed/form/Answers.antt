@@ -1,40 +1,30 @@
-use Rattle.std.proofs.Common.{◌≡◌, length, ap, refl, sym, ◌∙◌}
-use Rattle.std.specs.Str.Lines.{lines}
-use Rattle.minus_text.specs.declared.formed.Forming.{Forming}
-use Rattle.minus_text.specs.declared.formed.Formed.{Formed}
-use Rattle.minus_text.specs.Kept.{IsFormOf}
-use Rattle.minus_text.specs.Document.{first_rows}
-use Rattle.minus_text.proofs.DocumentLaws.{first_rows-ascend}
-use Rattle.minus_text.proofs.FormLaws.{all_finished, form_closed, form_open}
+-- The first line goes on what is kept, and the others follow it.
+use Rattle.std.proofs.Common.{◌≡◌, ◌+◌, length, ap, arith, ◌∙◌}
+use Rattle.minus_text.proofs.RowsLaws.{line_rows-some}
+use Rattle.minus_text.proofs.PreparedLaws.{ended_is, ended_boundary, ended_prepared, strip_few}
 use Rattle.minus_text.proofs.formed.form.Goals as goal
-use Rattle.minus_text.proofs.formed.form.Goals.{then-not-is_empty+in_ok-add_line-2, else-not-is_empty}
 
-pub from_first_rows-requires : goal.from_first_rows-requires
-from_first_rows-requires c =
-    let i = c.loop-first.invariant in
-    let h = all_finished c.loop-first.forming.rows.items c.loop-first.forming.first_rows.items c.loop-first.forming.longest c.loop-first.place c.loop-first.rest.now c.args.text.now c.args.from c.args.cols c.in_default.ensures.cut i.rows i.count i.first_row i.reached i.longest i.line i.at i.open_line in
-    let f : Formed = record { rows = c.if-not-is_empty.forming.rows; first_rows = c.if-not-is_empty.forming.first_rows.items; finished = record { lines = c.loop-first.place.lines; rows = c.loop-first.place.rows; bytes = c.loop-first.place.bytes; longest = c.max.result }; longest = c.if-not-is_empty.forming.longest } in
-    let is : IsFormOf f c.args.text.now c.args.from c.args.cols = elim c.if-not-is_empty.branch [
-      | then-not-is_empty+in_ok-add_line-2 w ↦
-          form_open c.loop-first.forming.rows.items c.loop-first.forming.first_rows.items c.loop-first.forming.longest c.loop-first.place c.loop-first.rest.now c.args.text.now c.args.from c.args.cols c.max.result f h c.max.ensures (sym c.is_empty.ensures ∙ w.if-not-is_empty.true)
-          (ap (λ (x : Forming). x.rows.items) w.forming-is ∙ w.in_ok-add_line-2.ensures.rows) (ap (λ (x : Forming). length x.rows.items) w.forming-is ∙ w.in_ok-add_line-2.ensures.count) (ap (λ (x : Forming). x.first_rows.items) w.forming-is ∙ w.in_ok-add_line-2.ensures.first_row) (ap (λ (x : Forming). x.longest) w.forming-is ∙ w.in_ok-add_line-2.ensures.longest) refl
-      | else-not-is_empty w ↦
-          form_closed c.loop-first.forming.rows.items c.loop-first.forming.first_rows.items c.loop-first.forming.longest c.loop-first.place c.loop-first.rest.now c.args.text.now c.args.from c.args.cols c.max.result f h c.max.ensures (sym c.is_empty.ensures ∙ w.if-not-is_empty.false)
-          (ap (λ (x : Forming). x.rows.items) w.forming-is) (ap (λ (x : Forming). x.first_rows.items) w.forming-is) (ap (λ (x : Forming). x.longest) w.forming-is) refl
-    ] in
-    let e : c.if-not-is_empty.forming.first_rows.items ≡ first_rows c.args.cols c.args.from.rows (lines c.args.text.now) = is.its_map in
-    rw e (first_rows-ascend c.args.cols c.args.from.rows (lines c.args.text.now))
+pub begin_line-requires-clause-boundary : goal.begin_line-requires-clause-boundary
+begin_line-requires-clause-boundary c =
+    let h = c.requires.start in
+    let p = ended_is c.args.cols c.args.text.now c.in-Some.first.now c.in-Some.more.now c.args.start h.0 h.1 c.in-Some.ensures.cut h.2 h.3 h.4 in
+    rw c.without_return.ensures (ended_boundary c.args.cols c.in-Some.first.now c.args.start h.0 p.0 h.2 p.2 p.1).0
+
+pub begin_line-requires-clause-columns : goal.begin_line-requires-clause-columns
+begin_line-requires-clause-columns c =
+    let h = c.requires.start in
+    let p = ended_is c.args.cols c.args.text.now c.in-Some.first.now c.in-Some.more.now c.args.start h.0 h.1 c.in-Some.ensures.cut h.2 h.3 h.4 in
+    let few = (ended_boundary c.args.cols c.in-Some.first.now c.args.start h.0 p.0 h.2 p.2 p.1).1 in
+    rw c.without_return.ensures (omega (arith, few, strip_few c.in-Some.first.now, c.in-Some.ensures.room, c.requires.bytes))
+
+pub form_lines-requires-clause-first_row : goal.form_lines-requires-clause-first_row
+form_lines-requires-clause-first_row c =
+    let some = line_rows-some c.args.cols c.without_return.result.now in
+    (c.args.start.finished.rows, c.in_ok-forming.ensures.its_map, omega (arith, some, c.in_ok-forming.ensures.its_count, c.len.ensures, c.in_ok-forming.forming.rows.ok.0))
 
 pub returns : goal.returns
 returns c =
-    let i = c.loop-first.invariant in
-    let h = all_finished c.loop-first.forming.rows.items c.loop-first.forming.first_rows.items c.loop-first.forming.longest c.loop-first.place c.loop-first.rest.now c.args.text.now c.args.from c.args.cols c.in_default.ensures.cut i.rows i.count i.first_row i.reached i.longest i.line i.at i.open_line in
-    let f : Formed = record { rows = c.if-not-is_empty.forming.rows; first_rows = c.from_first_rows.result; finished = record { lines = c.loop-first.place.lines; rows = c.loop-first.place.rows; bytes = c.loop-first.place.bytes; longest = c.max.result }; longest = c.if-not-is_empty.forming.longest } in
-    elim c.if-not-is_empty.branch [
-      | then-not-is_empty+in_ok-add_line-2 w ↦
-          form_open c.loop-first.forming.rows.items c.loop-first.forming.first_rows.items c.loop-first.forming.longest c.loop-first.place c.loop-first.rest.now c.args.text.now c.args.from c.args.cols c.max.result f h c.max.ensures (sym c.is_empty.ensures ∙ w.if-not-is_empty.true)
-          (ap (λ (x : Forming). x.rows.items) w.forming-is ∙ w.in_ok-add_line-2.ensures.rows) (ap (λ (x : Forming). length x.rows.items) w.forming-is ∙ w.in_ok-add_line-2.ensures.count) (c.from_first_rows.ensures ∙ ap (λ (x : Forming). x.first_rows.items) w.forming-is ∙ w.in_ok-add_line-2.ensures.first_row) (ap (λ (x : Forming). x.longest) w.forming-is ∙ w.in_ok-add_line-2.ensures.longest) refl
-      | else-not-is_empty w ↦
-          form_closed c.loop-first.forming.rows.items c.loop-first.forming.first_rows.items c.loop-first.forming.longest c.loop-first.place c.loop-first.rest.now c.args.text.now c.args.from c.args.cols c.max.result f h c.max.ensures (sym c.is_empty.ensures ∙ w.if-not-is_empty.false)
-          (ap (λ (x : Forming). x.rows.items) w.forming-is) (c.from_first_rows.ensures ∙ ap (λ (x : Forming). x.first_rows.items) w.forming-is) (ap (λ (x : Forming). x.longest) w.forming-is) refl
-    ]
+    let rows : c.len.result ≡ length c.in_ok-forming.forming.rows.items = c.len.ensures ∙ c.in_ok-forming.forming.rows.ok.0 in
+    let begun = rw c.without_return.ensures at c.in_ok-forming.ensures in
+    ended_prepared c.args.cols c.args.text.now c.in-Some.first.now c.in-Some.more.now c.args.start c.in_ok-forming.forming _ c.in_ok-formed.formed c.in-Some.ensures.cut begun c.in_ok-formed.ensures
+    (omega arith) (ap (λ n. (c.args.start.finished.rows + c.args.start.rows) + n) rows) (omega arith) c.max.ensures

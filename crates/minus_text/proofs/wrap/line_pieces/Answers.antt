@@ -8,7 +8,7 @@ use Rattle.minus_text.proofs.WordsLaws.{line_none, line_more, line_done}
 use Rattle.minus_text.proofs.wrap.line_pieces.Goals as goal
 
 pub loop-rest-init : goal.loop-rest-init
-loop-rest-init c = record { utf8 = search rules; left = line_none c.args.cols (chars c.args.line.now) c.new-pieces.result.items c.new-pieces.ensures.items }
+loop-rest-init c = record { utf8 = search rules; left = line_none c.args.cols (chars c.args.line.now) c.in_ok-pieces.pieces.items c.in_ok-pieces.ensures.items }
 
 pub loop-rest-preserved : goal.loop-rest-preserved
 loop-rest-preserved c =

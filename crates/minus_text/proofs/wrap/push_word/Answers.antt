@@ -1,7 +1,13 @@
--- One more part of the word, and the last one with the spaces.
-use Rattle.std.proofs.Common.{chars, rules}
+-- A plain word that fits is one piece; else one more part of the word, and the last one with the spaces.
+use Rattle.std.proofs.Common.{◌≤◌, chars, length, arith, rules, sym, ◌∙◌}
+use Rattle.minus_text.proofs.PlainLaws.{plain_last}
 use Rattle.minus_text.proofs.WordsLaws.{word_more, word_last}
 use Rattle.minus_text.proofs.wrap.push_word.Goals as goal
+
+pub returns-then-is_plain : goal.returns-then-is_plain
+returns-then-is_plain c =
+    let few : length c.args.body.now ≤ c.args.cols = omega (arith, c.if-len-cols.true) in
+    plain_last c.args.cols c.args.spaces c.args.body.now c.args.pieces.now.items c.push.new.self.items (sym c.is_plain.ensures ∙ c.if-is_plain.true) few c.in_ok-push.ensures.items
 
 pub loop-part-preserved : goal.loop-part-preserved
 loop-part-preserved c = record {

@@ -1,21 +1,11 @@
 -- What was formed beside goes behind what is kept.
-use Rattle.std.proofs.Common.{arith}
-use Rattle.std.specs.String.{string_bytes}
-use Rattle.std.proofs.lemmas.Str.{IsUtf8-string_bytes}
-use Rattle.minus_text.proofs.PlacedLaws.{kept_small}
+use Rattle.std.proofs.Common.{◌∙◌, sym}
+use Rattle.minus_text.specs.Kept.{line_going_on, piece_behind}
+use Rattle.minus_text.proofs.ScreenLaws.{push_start}
 use Rattle.minus_text.proofs.screen.Screen.place_push.Goals as goal
 
-pub into_formed-requires-clause-lines : goal.into_formed-requires-clause-lines
-into_formed-requires-clause-lines c =
-    let small = kept_small (string_bytes c.self.inside.text) c.self.inside.cols c.cols-cols.result c.self.inside.rows.items c.self.inside.first_rows c.self.inside.finished c.self.inside.longest c.kept_under-kept.result (IsUtf8-string_bytes c.self.inside.text) c.self.invariant c.kept_under-kept.ensures in
-    omega (arith, small.0, c.self.inside.text.bytes.ok.0, c.self.inside.text.bytes.ok.1, c.self.inside.text.bytes.small)
-
-pub into_formed-requires-clause-rows : goal.into_formed-requires-clause-rows
-into_formed-requires-clause-rows c =
-    let small = kept_small (string_bytes c.self.inside.text) c.self.inside.cols c.cols-cols.result c.self.inside.rows.items c.self.inside.first_rows c.self.inside.finished c.self.inside.longest c.kept_under-kept.result (IsUtf8-string_bytes c.self.inside.text) c.self.invariant c.kept_under-kept.ensures in
-    omega (arith, small.2, c.self.inside.rows.ok.0, c.self.inside.rows.ok.1, c.self.inside.rows.small)
-
-pub into_formed-requires-clause-bytes : goal.into_formed-requires-clause-bytes
-into_formed-requires-clause-bytes c =
-    let small = kept_small (string_bytes c.self.inside.text) c.self.inside.cols c.cols-cols.result c.self.inside.rows.items c.self.inside.first_rows c.self.inside.finished c.self.inside.longest c.kept_under-kept.result (IsUtf8-string_bytes c.self.inside.text) c.self.invariant c.kept_under-kept.ensures in
-    omega (arith, small.1, c.self.inside.text.bytes.ok.0, c.self.inside.text.bytes.ok.1, c.self.inside.text.bytes.small)
+pub place_formed-requires-clause-formed : goal.place_formed-requires-clause-formed
+place_formed-requires-clause-formed c =
+    let start = c.forms.ensures.start c.if-not-forms.false in
+    let h = push_start c.args.self.now c.pending.inside.cols c.pending.inside.start c.args.text.now c.forms.ensures.text c.utf8.text start in
+    c.pending.invariant.0.its_form (line_going_on c.args.self.now c.pending.inside.cols) (piece_behind c.args.self.now c.pending.inside.cols c.args.text.now) start.restarts h.0 (sym c.deref.ensures ∙ c.forms.ensures.tail c.if-not-forms.false ∙ h.1)

@@ -1,22 +1,31 @@
--- What is formed beside is the unfinished line and the text, and the finished lines stay.
-use Rattle.std.proofs.Common.{◌≡◌, ◌++◌, drop, ap, ◌∙◌}
-use Rattle.std.specs.Str.{IsUtf8}
+-- What is formed beside is what a push of the text forms.
+use Rattle.std.proofs.Common.{◌+◌, length, drop, ap, refl, arith, ◌∙◌}
 use Rattle.std.specs.String.{string_bytes}
-use Rattle.minus_text.proofs.ScreenLaws.{front_is, front_boundary, rest_of}
-use Rattle.minus_text.proofs.PendingLaws.{rows_kept, tail_is}
+use Rattle.std.proofs.lemmas.List.{length-append, length-drop}
+use Rattle.minus_text.specs.Kept.{line_going_on, piece_behind}
+use Rattle.minus_text.proofs.ScreenLaws.{push_start}
+use Rattle.minus_text.proofs.PendingLaws.{prepared_pending}
 use Rattle.minus_text.proofs.screen.Screen.prepare_push.Goals as goal
 
-pub range_from-requires : goal.range_from-requires
-range_from-requires c = λ _.
-    let u : IsUtf8 (string_bytes c.self.inside.text) = rw c.deref.ensures at c.deref.utf8 in
-    rw c.deref.ensures (front_boundary (string_bytes c.self.inside.text) c.self.inside.cols c.args.cols c.self.inside.rows.items c.self.inside.first_rows c.self.inside.finished c.self.inside.longest c.kept_under-kept.result u c.self.invariant c.kept_under-kept.ensures)
+pub form-requires-clause-bytes : goal.form-requires-clause-bytes
+form-requires-clause-bytes c =
+    let r = c.restart-start.ensures in
+    let tail = c.deref.ensures ∙ c.in_ok-tail.ensures in
+    omega (arith, r.place.0, r.small, ap length tail, length-append (drop (c.restart-start.result.finished.bytes + c.restart-start.result.bytes) c.args.self.now.text) c.args.text.now, length-drop (c.restart-start.result.finished.bytes + c.restart-start.result.bytes) c.args.self.now.text)
+
+pub form-requires-clause-lines : goal.form-requires-clause-lines
+form-requires-clause-lines c =
+    let r = c.restart-start.ensures in
+    omega (arith, r.lines, r.small, c.deref.type_inv.1)
+
+pub form-requires-clause-start : goal.form-requires-clause-start
+form-requires-clause-start c =
+    let r = c.restart-start.ensures in
+    let h = push_start c.args.self.now c.args.cols c.restart-start.result c.args.text.now r.text c.utf8.text r.start in
+    (line_going_on c.args.self.now c.args.cols, piece_behind c.args.self.now c.args.cols c.args.text.now, r.start.restarts, h.0, c.deref.ensures ∙ c.in_ok-tail.ensures ∙ h.1)
 
 pub returns-clause-ok : goal.returns-clause-ok
 returns-clause-ok c =
-    let u : IsUtf8 (string_bytes c.self.inside.text) = rw c.deref.ensures at c.deref.utf8 in
-    let h = front_is (string_bytes c.self.inside.text) c.args.text.now c.self.inside.cols c.args.cols c.self.inside.rows.items c.self.inside.first_rows c.self.inside.finished c.self.inside.longest c.kept_under-kept.result u c.self.invariant c.kept_under-kept.ensures in
-    let joined : c.deref-2.result.now ≡ rest_of (string_bytes c.self.inside.text) c.self.inside.cols c.args.cols ++ c.args.text.now = c.deref-2.ensures ∙ c.in_ok-push_str.ensures.bytes ∙ ap (λ t. t ++ c.args.text.now) (c.in_ok-joined.ensures.ok ∙ c.range_from.ensures.value ∙ ap (drop c.kept_under-kept.result.bytes) c.deref.ensures ∙ h.its_rest) in
-    record {
-      formed = tail_is (string_bytes c.self.inside.text) c.args.text.now c.deref-2.result.now c.self.inside.cols c.args.cols c.set_text.new.self c.args.self.now c.self.view_is c.in_ok-set_text.ensures.ok joined;
-      kept = rows_kept (string_bytes c.self.inside.text) c.self.inside.cols c.args.cols c.self.inside.rows.items c.self.inside.first_rows c.self.inside.finished c.self.inside.longest c.kept_under-kept.result c.args.self.now c.self.view_is c.self.invariant c.kept_under-kept.ensures;
-    }
+    let r = c.restart-start.ensures in
+    let h = push_start c.args.self.now c.args.cols c.restart-start.result c.args.text.now r.text c.utf8.text r.start in
+    prepared_pending c.args.self.now.text c.args.text.now (string_bytes c.in_ok-tail.tail) c.args.self.now.cols c.args.cols c.restart-start.result c.args.self.now refl r.start h.0 (c.in_ok-tail.ensures ∙ h.1)

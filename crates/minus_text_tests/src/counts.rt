@@ -1,0 +1,142 @@
+//! What a screen, a push and a map of lines tell.
+use crate::screens::{has_rows, screen_of};
+use minus_term::error::MinusError;
+use minus_text::{FormatResult, LinesRowMap, Screen};
+use std::alloc::Global;
+use std::test::Fail;
+
+// A screen's number of lines and the columns of its longest line, after these pieces.
+fn counted(alloc: Global, pieces: &str) -> Result<(usize, usize), MinusError> {
+    let screen = screen_of(alloc, pieces, 80)?;
+    Ok((screen.line_count(), screen.get_max_line_length()))
+}
+
+// How many unfinished rows the last push of these pieces tells, for 20 columns.
+fn unfinished_told(alloc: Global, pieces: &str) -> Result<usize, MinusError> {
+    let mut screen = Screen::new(alloc);
+    let mut rows = 0;
+    for piece in pieces.split('|') {
+        rows = screen.push_screen_buf(alloc, piece, 20)?.num_unterminated;
+    }
+    Ok(rows)
+}
+
+// What a result tells: lines, rows, unfinished rows, the longest line, whether nothing was attached.
+fn told(answer: &FormatResult) -> (usize, usize, usize, usize, bool) {
+    (
+        answer.lines_formatted,
+        answer.rows_formatted,
+        answer.num_unterminated,
+        answer.max_line_length,
+        answer.clean_append,
+    )
+}
+
+#[test]
+fn lines_and_the_longest_are_counted(rt: HostRuntime) -> Result<(), Fail> {
+    let table = [
+        ("", (0, 0)),
+        ("abc\r", (1, 3)),
+        ("abc\r|\n", (1, 3)),
+        ("one\ntwo|", (2, 3)),
+    ];
+    for (pieces, counts) in table {
+        assert!(rt; counted(rt.alloc(), pieces)? == counts, "at {pieces}");
+    }
+    Ok(())
+}
+
+#[test]
+fn an_empty_text_has_no_row(rt: HostRuntime) -> Result<(), Fail> {
+    let screen = screen_of(rt.alloc(), "", 80)?;
+    assert_eq!(rt; screen.formatted_lines_count(), 0);
+    Ok(())
+}
+
+#[test]
+fn unfinished_rows_are_told(rt: HostRuntime) -> Result<(), Fail> {
+    let table = [
+        ("This is a quite lengthy line", 2),
+        ("This is a line. This is second line. ", 2),
+        (
+            "This is a line. This is second line. |This is third line",
+            3,
+        ),
+        ("This is a line.\nThis is second line. ", 1),
+        (
+            "This is a line.\nThis is second line. |This is third line.",
+            2,
+        ),
+        (
+            "This is a line.\nThis is second line. |This is third line.|\n",
+            0,
+        ),
+    ];
+    for (pieces, rows) in table {
+        assert!(rt; unfinished_told(rt.alloc(), pieces)? == rows, "at {pieces}");
+    }
+    Ok(())
+}
+
+#[test]
+fn a_result_tells_of_the_text_formed(rt: HostRuntime) -> Result<(), Fail> {
+    let mut screen = Screen::new(rt.alloc());
+    let set = screen.set_text(rt.alloc(), "ab\r\ncd", 80)?;
+    let pushed = screen.push_screen_buf(rt.alloc(), "e\nfg\n", 80)?;
+    let set_told = told(&set) == (2, 2, 1, 2, true);
+    let pushed_told = told(&pushed) == (2, 2, 0, 3, false);
+    assert!(rt; set_told && pushed_told && pushed.lines_to_row_map.get(1) == Some(2));
+    Ok(())
+}
+
+#[test]
+fn a_row_is_copied(rt: HostRuntime) -> Result<(), Fail> {
+    let screen = screen_of(rt.alloc(), "ab\r\ncd|e\nfg\n", 80)?;
+    let row = screen.formatted_row(rt.alloc(), 1)?.ok_or("no row")?;
+    assert!(rt; row.as_str() == "cde" && screen.orig_text() == "ab\r\ncde\nfg\n");
+    Ok(())
+}
+
+#[test]
+fn a_push_of_nothing_keeps_the_text(rt: HostRuntime) -> Result<(), Fail> {
+    let screen = screen_of(rt.alloc(), "one\ntwo|", 80)?;
+    assert_eq!(rt; screen.orig_text(), "one\ntwo");
+    Ok(())
+}
+
+#[test]
+fn a_push_is_seen_before_it_is_made(rt: HostRuntime) -> Result<(), Fail> {
+    let mut screen = screen_of(rt.alloc(), "one\ntwo thr", 5)?;
+    let pending = screen.prepare_push(rt.alloc(), "ee\nfour", 5)?;
+    let seen = screen.rows_after(&pending) == 4
+        && screen.row_after(&pending, 0) == Some("one")
+        && screen.row_after(&pending, 2) == Some("three")
+        && has_rows(&screen, "one|two|thr");
+    let result = screen.place_push(rt.alloc(), "ee\nfour", pending)?;
+    let made = result.rows_formatted == 3
+        && result.lines_to_row_map.get(1) == Some(3)
+        && has_rows(&screen, "one|two|three|four")
+        && screen.lines_to_row_map().row_to_line(3) == Some(2);
+    assert!(rt; seen && made);
+    Ok(())
+}
+
+// A map of three lines, and the one emptied into it.
+fn maps(alloc: Global) -> Result<(LinesRowMap, LinesRowMap), MinusError> {
+    let mut map = LinesRowMap::new(alloc);
+    map.insert(0, true)?;
+    map.insert(3, true)?;
+    map.insert(4, false)?;
+    let mut other = LinesRowMap::new(alloc);
+    other.insert(6, true)?;
+    map.append(&mut other, true)?;
+    Ok((map, other))
+}
+
+#[test]
+fn a_map_of_lines(rt: HostRuntime) -> Result<(), Fail> {
+    let (map, other) = maps(rt.alloc())?;
+    let has_three = map.len() == 3 && map.get(1) == Some(4) && map.row_to_line(5) == Some(1);
+    assert!(rt; has_three && other.len() == 0);
+    Ok(())
+}

@@ -1,0 +1,11 @@
+//! Tests of `minus_text`: worked texts with the rows and counts that they must have, and pushes in pieces.
+#![tactic(auto)]
+
+#[cfg(test)]
+mod counts;
+#[cfg(test)]
+mod pieces;
+#[cfg(test)]
+mod rows;
+#[cfg(test)]
+mod screens;

@@ -1,0 +1,65 @@
+//! Worked texts and their rows.
+use crate::screens::fill;
+use minus_text::{digits, format_line};
+use std::test::Fail;
+
+#[test]
+fn a_text_fills_rows(rt: HostRuntime) -> Result<(), Fail> {
+    let table = [
+        // spaces at the start that are too many fill an empty row
+        ("     ab", 4, "|ab"),
+        // a hyphen cuts a word where columns are few, and else the word stays whole
+        ("well-known fact", 6, "well-|known|fact"),
+        ("well-known fact", 12, "well-known|fact"),
+        // a wide character has a row that is too narrow for it
+        ("日本", 1, "日|本"),
+        // each newline ends a row of its own
+        (
+            "This\n\n\nhas many\n newlines\n",
+            80,
+            "This|||has many| newlines",
+        ),
+    ];
+    for (text, cols, rows) in table {
+        assert!(rt; fill(rt.alloc(), text, cols, rows)?, "at {text}");
+    }
+    Ok(())
+}
+
+#[test]
+fn pushes_go_on_in_the_unfinished_line(rt: HostRuntime) -> Result<(), Fail> {
+    let table = [
+        (
+            "this is a normal line with no newline|this is an appended line with a newline\n|and this is a third line",
+            15,
+            "this is a|normal line|with no|newlinethis is|an appended|line with a|newline|and this is a|third line",
+        ),
+        // lines end with a newline or both characters
+        (
+            "hello,\n|this is |a test\r\n|of weird line endings",
+            80,
+            "hello,|this is a test|of weird line endings",
+        ),
+        // a push of nothing changes nothing
+        ("one\ntwo|", 80, "one|two"),
+        // an escape sequence in two pushes takes no columns
+        ("\x1b[3|1mred", 3, "\x1b[31mred"),
+        // a carriage return goes when its newline comes, with a row that is nothing else
+        ("abc\r", 80, "abc\r"),
+        ("abc\r|\n", 80, "abc"),
+        ("aaaa    \r", 4, "aaaa|\r"),
+        ("aaaa    \r|\n", 4, "aaaa"),
+    ];
+    for (pieces, cols, rows) in table {
+        assert!(rt; fill(rt.alloc(), pieces, cols, rows)?, "at {pieces}");
+    }
+    Ok(())
+}
+
+#[test]
+fn a_line_is_formatted(rt: HostRuntime) -> Result<(), Fail> {
+    let rows = format_line(rt.alloc(), "one two", 4)?;
+    let has_both = rows.len() == 2 && rows[0].as_str() == "one" && rows[1].as_str() == "two";
+    assert!(rt; has_both && digits(120) == 3);
+    Ok(())
+}
