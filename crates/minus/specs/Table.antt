@@ -24,6 +24,10 @@ Exit = ExitStrategy × ℕ
 abbrev pub move_drawing : Control → ℕ → Drawing
 move_drawing c mark = if min mark (top c) == c.mark then Nothing else Scroll
 
+-- the control that a move of the mark leaves
+abbrev pub moved_to : Control → ℕ → Control
+moved_to c mark = clamp (record c { mark = mark })
+
 -- how an append is drawn, from the control before it to the one that it changes: in full where the clamp lowers the mark
 abbrev pub append_drawing : Control → Control → Drawing
 append_drawing c new = if min c.mark (top new) == c.mark then Append else Full

@@ -7,6 +7,7 @@
 mod change;
 mod commands;
 mod display;
+mod draw;
 pub mod error;
 pub mod help;
 pub mod hooks;
@@ -24,6 +25,7 @@ pub mod state;
 mod status;
 
 pub use commands::{Command, Input};
+pub use draw::{draw_append_text, draw_for_change, draw_full, write_prompt};
 pub use error::{CleanupError, DescriptionError, MinusError, RegexError, SetupError, TermError};
 pub use help::{format_help_table_from_entries, format_key};
 pub use hooks::Hook;

@@ -98,10 +98,10 @@ pub struct PagerState {
 impl PagerState {
     ghost use Rattle.std.specs.Prelude.{◌≡◌, ◌-◌, ◌++◌, map, take, drop, OnOk, OnErr, IfOk, IfErr};
     ghost use Rattle.minus.specs.Control.{Control, document_of, first_changed};
-    ghost use Rattle.minus.specs.Table.{effect, moved_by, changed_by, resizes, IsPossible};
+    ghost use Rattle.minus.specs.Table.{effect, moved_by, moved_to, changed_by, resizes, IsPossible};
     ghost use Rattle.minus_term.specs.Refusals.{refusal_of};
     ghost use Rattle.minus_term.specs.Written.{written_all};
-    ghost use Rattle.minus.specs.Drawings.{ops_between};
+    ghost use Rattle.minus.specs.Drawings.{append_from, ops_between};
     ghost use Rattle.minus.specs.Reads.{control_of, wanted_of, IsFormed};
     ghost use Rattle.minus.specs.NextTexts.{next_document, IsNext};
     ghost use Rattle.minus.specs.Changes.{IsChange, IsTextFor, shown_by, IsUnformed, IsUnformedState};
@@ -170,6 +170,21 @@ impl PagerState {
         Change {
             text,
             mark: self.upper_mark,
+            cols: self.cols,
+            rows: self.rows,
+        }
+    }
+
+    // The state with its mark moved, as far as the text goes.
+    pub(crate) fn moved_to(&self, mark: usize) -> Change
+        requires { IsFormed self.now }
+        ensures next { IsChange (control_of self.now) result (moved_to (control_of self.now) mark) }
+        ensures text { result.text ≡ NextText.Same }
+    {
+        let rows = self.screen.formatted_lines_count();
+        Change {
+            text: NextText::Same,
+            mark: mark.min(rows.saturating_sub(self.rows - 1)),
             cols: self.cols,
             rows: self.rows,
         }
@@ -291,6 +306,25 @@ impl PagerState {
         let were = rows.saturating_sub(self.upper_mark).min(self.rows - 1);
         let first = self.first_changed().saturating_sub(self.upper_mark);
         draw_append_text(alloc, out, first.min(shown.len()), were, &shown)?;
+        Ok(())
+    }
+
+    // Adds the bytes that draw the rows of text on the page from one row of the text on, where there were so many.
+    pub(crate) fn draw_rows_from(
+        &self,
+        alloc: Global,
+        out: &mut Vec<u8>,
+        first: usize,
+        old_count: usize,
+    ) -> Result<(), AllocError>
+        requires { IsFormed self.now }
+        ensures { OnOk result (out.new.items ≡ out.old.items ++ written_all (append_from (control_of self.now) first old_count)) }
+    {
+        let change = self.change_to(NextText::Same);
+        let shown = self.shown_after(alloc, &change)?;
+        let were = old_count.saturating_sub(self.upper_mark).min(self.rows - 1);
+        let first = first.saturating_sub(self.upper_mark).min(shown.len());
+        draw_append_text(alloc, out, first, were, &shown)?;
         Ok(())
     }
 

@@ -1,5 +1,6 @@
 //! The bytes of partial drawings, as a person works them out.
 use crate::sessions::{Asked, PROMPT_ROW, all_bytes, draws};
+use minus::{PagerState, draw_append_text, draw_for_change, draw_full, write_prompt};
 use std::alloc::{AllocError, Global};
 use std::test::Fail;
 
@@ -114,5 +115,30 @@ fn a_resize_draws_the_whole_page(rt: HostRuntime) -> Result<(), Fail> {
     let prompt = prompt_at(rt.alloc(), 4)?;
     let bytes = format!(in rt.alloc(); "\x1b[1;1H\x1b[2J\rone\n\rtwo\n{prompt}")?;
     assert!(rt; draws(rt.alloc(), 6, 2, &asked, bytes.as_str())?);
+    Ok(())
+}
+
+// What is written on a sink where ten lines are drawn on 20 columns and 4 rows, moved to their end, drawn again from
+// the last on, and given another prompt.
+fn drawn_by_itself(alloc: Global) -> Result<Vec<u8>, Fail> {
+    let mut state = PagerState::new(alloc, 20, 4)?;
+    let _ = state.screen.set_text(alloc, LINES, 20)?;
+    let mut sink = Vec::new(alloc);
+    let mut mark = 9;
+    draw_full(alloc, &mut sink, &mut state)?;
+    draw_for_change(alloc, &mut sink, &mut state, &mut mark)?;
+    draw_append_text(alloc, &mut sink, &state, 9, 10)?;
+    write_prompt(alloc, &mut sink, "end", 4)?;
+    Ok(sink)
+}
+
+#[test]
+fn a_state_is_drawn_by_itself(rt: HostRuntime) -> Result<(), Fail> {
+    let alloc = rt.alloc();
+    let prompt = prompt_at(alloc, 5)?;
+    let bytes = format!(in alloc;
+        "\x1b[1;1H\x1b[2J\rl0\n\rl1\n\rl2\n{prompt}\x1b[3S\x1b[1;1H\x1b[2K\rl7\n\rl8\n\rl9\n{prompt}\x1b[3;1H\x1b[2Kl9\x1b[5;1H\r\x1b[2Kend"
+    )?;
+    assert!(rt; drawn_by_itself(alloc)?.as_slice() == bytes.as_bytes());
     Ok(())
 }
