@@ -1,0 +1,291 @@
+#!/usr/bin/env python3
+"""Tries the wrong bodies crates/NAME/wrong-bodies/*.edit: the prover must refuse each of them for itself.
+
+usage, at the top of the repository:
+    tools/wrong_bodies.py                     every crate, side by side
+    tools/wrong_bodies.py NAME [FILE.edit ..] one crate, or these files of it
+
+A wrong body has the lines of a must-fail edit: `file: src/F.rt`, and pairs of `old: TEXT` and `new: TEXT`, where each old
+text stands once in its file. The bodies of a crate go into rounds in which each function is turned at most once, and one
+`rt check` tries a round. A body passes where each function that it turns is refused for goals of its own: not only since
+it calls a function that is refused, and not since a proof file names what the body took away. Where a body's goals wait
+for a function that another body of the round turned, it is tried again in a later round, at last alone. A body outside a
+function with a path of its own (a constant, a trait's default) is tried alone, and something must be refused for itself.
+
+All this happens on a copy of the repository, over the work that `rt check` kept in out/, where there is some; the crate as
+it stands must be proved there first. The last line is `wrong-bodies: N passed, M failed`.
+"""
+import os
+import re
+import shutil
+import subprocess
+import sys
+import tempfile
+from concurrent.futures import ThreadPoolExecutor
+from dataclasses import dataclass, field
+
+TAKEN_AWAY = re.compile(r"has no `|has no field|is not in scope|was not admitted")
+
+
+@dataclass(frozen=True)
+class Place:
+    """Where a text stands: in a function of a module, perhaps inside an impl; or, with no name, in none."""
+
+    module: str = ""
+    of_type: str = ""
+    of_trait: str = ""
+    argument: str = ""
+    name: str = ""
+
+    def is_of(self, path):
+        """Returns whether a check's `fn` line with this path speaks of the function."""
+        *above, name = path.split("::")[1:]
+        if not self.name or name != self.name:
+            return False
+        if not self.of_type:
+            return "::".join(above) == self.module
+        # (an impl of a trait stands under both names; their arguments follow where they are needed to tell impls apart)
+        pattern = rf"{self.of_type}\w*{self.of_trait}({self.argument})?" if self.of_trait else self.of_type
+        return bool(above and re.fullmatch(pattern, above[-1]))
+
+
+@dataclass
+class Body:
+    """A wrong body: what it puts in place of what, and which functions that turns."""
+
+    label: str
+    changes: list = field(default_factory=list)  # path, start, end, text
+    places: set = field(default_factory=set)
+    fault: str = ""
+
+    def stands_alone(self):
+        return Place() in self.places
+
+    def is_beside(self, other):
+        """Returns whether both can be tried in one round."""
+        apart = all(a[0] != b[0] or a[2] <= b[1] or b[2] <= a[1] for a in self.changes for b in other.changes)
+        return apart and not self.places & other.places
+
+
+def head_of(line):
+    """Returns the type, the trait and the trait's argument, if any, of an impl's first line, as the check names them."""
+    text = line[len("impl") :]
+    if text.startswith("<"):
+        depth = at = 0
+        while at == 0 or depth:
+            depth += {"<": 1, ">": -1}.get(text[at], 0)
+            at += 1
+        text = text[at:]
+    *of_trait, of_type = re.split(r"\bfor\b", re.split(r"\bwhere\b|\{", text)[0])
+    last = lambda path: path.partition("<")[0].split("::")[-1].strip("& \n")
+    argument = "".join(it[0].upper() + it[1:] for it in re.findall(r"\w+", "".join(of_trait).partition("<")[2]))
+    return last(of_type), last("".join(of_trait)), argument
+
+
+def place_of(text, at, module):
+    """Returns the place of a character in a file that stands in rt fmt's layout."""
+    of_type = of_trait = argument = name = inside = ""
+    for line in re.finditer(r"^.*$", text[: text.find("\n", at)], re.M):
+        function = re.match(r"( {4})?(?:pub(?:\([^)]*\))? )?(?:const |unsafe )*fn (\w+)", line[0])
+        if line[0].startswith("}"):
+            of_type = of_trait = argument = name = ""
+        elif line[0].startswith("impl"):
+            of_type, of_trait, argument = head_of(text[line.start() : text.find("{", line.start())])
+        elif re.match(r"(pub(\([^)]*\))? )?trait ", line[0]):
+            of_type = None
+        elif function:
+            inside, name = function[1] or "", function[2]
+        elif line[0] == inside + "}":
+            name = ""
+    return Place(module, of_type, of_trait, argument, name) if name and of_type is not None else Place()
+
+
+def module_of(path):
+    """Returns the path of the module in the file src/F.rt."""
+    words = path[len("src/") : -len(".rt")].split("/")
+    return "::".join(words[:-1] if words[-1] in ("lib", "main", "mod") else words)
+
+
+def read_body(file, folder):
+    """Reads a wrong body of the crate in the folder."""
+    body, path, old = Body(os.path.basename(file)), "", None
+    with open(file, encoding="utf-8") as lines:
+        for line in lines.read().split("\n"):
+            if line.startswith("file: "):
+                path = line[len("file: ") :].strip()
+            elif line.startswith("old: "):
+                old = line[len("old: ") :]
+            elif line.startswith("new:") and old:
+                if not re.fullmatch(r"src/[\w/]+\.rt", path) or not os.path.isfile(f"{folder}/{path}"):
+                    return Body(body.label, fault=f"there is no file {path!r} of src/")
+                text = read(f"{folder}/{path}")
+                if text.count(old) != 1:
+                    return Body(body.label, fault=f"an old text is in {path} {text.count(old)} times, and not once")
+                start = text.find(old)
+                body.changes.append((path, start, start + len(old), line[len("new:") :].removeprefix(" ")))
+                body.places.add(place_of(text, start, module_of(path)))
+                old = None
+    return body if body.changes else Body(body.label, fault="it has no pair of an old and a new text")
+
+
+def read(file):
+    with open(file, encoding="utf-8") as it:
+        return it.read()
+
+
+def next_round(waiting):
+    """Returns the bodies of a round: the first that waits, alone if it stands alone, else with as many as turn other functions."""
+    first, *others = waiting
+    taken = [first]
+    for body in others:
+        if not any(it.stands_alone() for it in (first, body)) and all(body.is_beside(it) for it in taken):
+            taken.append(body)
+    return taken
+
+
+def texts_of(bodies, folder):
+    """Returns the files that the bodies change, each with its new text."""
+    texts = {}
+    for path, start, end, new in sorted((it for body in bodies for it in body.changes), key=lambda it: -it[1]):
+        text = texts.get(path) or read(f"{folder}/{path}")
+        texts[path] = text[:start] + new + text[end:]
+    return texts
+
+
+def verdicts_of(said):
+    """Returns what a check says of each function: '' where it is proved, 'own' and why where it is refused for itself, else 'callee' or 'taken' and why."""
+    found = {}
+    for path, what in re.findall(r"^(?:fn|impl|trait|struct) (\S+): (.*)$", said, re.M):
+        place = re.escape("/".join(path.split("::")[1:]))
+        # (the reason may stand in an error's second line)
+        errors = re.findall(rf"^(?:\./)?proofs/{place}/\S+: error: (.*(?:\n  .*)?)", said, re.M)
+        told = [it for it in errors if not TAKEN_AWAY.search(it)]
+        if what.startswith("proved"):
+            found[path] = "", ""
+        elif "`search` did not prove" in what or "expected a measure" in what or told:
+            found[path] = "own", what if "`search` did not prove" in what else (told or [what])[0]
+        elif "which is not proved" in what or "which are not proved" in what:
+            found[path] = "callee", what
+        else:
+            found[path] = "taken", (errors or [what])[0]
+    return found
+
+
+def judge(body, verdicts, is_alone):
+    """Returns whether the body is refused for itself (None: it has to be tried again), and why."""
+    own = []
+    for place in body.places:
+        mine = {it: verdict for it, verdict in verdicts.items() if not place.name or place.is_of(it)}
+        own = [why for kind, why in mine.values() if kind == "own"]
+        if own:
+            continue
+        if not mine:
+            return False, "no line of the check names what it turns"
+        if any(kind == "callee" for kind, _ in mine.values()) and not is_alone:
+            return None, ""
+        whys = [f"it is refused only since {why}" for kind, why in mine.values() if kind]
+        return False, (whys or ["NOT REFUSED: it is proved"])[0]
+    return True, own[0]
+
+
+def tried(bodies, check):
+    """Tries bodies by one check, and yields each with whether it is refused (None: it has to be tried again), and why."""
+    said = check(bodies)
+    if re.search(r"^logic=(not-)?proved", said, re.M):
+        verdicts = verdicts_of(said)
+        yield from ((body, *judge(body, verdicts, len(bodies) == 1)) for body in bodies)
+    elif len(bodies) == 1:
+        errors = re.findall(r"^.*error.*$", said, re.M) or said.strip().split("\n")
+        yield bodies[0], False, f"it did not reach the prover: {errors[0]}"
+    else:
+        half = len(bodies) // 2
+        yield from tried(bodies[:half], check)
+        yield from tried(bodies[half:], check)
+
+
+def try_all(bodies, check):
+    """Tries bodies round by round, and yields each with whether it is refused, and why."""
+    waiting = [it for it in bodies if not it.fault]
+    yield from ((it, False, it.fault) for it in bodies if it.fault)
+    while waiting:
+        # (each round decides a body at least: one whose functions call no other function that it turns)
+        for body, is_refused, why in [*tried(next_round(waiting), check)]:
+            if is_refused is not None:
+                waiting.remove(body)
+                yield body, is_refused, why
+
+
+def call(words, folder):
+    ran = subprocess.run(words, cwd=folder, capture_output=True, text=True, errors="replace", check=False)
+    return ran.stdout + ran.stderr
+
+
+def copy_of(top, to, out_of):
+    """Copies a repository, with what `rt check` kept: of each crate the parts of its out/ that out_of gives."""
+    os.makedirs(f"{to}/.git")
+    shutil.copyfile(f"{top}/crates.txt", f"{to}/crates.txt")
+    for name in os.listdir(f"{top}/crates"):
+        for part in ("src", "specs", "proofs", *(f"out/{it}" for it in out_of(name))):
+            if os.path.isdir(f"{top}/crates/{name}/{part}"):
+                shutil.copytree(f"{top}/crates/{name}/{part}", f"{to}/crates/{name}/{part}", copy_function=shutil.copy2)
+
+
+def try_crate(base, room, name, files):
+    """Tries wrong bodies of a crate on a copy of its own, and returns how many passed and how many failed."""
+    copy_of(base, f"{room}/{name}", lambda it: ("incremental", "rlib") if it == name else ("rlib",))
+    folder, passed = f"{room}/{name}/crates/{name}", 0
+    plain = call(["rt", "check", "--jobs", "1"], folder)
+    if not re.search(r"^logic=proved", plain, re.M):
+        print(f"{name}: the crate as it stands is not proved\n{plain[-2000:]}", flush=True)
+        return 0, len(files)
+
+    def check(bodies):
+        texts = texts_of(bodies, folder)
+        kept = {path: read(f"{folder}/{path}") for path in texts}
+        write_all(folder, texts)
+        said = call(["rt", "check", "--jobs", "1"], folder)
+        write_all(folder, kept)
+        return said
+
+    for body, is_refused, why in try_all([read_body(it, folder) for it in files], check):
+        print(f"{name}/{body.label}: {'refused: ' if is_refused else 'FAILED: '}{' '.join(why.split())[:160]}", flush=True)
+        passed += is_refused
+    shutil.rmtree(f"{room}/{name}")
+    return passed, len(files) - passed
+
+
+def write_all(folder, texts):
+    for path, text in texts.items():
+        with open(f"{folder}/{path}", "w", encoding="utf-8") as it:
+            it.write(text)
+
+
+def files_of(top, name):
+    where = f"{top}/crates/{name}/wrong-bodies"
+    return sorted(f"{where}/{it}" for it in os.listdir(where) if it.endswith(".edit")) if os.path.isdir(where) else []
+
+
+def main(words):
+    top, lanes = os.getcwd(), max(1, (os.cpu_count() or 1))
+    if not os.path.isfile(f"{top}/crates.txt"):
+        sys.exit("wrong_bodies.py runs at the top of the repository, where crates.txt stands")
+    names = words[:1] or sorted(os.listdir(f"{top}/crates"))
+    given = {it: words[1:] or files_of(top, it) for it in names}
+    given = {it: [os.path.abspath(file) for file in files] for it, files in given.items() if files}
+    with tempfile.TemporaryDirectory(prefix="wrong-bodies-") as room:
+        base = top
+        if not words:
+            # (each crate is proved here, over what was kept, and the libraries below the others are built)
+            base = f"{room}/base"
+            copy_of(top, base, lambda _: ("incremental", "rlib"))
+            call(["rt", "all", "check", "--jobs", str(lanes)], base)
+        # (the crate with the most bodies goes first)
+        order = sorted(given, key=lambda it: -len(given[it]))
+        with ThreadPoolExecutor(lanes) as pool:
+            counts = [*pool.map(lambda it: try_crate(base, room, it, given[it]), order)]
+    print(f"wrong-bodies: {sum(it[0] for it in counts)} passed, {sum(it[1] for it in counts)} failed")
+    return 1 if any(it[1] for it in counts) else 0
+
+
+if __name__ == "__main__":
+    sys.exit(main(sys.argv[1:]))
