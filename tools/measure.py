@@ -7,7 +7,8 @@ A work is a script of the program. Its instructions are counted by `valgrind --t
 those of a run, less those of reading the script, which are counted on the same script with a last line that is refused, and
 less both for the part of the script that only makes the document. So what is left is the session's work alone: forming,
 drawing and writing. `forming` is what of it is spent in forming text and putting it in place. Counts are exact, and the same on
-each machine with the same build. Memory is the greatest size of the process, less that of a run that is refused.
+each machine with the same build. Memory is the greatest size of the process, less that of a run that is refused; it is taken of one push,
+since the program keeps what it prints after each input.
 
 The text is made up: words of 2 to 9 letters, lines of 60 to 100 bytes. docs/MEASURING.md has a table.
 """
@@ -109,7 +110,7 @@ WORKS = {
     "accents": ("bytes in one push, accents", [150_000, 300_000], lambda n: (b"", push(text_of(accented, n)))),
     "coloured": ("bytes in one push, coloured words", [150_000, 300_000], lambda n: (b"", push(text_of(coloured, n)))),
 }
-MEMORY = {"lines": 100_000, "block": 10_000_000}
+MEMORY = {"block": 10_000_000}
 
 
 def text_of(change, size):

@@ -92,6 +92,15 @@ pub(crate) struct Formed {
     pub(crate) longest: usize,
 }
 
+impl Formed {
+    // The columns of the longest line, with those of the finished lines before.
+    pub(crate) fn longest_behind(&self, start: Restart) -> usize
+        ensures { result ≡ max start.finished.longest self.now.longest }
+    {
+        start.finished.longest.max(self.longest)
+    }
+}
+
 // What is formed of the lines so far.
 #[derive(Drop)]
 struct Forming {
