@@ -7,7 +7,7 @@ use Rattle.std.specs.Str.Lines.{lines, strip_carriage_return}
 use Rattle.std.proofs.Math.Seq.{take-append-add}
 use Rattle.std.proofs.lemmas.Bool.{cases_Bool, eqb-true, eq-eqb}
 use Rattle.std.proofs.lemmas.Str.{IsCharBoundary-from_rest, IsUtf8-nil, IsUtf8-append}
-use Rattle.std.proofs.lemmas.List.{append-nil, length-append, length-map, length-take-le, map-append, take_at, drop_at, drop-drop}
+use Rattle.std.proofs.lemmas.List.{append-nil, length-append, length-map, length-take-le, map-append, take_at, drop_at, drop-drop, drop-append-le}
 use Rattle.std.proofs.lemmas.List.Elements.{All-map}
 use Rattle.std.proofs.lemmas.List.Sums.{sum_by-append, sum_by-cons}
 use Rattle.minus_text.specs.declared.wrap.Span.{Span}
@@ -23,7 +23,7 @@ use Rattle.minus_text.proofs.LinesLaws.{cut-append, lines-cut, open_at, lines-le
 use Rattle.minus_text.proofs.DocumentLaws.{length-rows_of_lines-append, length-rows_of_lines, first_rows-append, length-first_rows, first_rows-ascend, longest_of-append}
 use Rattle.minus_text.proofs.FormLaws.{length-places, Reaches-trans}
 use Rattle.minus_text.proofs.PlacesLaws.{finished-are}
-use Rattle.minus_text.proofs.PreparedLaws.{no_border, open_utf8}
+use Rattle.minus_text.proofs.PreparedLaws.{no_border, open_utf8, grown_boundary}
 use Rattle.minus_text.proofs.SeamLaws.{start_goes_on}
 
 -- what is kept, as what the document has
@@ -220,6 +220,14 @@ push_start d cols start piece u v k = elim (cases_Bool (eqb cols d.cols)) [
       let first : start.finished.bytes + start.bytes ≡ 0 = omega (arith, reach.by_bytes) in
       rw f (IsUtf8-append d.text piece u v, ap (λ m. drop m d.text ++ piece) first ∙ sym (ap (λ m. drop m [] ++ (d.text ++ piece)) at))
 ]
+
+-- the same in the text that went on
+pub pushed_tail : (text piece all : List ℕ) (old_cols cols : ℕ) (start : Restart) (d : Document) → (let e : Document = record { text = text; cols = old_cols } in e) ≡ d → all ≡ text ++ piece → IsUtf8 d.text → IsUtf8 piece → IsCharBoundary d.text (start.finished.bytes + start.bytes) → IsRestartOf d cols start
+    → IsCharBoundary all (start.finished.bytes + start.bytes) × (drop (start.finished.bytes + start.bytes) all ≡ drop start.bytes (line_going_on d cols) ++ piece_behind d cols piece)
+pushed_tail text piece all old_cols cols start d v e u w b k =
+    let at : ℕ = start.finished.bytes + start.bytes in
+    let same : all ≡ d.text ++ piece = e ∙ ap (λ (x : Document). x.text ++ piece) v in
+    (rw same (grown_boundary d.text piece at u (IsUtf8-append d.text piece u w) b), ap (drop at) same ∙ drop-append-le at d.text piece b.0 ∙ (push_start d cols start piece u w k).1)
 
 -- ---- what a push leaves
 

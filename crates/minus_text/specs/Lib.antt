@@ -15,6 +15,7 @@ pub mod Document
 pub mod LineMaps
 pub mod Kept
 pub mod Seams
+pub mod Settled
 pub mod Forms
 pub mod FormatResults
 pub mod Pending

@@ -9,7 +9,7 @@ ghost use Rattle.minus_text.specs.Forms.{IsBegun, IsFormOfLines};
 
 use crate::lines::{split_line, without_return};
 use crate::lines_row_map::LinesRowMap;
-use crate::wrap::{Span, columns, is_one_row, is_unescaped, wrap_line};
+use crate::wrap::{Span, columns, is_one_row, is_unescaped, settled, wrap_line};
 use std::alloc::{AllocError, Global};
 
 // How far lines go that a newline ends: how many lines, rows and bytes, and the columns of the
@@ -90,6 +90,15 @@ pub(crate) struct Formed {
     pub(crate) finished: Finished,
     pub(crate) border: Border,
     pub(crate) longest: usize,
+}
+
+impl Formed {
+    // The columns of the longest line, with those of the finished lines before.
+    pub(crate) fn longest_behind(&self, start: Restart) -> usize
+        ensures { result ≡ max start.finished.longest self.now.longest }
+    {
+        start.finished.longest.max(self.longest)
+    }
 }
 
 // What is formed of the lines so far.
@@ -220,12 +229,16 @@ fn grown_border(start: Restart, text: &str, width: usize) -> Border
     ensures { (cols : ℕ) (line piece : List ℕ) → IsRestart cols line start → IsUtf8 (line ++ piece) → text.now ≡ drop start.bytes line ++ piece → IsBorder (line ++ piece) result }
 {
     let unmeasured = &text[start.border.bytes - start.bytes..];
-    if unmeasured.ends_with('\r') || !is_unescaped(unmeasured) {
-        return start.border;
+    if is_unescaped(unmeasured) && !unmeasured.ends_with('\r') {
+        return Border {
+            bytes: start.bytes + text.len(),
+            columns: width,
+        };
     }
+    let more = settled(unmeasured);
     Border {
-        bytes: start.bytes + text.len(),
-        columns: width,
+        bytes: start.border.bytes + more.bytes,
+        columns: start.border.columns + more.columns,
     }
 }
 

@@ -1,10 +1,11 @@
 //! A text and its rows.
-ghost use Rattle.std.specs.Prelude.{◌≡◌, ℕ, List, ◌+◌, ◌^◌, ◌<◌, ◌≤◌, [], ◌++◌, length, take, drop, true, ◌==◌, if◌then◌else◌, IsTrue, IfOk, IfErr, OnOk, OnErr, slice_get, option_map, string_bytes, vec_len, vec_capacity};
+ghost use Rattle.std.specs.Prelude.{◌≡◌, ℕ, List, ◌+◌, ◌-◌, ◌^◌, ◌<◌, ◌≤◌, [], ◌++◌, length, take, drop, true, ◌==◌, if◌then◌else◌, IsTrue, IfOk, IfErr, OnOk, OnErr, slice_get, option_map, string_bytes, vec_len, vec_capacity};
 ghost use Rattle.std.specs.List.Sorted.{IsStrictlyIncreasing};
 ghost use Rattle.std.specs.Str.{IsUtf8, IsCharBoundary};
 ghost use Rattle.std.specs.String.{string_len, string_capacity};
 ghost use Rattle.minus_text.specs.Document.{rows_of, line_map, line_count, longest, unfinished_rows, pushed, PushesJoin, LineMapAscends};
-ghost use Rattle.minus_text.specs.Kept.{IsFormOf, IsRestartOf, line_going_on, piece_behind};
+ghost use Rattle.minus_text.specs.declared.formed.Formed.{Formed};
+ghost use Rattle.minus_text.specs.Kept.{IsFormOf, IsPrepared, IsRestart, IsRestartOf, line_going_on, piece_behind};
 ghost use Rattle.minus_text.specs.Pending.{IsPending};
 ghost use Rattle.minus_text.specs.FormatResults.{Tells, formed_by, first_formed, is_clean};
 
@@ -105,31 +106,74 @@ fn push_str_reserved(text: &mut String, piece: &str)
     }
 }
 
-// Puts a piece, its rows and their lines' first rows behind what is kept. An `Err` changes nothing.
-fn replace_end(
-    text: &mut String,
+// Puts rows and their lines' first rows behind those that stay. An `Err` changes nothing.
+fn replace_rows(
     rows: &mut Vec<Span>,
     first_rows: &mut LinesRowMap,
     start: Restart,
-    piece: &str,
     formed: &Formed,
 ) -> Result<(), AllocError>
     requires rows { start.finished.rows + start.rows < 2 ^ 64 }
     requires first_rows { IsStrictlyIncreasing (take start.finished.lines first_rows.old ++ formed.now.first_rows) }
-    ensures text { OnOk result (string_bytes text.new ≡ string_bytes text.old ++ piece.now) }
     ensures rows { OnOk result (rows.new.items ≡ take (start.finished.rows + start.rows) rows.old.items ++ formed.now.rows.items) }
     ensures first_rows { OnOk result (first_rows.new ≡ take start.finished.lines first_rows.old ++ formed.now.first_rows) }
-    ensures text_stays { OnErr result (string_bytes text.new ≡ string_bytes text.old) }
     ensures rows_stay { OnErr result (rows.new.items ≡ rows.old.items) }
     ensures first_rows_stay { OnErr result (first_rows.new ≡ first_rows.old) }
 {
-    text.reserve(piece.len())?;
     rows.reserve(formed.rows.len())?;
     first_rows.replace_behind(start.finished.lines, &formed.first_rows)?;
     rows.truncate(start.finished.rows + start.rows);
     push_reserved(rows, formed.rows.as_slice());
-    push_str_reserved(text, piece);
     Ok(())
+}
+
+// Forms what follows a place of a text, and puts it behind the rows that stay. An `Err` changes
+// nothing.
+fn form_end(
+    alloc: Global,
+    text: &str,
+    rows: &mut Vec<Span>,
+    first_rows: &mut LinesRowMap,
+    start: Restart,
+    cols: usize,
+) -> Result<Formed, AllocError>
+    requires place { IsCharBoundary text.now (start.finished.bytes + start.bytes) }
+    requires lines { start.finished.lines ≤ length text.now }
+    requires rows { start.finished.rows + start.rows < 2 ^ 63 }
+    requires start { (line : List ℕ) × (piece : List ℕ) × IsRestart cols line start × IsUtf8 (line ++ piece) × (drop (start.finished.bytes + start.bytes) text.now ≡ drop start.bytes line ++ piece) }
+    requires ascends { (f : Formed) → IsPrepared cols (drop (start.finished.bytes + start.bytes) text.now) start f → IsStrictlyIncreasing (take start.finished.lines first_rows.old ++ f.first_rows) }
+    ensures formed { IfOk result (λ f. IsPrepared cols (drop (start.finished.bytes + start.bytes) text.now) start f) }
+    ensures rows { IfOk result (λ f. rows.new.items ≡ take (start.finished.rows + start.rows) rows.old.items ++ f.rows.items) }
+    ensures first_rows { IfOk result (λ f. first_rows.new ≡ take start.finished.lines first_rows.old ++ f.first_rows) }
+    ensures rows_stay { OnErr result (rows.new.items ≡ rows.old.items) }
+    ensures first_rows_stay { OnErr result (first_rows.new ≡ first_rows.old) }
+{
+    let end = &text[start.finished.bytes + start.bytes..];
+    let formed = form(alloc, end, start, cols)?;
+    replace_rows(rows, first_rows, start, &formed)?;
+    Ok(formed)
+}
+
+// What a call tells that formed this.
+fn told(start: Restart, formed: Formed, clean: bool) -> FormatResult
+    requires rows { start.finished.rows + (start.rows + length formed.rows.items) < 2 ^ 64 }
+    requires finished { formed.finished.rows ≤ start.finished.rows + (start.rows + length formed.rows.items) }
+    ensures lines { result.lines_formatted ≡ length formed.first_rows }
+    ensures rows { result.rows_formatted ≡ start.rows + length formed.rows.items }
+    ensures unfinished { result.num_unterminated ≡ (start.finished.rows + (start.rows + length formed.rows.items)) - formed.finished.rows }
+    ensures map { result.lines_to_row_map ≡ formed.first_rows }
+    ensures longest { result.max_line_length ≡ formed.longest }
+    ensures clean { result.clean_append ≡ clean }
+{
+    let rows_formatted = start.rows + formed.rows.len();
+    FormatResult {
+        lines_formatted: formed.first_rows.len(),
+        rows_formatted,
+        num_unterminated: start.finished.rows + rows_formatted - formed.finished.rows,
+        lines_to_row_map: formed.first_rows,
+        max_line_length: formed.longest,
+        clean_append: clean,
+    }
 }
 
 impl Screen {
@@ -268,8 +312,8 @@ impl Screen {
         Ok(tail)
     }
 
-    // Puts a piece behind the text. What is formed is formed beside what is kept, so that an `Err`
-    // changes nothing.
+    // Puts a piece behind the text, and forms what it goes on beside what is kept. An `Err` changes
+    // nothing.
     fn push_piece(
         &mut self,
         alloc: Global,
@@ -281,9 +325,28 @@ impl Screen {
         ensures err { OnErr result (self.new ≡ self.old) }
     {
         let start = self.restart(cols);
-        let tail = self.tail(alloc, start.finished.bytes + start.bytes, piece)?;
-        let formed = form(alloc, &tail, start, cols)?;
-        self.place_formed(piece, start, formed, cols)
+        let len = self.text.len();
+        let clean = attaches_nothing(self.finished, len, self.cols, cols);
+        self.text.push_str(piece)?;
+        let formed = match form_end(
+            alloc,
+            &self.text,
+            &mut self.rows,
+            &mut self.first_rows,
+            start,
+            cols,
+        ) {
+            Ok(formed) => formed,
+            Err(error) => {
+                self.text.truncate(len);
+                return Err(error);
+            }
+        };
+        self.cols = cols;
+        self.finished = formed.finished;
+        self.longest = formed.longest_behind(start);
+        self.border = formed.border;
+        Ok(told(start, formed, clean))
     }
 
     // Puts a piece, and what is formed of it and of what it goes on, behind what is kept. An `Err`
@@ -302,27 +365,14 @@ impl Screen {
         ensures err { OnErr result (self.new ≡ self.old) }
     {
         let clean = attaches_nothing(self.finished, self.text.len(), self.cols, cols);
-        replace_end(
-            &mut self.text,
-            &mut self.rows,
-            &mut self.first_rows,
-            start,
-            piece,
-            &formed,
-        )?;
+        self.text.reserve(piece.len())?;
+        replace_rows(&mut self.rows, &mut self.first_rows, start, &formed)?;
+        push_str_reserved(&mut self.text, piece);
         self.cols = cols;
         self.finished = formed.finished;
-        self.longest = start.finished.longest.max(formed.longest);
+        self.longest = formed.longest_behind(start);
         self.border = formed.border;
-        let rows_formatted = start.rows + formed.rows.len();
-        Ok(FormatResult {
-            lines_formatted: formed.first_rows.len(),
-            rows_formatted,
-            num_unterminated: start.finished.rows + rows_formatted - formed.finished.rows,
-            lines_to_row_map: formed.first_rows,
-            max_line_length: formed.longest,
-            clean_append: clean,
-        })
+        Ok(told(start, formed, clean))
     }
 
     // Whether a push of this piece begins there, and forms this text.

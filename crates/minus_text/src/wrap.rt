@@ -8,9 +8,12 @@ ghost use Rattle.minus_text.specs.Units.{char_columns, is_final, begins_sequence
 ghost use Rattle.minus_text.specs.Plain.{is_printable, is_plain, is_unescaped};
 ghost use Rattle.minus_text.specs.Runs.{IsRun, AreRuns};
 ghost use Rattle.minus_text.specs.Pieces.{pieces, body_len, parts, fronts, with_spaces, part_len_after, begins_alphanumeric};
+ghost use Rattle.minus_text.specs.Kept.{IsBorder};
+ghost use Rattle.minus_text.specs.Settled.{SettlesFirst};
 ghost use Rattle.minus_text.specs.Rows.{line_places, line_rows, ArePlaces, RowsAreDetermined, PiecesJoin, RowsFit};
 ghost use Rattle.minus_text.specs.Measures.{measure, size, end_of, fits_measured, measured_places, class_test, SplitsUnit, SplitsFront, SplitsPart, SplitsWord};
 
+use crate::formed::Border;
 use crate::screen::{Line, Rows};
 use std::alloc::{AllocError, Global};
 use unicode_width::UnicodeWidthChar;
@@ -173,6 +176,48 @@ fn split_unit(text: &str) -> Option<(usize, &str)>
     match strip_escape(text) {
         Some(inside) => Some((0, past_sequence(inside))),
         None => Some((char_columns(c), rest)),
+    }
+}
+
+// The columns of the first unit of a text, and what follows it, where the unit stays as it is
+// whatever follows: a sequence that has its end, or a character, but no ESC, and no carriage return,
+// which goes with a newline.
+fn split_settled(text: &str) -> Option<(usize, &str)>
+    ensures unit { IfSome result (λ x. SettlesFirst (chars text.now) x.0 (chars x.1.now)) }
+    ensures room { IfSome result (λ x. x.0 + 2 * length x.1.now ≤ 2 * length text.now) }
+    ensures less { IfSome result (λ x. length x.1.now < length text.now) }
+{
+    let Some((c, rest)) = split_char(text) else {
+        return None;
+    };
+    if c == '\r' {
+        return None;
+    }
+    if c != '\x1b' {
+        return Some((char_columns(c), rest));
+    }
+    let Some(inside) = strip_escape(text) else {
+        return None;
+    };
+    match split_char(past(inside, Class::Parameters)) {
+        Some((_, after)) => Some((0, after)),
+        None => None,
+    }
+}
+
+// How far a text is measured: the front of it, and its columns, to which those of what follows add.
+pub(crate) fn settled(text: &str) -> Border
+    ensures { IsBorder text.now result }
+{
+    let mut width = 0;
+    let mut rest = text;
+    while let Some((more, after)) = split_settled(rest) {
+        width += more;
+        rest = after;
+    }
+    Border {
+        bytes: text.len() - rest.len(),
+        columns: width,
     }
 }
 

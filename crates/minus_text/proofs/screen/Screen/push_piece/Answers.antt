@@ -1,29 +1,83 @@
--- What is formed of the rest and the piece is what the push forms.
-use Rattle.std.proofs.Common.{◌+◌, length, drop, ap, arith, ◌∙◌}
-use Rattle.std.proofs.lemmas.List.{length-append, length-drop}
-use Rattle.minus_text.specs.Kept.{line_going_on, piece_behind}
-use Rattle.minus_text.proofs.ScreenLaws.{push_start}
+-- What is formed of the rest and the piece goes behind what is kept.
+use Rattle.std.proofs.Common.{true, cond, eqb, ◌≡◌, ℕ, ◌+◌, ◌++◌, List, length, take, max, refl, ap, arith, ◌∙◌}
+use Rattle.std.specs.Str.{IsCharBoundary}
+use Rattle.std.specs.String.{string_bytes}
+use Rattle.std.proofs.lemmas.List.{length-append}
+use Rattle.std.proofs.lemmas.Str.{IsUtf8-string_bytes, IsCharBoundary-at_seam}
+use Rattle.minus_text.specs.declared.wrap.Span.{Span}
+use Rattle.minus_text.specs.Kept.{kept_lines, line_going_on, piece_behind}
+use Rattle.minus_text.proofs.ScreenLaws.{front_is, push_start, pushed_tail, push_formed, formed-ascends, form-unfinished}
+use Rattle.minus_text.proofs.FormatResultLaws.{tells_push}
 use Rattle.minus_text.proofs.screen.Screen.push_piece.Goals as goal
 
-pub form-requires-clause-bytes : goal.form-requires-clause-bytes
-form-requires-clause-bytes c =
+pub form_end-requires-clause-place : goal.form_end-requires-clause-place
+form_end-requires-clause-place c =
     let r = c.restart-start.ensures in
-    let tail = c.deref.ensures ∙ c.in_ok-tail.ensures in
-    omega (arith, r.place.0, r.small, ap length tail, length-append (drop (c.restart-start.result.finished.bytes + c.restart-start.result.bytes) c.args.self.now.text) c.args.piece.now, length-drop (c.restart-start.result.finished.bytes + c.restart-start.result.bytes) c.args.self.now.text)
+    let all = c.deref.ensures ∙ c.in_ok-push_str.ensures.bytes in
+    let tail = pushed_tail (string_bytes c.self.inside.text) c.args.piece.now c.deref.result.now c.self.inside.cols c.args.cols c.restart-start.result c.args.self.now c.self.view_is all r.text c.utf8.piece r.place r.start in
+    let text = (push_start c.args.self.now c.args.cols c.restart-start.result c.args.piece.now r.text c.utf8.piece r.start).0 in
+    tail.0
 
-pub form-requires-clause-lines : goal.form-requires-clause-lines
-form-requires-clause-lines c =
+pub form_end-requires-clause-start : goal.form_end-requires-clause-start
+form_end-requires-clause-start c =
     let r = c.restart-start.ensures in
-    omega (arith, r.lines, r.small, c.deref.type_inv.1)
+    let all = c.deref.ensures ∙ c.in_ok-push_str.ensures.bytes in
+    let tail = pushed_tail (string_bytes c.self.inside.text) c.args.piece.now c.deref.result.now c.self.inside.cols c.args.cols c.restart-start.result c.args.self.now c.self.view_is all r.text c.utf8.piece r.place r.start in
+    let text = (push_start c.args.self.now c.args.cols c.restart-start.result c.args.piece.now r.text c.utf8.piece r.start).0 in
+    (line_going_on c.args.self.now c.args.cols, piece_behind c.args.self.now c.args.cols c.args.piece.now, r.start.restarts, text, tail.1)
 
-pub form-requires-clause-start : goal.form-requires-clause-start
-form-requires-clause-start c =
+pub form_end-requires-clause-ascends : goal.form_end-requires-clause-ascends
+form_end-requires-clause-ascends c = λ f p.
     let r = c.restart-start.ensures in
-    let h = push_start c.args.self.now c.args.cols c.restart-start.result c.args.piece.now r.text c.utf8.piece r.start in
-    (line_going_on c.args.self.now c.args.cols, piece_behind c.args.self.now c.args.cols c.args.piece.now, r.start.restarts, h.0, c.deref.ensures ∙ c.in_ok-tail.ensures ∙ h.1)
+    let all = c.deref.ensures ∙ c.in_ok-push_str.ensures.bytes in
+    let tail = pushed_tail (string_bytes c.self.inside.text) c.args.piece.now c.deref.result.now c.self.inside.cols c.args.cols c.restart-start.result c.args.self.now c.self.view_is all r.text c.utf8.piece r.place r.start in
+    let text = (push_start c.args.self.now c.args.cols c.restart-start.result c.args.piece.now r.text c.utf8.piece r.start).0 in
+    let front = front_is (string_bytes c.self.inside.text) c.args.piece.now c.self.inside.cols c.args.cols c.self.inside.rows.items c.self.inside.first_rows c.self.inside.finished c.self.inside.longest c.self.inside.border c.restart-start.result c.args.self.now (IsUtf8-string_bytes c.self.inside.text) c.self.view_is c.self.invariant r.start in
+    let formed = p.its_form (line_going_on c.args.self.now c.args.cols) (piece_behind c.args.self.now c.args.cols c.args.piece.now) r.start.restarts text tail.1 in
+    let news : List Span = take (c.restart-start.result.finished.rows + c.restart-start.result.rows) c.self.inside.rows.items ++ f.rows.items in
+    let firsts : List ℕ = take c.restart-start.result.finished.lines c.self.inside.first_rows ++ f.first_rows in
+    let widest : ℕ = max c.restart-start.result.finished.longest f.longest in
+    let is = push_formed (string_bytes c.self.inside.text) c.args.piece.now ((string_bytes c.self.inside.text) ++ c.args.piece.now) c.args.cols c.self.inside.rows.items news c.self.inside.first_rows firsts c.restart-start.result (kept_lines c.args.self.now c.args.cols) (line_going_on c.args.self.now c.args.cols) (piece_behind c.args.self.now c.args.cols c.args.piece.now) f widest
+    front refl formed refl refl refl in
+    formed-ascends ((string_bytes c.self.inside.text) ++ c.args.piece.now) c.args.cols news firsts f.finished widest f.border is
 
-pub place_formed-requires-clause-formed : goal.place_formed-requires-clause-formed
-place_formed-requires-clause-formed c =
+pub truncate-requires : goal.truncate-requires
+truncate-requires c = λ _.
+    let all = c.in_ok-push_str.ensures.bytes in
+    let len : c.len-len.result ≡ length (string_bytes c.self.inside.text) = c.len-len.ensures ∙ c.self.inside.text.bytes.ok.0 in
+    let seam : IsCharBoundary (string_bytes c.push_str.new.self) (length (string_bytes c.self.inside.text)) = IsCharBoundary-at_seam (string_bytes c.push_str.new.self) (string_bytes c.self.inside.text) c.args.piece.now all c.utf8.piece in
+    (omega (arith, len, ap length all, length-append (string_bytes c.self.inside.text) c.args.piece.now), λ _. (rw (← len) at seam).1)
+
+pub told-requires-clause-finished : goal.told-requires-clause-finished
+told-requires-clause-finished c =
     let r = c.restart-start.ensures in
-    let h = push_start c.args.self.now c.args.cols c.restart-start.result c.args.piece.now r.text c.utf8.piece r.start in
-    c.in_ok-formed.ensures.its_form (line_going_on c.args.self.now c.args.cols) (piece_behind c.args.self.now c.args.cols c.args.piece.now) r.start.restarts h.0 (c.deref.ensures ∙ c.in_ok-tail.ensures ∙ h.1)
+    let all = c.deref.ensures ∙ c.in_ok-push_str.ensures.bytes in
+    let tail = pushed_tail (string_bytes c.self.inside.text) c.args.piece.now c.deref.result.now c.self.inside.cols c.args.cols c.restart-start.result c.args.self.now c.self.view_is all r.text c.utf8.piece r.place r.start in
+    let text = (push_start c.args.self.now c.args.cols c.restart-start.result c.args.piece.now r.text c.utf8.piece r.start).0 in
+    let formed = c.in-Ok.ensures.formed.its_form (line_going_on c.args.self.now c.args.cols) (piece_behind c.args.self.now c.args.cols c.args.piece.now) r.start.restarts text tail.1 in
+    (form-unfinished c.args.cols (line_going_on c.args.self.now c.args.cols) (piece_behind c.args.self.now c.args.cols c.args.piece.now) c.restart-start.result c.in-Ok.formed formed).0
+
+pub invariant_of-self-2 : goal.invariant_of-self-2
+invariant_of-self-2 c =
+    let r = c.restart-start.ensures in
+    let all = c.deref.ensures ∙ c.in_ok-push_str.ensures.bytes in
+    let tail = pushed_tail (string_bytes c.self.inside.text) c.args.piece.now c.deref.result.now c.self.inside.cols c.args.cols c.restart-start.result c.args.self.now c.self.view_is all r.text c.utf8.piece r.place r.start in
+    let text = (push_start c.args.self.now c.args.cols c.restart-start.result c.args.piece.now r.text c.utf8.piece r.start).0 in
+    let front = front_is (string_bytes c.self.inside.text) c.args.piece.now c.self.inside.cols c.args.cols c.self.inside.rows.items c.self.inside.first_rows c.self.inside.finished c.self.inside.longest c.self.inside.border c.restart-start.result c.args.self.now (IsUtf8-string_bytes c.self.inside.text) c.self.view_is c.self.invariant r.start in
+    let formed = c.in-Ok.ensures.formed.its_form (line_going_on c.args.self.now c.args.cols) (piece_behind c.args.self.now c.args.cols c.args.piece.now) r.start.restarts text tail.1 in
+    push_formed (string_bytes c.self.inside.text) c.args.piece.now (string_bytes c.push_str.new.self) c.args.cols c.self.inside.rows.items c.form_end.new.rows.items c.self.inside.first_rows c.form_end.new.first_rows c.restart-start.result (kept_lines c.args.self.now c.args.cols) (line_going_on c.args.self.now c.args.cols) (piece_behind c.args.self.now c.args.cols c.args.piece.now) c.in-Ok.formed c.longest_behind-self-inside.result
+    front c.in_ok-push_str.ensures.bytes formed c.in-Ok.ensures.rows c.in-Ok.ensures.first_rows c.longest_behind-self-inside.ensures
+
+pub returns-clause-told : goal.returns-clause-told
+returns-clause-told c =
+    let r = c.restart-start.ensures in
+    let all = c.deref.ensures ∙ c.in_ok-push_str.ensures.bytes in
+    let tail = pushed_tail (string_bytes c.self.inside.text) c.args.piece.now c.deref.result.now c.self.inside.cols c.args.cols c.restart-start.result c.args.self.now c.self.view_is all r.text c.utf8.piece r.place r.start in
+    let text = (push_start c.args.self.now c.args.cols c.restart-start.result c.args.piece.now r.text c.utf8.piece r.start).0 in
+    let formed = c.in-Ok.ensures.formed.its_form (line_going_on c.args.self.now c.args.cols) (piece_behind c.args.self.now c.args.cols c.args.piece.now) r.start.restarts text tail.1 in
+    let bytes : c.len-len.result ≡ length (string_bytes c.self.inside.text) = c.len-len.ensures ∙ c.self.inside.text.bytes.ok.0 in
+    let t = c.told.ensures in
+    tells_push (string_bytes c.self.inside.text) c.args.piece.now c.self.inside.cols c.args.cols c.self.inside.rows.items c.self.inside.first_rows c.self.inside.finished c.self.inside.longest c.self.inside.border c.restart-start.result c.in-Ok.formed _ c.args.self.now
+    c.self.view_is c.self.invariant r.start formed
+    t.lines t.rows t.unfinished t.map t.longest
+    (t.clean ∙ c.attaches_nothing-clean.ensures ∙ ap (λ n. cond (eqb c.args.cols c.self.inside.cols) (eqb c.self.inside.finished.bytes n) true) bytes)
