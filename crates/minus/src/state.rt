@@ -299,7 +299,8 @@ impl PagerState {
     ) -> Result<(), AllocError>
         requires formed { IsFormed self.now }
         requires belongs { IsNext self.now.screen change.now.text }
-        ensures { OnOk result ((new : Control) → IsChange (control_of self.now) change.now new → out.new.items ≡ out.old.items ++ written_all (ops_between Drawing.Append (control_of self.now) new)) }
+        ensures { OnOk result ((new : Control) → IsChange (control_of self.now) change.now new →
+            out.new.items ≡ out.old.items ++ written_all (ops_between Drawing.Append (control_of self.now) new)) }
     {
         let shown = self.shown_after(alloc, change)?;
         let rows = self.screen.formatted_lines_count();
@@ -338,7 +339,8 @@ impl PagerState {
     ) -> Result<(), AllocError>
         requires formed { IsFormed self.now }
         requires belongs { IsNext self.now.screen change.now.text }
-        ensures { OnOk result ((new : Control) → IsChange (control_of self.now) change.now new → out.new.items ≡ out.old.items ++ written_all (ops_between drawing (control_of self.now) new)) }
+        ensures { OnOk result ((new : Control) → IsChange (control_of self.now) change.now new →
+            out.new.items ≡ out.old.items ++ written_all (ops_between drawing (control_of self.now) new)) }
     {
         match drawing {
             Drawing::Nothing => Ok(()),
