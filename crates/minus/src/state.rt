@@ -271,8 +271,9 @@ impl PagerState {
             .text
             .rows_after(&self.screen)
             .saturating_sub(change.mark);
-        let mut shown = Vec::new(alloc);
-        for i in 0..left.min(change.rows - 1) {
+        let count = left.min(change.rows - 1);
+        let mut shown = Vec::with_capacity(alloc, count)?;
+        for i in 0..count {
             if let Some(row) = change.text.row_after(&self.screen, change.mark + i) {
                 shown.push(row)?;
             }
