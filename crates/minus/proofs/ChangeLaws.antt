@@ -1,12 +1,16 @@
 -- A change that was put in its place.
-use Rattle.std.proofs.Common.{◌≡◌, ℕ, List, sym, ap, subst, ◌∙◌}
-use Rattle.minus_text.specs.Document.{Document}
+use Rattle.std.proofs.Common.{◌≡◌, ℕ, ◌-◌, List, take, drop, min, ◌==◌, true, arith, refl, ap, ◌∙◌}
+use Rattle.minus_text.specs.Document.{Document, rows_of}
 use Rattle.minus.specs.declared.state.PagerState.{PagerState}
 use Rattle.minus.specs.declared.change.Change.{Change}
 use Rattle.minus.specs.declared.change.NextText.{NextText}
-use Rattle.minus.specs.Control.{Control, document_of}
-use Rattle.minus.specs.NextTexts.{next_document, IsNext}
-use Rattle.minus.specs.Changes.{IsChange}
+use Rattle.minus.specs.declared.change.NextText.TheVariants.{Same, Whole, Pushed}
+use Rattle.minus.specs.Control.{Control, document_of, text_rows, top, IsClamped}
+use Rattle.minus.specs.Table.{Wanted, sets_data, appends_data, moves_mark, resizes, exits, ignores, effect, changed_by}
+use Rattle.minus.specs.declared.commands.Drawing.TheVariants.{Nothing}
+use Rattle.minus.specs.Page.{shown}
+use Rattle.minus.specs.NextTexts.{next_document}
+use Rattle.minus.specs.Changes.{IsChange, IsTextFor, shown_by, drawing_by}
 use Rattle.minus.specs.Reads.{control_of, IsFormed}
 
 same_control : (a b : Control) → a.text ≡ b.text → a.cols ≡ b.cols → a.rows ≡ b.rows → a.mark ≡ b.mark → a ≡ b
@@ -30,12 +34,50 @@ abbrev pub document : List ℕ → ℕ → Document
 document text cols = record { text = text; cols = cols }
 
 -- a change to a text that was formed anew
-pub change_anew : (s : PagerState) (change : Change) (next : NextText) (text : List ℕ) (cols : ℕ) (new : Control) → change.text ≡ next → ((d : Document) → IsNext d next) → ((d : Document) → next_document d next ≡ document text cols) → text ≡ new.text → cols ≡ new.cols
-    → change.mark ≡ new.mark → change.cols ≡ new.cols → change.rows ≡ new.rows → IsChange (control_of s) change new
-change_anew s change next text cols new is belongs formed t k m c r = record {
-  belongs = subst (λ (n : NextText). IsNext (document_of (control_of s)) n) (sym is) (belongs (document_of (control_of s)));
-  document = ap (λ (n : NextText). next_document (document_of (control_of s)) n) is ∙ formed (document_of (control_of s)) ∙ ap (λ (x : List ℕ). document x cols) t ∙ ap (λ (x : ℕ). document new.text x) k;
+pub change_anew : (s : PagerState) (change : Change) (next : Document) (text : List ℕ) (cols : ℕ) (new : Control) → change.text ≡ Whole next → next ≡ document text cols → text ≡ new.text → cols ≡ new.cols → change.mark ≡ new.mark → change.cols ≡ new.cols → change.rows ≡ new.rows → IsChange (control_of s) change new
+change_anew s change next text cols new is formed t k m c r = record {
+  belongs = rw is tt;
+  document = ap (λ (n : NextText). next_document (document_of (control_of s)) n) is ∙ formed ∙ ap (λ (x : List ℕ). document x cols) t ∙ ap (λ (x : ℕ). document new.text x) k;
   mark_is = m;
   cols_are = c;
   rows_are = r;
 }
+
+-- the rows of text on the page that a change leads to
+pub shown_is : (s : PagerState) (change : Change) (new : Control) → IsFormed s → IsChange (control_of s) change new → shown_by s.screen change ≡ shown new
+shown_is s change new f h =
+    let document : next_document s.screen change.text ≡ document_of new = ap (λ (d : Document). next_document d change.text) f.document ∙ h.document in
+    ap (λ (d : Document). take (change.rows - 1) (drop change.mark (rows_of d))) document
+    ∙ ap (λ (n : ℕ). take (n - 1) (drop change.mark (text_rows new))) h.rows_are
+    ∙ ap (λ (m : ℕ). take (new.rows - 1) (drop m (text_rows new))) h.mark_is
+
+-- a change that changes nothing
+pub unchanged : (s : PagerState) (change : Change) → change.text ≡ Same → change.mark ≡ s.upper_mark → change.cols ≡ s.cols → change.rows ≡ s.rows → IsChange (control_of s) change (control_of s)
+unchanged s change is m c r = record { belongs = rw is tt; document = rw is refl; mark_is = m; cols_are = c; rows_are = r }
+
+still : (c : Control) (mark : ℕ) → IsClamped c → mark ≡ min c.mark (top c) → drawing_by Same c.mark mark ≡ Nothing
+still c mark h is =
+    let same : mark ≡ c.mark = omega (arith, h, is) in
+    let equal : (c.mark == c.mark) ≡ true = grind arith in
+    rw (same, equal) refl
+
+-- a change is drawn as the table says of its command
+pub drawn_as : (c : Control) (w : Wanted) (text : NextText) (mark : ℕ) → IsTextFor text w → IsClamped c → mark ≡ (changed_by (effect c w)).mark → drawing_by text c.mark mark ≡ (effect c w).drawing
+drawn_as c (sets_data text) (Whole screen) mark h clamped is = refl
+drawn_as c (sets_data text) Same mark h clamped is = absurd h
+drawn_as c (sets_data text) (Pushed piece pending) mark h clamped is = absurd h
+drawn_as c (appends_data text) (Pushed piece pending) mark h clamped is = rw is refl
+drawn_as c (appends_data text) Same mark h clamped is = absurd h
+drawn_as c (appends_data text) (Whole screen) mark h clamped is = absurd h
+drawn_as c (moves_mark to) Same mark h clamped is = rw is refl
+drawn_as c (moves_mark to) (Whole screen) mark h clamped is = absurd h
+drawn_as c (moves_mark to) (Pushed piece pending) mark h clamped is = absurd h
+drawn_as c (resizes cols rows) (Whole screen) mark h clamped is = refl
+drawn_as c (resizes cols rows) Same mark h clamped is = absurd h
+drawn_as c (resizes cols rows) (Pushed piece pending) mark h clamped is = absurd h
+drawn_as c exits Same mark h clamped is = still c mark clamped is
+drawn_as c exits (Whole screen) mark h clamped is = absurd h
+drawn_as c exits (Pushed piece pending) mark h clamped is = absurd h
+drawn_as c ignores Same mark h clamped is = still c mark clamped is
+drawn_as c ignores (Whole screen) mark h clamped is = absurd h
+drawn_as c ignores (Pushed piece pending) mark h clamped is = absurd h

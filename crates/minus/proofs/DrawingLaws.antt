@@ -1,9 +1,11 @@
 -- Bytes of operations, added one after another.
-use Rattle.std.proofs.Common.{◌≡◌, ℕ, ◌+◌, ◌<◌, List, [], ◌∷◌, ◌++◌, length, map, take, get_or, sym, ap, ◌∙◌, append_assoc, append-nil}
+use Rattle.std.proofs.Common.{◌≡◌, ℕ, zero, suc, min, drop, refl, arith, ◌+◌, ◌-◌, ◌<◌, ◌≤◌, List, [], ◌∷◌, ◌++◌, length, map, take, get_or, sym, ap, ◌∙◌, append_assoc, append-nil}
 use Rattle.std.specs.List.{flat_map}
-use Rattle.std.proofs.lemmas.List.{map_more}
+use Rattle.std.proofs.Math.Seq.{drop-nil}
+use Rattle.std.proofs.lemmas.List.{map_more, take_min, length-drop, length-map, length-take-le}
 use Rattle.std.proofs.lemmas.List.Concat.{flat_map-append}
-use Rattle.minus_term.specs.Operations.{Op}
+use Rattle.minus_term.specs.Append.{rows_anew, append_ops}
+use Rattle.minus_term.specs.Operations.{Op, GoTo, ClearRow, Put}
 use Rattle.minus_term.specs.Written.{written, written_all}
 use Rattle.minus_term.specs.FullRedraw.{row_ops}
 use Rattle.minus_term.proofs.WrittenLaws.{written_all-nil, written_all-one, written_all-append}
@@ -34,3 +36,70 @@ pub rows_more : {X : Type 0} (f : X → List ℕ) (xs : List X) (i : ℕ) (d : X
     → b ≡ old ++ written_all (flat_map row_ops (map f (take (i + 1) xs)))
 rows_more f xs i d old a b l e g =
     row_added old a b (map f (take i xs)) (f (get_or xs i d)) e g ∙ ap (λ rs. old ++ written_all (flat_map row_ops rs)) (sym (map_more f xs i d l))
+
+-- the last rows and the first rows of a list, as the code cuts them off
+drop_all : {X : Type 0} (xs : List X) (n : ℕ) → drop (min n (length xs)) xs ≡ drop n xs
+drop_all [] n = let z : min n 0 ≡ 0 = omega arith in rw z (sym (drop-nil n))
+drop_all (x ∷ xs) zero = let z : min 0 (length (x ∷ xs)) ≡ 0 = omega arith in rw z refl
+drop_all (x ∷ xs) (suc n) = let z : min (suc n) (length (x ∷ xs)) ≡ suc (min n (length xs)) = omega arith in rw z (drop_all xs n)
+
+drop-map : {X : Type 0} (f : X → List ℕ) (n : ℕ) (xs : List X) → map f (drop n xs) ≡ drop n (map f xs)
+drop-map f zero xs = refl
+drop-map f (suc n) [] = refl
+drop-map f (suc n) (x ∷ xs) = drop-map f n xs
+
+take-map : {X : Type 0} (f : X → List ℕ) (n : ℕ) (xs : List X) → map f (take n xs) ≡ take n (map f xs)
+take-map f zero xs = refl
+take-map f (suc n) [] = refl
+take-map f (suc n) (x ∷ xs) = ap (λ ys. f x ∷ ys) (take-map f n xs)
+
+take_whole : {X : Type 0} (xs : List X) → take (length xs) xs ≡ xs
+take_whole [] = refl
+take_whole (x ∷ xs) = ap (λ ys. x ∷ ys) (take_whole xs)
+
+pub last_rows : {X : Type 0} (f : X → List ℕ) (xs : List X) (n cut : ℕ) → cut ≡ min n (length xs) → map f (take (length xs - cut) (drop cut xs)) ≡ drop n (map f xs)
+last_rows f xs n cut e =
+    ap (λ (k : ℕ). map f (take k (drop cut xs))) (sym (length-drop cut xs)) ∙ ap (map f) (take_whole (drop cut xs)) ∙ ap (λ (k : ℕ). map f (drop k xs)) e ∙ ap (map f) (drop_all xs n) ∙ drop-map f n xs
+
+pub first_rows : {X : Type 0} (f : X → List ℕ) (xs : List X) (n cut : ℕ) → cut ≡ min n (length xs) → map f (take cut xs) ≡ take n (map f xs)
+first_rows f xs n cut e = ap (λ (k : ℕ). map f (take k xs)) e ∙ ap (map f) (take_min n xs) ∙ take-map f n xs
+
+-- ---- rows of the page that are made blank
+
+-- one more text
+anew_more : (i : ℕ) (ts : List (List ℕ)) (t : List ℕ) → rows_anew i (ts ++ t ∷ []) 0 ≡ rows_anew i ts 0 ++ (GoTo 0 (i + length ts) ∷ ClearRow ∷ Put t ∷ [])
+anew_more i [] t = let e : i + 0 ≡ i = omega arith in rw e refl
+anew_more i (s ∷ ts) t = let e : i + length (s ∷ ts) ≡ i + 1 + length ts = omega arith in rw e (ap (λ ops. GoTo 0 i ∷ ClearRow ∷ Put s ∷ ops) (anew_more (i + 1) ts t))
+
+-- one more blank row
+blanks_more : (i n : ℕ) → rows_anew i [] (n + 1) ≡ rows_anew i [] n ++ (GoTo 0 (i + n) ∷ ClearRow ∷ [])
+blanks_more i zero = let e : i + 0 ≡ i = omega arith in rw e refl
+blanks_more i (suc n) = let e : i + suc n ≡ i + 1 + n = omega arith in let s : suc n + 1 ≡ suc (n + 1) = omega arith in rw (e, s) (ap (λ ops. GoTo 0 i ∷ ClearRow ∷ ops) (blanks_more (i + 1) n))
+
+-- the texts first, and then the blank rows
+anew_parts : (i : ℕ) (ts : List (List ℕ)) (n : ℕ) → rows_anew i ts n ≡ rows_anew i ts 0 ++ rows_anew (i + length ts) [] n
+anew_parts i [] n = let e : i + 0 ≡ i = omega arith in rw e refl
+anew_parts i (t ∷ ts) n = let e : i + length (t ∷ ts) ≡ i + 1 + length ts = omega arith in rw e (ap (λ ops. GoTo 0 i ∷ ClearRow ∷ Put t ∷ ops) (anew_parts (i + 1) ts n))
+
+-- one more text of a list
+pub anew_next : {X : Type 0} (f : X → List ℕ) (xs : List X) (first i : ℕ) (d : X) (old a b : List ℕ) → i < length xs → a ≡ old ++ written_all (rows_anew first (map f (take i xs)) 0) → b ≡ a ++ written_all (GoTo 0 (first + i) ∷ ClearRow ∷ Put (f (get_or xs i d)) ∷ [])
+    → b ≡ old ++ written_all (rows_anew first (map f (take (i + 1) xs)) 0)
+anew_next f xs first i d old a b l e g =
+    let done : List (List ℕ) = map f (take i xs) in
+    let count : length done ≡ i = length-map (take i xs) f ∙ length-take-le i xs (omega arith) in
+    ops_added old a b (rows_anew first done 0) (GoTo 0 (first + i) ∷ ClearRow ∷ Put (f (get_or xs i d)) ∷ []) e g
+    ∙ ap (λ (n : ℕ). old ++ written_all (rows_anew first done 0 ++ (GoTo 0 (first + n) ∷ ClearRow ∷ Put (f (get_or xs i d)) ∷ []))) (sym count)
+    ∙ ap (λ ops. old ++ written_all ops) (sym (anew_more first done (f (get_or xs i d))))
+    ∙ ap (λ ts. old ++ written_all (rows_anew first ts 0)) (sym (map_more f xs i d l))
+
+-- one more blank row of some
+pub blank_next : (first i : ℕ) (old a b : List ℕ) → a ≡ old ++ written_all (rows_anew first [] i) → b ≡ a ++ written_all (GoTo 0 (first + i) ∷ ClearRow ∷ []) → b ≡ old ++ written_all (rows_anew first [] (i + 1))
+blank_next first i old a b e g = ops_added old a b (rows_anew first [] i) (GoTo 0 (first + i) ∷ ClearRow ∷ []) e g ∙ ap (λ ops. old ++ written_all ops) (sym (blanks_more first i))
+
+-- all of an append
+pub append_added : (old a b : List ℕ) (first were : ℕ) (shown : List (List ℕ)) → first ≤ length shown → a ≡ old ++ written_all (rows_anew first (drop first shown) 0) → b ≡ a ++ written_all (rows_anew (length shown) [] (were - length shown)) → b ≡ old ++ written_all (append_ops first were shown)
+append_added old a b first were shown l e g =
+    let end : first + length (drop first shown) ≡ length shown = omega (arith, length-drop first shown) in
+    ops_added old a b (rows_anew first (drop first shown) 0) (rows_anew (length shown) [] (were - length shown)) e g
+    ∙ ap (λ (n : ℕ). old ++ written_all (rows_anew first (drop first shown) 0 ++ rows_anew n [] (were - length shown))) (sym end)
+    ∙ ap (λ ops. old ++ written_all ops) (sym (anew_parts first (drop first shown) (were - length shown)))

@@ -3,6 +3,10 @@ pub mod ShownLaws
 pub mod ChangeLaws
 pub mod TableLaws
 pub mod DrawnLaws
+pub mod AppendLaws
+pub mod CommandLaws
+pub mod LeavesLaws
+pub mod JoinLaws
 pub mod StepLaws
 pub mod StartLaws
 pub mod RunLaws

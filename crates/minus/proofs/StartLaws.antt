@@ -4,27 +4,50 @@ use Rattle.std.specs.Io.KnownBytes.{Appends}
 use Rattle.minus_term.specs.declared.error.CleanupError.{CleanupError}
 use Rattle.minus_term.specs.Counts.{AppendsFront, Stays, Rises}
 use Rattle.minus_term.specs.Terminal.{cleanup_bytes}
-use Rattle.minus_term.specs.declared.error.MinusError.{MinusError}
-use Rattle.minus_term.specs.declared.error.MinusError.TheVariants.{Memory, BadSize, BadMode, Failed, Ended, Setup, Cleanup, Draw, HandleEvent, Cursor, FmtWriteError, Conversion, SearchExpError}
+use Rattle.minus_term.specs.Refusals.{Refusal, for_memory, for_size, for_mode, after_failure, after_exit, at_setup, at_cleanup, at_drawing, of_no_call}
 use Rattle.minus_term.specs.Written.{written_all}
 use Rattle.minus.specs.Control.{Control}
-use Rattle.minus.specs.Starts.{IsShowRefused, CleansUp, DrawingBreaksOff, ShowBreaksOff, StartBreaksOff}
-use Rattle.minus.proofs.DrawnLaws.{whole_page, whole_shows}
+use Rattle.minus.specs.declared.state.RunMode.{RunMode}
+use Rattle.minus.specs.declared.state.RunMode.TheVariants.{Uninitialized}
+use Rattle.minus.specs.Changes.{IsUnformedState}
+use Rattle.minus.specs.Starts.{CanStart, IsStartRefused, IsEarly, IsShowRefused, CleansUp, DrawingBreaksOff, ShowBreaksOff, StartBreaksOff}
+use Rattle.minus.specs.Drawings.{whole_page}
+use Rattle.minus.proofs.DrawnLaws.{whole_shows}
 
-pub start_broken : (e : MinusError) (a b : Option (List ℕ)) (m n : Option ℕ) (bytes drawing : List ℕ) (terminal : Bool) (c : Control) → 1 ≤ c.rows → bytes ≡ drawing → drawing ≡ written_all (whole_page c) → IsShowRefused e terminal → ShowBreaksOff e a b m n bytes → StartBreaksOff e a b m n c
-start_broken (Setup cause) a b m n bytes drawing terminal c some e g r h = h
-start_broken (Draw cause) a b m n bytes drawing terminal c some e g r h = (whole_page c, subst (λ (x : List ℕ). DrawingBreaksOff a b m n x) (e ∙ g) h, whole_shows c some)
-start_broken Memory a b m n bytes drawing terminal c some e g r h = absurd h
-start_broken (BadSize cols rows) a b m n bytes drawing terminal c some e g r h = absurd h
-start_broken BadMode a b m n bytes drawing terminal c some e g r h = absurd h
-start_broken Failed a b m n bytes drawing terminal c some e g r h = absurd h
-start_broken Ended a b m n bytes drawing terminal c some e g r h = absurd h
-start_broken (Cleanup cause) a b m n bytes drawing terminal c some e g r h = absurd h
-start_broken (HandleEvent cause) a b m n bytes drawing terminal c some e g r h = absurd h
-start_broken (Cursor cause) a b m n bytes drawing terminal c some e g r h = absurd h
-start_broken (FmtWriteError cause) a b m n bytes drawing terminal c some e g r h = absurd h
-start_broken Conversion a b m n bytes drawing terminal c some e g r h = absurd h
-start_broken (SearchExpError cause) a b m n bytes drawing terminal c some e g r h = absurd h
+pub start_broken : (refusal : Refusal) (a b : Option (List ℕ)) (m n : Option ℕ) (bytes drawing : List ℕ) (terminal : Bool) (c : Control) → 1 ≤ c.rows → bytes ≡ drawing → drawing ≡ written_all (whole_page c) → IsShowRefused refusal terminal → ShowBreaksOff refusal a b m n bytes → StartBreaksOff refusal a b m n c
+start_broken (at_setup cause) a b m n bytes drawing terminal c some e g r h = h
+start_broken at_drawing a b m n bytes drawing terminal c some e g r h = (whole_page c, subst (λ (x : List ℕ). DrawingBreaksOff a b m n x) (e ∙ g) h, whole_shows c some)
+start_broken for_memory a b m n bytes drawing terminal c some e g r h = absurd h
+start_broken (for_size cols rows) a b m n bytes drawing terminal c some e g r h = absurd h
+start_broken for_mode a b m n bytes drawing terminal c some e g r h = absurd h
+start_broken after_failure a b m n bytes drawing terminal c some e g r h = absurd h
+start_broken after_exit a b m n bytes drawing terminal c some e g r h = absurd h
+start_broken (at_cleanup cause) a b m n bytes drawing terminal c some e g r h = absurd h
+start_broken of_no_call a b m n bytes drawing terminal c some e g r h = absurd h
+
+-- what is refused at a terminal is refused of a start that can be, and not before the terminal was asked for anything
+pub shown_at_start : (refusal : Refusal) (mode : RunMode) (cols rows : ℕ) (terminal : Bool) → CanStart mode cols rows → IsShowRefused refusal terminal → IsStartRefused refusal mode cols rows terminal × (IsEarly refusal → ⊥)
+shown_at_start (at_setup cause) mode cols rows terminal can h = ((can, h), λ early. early)
+shown_at_start at_drawing mode cols rows terminal can h = ((can, h), λ early. early)
+shown_at_start for_memory mode cols rows terminal can h = absurd h
+shown_at_start (for_size c r) mode cols rows terminal can h = absurd h
+shown_at_start for_mode mode cols rows terminal can h = absurd h
+shown_at_start after_failure mode cols rows terminal can h = absurd h
+shown_at_start after_exit mode cols rows terminal can h = absurd h
+shown_at_start (at_cleanup cause) mode cols rows terminal can h = absurd h
+shown_at_start of_no_call mode cols rows terminal can h = absurd h
+
+-- a state that is not formed is a start that is refused
+pub unformed_at_start : (refusal : Refusal) (mode : RunMode) (cols rows : ℕ) (terminal : Bool) → (mode ≡ Uninitialized → ⊥) → IsUnformedState refusal cols rows → IsStartRefused refusal mode cols rows terminal
+unformed_at_start for_memory mode cols rows terminal runs h = record { runs = runs; size = h }
+unformed_at_start (for_size c r) mode cols rows terminal runs h = (runs, h.0, h.1, h.2)
+unformed_at_start for_mode mode cols rows terminal runs h = absurd h
+unformed_at_start after_failure mode cols rows terminal runs h = absurd h
+unformed_at_start after_exit mode cols rows terminal runs h = absurd h
+unformed_at_start (at_setup cause) mode cols rows terminal runs h = absurd h
+unformed_at_start (at_cleanup cause) mode cols rows terminal runs h = absurd h
+unformed_at_start at_drawing mode cols rows terminal runs h = absurd h
+unformed_at_start of_no_call mode cols rows terminal runs h = absurd h
 
 -- the cleanup, whatever came of it
 pub cleaned_up : (r : Result (Unit {0}) CleanupError) (a b : Option (List ℕ)) (m n : Option ℕ) → OnOk r (Appends a b cleanup_bytes) → OnOk r (Stays m n) → AppendsFront a b cleanup_bytes → OnErr r (Rises m n) → CleansUp a b m n

@@ -1,9 +1,12 @@
 -- A step, from what its parts ensure.
-use Rattle.std.proofs.Common.{◌≡◌, ℕ, List, Option, refl, sym, ap, subst, ◌∙◌}
+use Rattle.std.proofs.Common.{◌≡◌, ℕ, ◌≤◌, true, List, [], ◌∷◌, Option, None, Some, refl, sym, ap, subst, ◌∙◌}
 use Rattle.std.specs.Io.KnownBytes.{Appends}
+use Rattle.std.proofs.KnownBytes.{Appends-nil}
+use Rattle.minus_term.proofs.WrittenLaws.{written_all-nil}
 use Rattle.minus_term.specs.Counts.{AppendsFront}
-use Rattle.minus_term.specs.declared.error.MinusError.{MinusError}
-use Rattle.minus_term.specs.declared.error.MinusError.TheVariants.{Memory, BadSize, BadMode, Failed, Ended, Setup, Cleanup, Draw, HandleEvent, Cursor, FmtWriteError, Conversion, SearchExpError}
+use Rattle.minus_term.specs.declared.error.CleanupError.{CleanupError}
+use Rattle.minus_term.specs.Refusals.{Refusal, for_memory, for_size, for_mode, after_failure, after_exit, at_setup, at_cleanup, at_drawing, of_no_call}
+use Rattle.minus_term.specs.Terminal.{cleanup_bytes, CleanupBreaksOff}
 use Rattle.minus_term.specs.Written.{written_all}
 use Rattle.minus.specs.declared.commands.Drawing.{Drawing}
 use Rattle.minus.specs.declared.commands.Drawing.TheVariants as drawing
@@ -11,85 +14,169 @@ use Rattle.minus.specs.declared.session.Answer.{Answer}
 use Rattle.minus.specs.declared.status.Status.{Status}
 use Rattle.minus.specs.declared.status.Status.TheVariants as status
 use Rattle.minus.specs.Answers.{IsAnswer}
-use Rattle.minus.specs.Control.{Control}
+use Rattle.minus.specs.Control.{Control, IsClamped}
 use Rattle.minus.specs.Drawn.{Drawn, BrokenOff}
 use Rattle.minus.specs.Reads.{Told, a_command}
 use Rattle.minus.specs.Sizes.{IsSize}
-use Rattle.minus.specs.Table.{Wanted, effect, drawing_of, changed_by, worked, IsPossible}
-use Rattle.minus.specs.Steps.{Seen, Allows, Asks, Writes, IsStep, IsBrokenStep, Refuses, status_after}
-use Rattle.minus.proofs.TableLaws.{worked_full}
-use Rattle.minus.proofs.DrawnLaws.{whole_page, step_drawn, step_broken}
+use Rattle.minus.specs.Table.{Wanted, Exit, Effect, effect, changed_by, IsPossible}
+use Rattle.minus.specs.Works.{Work, work_of, WorkedOff, all, one, up_to, items_of, is_drawn}
+use Rattle.minus.specs.Drawings.{ops_between}
+use Rattle.minus.specs.Steps.{Seen, Allows, Asks, Works, Writes, IsStep, IsBroken, IsBrokenStep, IsBrokenExit, Refuses, status_after}
+use Rattle.minus.proofs.TableLaws.{undrawn, exit_quiet}
+use Rattle.minus.proofs.CommandLaws.{step_drawn, step_broken}
+use Rattle.minus.proofs.DrawnLaws.{quiet_work, nothing_drawn}
+use Rattle.minus.proofs.LeavesLaws.{leaves_after}
 
--- a command that is drawn in full
-pub full_step : {K : Type 0} (allows : Allows K) (old mid new : Seen K) (w : Wanted) (answer : Answer) (a b c : Option (List ℕ)) (bytes : List ℕ) → drawing_of w ≡ drawing.Full → old.status ≡ status.Running → IsPossible w → IsSize old.control.cols old.control.rows
-    → IsSize mid.control.cols mid.control.rows → mid ≡ record old { control = changed_by (effect old.control w) } → new ≡ mid → bytes ≡ written_all (whole_page mid.control) → b ≡ a → Appends b c bytes → IsAnswer drawing.Full answer → IsStep allows old (a_command w) new answer a c
-full_step allows old mid new w answer a b c bytes full running possible size new_size done same is s h answers =
-    let control : new.control ≡ mid.control = ap (λ (x : Seen _). x.control) same in
-    let drawn : Drawn a c old.control mid.control = step_drawn a b c bytes old.control mid.control size.some_rows new_size.some_rows is s h in
-    record {
-      wanted = w;
-      asked = refl;
-      works = record {
-        running = running;
-        possible = possible;
-        done = same ∙ done ∙ ap (λ (x : Control). let r : Seen _ = record old { control = x } in r) (sym (worked_full old.control w full)) ∙ ap (λ (x : Status). let r : Seen _ = record old { control = worked old.control w; status = x } in r) (running ∙ ap status_after (sym full));
-      };
-      answers = subst (λ (d : Drawing). IsAnswer d answer) (sym full) answers;
-      writes = subst (λ (d : Drawing). Writes d a c old.control new.control) (sym full) (subst (λ (x : Control). Drawn a c old.control x) (sym control) drawn);
-    }
+-- the work of one item, on its own
+work_is : (e : Effect) (kind : Drawing) (new : Control) → e.drawing ≡ kind → changed_by e ≡ new → work_of e ≡ record { drawing = kind; left = new }
+work_is e kind new k n = ap (λ (d : Drawing). let w : Work = record { drawing = d; left = changed_by e } in w) k ∙ ap (λ (c : Control). let w : Work = record { drawing = kind; left = c } in w) n
+
+one_work : (c new : Control) (w : Wanted) → IsPossible w → (effect c w).exits_by ≡ None → changed_by (effect c w) ≡ new → WorkedOff c (w ∷ []) (work_of (effect c w) ∷ []) None new
+one_work c new w possible on e = subst (λ (d : Control). WorkedOff c (w ∷ []) (work_of (effect c w) ∷ []) None d) e (one possible on all)
+
+-- a step, from what was worked off and written
+made_step : {K : Type 0} (allows : Allows K) (old new : Seen K) (w : Wanted) (works : List Work) (exit : Option Exit) (answer : Answer) (a b : Option (List ℕ)) → Works old (items_of old.control w) works exit (status_after exit) new → IsAnswer exit answer → Writes exit old.control works new.control a b → IsStep allows old (a_command w) new answer a b
+made_step allows old new w works exit answer a b h answers writes = record {
+  wanted = w;
+  works = works;
+  exit = exit;
+  asked = refl;
+  worked = h;
+  answers = answers;
+  writes = writes;
+  leaves = λ before k running. leaves_after old new (items_of old.control w) works exit a b before h writes k running;
+}
+
+-- a command that is drawn
+pub drawn_step : {K : Type 0} (allows : Allows K) (old mid new : Seen K) (w : Wanted) (kind : Drawing) (answer : Answer) (a b c : Option (List ℕ)) (bytes : List ℕ) → kind ≡ (effect old.control w).drawing → (effect old.control w).exits_by ≡ None → IsClamped old.control → old.status ≡ status.Running → IsPossible w
+    → IsSize old.control.cols old.control.rows → IsSize mid.control.cols mid.control.rows → mid ≡ record old { control = changed_by (effect old.control w) } → new ≡ mid → bytes ≡ written_all (ops_between kind old.control mid.control) → b ≡ a → Appends b c bytes → IsAnswer None answer → IsStep allows old (a_command w) new answer a c
+drawn_step allows old mid new w kind answer a b c bytes is_kind on clamped running possible size new_size done same is s h answers =
+    let e : Effect = effect old.control w in
+    let left : mid.control ≡ changed_by e = ap (λ (x : Seen _). x.control) done in
+    let control : new.control ≡ changed_by e = ap (λ (x : Seen _). x.control) same ∙ left in
+    let some : 1 ≤ (changed_by e).rows = subst (λ (x : Control). 1 ≤ x.rows) left new_size.some_rows in
+    let ops : bytes ≡ written_all (ops_between e.drawing old.control (changed_by e)) = is ∙ ap (λ (d : Drawing). written_all (ops_between d old.control mid.control)) is_kind ∙ ap (λ (x : Control). written_all (ops_between e.drawing old.control x)) left in
+    let writes : Drawn a c old.control (work_of e ∷ []) new.control = subst (λ (x : Control). Drawn a c old.control (work_of e ∷ []) x) (sym control) (step_drawn a b c bytes old.control w clamped size.some_rows some ops s h) in
+    made_step allows old new w (work_of e ∷ []) None answer a c
+    (record {
+      running = running;
+      worked = one_work old.control new.control w possible on (sym control);
+      stands = same ∙ done ∙ ap (λ (x : Control). let r : Seen _ = record old { control = x } in r) (sym control) ∙ ap (λ (x : Status). let r : Seen _ = record old { control = new.control; status = x } in r) running;
+    })
+    answers writes
 
 -- its drawing was refused
-pub full_broken : {K : Type 0} (allows : Allows K) (old mid new : Seen K) (w : Wanted) (a b c : Option (List ℕ)) (bytes : List ℕ) → drawing_of w ≡ drawing.Full → old.status ≡ status.Running → IsPossible w → IsSize old.control.cols old.control.rows
-    → IsSize mid.control.cols mid.control.rows → mid ≡ record old { control = changed_by (effect old.control w) } → new ≡ record mid { status = status.Failed } → bytes ≡ written_all (whole_page mid.control) → b ≡ a → AppendsFront b c bytes → IsBrokenStep allows old (a_command w) new a c
-full_broken allows old mid new w a b c bytes full running possible size new_size done fails is s h =
-    let control : new.control ≡ mid.control = ap (λ (x : Seen _). x.control) fails in
-    let broken : BrokenOff a c old.control mid.control = step_broken a b c bytes old.control mid.control size.some_rows new_size.some_rows is s h in
-    record {
-      wanted = w;
-      asked = refl;
+pub drawn_broken : {K : Type 0} (allows : Allows K) (old mid new : Seen K) (w : Wanted) (kind : Drawing) (a b c : Option (List ℕ)) (bytes : List ℕ) → kind ≡ (effect old.control w).drawing → is_drawn kind ≡ true → (effect old.control w).exits_by ≡ None → IsClamped old.control → old.status ≡ status.Running → IsPossible w
+    → IsSize old.control.cols old.control.rows → IsSize mid.control.cols mid.control.rows → mid ≡ record old { control = changed_by (effect old.control w) } → new ≡ record mid { status = status.Failed } → bytes ≡ written_all (ops_between kind old.control mid.control) → b ≡ a → AppendsFront b c bytes → IsBrokenStep allows old (a_command w) new a c
+drawn_broken allows old mid new w kind a b c bytes is_kind drawn on clamped running possible size new_size done fails is s h =
+    let e : Effect = effect old.control w in
+    let left : mid.control ≡ changed_by e = ap (λ (x : Seen _). x.control) done in
+    let control : new.control ≡ changed_by e = ap (λ (x : Seen _). x.control) fails ∙ left in
+    let some : 1 ≤ (changed_by e).rows = subst (λ (x : Control). 1 ≤ x.rows) left new_size.some_rows in
+    let ops : bytes ≡ written_all (ops_between e.drawing old.control (changed_by e)) = is ∙ ap (λ (d : Drawing). written_all (ops_between d old.control mid.control)) is_kind ∙ ap (λ (x : Control). written_all (ops_between e.drawing old.control x)) left in
+    let kind_drawn : is_drawn e.drawing ≡ true = subst (λ (d : Drawing). is_drawn d ≡ true) is_kind drawn in
+    let writes : BrokenOff a c old.control (work_of e ∷ []) new.control = subst (λ (x : Control). BrokenOff a c old.control (work_of e ∷ []) x) (sym control) (step_broken a b c bytes old.control w clamped size.some_rows some kind_drawn ops s h) in (
+      work_of e ∷ [],
+      record {
+        wanted = w;
+        items = w ∷ [];
+        rest = [];
+        asked = refl;
+        all = refl;
+        worked = record {
+          running = running;
+          worked = one_work old.control new.control w possible on (sym control);
+          stands = fails ∙ ap (λ (x : Seen _). let r : Seen _ = record x { status = status.Failed } in r) done ∙ ap (λ (x : Control). let r : Seen _ = record old { control = x; status = status.Failed } in r) (sym control);
+        };
+      },
+      writes,
+    )
+
+quiet_drawn : (a : Option (List ℕ)) (c new : Control) (w : Wanted) → IsClamped c → (effect c w).drawing ≡ drawing.Nothing → new ≡ c → Drawn a a c (work_of (effect c w) ∷ []) new
+quiet_drawn a c new w clamped quiet same = let work : work_of (effect c w) ≡ quiet_work c = work_is (effect c w) drawing.Nothing c quiet (undrawn c w clamped quiet) in rw (work, same) (nothing_drawn a c)
+
+-- a command that is not drawn
+pub quiet_step : {K : Type 0} (allows : Allows K) (old new : Seen K) (w : Wanted) (kind : Drawing) (answer : Answer) (a b : Option (List ℕ)) → kind ≡ (effect old.control w).drawing → kind ≡ drawing.Nothing → (effect old.control w).exits_by ≡ None → IsClamped old.control → old.status ≡ status.Running → IsPossible w
+    → IsSize old.control.cols old.control.rows → IsSize new.control.cols new.control.rows → new ≡ record old { control = changed_by (effect old.control w) } → b ≡ a → IsAnswer None answer → IsStep allows old (a_command w) new answer a b
+quiet_step allows old new w kind answer a b is_kind quiet on clamped running possible size new_size done same answers =
+    let none : [] ≡ written_all (ops_between kind old.control new.control) = rw quiet (sym written_all-nil) in
+    drawn_step allows old new new w kind answer a a b [] is_kind on clamped running possible size new_size done refl none refl (rw same (Appends-nil a)) answers
+
+exit_worked : (c new : Control) (w : Wanted) (x : Exit) → IsClamped c → (effect c w).exits_by ≡ Some x → new ≡ c → WorkedOff c (w ∷ []) (work_of (effect c w) ∷ []) (Some x) new
+exit_worked c new w x clamped is same =
+    let quiet = exit_quiet c w x is in
+    subst (λ (d : Control). WorkedOff c (w ∷ []) (work_of (effect c w) ∷ []) (Some x) d) (undrawn c w clamped quiet.1 ∙ sym same) (up_to quiet.0 is)
+
+-- an exit
+pub exit_step : {K : Type 0} (allows : Allows K) (old new : Seen K) (w : Wanted) (x : Exit) (answer : Answer) (a b : Option (List ℕ)) → IsClamped old.control → (effect old.control w).exits_by ≡ Some x → old.status ≡ status.Running → new ≡ record old { status = status.Ended } → Appends a b cleanup_bytes → IsAnswer (Some x) answer
+    → IsStep allows old (a_command w) new answer a b
+exit_step allows old new w x answer a b clamped is running ends h answers =
+    let control : new.control ≡ old.control = ap (λ (y : Seen _). y.control) ends in
+    made_step allows old new w (work_of (effect old.control w) ∷ []) (Some x) answer a b
+    (record {
       running = running;
-      possible = possible;
-      full = full;
-      done = fails ∙ ap (λ (x : Seen _). let r : Seen _ = record x { status = status.Failed } in r) done ∙ ap (λ (x : Control). let r : Seen _ = record old { control = x; status = status.Failed } in r) (sym (worked_full old.control w full));
-      writes = subst (λ (x : Control). BrokenOff a c old.control x) (sym control) broken;
-    }
+      worked = exit_worked old.control new.control w x clamped is control;
+      stands = ends ∙ ap (λ (y : Control). let r : Seen _ = record old { control = y; status = status.Ended } in r) (sym control);
+    })
+    answers
+    (a, quiet_drawn a old.control new.control w clamped (exit_quiet old.control w x is).1 control, h)
+
+-- its cleanup was refused
+pub exit_broken : {K : Type 0} (allows : Allows K) (old new : Seen K) (w : Wanted) (x : Exit) (cause : CleanupError) (a b : Option (List ℕ)) → IsClamped old.control → (effect old.control w).exits_by ≡ Some x → old.status ≡ status.Running → new ≡ record old { status = status.Failed } → CleanupBreaksOff cause a b
+    → IsBrokenExit allows cause old (a_command w) new a b
+exit_broken allows old new w x cause a b clamped is running fails h =
+    let control : new.control ≡ old.control = ap (λ (y : Seen _). y.control) fails in (
+      work_of (effect old.control w) ∷ [],
+      x,
+      a,
+      record {
+        wanted = w;
+        items = w ∷ [];
+        rest = [];
+        asked = refl;
+        all = refl;
+        worked = record {
+          running = running;
+          worked = exit_worked old.control new.control w x clamped is control;
+          stands = fails ∙ ap (λ (y : Control). let r : Seen _ = record old { control = y; status = status.Failed } in r) (sym control);
+        };
+      },
+      quiet_drawn a old.control new.control w clamped (exit_quiet old.control w x is).1 control,
+      h,
+    )
 
 -- what was asked for as a command was asked for by an input
 pub asked_step : {K : Type 0} (allows : Allows K) (old new : Seen K) (told : Told) (w : Wanted) (answer : Answer) (a c : Option (List ℕ)) → Asks allows old told w → IsStep allows old (a_command w) new answer a c → IsStep allows old told new answer a c
 asked_step allows old new told w answer a c asks h = record {
   wanted = h.wanted;
-  asked = subst (λ (x : Wanted). Asks allows old told x) (sym h.asked) asks;
   works = h.works;
+  exit = h.exit;
+  asked = subst (λ (x : Wanted). Asks allows old told x) (sym h.asked) asks;
+  worked = h.worked;
   answers = h.answers;
   writes = h.writes;
+  leaves = h.leaves;
 }
 
-asked_broken : {K : Type 0} (allows : Allows K) (old new : Seen K) (told : Told) (w : Wanted) (a c : Option (List ℕ)) → Asks allows old told w → IsBrokenStep allows old (a_command w) new a c → IsBrokenStep allows old told new a c
-asked_broken allows old new told w a c asks h = record {
+asked_broken : {K : Type 0} (allows : Allows K) (old new : Seen K) (told : Told) (w : Wanted) (works : List Work) (exit : Option Exit) → Asks allows old told w → IsBroken allows old (a_command w) works exit new → IsBroken allows old told works exit new
+asked_broken allows old new told w works exit asks h = record {
   wanted = h.wanted;
+  items = h.items;
+  rest = h.rest;
   asked = subst (λ (x : Wanted). Asks allows old told x) (sym h.asked) asks;
-  running = h.running;
-  possible = h.possible;
-  full = h.full;
-  done = h.done;
-  writes = h.writes;
+  all = h.all;
+  worked = h.worked;
 }
 
-pub asked_refused : {K : Type 0} (allows : Allows K) (e : MinusError) (old new : Seen K) (told : Told) (w : Wanted) (a c : Option (List ℕ)) → Asks allows old told w → Refuses allows e old (a_command w) new a c → Refuses allows e old told new a c
-asked_refused allows Memory old new told w a c asks h = h
-asked_refused allows (BadSize cols rows) old new told w a c asks h =
+pub asked_refused : {K : Type 0} (allows : Allows K) (refusal : Refusal) (old new : Seen K) (told : Told) (w : Wanted) (a c : Option (List ℕ)) → Asks allows old told w → Refuses allows refusal old (a_command w) new a c → Refuses allows refusal old told new a c
+asked_refused allows for_memory old new told w a c asks h = h
+asked_refused allows (for_size cols rows) old new told w a c asks h =
     let bad = h.0 in
     (record { asked = subst (λ (x : Wanted). Asks allows old told x) (sym bad.asked) asks; running = bad.running; bad = bad.bad; stays = bad.stays }, h.1)
-asked_refused allows BadMode old new told w a c asks h = absurd h
-asked_refused allows Failed old new told w a c asks h = h
-asked_refused allows Ended old new told w a c asks h = h
-asked_refused allows (Setup cause) old new told w a c asks h = absurd h
-asked_refused allows (Cleanup cause) old new told w a c asks h =
-    let broken = h.0 in
-    (record { asked = subst (λ (x : Wanted). Asks allows old told x) (sym broken.asked) asks; running = broken.running; fails = broken.fails }, h.1)
-asked_refused allows (Draw cause) old new told w a c asks h = asked_broken allows old new told w a c asks h
-asked_refused allows (HandleEvent cause) old new told w a c asks h = absurd h
-asked_refused allows (Cursor cause) old new told w a c asks h = absurd h
-asked_refused allows (FmtWriteError cause) old new told w a c asks h = absurd h
-asked_refused allows Conversion old new told w a c asks h = absurd h
-asked_refused allows (SearchExpError cause) old new told w a c asks h = absurd h
+asked_refused allows for_mode old new told w a c asks h = absurd h
+asked_refused allows after_failure old new told w a c asks h = h
+asked_refused allows after_exit old new told w a c asks h = h
+asked_refused allows (at_setup cause) old new told w a c asks h = absurd h
+asked_refused allows (at_cleanup cause) old new told w a c asks h = (h.0, h.1, h.2, asked_broken allows old new told w h.0 (Some h.1) asks h.3, h.4, h.5)
+asked_refused allows at_drawing old new told w a c asks h = (h.0, asked_broken allows old new told w h.0 None asks h.1, h.2)
+asked_refused allows of_no_call old new told w a c asks h = absurd h

@@ -4,7 +4,7 @@ use Rattle.minus_term.specs.declared.event.Event.{Event}
 use Rattle.minus_term.specs.declared.event.Event.TheVariants.{Resize}
 use Rattle.minus.specs.declared.input.InputEvent.{InputEvent}
 use Rattle.minus.specs.declared.input.InputEvent.TheVariants.{UpdateTermArea, Ignore}
-use Rattle.minus.specs.declared.input.ResizeAlone.{ResizeAlone}
+use Rattle.minus.specs.declared.stand_in.ResizeAlone.{ResizeAlone}
 use Rattle.minus.specs.declared.state.PagerState.{PagerState}
 
 -- a resize asks for the terminal's new size, any other event for nothing

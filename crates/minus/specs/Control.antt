@@ -1,6 +1,6 @@
 -- What the commands define: the text on show, the size and the mark.
-use Rattle.std.specs.Prelude.{ℕ, ◌-◌, ◌==◌, ◌&&◌, Bool, min, List, length}
-use Rattle.minus_text.specs.Document.{Document, rows_of}
+use Rattle.std.specs.Prelude.{◌≡◌, ℕ, ◌-◌, ◌≤◌, min, List, length}
+use Rattle.minus_text.specs.Document.{Document, rows_of, unfinished_rows}
 
 pub record Control : Type 0 where
   pub text : List ℕ
@@ -16,6 +16,10 @@ document_of c = record { text = c.text; cols = c.cols }
 abbrev pub text_rows : Control → List (List ℕ)
 text_rows c = rows_of (document_of c)
 
+-- the first row that an append may change: that of the line that no newline ends, or the first new one
+abbrev pub first_changed : Control → ℕ
+first_changed c = length (text_rows c) - unfinished_rows (document_of c)
+
 -- the greatest mark: the last page is full where there are rows enough
 abbrev pub top : Control → ℕ
 top c = length (text_rows c) - (c.rows - 1)
@@ -24,6 +28,11 @@ top c = length (text_rows c) - (c.rows - 1)
 abbrev pub clamp : Control → Control
 clamp c = record c { mark = min c.mark (top c) }
 
--- whether both have the size of the same terminal
-abbrev pub has_size_of : Control → Control → Bool
-has_size_of a b = a.cols == b.cols && a.rows == b.rows
+-- a control whose mark the clamp leaves
+abbrev pub IsClamped : Control → Type 0
+IsClamped c = c.mark ≤ top c
+
+-- both have the size of the same terminal
+pub record SameSize (a b : Control) : Type 0 where
+  pub same_cols : a.cols ≡ b.cols
+  pub same_rows : a.rows ≡ b.rows

@@ -1,32 +1,70 @@
 -- What the bytes of a sink say of the page.
-use Rattle.std.specs.Prelude.{◌≡◌, ℕ, List, [], ◌∷◌, ◌++◌, map, Option, None, Some, if◌then◌else◌}
+use Rattle.std.specs.Prelude.{◌≡◌, ℕ, ◌+◌, ◌-◌, ◌≤◌, min, false, true, List, [], ◌∷◌, ◌++◌, length, map, Option, None, Some, if◌then◌else◌}
 use Rattle.std.specs.List.{Contains}
 use Rattle.std.specs.Io.KnownBytes.{Appends}
 use Rattle.minus_term.specs.Operations.{Op}
 use Rattle.minus_term.specs.Counts.{AppendsFront}
 use Rattle.minus_term.specs.PlayedScreen.{PlayedScreen, Shows, play_all, screen_of, unknown_screen}
 use Rattle.minus_term.specs.Written.{written_all, IsClean}
+use Rattle.minus_term.specs.Puts.{puts}
+use Rattle.minus_term.specs.Scroll.{distance}
 use Rattle.minus_term.specs.Terminal.{setup_bytes}
-use Rattle.minus.specs.Control.{Control, has_size_of}
+use Rattle.minus.specs.Control.{Control, text_rows, first_changed}
 use Rattle.minus.specs.Page.{page}
+use Rattle.minus.specs.Table.{Wanted, Exit}
+use Rattle.minus.specs.Works.{Work, WorkedOff, passed_in, some_full, some_drawn}
+use Rattle.minus.specs.declared.commands.Drawing.{Drawing}
+use Rattle.minus.specs.declared.commands.Drawing.TheVariants.{Nothing, Full, Scroll, Append}
 
--- what is known of the terminal's screen before it is drawn on: it shows the page of the old control; where its size has
--- changed, nothing
-abbrev pub screen_before : Control → Control → PlayedScreen
-screen_before old new = if has_size_of old new then screen_of (page old) else unknown_screen new.rows
+-- what is known of the terminal's screen before works are drawn: nothing where one of them is drawn in full, as each change
+-- of size is; otherwise it shows the page of the old control
+abbrev pub screen_before : Control → List Work → Control → PlayedScreen
+screen_before old works new = if some_full works then unknown_screen new.rows else screen_of (page old)
 
--- the operations are a drawing: they put rows of the pages of these controls alone, and lead to the page of the new one
-pub record IsDrawing (ops : List Op) (old new : Control) : Type 0 where
-  pub shows : Shows (play_all ops (screen_before old new)) (page new)
-  pub clean : IsClean (page old ∷ page new ∷ []) ops
+-- how many texts a drawing of the kind may put at most, on the way from one control to the other; without a bound, none
+abbrev pub most_of : Drawing → Control → Control → Option ℕ
+most_of Nothing old new = Some 0
+most_of Full old new = None
+most_of Scroll old new = Some (min (distance old.mark new.mark) (new.rows - 1))
+most_of Append old new = Some (length (text_rows new) - first_changed old)
+
+-- one drawing after another: the last text of the first, which is not counted where it is the last of all, is one more
+abbrev pub then_most : Option ℕ → Option ℕ → Option ℕ
+then_most (Some m) (Some n) = Some (m + 1 + n)
+then_most m n = None
+
+-- how many texts the drawings of works may put at most
+abbrev pub most_puts : Control → List Work → Option ℕ
+most_puts old [] = Some 0
+most_puts old (w ∷ []) = most_of w.drawing old w.left
+most_puts old (w ∷ v ∷ works) = then_most (most_of w.drawing old w.left) (most_puts w.left (v ∷ works))
+
+-- so many are no more than a bound, if there is one
+abbrev pub IsWithin : ℕ → Option ℕ → Type 0
+IsWithin n None = Unit {0}
+IsWithin n (Some most) = n ≤ most
+
+-- the operations are the drawings of works: they lead to the page of the new control, put rows of the pages of the controls
+-- passed alone, as few as the works allow, and are none where none is drawn
+pub record IsDrawing (ops : List Op) (old : Control) (works : List Work) (new : Control) : Type 0 where
+  pub shows : Shows (play_all ops (screen_before old works new)) (page new)
+  pub clean : IsClean (map page (old ∷ passed_in works)) ops
+  pub few : IsWithin (puts ops (screen_before old works new)) (most_puts old works)
+  pub none : some_drawn works ≡ false → ops ≡ []
+
+-- the drawings of some works, and after them those of others, are the drawings of them all
+abbrev pub DrawingsJoin : Type 0
+DrawingsJoin =
+    (a b c : Control) (ws vs : List Wanted) (works more : List Work) (exit : Option Exit) (xs ys : List Op) → WorkedOff a ws works None b → WorkedOff b vs more exit c → IsDrawing xs a works b → IsDrawing ys b more c
+    → IsDrawing (xs ++ ys) a (works ++ more) c
 
 -- the sink grew by the written form of one such list of operations
-abbrev pub Drawn : Option (List ℕ) → Option (List ℕ) → Control → Control → Type 0
-Drawn old_bytes new_bytes old new = (ops : List Op) × Appends old_bytes new_bytes (written_all ops) × IsDrawing ops old new
+abbrev pub Drawn : Option (List ℕ) → Option (List ℕ) → Control → List Work → Control → Type 0
+Drawn old_bytes new_bytes old works new = (ops : List Op) × Appends old_bytes new_bytes (written_all ops) × IsDrawing ops old works new
 
 -- the sink grew by a beginning of the written form of one such list
-abbrev pub BrokenOff : Option (List ℕ) → Option (List ℕ) → Control → Control → Type 0
-BrokenOff old_bytes new_bytes old new = (ops : List Op) × AppendsFront old_bytes new_bytes (written_all ops) × IsDrawing ops old new
+abbrev pub BrokenOff : Option (List ℕ) → Option (List ℕ) → Control → List Work → Control → Type 0
+BrokenOff old_bytes new_bytes old works new = (ops : List Op) × AppendsFront old_bytes new_bytes (written_all ops) × IsDrawing ops old works new × (some_drawn works ≡ true)
 
 -- the operations take every screen of the control's size to its page, and put rows of the pages of the controls passed
 -- alone, of which it is one

@@ -5,6 +5,8 @@ pub mod Table
 pub mod Classified
 pub mod PromptRow
 pub mod Page
+pub mod Works
+pub mod Drawings
 pub mod Drawn
 pub mod Reads
 pub mod NextTexts
@@ -14,3 +16,6 @@ pub mod Runs
 pub mod Core
 pub mod Starts
 pub mod Answers
+pub mod SessionDrawings
+pub mod SessionSteps
+pub mod SessionStarts

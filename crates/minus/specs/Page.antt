@@ -9,6 +9,10 @@ use Rattle.minus.specs.PromptRow.{prompt_row}
 abbrev pub shown : Control → List (List ℕ)
 shown c = take (c.rows - 1) (drop c.mark (text_rows c))
 
--- the page: these, blank rows past the end, and the prompt row last
+-- a page of the control with these rows of text at its top, blank rows after them, and the prompt row last
+abbrev pub page_with : Control → List (List ℕ) → ShownPage
+page_with c texts = page_of c.rows texts (prompt_row c)
+
+-- the page
 abbrev pub page : Control → ShownPage
-page c = page_of c.rows (shown c) (prompt_row c.cols)
+page c = page_with c (shown c)

@@ -1,5 +1,6 @@
--- The prompt row.
+-- The prompt row of a control.
 use Rattle.std.specs.Prelude.{ℕ, ◌-◌, List, ◌∷◌, ◌++◌, length, take, replicate, codes}
+use Rattle.minus.specs.Control.{Control}
 
 -- the prompt
 abbrev pub prompt : List ℕ
@@ -10,5 +11,5 @@ abbrev pub fitted : ℕ → List ℕ → List ℕ
 fitted cols text = take cols text ++ replicate (cols - length text) 32
 
 -- the prompt row: the prompt in its style, `ESC[2;40;37m`, and the style's end, `ESC[0m`
-unfoldable pub prompt_row : ℕ → List ℕ
-prompt_row cols = (27 ∷ codes "[2;40;37m") ++ fitted cols prompt ++ (27 ∷ codes "[0m")
+unfoldable pub prompt_row : Control → List ℕ
+prompt_row c = (27 ∷ codes "[2;40;37m") ++ fitted c.cols prompt ++ (27 ∷ codes "[0m")

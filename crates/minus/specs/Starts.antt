@@ -1,8 +1,7 @@
 -- The start of a session.
 use Rattle.std.specs.Prelude.{◌≡◌, ℕ, List, [], ◌∷◌, Bool, true, false, Option, ◌⊎◌}
 use Rattle.std.specs.Io.KnownBytes.{Appends}
-use Rattle.minus_term.specs.declared.error.MinusError.{MinusError}
-use Rattle.minus_term.specs.declared.error.MinusError.TheVariants.{Memory, BadSize, BadMode, Setup, Draw}
+use Rattle.minus_term.specs.Refusals.{Refusal, for_memory, for_size, for_mode, at_setup, at_drawing}
 use Rattle.minus_term.specs.declared.error.SetupError.{SetupError}
 use Rattle.minus_term.specs.declared.error.SetupError.TheVariants.{InvalidTerminal}
 use Rattle.minus_term.specs.Operations.{Op}
@@ -53,10 +52,10 @@ IsSetupRefused InvalidTerminal terminal = terminal ≡ false
 IsSetupRefused e terminal = terminal ≡ true
 
 -- when what is drawn at the start is refused
-abbrev pub IsShowRefused : MinusError → Bool → Type 0
-IsShowRefused (Setup cause) terminal = IsSetupRefused cause terminal
-IsShowRefused (Draw cause) terminal = terminal ≡ true
-IsShowRefused e terminal = ⊥
+abbrev pub IsShowRefused : Refusal → Bool → Type 0
+IsShowRefused (at_setup cause) terminal = IsSetupRefused cause terminal
+IsShowRefused at_drawing terminal = terminal ≡ true
+IsShowRefused refusal terminal = ⊥
 
 -- the terminal was cleaned up, or the sink refused that too, after a beginning of it
 abbrev pub CleansUp : Option (List ℕ) → Option (List ℕ) → Option ℕ → Option ℕ → Type 0
@@ -74,39 +73,40 @@ pub record DrawingBreaksOff (old_bytes new_bytes : Option (List ℕ)) (old_count
   pub cleanup : CleansUp drawn new_bytes count new_count
 
 -- what is left where it was refused
-abbrev pub ShowBreaksOff : MinusError → Option (List ℕ) → Option (List ℕ) → Option ℕ → Option ℕ → List ℕ → Type 0
-ShowBreaksOff (Setup cause) old_bytes new_bytes old_count new_count drawing = SetupBreaksOff cause old_bytes new_bytes
-ShowBreaksOff (Draw cause) old_bytes new_bytes old_count new_count drawing = DrawingBreaksOff old_bytes new_bytes old_count new_count drawing
-ShowBreaksOff e old_bytes new_bytes old_count new_count drawing = ⊥
+abbrev pub ShowBreaksOff : Refusal → Option (List ℕ) → Option (List ℕ) → Option ℕ → Option ℕ → List ℕ → Type 0
+ShowBreaksOff (at_setup cause) old_bytes new_bytes old_count new_count drawing = SetupBreaksOff cause old_bytes new_bytes
+ShowBreaksOff at_drawing old_bytes new_bytes old_count new_count drawing = DrawingBreaksOff old_bytes new_bytes old_count new_count drawing
+ShowBreaksOff refusal old_bytes new_bytes old_count new_count drawing = ⊥
 
 -- when a start is refused: for its mode first, then for its size, then by the sink
-abbrev pub IsStartRefused : MinusError → RunMode → ℕ → ℕ → Bool → Type 0
-IsStartRefused BadMode mode cols rows terminal = mode ≡ Uninitialized
-IsStartRefused (BadSize c r) mode cols rows terminal = (mode ≡ Uninitialized → ⊥) × (c ≡ cols) × (r ≡ rows) × (IsSize cols rows → ⊥)
-IsStartRefused Memory mode cols rows terminal = CanStart mode cols rows
-IsStartRefused (Setup cause) mode cols rows terminal = CanStart mode cols rows × IsSetupRefused cause terminal
-IsStartRefused (Draw cause) mode cols rows terminal = CanStart mode cols rows × (terminal ≡ true)
-IsStartRefused e mode cols rows terminal = ⊥
+abbrev pub IsStartRefused : Refusal → RunMode → ℕ → ℕ → Bool → Type 0
+IsStartRefused for_mode mode cols rows terminal = mode ≡ Uninitialized
+IsStartRefused (for_size c r) mode cols rows terminal = (mode ≡ Uninitialized → ⊥) × (c ≡ cols) × (r ≡ rows) × (IsSize cols rows → ⊥)
+IsStartRefused for_memory mode cols rows terminal = CanStart mode cols rows
+IsStartRefused (at_setup cause) mode cols rows terminal = CanStart mode cols rows × IsSetupRefused cause terminal
+IsStartRefused at_drawing mode cols rows terminal = CanStart mode cols rows × (terminal ≡ true)
+IsStartRefused refusal mode cols rows terminal = ⊥
 
 -- the start was refused before anything was written
-abbrev pub IsEarly : MinusError → Type 0
-IsEarly (Setup cause) = ⊥
-IsEarly (Draw cause) = ⊥
-IsEarly e = Unit {0}
+abbrev pub IsEarly : Refusal → Type 0
+IsEarly (at_setup cause) = ⊥
+IsEarly at_drawing = ⊥
+IsEarly refusal = Unit {0}
 
 -- what a refused start wrote: nothing; a beginning of what sets the terminal up; or all of that and a beginning of the first
 -- page, and then what cleans the terminal up, as far as the sink took it
-abbrev pub StartBreaksOff : MinusError → Option (List ℕ) → Option (List ℕ) → Option ℕ → Option ℕ → Control → Type 0
-StartBreaksOff (Setup cause) old_bytes new_bytes old_count new_count first = SetupBreaksOff cause old_bytes new_bytes
-StartBreaksOff (Draw cause) old_bytes new_bytes old_count new_count first = (ops : List Op) × DrawingBreaksOff old_bytes new_bytes old_count new_count (written_all ops) × IsWholeDrawing ops (first ∷ []) first
-StartBreaksOff e old_bytes new_bytes old_count new_count first = new_bytes ≡ old_bytes
+abbrev pub StartBreaksOff : Refusal → Option (List ℕ) → Option (List ℕ) → Option ℕ → Option ℕ → Control → Type 0
+StartBreaksOff (at_setup cause) old_bytes new_bytes old_count new_count first = SetupBreaksOff cause old_bytes new_bytes
+StartBreaksOff at_drawing old_bytes new_bytes old_count new_count first =
+    (ops : List Op) × DrawingBreaksOff old_bytes new_bytes old_count new_count (written_all ops) × IsWholeDrawing ops (first ∷ []) first
+StartBreaksOff refusal old_bytes new_bytes old_count new_count first = new_bytes ≡ old_bytes
 
 -- the sink refused a write or a flush, or took nothing
 abbrev pub IsSetupFault : SetupError → Type 0
 IsSetupFault InvalidTerminal = ⊥
 IsSetupFault e = Unit {0}
 
-abbrev pub IsStartFault : MinusError → Type 0
-IsStartFault (Setup cause) = IsSetupFault cause
-IsStartFault (Draw cause) = Unit {0}
-IsStartFault e = ⊥
+abbrev pub IsStartFault : Refusal → Type 0
+IsStartFault (at_setup cause) = IsSetupFault cause
+IsStartFault at_drawing = Unit {0}
+IsStartFault refusal = ⊥

@@ -1,12 +1,10 @@
 -- What a session is seen as, its steps, and what a refusal leaves.
-use Rattle.std.specs.Prelude.{◌≡◌, ℕ, List, [], ◌∷◌, Option}
+use Rattle.std.specs.Prelude.{◌≡◌, ℕ, List, [], ◌∷◌, ◌++◌, Option, None, Some}
 use Rattle.std.specs.Io.KnownBytes.{Appends}
-use Rattle.minus_term.specs.declared.error.MinusError.{MinusError}
-use Rattle.minus_term.specs.declared.error.MinusError.TheVariants.{Memory, BadSize, Failed, Ended, Cleanup, Draw}
+use Rattle.minus_term.specs.Refusals.{Refusal, for_memory, for_size, after_failure, after_exit, at_cleanup, at_drawing}
 use Rattle.minus_term.specs.declared.event.Event.{Event}
 use Rattle.minus_term.specs.Terminal.{cleanup_bytes, CleanupBreaksOff}
-use Rattle.minus.specs.declared.commands.Drawing.{Drawing}
-use Rattle.minus.specs.declared.commands.Drawing.TheVariants as drawing
+use Rattle.minus_term.specs.declared.error.CleanupError.{CleanupError}
 use Rattle.minus.specs.declared.input.InputEvent.{InputEvent}
 use Rattle.minus.specs.declared.state.PagerState.{PagerState}
 use Rattle.minus.specs.declared.state.RunMode.{RunMode}
@@ -16,10 +14,11 @@ use Rattle.minus.specs.declared.status.Status.{Status}
 use Rattle.minus.specs.declared.status.Status.TheVariants as status
 use Rattle.minus.specs.Answers.{IsAnswer}
 use Rattle.minus.specs.Control.{Control}
-use Rattle.minus.specs.Reads.{control_of, answer_wanted, Told, a_command, an_event}
+use Rattle.minus.specs.Reads.{control_of, IsFormed, answer_wanted, Told, a_command, an_event}
 use Rattle.minus.specs.Sizes.{IsSize}
-use Rattle.minus.specs.Table.{Wanted, resizes, exits, drawing_of, IsPossible, worked}
-use Rattle.minus.specs.Drawn.{Drawn, BrokenOff}
+use Rattle.minus.specs.Table.{Wanted, Exit, resizes}
+use Rattle.minus.specs.Works.{Work, WorkedOff, passed_in, items_of}
+use Rattle.minus.specs.Drawn.{Drawn, BrokenOff, Leaves}
 
 -- the control, the classifier that is kept, the mode of the session, and whether it runs, has exited or has failed
 pub record Seen (K : Type 0) : Type 0 where
@@ -33,52 +32,62 @@ abbrev pub Allows : Type 0 → Type 1
 Allows K = K → Event → PagerState → Option InputEvent → Type 0
 
 -- what is asked for: a command asks by itself, an event by an answer that the classifier which is kept may give, in a
--- state that holds the control
+-- formed state that holds the control
 abbrev pub Asks : {K : Type 0} → Allows K → Seen K → Told → Wanted → Type 0
 Asks allows seen (a_command w) wanted = wanted ≡ w
 Asks allows seen (an_event event) wanted =
-    (state : PagerState) × (answer : Option InputEvent) × (control_of state ≡ seen.control) × allows seen.classifier event state answer × (wanted ≡ answer_wanted answer)
+    (state : PagerState) × (answer : Option InputEvent) × IsFormed state × (control_of state ≡ seen.control) × allows seen.classifier event state answer × (wanted ≡ answer_wanted answer)
 
--- whether the session goes on
-abbrev pub status_after : Drawing → Status
-status_after drawing.Full = status.Running
-status_after drawing.Nothing = status.Running
-status_after drawing.Ending = status.Ended
+-- how a session stands after its works: it goes on, but for an exit
+abbrev pub status_after : Option Exit → Status
+status_after None = status.Running
+status_after (Some exit) = status.Ended
 
--- what was asked for was done, in a session that was running
-pub record Works {K : Type 0} (old : Seen K) (wanted : Wanted) (new : Seen K) : Type 0 where
+-- items were worked off in a session that was running, which stands so after them; all else stays
+pub record Works {K : Type 0} (old : Seen K) (items : List Wanted) (works : List Work) (exit : Option Exit) (now : Status) (new : Seen K) : Type 0 where
   pub running : old.status ≡ status.Running
-  pub possible : IsPossible wanted
-  pub done : new ≡ record old { control = worked old.control wanted; status = status_after (drawing_of wanted) }
+  pub worked : WorkedOff old.control items works exit new.control
+  pub stands : new ≡ record old { control = new.control; status = now }
 
--- what is written: a drawing that leads from page to page, nothing, or what cleans the terminal up
-abbrev pub Writes : Drawing → Option (List ℕ) → Option (List ℕ) → Control → Control → Type 0
-Writes drawing.Full old_bytes new_bytes old new = Drawn old_bytes new_bytes old new
-Writes drawing.Nothing old_bytes new_bytes old new = new_bytes ≡ old_bytes
-Writes drawing.Ending old_bytes new_bytes old new = Appends old_bytes new_bytes cleanup_bytes
+-- what is written: one list of operations that draws the works, and after an exit what cleans the terminal up
+abbrev pub Writes : Option Exit → Control → List Work → Control → Option (List ℕ) → Option (List ℕ) → Type 0
+Writes None old works new old_bytes new_bytes = Drawn old_bytes new_bytes old works new
+Writes (Some exit) old works new old_bytes new_bytes = (drawn : Option (List ℕ)) × Drawn old_bytes drawn old works new × Appends drawn new_bytes cleanup_bytes
 
--- a step that ends well, with its answer and what it writes
+-- a step that ends well: what was asked for, the works that were done for it, its answer and what it writes; and that the
+-- page which the sink's bytes left is left by them still, as long as the session runs
 pub record IsStep {K : Type 0} (allows : Allows K) (old : Seen K) (told : Told) (new : Seen K) (answer : Answer) (old_bytes new_bytes : Option (List ℕ)) : Type 0 where
   pub wanted : Wanted
+  pub works : List Work
+  pub exit : Option Exit
   pub asked : Asks allows old told wanted
-  pub works : Works old wanted new
-  pub answers : IsAnswer (drawing_of wanted) answer
-  pub writes : Writes (drawing_of wanted) old_bytes new_bytes old.control new.control
+  pub worked : Works old (items_of old.control wanted) works exit (status_after exit) new
+  pub answers : IsAnswer exit answer
+  pub writes : Writes exit old.control works new.control old_bytes new_bytes
+  pub leaves : (before : List Control) → Leaves old_bytes before old.control → new.status ≡ status.Running → Leaves new_bytes (before ++ passed_in works) new.control
 
--- steps that end well, one after another, with the controls that they pass and what they write
-pub data Steps {K : Type 0} (allows : Allows K) : Seen K → List Told → List Control → Seen K → Option (List ℕ) → Option (List ℕ) → Type 0 where
-  none : {a : Seen K} {x : Option (List ℕ)} → Steps allows a [] [] a x x
-  more : {a b c : Seen K} {t : Told} {ts : List Told} {cs : List Control} {answer : Answer} {x y z : Option (List ℕ)} → IsStep allows a t b answer x y → Steps allows b ts cs c y z → Steps allows a (t ∷ ts) (b.control ∷ cs) c x z
+-- steps that end well, one after another, with the controls that they pass, their answers and what they write
+pub data Steps {K : Type 0} (allows : Allows K) : Seen K → List Told → List Control → List Answer → Seen K → Option (List ℕ) → Option (List ℕ) → Type 0 where
+  none : {a : Seen K} {x : Option (List ℕ)} → Steps allows a [] [] [] a x x
+  more : {a b c : Seen K} {t : Told} {ts : List Told} {cs : List Control} {answer : Answer} {answers : List Answer} {x y z : Option (List ℕ)} → (s : IsStep allows a t b answer x y) → Steps allows b ts cs answers c y z → Steps allows a (t ∷ ts) (passed_in s.works ++ cs) (answer ∷ answers) c x z
 
--- a drawing that the sink refused: the command was done, a beginning of its drawing was written, and the session has failed
-pub record IsBrokenStep {K : Type 0} (allows : Allows K) (old : Seen K) (told : Told) (new : Seen K) (old_bytes new_bytes : Option (List ℕ)) : Type 0 where
+-- a step in which the sink refused: the items up to the one that it refused were worked off, and the session has failed
+pub record IsBroken {K : Type 0} (allows : Allows K) (old : Seen K) (told : Told) (works : List Work) (exit : Option Exit) (new : Seen K) : Type 0 where
   pub wanted : Wanted
+  pub items : List Wanted
+  pub rest : List Wanted
   pub asked : Asks allows old told wanted
-  pub running : old.status ≡ status.Running
-  pub possible : IsPossible wanted
-  pub full : drawing_of wanted ≡ drawing.Full
-  pub done : new ≡ record old { control = worked old.control wanted; status = status.Failed }
-  pub writes : BrokenOff old_bytes new_bytes old.control new.control
+  pub all : items_of old.control wanted ≡ items ++ rest
+  pub worked : Works old items works exit status.Failed new
+
+-- a drawing was refused, of which a beginning was written
+abbrev pub IsBrokenStep : {K : Type 0} → Allows K → Seen K → Told → Seen K → Option (List ℕ) → Option (List ℕ) → Type 0
+IsBrokenStep allows old told new old_bytes new_bytes = (works : List Work) × IsBroken allows old told works None new × BrokenOff old_bytes new_bytes old.control works new.control
+
+-- the cleanup of an exit was refused, of which a beginning was written
+abbrev pub IsBrokenExit : {K : Type 0} → Allows K → CleanupError → Seen K → Told → Seen K → Option (List ℕ) → Option (List ℕ) → Type 0
+IsBrokenExit allows cause old told new old_bytes new_bytes =
+    (works : List Work) × (exit : Exit) × (drawn : Option (List ℕ)) × IsBroken allows old told works (Some exit) new × Drawn old_bytes drawn old.control works new.control × CleanupBreaksOff cause drawn new_bytes
 
 -- a size that is none of a terminal was asked for, and nothing has changed
 pub record IsBadSize {K : Type 0} (allows : Allows K) (old : Seen K) (told : Told) (new : Seen K) (cols rows : ℕ) : Type 0 where
@@ -87,33 +96,22 @@ pub record IsBadSize {K : Type 0} (allows : Allows K) (old : Seen K) (told : Tol
   pub bad : IsSize cols rows → ⊥
   pub stays : new ≡ old
 
--- an exit whose cleanup the sink refused: a beginning of it was written, and the session has failed
-pub record IsBrokenExit {K : Type 0} (allows : Allows K) (old : Seen K) (told : Told) (new : Seen K) : Type 0 where
-  pub asked : Asks allows old told exits
-  pub running : old.status ≡ status.Running
-  pub fails : new ≡ record old { status = status.Failed }
-
 -- what a refused step leaves: all as it was, where memory was wanted, the size is none, or the session had exited or failed
 -- before; where the sink refused, a session that has failed
-abbrev pub Refuses : {K : Type 0} → Allows K → MinusError → Seen K → Told → Seen K → Option (List ℕ) → Option (List ℕ) → Type 0
-Refuses allows Memory old told new old_bytes new_bytes = (old.status ≡ status.Running) × (new ≡ old) × (new_bytes ≡ old_bytes)
-Refuses allows (BadSize cols rows) old told new old_bytes new_bytes = IsBadSize allows old told new cols rows × (new_bytes ≡ old_bytes)
-Refuses allows Failed old told new old_bytes new_bytes = (old.status ≡ status.Failed) × (new ≡ old) × (new_bytes ≡ old_bytes)
-Refuses allows Ended old told new old_bytes new_bytes = (old.status ≡ status.Ended) × (new ≡ old) × (new_bytes ≡ old_bytes)
-Refuses allows (Cleanup cause) old told new old_bytes new_bytes = IsBrokenExit allows old told new × CleanupBreaksOff cause old_bytes new_bytes
-Refuses allows (Draw cause) old told new old_bytes new_bytes = IsBrokenStep allows old told new old_bytes new_bytes
-Refuses allows e old told new old_bytes new_bytes = ⊥
+abbrev pub Refuses : {K : Type 0} → Allows K → Refusal → Seen K → Told → Seen K → Option (List ℕ) → Option (List ℕ) → Type 0
+Refuses allows for_memory old told new old_bytes new_bytes = (old.status ≡ status.Running) × (new ≡ old) × (new_bytes ≡ old_bytes)
+Refuses allows (for_size cols rows) old told new old_bytes new_bytes = IsBadSize allows old told new cols rows × (new_bytes ≡ old_bytes)
+Refuses allows after_failure old told new old_bytes new_bytes = (old.status ≡ status.Failed) × (new ≡ old) × (new_bytes ≡ old_bytes)
+Refuses allows after_exit old told new old_bytes new_bytes = (old.status ≡ status.Ended) × (new ≡ old) × (new_bytes ≡ old_bytes)
+Refuses allows (at_cleanup cause) old told new old_bytes new_bytes = IsBrokenExit allows cause old told new old_bytes new_bytes
+Refuses allows at_drawing old told new old_bytes new_bytes = IsBrokenStep allows old told new old_bytes new_bytes
+Refuses allows refusal old told new old_bytes new_bytes = ⊥
 
 -- the sink refused a write or a flush, or took nothing
-abbrev pub IsSinkFault : MinusError → Type 0
-IsSinkFault (Cleanup cause) = Unit {0}
-IsSinkFault (Draw cause) = Unit {0}
-IsSinkFault e = ⊥
-
--- the sink refused the cleanup, of which it holds a beginning
-abbrev pub BreaksOffExit : MinusError → Option (List ℕ) → Option (List ℕ) → Type 0
-BreaksOffExit (Cleanup cause) old_bytes new_bytes = CleanupBreaksOff cause old_bytes new_bytes
-BreaksOffExit e old_bytes new_bytes = ⊥
+abbrev pub IsSinkFault : Refusal → Type 0
+IsSinkFault (at_cleanup cause) = Unit {0}
+IsSinkFault at_drawing = Unit {0}
+IsSinkFault refusal = ⊥
 
 -- what is still to be cleaned up: nothing after an exit
 abbrev pub cleanup_after : Status → List ℕ

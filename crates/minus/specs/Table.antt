@@ -1,9 +1,11 @@
 -- The table of commands and events.
-use Rattle.std.specs.Prelude.{ℕ, List, ◌++◌, Option, None, Some}
+use Rattle.std.specs.Prelude.{ℕ, min, ◌==◌, List, ◌++◌, Option, None, Some, if◌then◌else◌}
 use Rattle.minus.specs.declared.commands.Drawing.{Drawing}
-use Rattle.minus.specs.declared.commands.Drawing.TheVariants.{Nothing, Full, Ending}
+use Rattle.minus.specs.declared.commands.Drawing.TheVariants.{Nothing, Full, Scroll, Append}
+use Rattle.minus.specs.declared.state.ExitStrategy.{ExitStrategy}
+use Rattle.minus.specs.declared.state.ExitStrategy.TheVariants.{ProcessQuit}
 use Rattle.minus.specs.Sizes.{IsSize}
-use Rattle.minus.specs.Control.{Control, clamp}
+use Rattle.minus.specs.Control.{Control, clamp, top}
 
 -- a command, as values alone
 pub data Wanted : Type 0 where
@@ -14,24 +16,37 @@ pub data Wanted : Type 0 where
   exits : Wanted
   ignores : Wanted
 
--- what a command does: the control that it changes, and the move of the mark after it, if any
+-- an exit: how the program is to go on, and the code that it ends with if it is to end
+abbrev pub Exit : Type 0
+Exit = ExitStrategy × ℕ
+
+-- how a move of the mark is drawn: not at all where the mark stays after the clamp
+abbrev pub move_drawing : Control → ℕ → Drawing
+move_drawing c mark = if min mark (top c) == c.mark then Nothing else Scroll
+
+-- the control that a move of the mark leaves
+abbrev pub moved_to : Control → ℕ → Control
+moved_to c mark = clamp (record c { mark = mark })
+
+-- how an append is drawn, from the control before it to the one that it changes: in full where the clamp lowers the mark
+abbrev pub append_drawing : Control → Control → Drawing
+append_drawing c new = if min c.mark (top new) == c.mark then Append else Full
+
+-- what a command does: the control that it changes, the move of the mark after it, if any, how what comes of it is drawn,
+-- and the exit that is answered, if it is one
 pub record Effect : Type 0 where
   pub changed : Control
   pub moves_to : Option ℕ
+  pub drawing : Drawing
+  pub exits_by : Option Exit
 
 abbrev pub effect : Control → Wanted → Effect
-effect c (sets_data text) = record { changed = record c { text = text }; moves_to = None }
-effect c (appends_data text) = record { changed = record c { text = c.text ++ text }; moves_to = None }
-effect c (moves_mark mark) = record { changed = c; moves_to = Some mark }
-effect c (resizes cols rows) = record { changed = record c { cols = cols; rows = rows }; moves_to = None }
-effect c exits = record { changed = c; moves_to = None }
-effect c ignores = record { changed = c; moves_to = None }
-
--- how it is drawn
-abbrev pub drawing_of : Wanted → Drawing
-drawing_of exits = Ending
-drawing_of ignores = Nothing
-drawing_of w = Full
+effect c (sets_data text) = record { changed = record c { text = text }; moves_to = None; drawing = Full; exits_by = None }
+effect c (appends_data text) = let new : Control = record c { text = c.text ++ text } in record { changed = new; moves_to = None; drawing = append_drawing c new; exits_by = None }
+effect c (moves_mark mark) = record { changed = c; moves_to = Some mark; drawing = move_drawing c mark; exits_by = None }
+effect c (resizes cols rows) = record { changed = record c { cols = cols; rows = rows }; moves_to = None; drawing = Full; exits_by = None }
+effect c exits = record { changed = c; moves_to = None; drawing = Nothing; exits_by = Some (ProcessQuit, 0) }
+effect c ignores = record { changed = c; moves_to = None; drawing = Nothing; exits_by = None }
 
 -- it can be done: a size is one of a terminal
 abbrev pub IsPossible : Wanted → Type 0
@@ -43,16 +58,10 @@ abbrev pub moved : Control → Option ℕ → Control
 moved c None = c
 moved c (Some mark) = record c { mark = mark }
 
--- the control that a change leaves: the clamp ends each
+-- the control after its move
+abbrev pub moved_by : Effect → Control
+moved_by e = moved e.changed e.moves_to
+
+-- the control that a command leaves: the clamp ends each
 abbrev pub changed_by : Effect → Control
-changed_by e = clamp (moved e.changed e.moves_to)
-
--- what is drawn in full is a change; the rest leaves the control as it is
-abbrev pub left_by : Drawing → Control → Effect → Control
-left_by Full c e = changed_by e
-left_by Nothing c e = c
-left_by Ending c e = c
-
--- the control that a command leaves
-abbrev pub worked : Control → Wanted → Control
-worked c w = left_by (drawing_of w) c (effect c w)
+changed_by e = clamp (moved_by e)

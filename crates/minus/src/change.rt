@@ -1,6 +1,7 @@
 //! What a command leaves, formed beside the state.
 ghost use Rattle.minus.specs.Sizes.{IsSize};
 
+use crate::commands::Drawing;
 use minus_text::{PendingPush, Screen};
 
 // The text that there will be: as it is, another one, or as a push leaves it.
@@ -49,4 +50,21 @@ pub(crate) struct Change {
     pub(crate) cols: usize,
     pub(crate) rows: usize,
     pub(crate) ghost sized: { IsSize cols rows },
+}
+
+impl Change {
+    ghost use Rattle.std.specs.Prelude.{◌≡◌};
+    ghost use Rattle.minus.specs.Changes.{drawing_by};
+
+    // How it is drawn over a page at a mark.
+    pub(crate) fn drawing(&self, from: usize) -> Drawing
+        ensures { result ≡ drawing_by self.now.text from self.now.mark }
+    {
+        match &self.text {
+            NextText::Same if self.mark == from => Drawing::Nothing,
+            NextText::Same => Drawing::Scroll,
+            NextText::Pushed(_, _) if self.mark == from => Drawing::Append,
+            NextText::Whole(_) | NextText::Pushed(_, _) => Drawing::Full,
+        }
+    }
 }

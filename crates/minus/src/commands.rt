@@ -1,13 +1,9 @@
 //! What a pager is told.
-ghost use Rattle.std.specs.Prelude.{◌≡◌};
-ghost use Rattle.minus.specs.Table.{drawing_of};
-ghost use Rattle.minus.specs.Reads.{wanted_of};
-
 use crate::input::InputEvent;
 use minus_term::Event;
 
 /// A command.
-#[derive(Debug, Drop)]
+#[derive(Debug, Drop, PartialEq, Eq)]
 pub enum Command {
     /// Put this text in the place of the text on show.
     SetData(String),
@@ -26,26 +22,15 @@ pub enum Input {
     Event(Event),
 }
 
-/// How what a command does is drawn.
+/// How what comes of a command is drawn.
 #[derive(Clone, Copy, Debug, PartialEq, Eq)]
-pub enum Drawing {
-    /// Not at all: nothing has changed.
+pub(crate) enum Drawing {
+    /// Not at all: the page stays as it is.
     Nothing,
     /// The whole page.
     Full,
-    /// The terminal is cleaned up.
-    Ending,
-}
-
-impl Command {
-    // How it is drawn.
-    pub(crate) fn drawing(&self) -> Drawing
-        ensures { result ≡ drawing_of (wanted_of self.now) }
-    {
-        match self {
-            Command::UserInput(InputEvent::Exit) => Drawing::Ending,
-            Command::UserInput(InputEvent::Ignore) => Drawing::Nothing,
-            Command::SetData(_) | Command::AppendData(_) | Command::UserInput(_) => Drawing::Full,
-        }
-    }
+    /// The rows that a move of the mark brings onto the page.
+    Scroll,
+    /// The rows of the page that an append has changed or added.
+    Append,
 }

@@ -1,9 +1,12 @@
 //! Drawings, as bytes in a buffer.
-ghost use Rattle.std.specs.Prelude.{◌≡◌, ◌==◌, [], ◌∷◌, ◌++◌, ◌-◌, length, replicate, if◌then◌else◌, map, OnOk, IfOk, string_bytes};
+ghost use Rattle.std.specs.Prelude.{◌≡◌, ◌==◌, [], ◌∷◌, ◌++◌, ◌+◌, ◌-◌, ◌^◌, ◌<◌, ◌≤◌, length, replicate, if◌then◌else◌, map, OnOk, IfOk, string_bytes};
 ghost use Rattle.std.specs.List.{flat_map};
-ghost use Rattle.minus_term.specs.Operations.{Put};
+ghost use Rattle.minus_term.specs.Append.{rows_anew, append_ops};
+ghost use Rattle.minus_term.specs.Operations.{GoTo, ClearRow, Put};
 ghost use Rattle.minus_term.specs.Written.{written_all};
 ghost use Rattle.minus_term.specs.FullRedraw.{full_ops, prompt_ops, row_ops};
+ghost use Rattle.minus_term.specs.Scroll.{down_ops, up_ops, scroll_ops};
+ghost use Rattle.minus.specs.Control.{Control};
 ghost use Rattle.minus.specs.PromptRow.{prompt_row, prompt, fitted};
 
 use minus_term::{DrawOp, write_op};
@@ -44,7 +47,7 @@ fn write_some(alloc: Global, out: &mut Vec<u8>, text: &str) -> Result<(), AllocE
 }
 
 /// Adds the bytes that draw the prompt row in the last of so many rows. An empty one is not put.
-pub fn write_prompt(
+pub(crate) fn write_prompt(
     alloc: Global,
     out: &mut Vec<u8>,
     rows: u16,
@@ -61,7 +64,7 @@ pub fn write_prompt(
 
 /// Adds the bytes that draw a whole page of so many rows: these rows of text from its top, and the
 /// prompt row.
-pub fn draw_full(
+pub(crate) fn draw_full(
     alloc: Global,
     out: &mut Vec<u8>,
     rows: u16,
@@ -74,6 +77,147 @@ pub fn draw_full(
     write_op(alloc, out, &DrawOp::ClearAll)?;
     write_rows(alloc, out, shown)?;
     write_prompt(alloc, out, rows, prompt)?;
+    Ok(())
+}
+
+// Adds a row of the page that is made blank, where the cursor stays.
+fn clear_row(alloc: Global, drawing: &mut Vec<u8>, row: u16) -> Result<(), AllocError>
+    ensures { OnOk result (drawing.new.items ≡ drawing.old.items ++ written_all (GoTo 0 row ∷ ClearRow ∷ [])) }
+{
+    write_op(alloc, drawing, &DrawOp::GoTo(0, row))?;
+    write_op(alloc, drawing, &DrawOp::ClearRow)?;
+    Ok(())
+}
+
+// Adds the bytes that move the page's rows up by k, and draw the last k rows of text and the prompt row.
+fn draw_down(
+    alloc: Global,
+    out: &mut Vec<u8>,
+    rows: u16,
+    k: u16,
+    shown: &[&str],
+    prompt: &str,
+) -> Result<(), AllocError>
+    requires some { 1 ≤ rows }
+    requires within { k ≤ rows - 1 }
+    ensures { OnOk result (out.new.items ≡ out.old.items ++ written_all (down_ops rows k (map (λ r. r.now) shown.now) prompt.now)) }
+{
+    let last = usize::from(rows - 1 - k).min(shown.len());
+    write_op(alloc, out, &DrawOp::ScrollUp(k))?;
+    clear_row(alloc, out, rows - k - 1)?;
+    write_rows(alloc, out, &shown[last..])?;
+    write_prompt(alloc, out, rows, prompt)?;
+    Ok(())
+}
+
+// Adds the bytes that move the page's rows down by k, and draw the first k rows of text and the prompt row.
+fn draw_up(
+    alloc: Global,
+    out: &mut Vec<u8>,
+    rows: u16,
+    k: u16,
+    shown: &[&str],
+    prompt: &str,
+) -> Result<(), AllocError>
+    ensures { OnOk result (out.new.items ≡ out.old.items ++ written_all (up_ops rows k (map (λ r. r.now) shown.now) prompt.now)) }
+{
+    let first = usize::from(k).min(shown.len());
+    write_op(alloc, out, &DrawOp::ScrollDown(k))?;
+    write_op(alloc, out, &DrawOp::GoTo(0, 0))?;
+    write_rows(alloc, out, &shown[..first])?;
+    write_prompt(alloc, out, rows, prompt)?;
+    Ok(())
+}
+
+/// Adds the bytes that draw the page at the second mark over the page at the first.
+pub(crate) fn draw_scroll(
+    alloc: Global,
+    out: &mut Vec<u8>,
+    rows: u16,
+    from: usize,
+    to: usize,
+    shown: &[&str],
+    prompt: &str,
+) -> Result<(), AllocError>
+    requires { 1 ≤ rows }
+    ensures { OnOk result (out.new.items ≡ out.old.items ++ written_all (scroll_ops rows from to (map (λ r. r.now) shown.now) prompt.now)) }
+{
+    let most = usize::from(rows - 1);
+    if from <= to {
+        draw_down(
+            alloc,
+            out,
+            rows,
+            (to - from).min(most) as u16,
+            shown,
+            prompt,
+        )?;
+    } else {
+        draw_up(
+            alloc,
+            out,
+            rows,
+            (from - to).min(most) as u16,
+            shown,
+            prompt,
+        )?;
+    }
+    Ok(())
+}
+
+// Adds a row of the page that is made blank, and its text.
+fn write_anew(alloc: Global, out: &mut Vec<u8>, row: u16, text: &str) -> Result<(), AllocError>
+    ensures { OnOk result (out.new.items ≡ out.old.items ++ written_all (GoTo 0 row ∷ ClearRow ∷ Put text.now ∷ [])) }
+{
+    clear_row(alloc, out, row)?;
+    write_op(alloc, out, &DrawOp::Put(text))?;
+    Ok(())
+}
+
+// Adds rows of the page that are made blank, from one on, and their texts.
+fn write_texts_anew(
+    alloc: Global,
+    out: &mut Vec<u8>,
+    first: u16,
+    texts: &[&str],
+) -> Result<(), AllocError>
+    requires { first + length texts.now < 2 ^ 16 }
+    ensures { OnOk result (out.new.items ≡ out.old.items ++ written_all (rows_anew first (map (λ r. r.now) texts.now) 0)) }
+{
+    for (i, text) in texts.iter().enumerate() {
+        write_anew(alloc, out, first + i as u16, text)?;
+    }
+    Ok(())
+}
+
+// Adds so many rows of the page that are made blank, from one on.
+fn write_blanks(alloc: Global, out: &mut Vec<u8>, first: u16, count: u16) -> Result<(), AllocError>
+    requires { first + count < 2 ^ 16 }
+    ensures { OnOk result (out.new.items ≡ out.old.items ++ written_all (rows_anew first [] count)) }
+{
+    for i in 0..count {
+        clear_row(alloc, out, first + i)?;
+    }
+    Ok(())
+}
+
+/// Adds the bytes that draw the rows of text of a page from the first on that has changed, counted from 0 on the page,
+/// where so many were shown before.
+pub(crate) fn draw_append_text(
+    alloc: Global,
+    out: &mut Vec<u8>,
+    first: usize,
+    were: usize,
+    shown: &[&str],
+) -> Result<(), AllocError>
+    requires first { first ≤ length shown.now }
+    requires few { length shown.now < 2 ^ 16 }
+    requires were_few { were < 2 ^ 16 }
+    ensures { OnOk result (out.new.items ≡ out.old.items ++ written_all (append_ops first were (map (λ r. r.now) shown.now))) }
+{
+    let blanks = were.saturating_sub(shown.len());
+    write_texts_anew(alloc, out, first as u16, &shown[first..])?;
+    write_blanks(alloc, out, shown.len() as u16, blanks as u16)?;
     Ok(())
 }
 
@@ -96,9 +240,9 @@ fn push_fitted(row: &mut String, cols: usize) -> Result<(), AllocError>
     Ok(())
 }
 
-/// The prompt row for so many columns, in its style.
-pub fn format_prompt(alloc: Global, cols: usize) -> Result<String, AllocError>
-    ensures { IfOk result (λ row. string_bytes row ≡ prompt_row cols) }
+/// The prompt row of a page of so many columns, in its style.
+pub(crate) fn format_prompt(alloc: Global, cols: usize) -> Result<String, AllocError>
+    ensures { IfOk result (λ row. (c : Control) → c.cols ≡ cols → string_bytes row ≡ prompt_row c) }
 {
     let mut row = String::from_str(alloc, "\x1b[2;40;37m")?;
     push_fitted(&mut row, cols)?;

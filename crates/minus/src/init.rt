@@ -1,25 +1,25 @@
 //! The start of a session.
-ghost use Rattle.std.specs.Prelude.{◌≡◌, ◌++◌, true, map, Some, None, OnOk, OnErr, IfOk, IfErr};
+ghost use Rattle.std.specs.Prelude.{◌≡◌, ◌++◌, true, map, OnOk, IfOk, IfErr};
 ghost use Rattle.std.specs.Io.KnownBytes.{Appends};
-ghost use Rattle.minus_term.specs.Counts.{Stays, Rises, AppendsFront};
-ghost use Rattle.minus_term.specs.Terminal.{setup_bytes, cleanup_bytes, SetupBreaksOff};
+ghost use Rattle.minus_term.specs.Counts.{Stays, Rises};
+ghost use Rattle.minus_term.specs.Refusals.{refusal_of};
+ghost use Rattle.minus_term.specs.Terminal.{setup_bytes};
 ghost use Rattle.minus_term.specs.Written.{written_all};
-ghost use Rattle.minus_term.specs.FullRedraw.{full_ops};
-ghost use Rattle.minus.specs.Sizes.{IsSize};
-ghost use Rattle.minus.specs.Page.{shown};
-ghost use Rattle.minus.specs.PromptRow.{prompt_row};
+ghost use Rattle.minus.specs.Changes.{IsUnformedState};
+ghost use Rattle.minus.specs.Control.{IsClamped};
+ghost use Rattle.minus.specs.Drawings.{whole_page};
+ghost use Rattle.minus.specs.Drawn.{StartLeavesItsPage};
 ghost use Rattle.minus.specs.Reads.{IsFormed, control_of, wanted_of};
-ghost use Rattle.minus.specs.Starts.{taken_all, first_control, IsStarted, IsStartRefused, IsEarly, IsShowRefused, ShowBreaksOff, StartBreaksOff, IsStartFault};
-ghost use Rattle.minus.specs.Drawn.{Begins, StartLeavesItsPage};
-ghost use Rattle.minus.specs.Core.{seen_of};
-ghost use Rattle.minus.specs.declared.status.Status.TheVariants as status;
+ghost use Rattle.minus.specs.SessionStarts.{IsStart, IsRefusedStart};
+ghost use Rattle.minus.specs.Sizes.{IsSize};
+ghost use Rattle.minus.specs.Starts.{taken_all, first_control, IsShowRefused, ShowBreaksOff, IsStartFault};
 
 use crate::change::NextText;
-use crate::commands::Command;
-use crate::input::ResizeAlone;
+use crate::commands::{Command, Drawing};
 use crate::pager::Pager;
 use crate::session::{Core, Session};
-use crate::state::{PagerState, RunMode, is_size};
+use crate::stand_in::ResizeAlone;
+use crate::state::{PagerState, RunMode};
 use crate::status::Status;
 use minus_term::{MinusError, OutputSink, cleanup, draw_bytes, setup};
 use std::alloc::Global;
@@ -48,24 +48,29 @@ fn take_waiting(alloc: Global, state: &mut PagerState, queue: &[Command]) -> Res
     Ok(())
 }
 
-// The first state, with its page drawn into a buffer.
-fn first_page(
-    pager: &Pager,
-    drawing: &mut Vec<u8>,
-    cols: usize,
-    rows: usize,
-) -> Result<PagerState, MinusError>
-    requires { IsSize cols rows }
-    ensures control { IfOk result (λ s. control_of s ≡ first_control cols rows (map wanted_of pager.now.queue.items)) }
-    ensures formed { IfOk result IsFormed }
-    ensures drawn { IfOk result (λ s. drawing.new.items ≡ drawing.old.items ++ written_all (full_ops (control_of s).rows (shown (control_of s)) (prompt_row (control_of s).cols))) }
-    ensures memory { IfErr result (λ e. e ≡ MinusError.Memory) }
+// A first state, and the bytes that draw its page.
+#[derive(Drop)]
+struct First {
+    state: PagerState,
+    drawing: Vec<u8>,
+    ghost formed: { IsFormed state },
+    ghost clamped: { IsClamped (control_of state) },
+    ghost drawn: { drawing.items ≡ written_all (whole_page (control_of state)) },
+}
+
+// The first state of a pager, with its page. A size that is none is refused.
+fn first_page(pager: &Pager, cols: usize, rows: usize) -> Result<First, MinusError>
+    ensures control { IfOk result (λ f. control_of f.state ≡ first_control cols rows (map wanted_of pager.now.queue.items)) }
+    ensures size { OnOk result (IsSize cols rows) }
+    ensures refused { IfErr result (λ e. IsUnformedState (refusal_of e) cols rows) }
 {
-    let mut state = PagerState::new(pager.alloc, cols, rows)?;
-    take_waiting(pager.alloc, &mut state, &pager.queue)?;
+    let alloc = pager.alloc;
+    let mut state = PagerState::new(alloc, cols, rows)?;
+    take_waiting(alloc, &mut state, &pager.queue)?;
     let change = state.change_to(NextText::Same);
-    state.draw_after(pager.alloc, drawing, &change)?;
-    Ok(state)
+    let mut drawing = Vec::new(alloc);
+    state.draw_after(alloc, &mut drawing, Drawing::Full, &change)?;
+    Ok(First { state, drawing })
 }
 
 // Sets the terminal up and draws on it. Where it is not drawn on, it is cleaned up as far as the sink takes it.
@@ -73,10 +78,10 @@ fn show<S: OutputSink>(sink: &mut S, drawing: &[u8]) -> Result<(), MinusError>
     ensures ok { OnOk result (Appends (S.contents sink.old) (S.contents sink.new) (setup_bytes ++ drawing.now)) }
     ensures stays { OnOk result (Stays (S.refused sink.old) (S.refused sink.new)) }
     ensures terminal { OnOk result (S.terminal sink.old ≡ true) }
-    ensures refused { IfErr result (λ e. IsShowRefused e (S.terminal sink.old)) }
-    ensures broken { IfErr result (λ e. ShowBreaksOff e (S.contents sink.old) (S.contents sink.new) (S.refused sink.old) (S.refused sink.new) drawing.now) }
-    ensures rises { IfErr result (λ e. IsStartFault e → Rises (S.refused sink.old) (S.refused sink.new)) }
-    ensures untouched { IfErr result (λ e. (IsStartFault e → ⊥) → sink.new ≡ sink.old) }
+    ensures refused { IfErr result (λ e. IsShowRefused (refusal_of e) (S.terminal sink.old)) }
+    ensures broken { IfErr result (λ e. ShowBreaksOff (refusal_of e) (S.contents sink.old) (S.contents sink.new) (S.refused sink.old) (S.refused sink.new) drawing.now) }
+    ensures rises { IfErr result (λ e. IsStartFault (refusal_of e) → Rises (S.refused sink.old) (S.refused sink.new)) }
+    ensures untouched { IfErr result (λ e. (IsStartFault (refusal_of e) → ⊥) → sink.new ≡ sink.old) }
 {
     setup(sink)?;
     if let Err(cause) = draw_bytes(sink, drawing) {
@@ -86,36 +91,29 @@ fn show<S: OutputSink>(sink: &mut S, drawing: &[u8]) -> Result<(), MinusError>
     Ok(())
 }
 
-// The session of a first state whose page was drawn into a buffer.
+// The session of a pager whose first page was formed.
 fn begin<S: OutputSink + Drop>(
-    alloc: Global,
+    pager: Pager,
     mode: RunMode,
     sink: S,
-    state: PagerState,
-    drawing: Vec<u8>,
+    first: First,
 ) -> Result<Session<S>, StartError<S>>
-    requires formed { IsFormed state }
-    requires drawn { drawing.items ≡ written_all (full_ops (control_of state).rows (shown (control_of state)) (prompt_row (control_of state).cols)) }
-    ensures seen { IfOk result (λ s. seen_of s ≡ record { control = control_of state; classifier = record {}; mode = mode; status = status.Running }) }
-    ensures drawn { IfOk result (λ s. Begins (S.contents sink) (S.contents s.sink) (control_of state)) }
-    ensures stays { IfOk result (λ s. Stays (S.refused sink) (S.refused s.sink)) }
-    ensures terminal { IfOk result (λ s. S.terminal sink ≡ true) }
-    ensures refused { IfErr result (λ e. IsShowRefused e.cause (S.terminal sink)) }
-    ensures gone { IfErr result (λ e. e.pager ≡ None) }
-    ensures broken { IfErr result (λ e. StartBreaksOff e.cause (S.contents sink) (S.contents e.sink) (S.refused sink) (S.refused e.sink) (control_of state)) }
-    ensures rises { IfErr result (λ e. IsStartFault e.cause → Rises (S.refused sink) (S.refused e.sink)) }
-    ensures untouched { IfErr result (λ e. (IsStartFault e.cause → ⊥) → e.sink ≡ sink) }
+    requires runs { mode ≡ RunMode.Uninitialized → ⊥ }
+    requires control { control_of first.state ≡ first_control first.state.cols first.state.rows (map wanted_of pager.queue.items) }
+    ensures started { IfOk result (λ s. IsStart S.contents S.refused S.terminal pager mode first.state.cols first.state.rows (record {}) sink s) }
+    ensures refused { IfErr result (λ e. IsRefusedStart S.contents S.refused S.terminal pager mode first.state.cols first.state.rows sink e) }
 {
     let mut sink = sink;
-    if let Err(cause) = show(&mut sink, &drawing) {
+    if let Err(cause) = show(&mut sink, &first.drawing) {
         return Err(StartError {
             sink,
             pager: None,
             cause,
         });
     }
+    let First { state, drawing } = first;
     Ok(Core {
-        alloc,
+        alloc: pager.alloc,
         sink,
         state,
         classifier: ResizeAlone,
@@ -142,16 +140,8 @@ pub fn init_core<S: OutputSink + Drop>(
     cols: usize,
     rows: usize,
 ) -> Result<Session<S>, StartError<S>>
-    ensures started { IfOk result (λ s. IsStarted (seen_of s) (record {}) (map wanted_of pager.queue.items) mode cols rows (S.terminal sink) (S.contents sink) (S.contents s.sink)) }
-    ensures stays { IfOk result (λ s. Stays (S.refused sink) (S.refused s.sink)) }
-
-    // A refusal: when it comes, what it hands back, and what it leaves on the sink.
-    ensures refused { IfErr result (λ e. IsStartRefused e.cause mode cols rows (S.terminal sink)) }
-    ensures returned { IfErr result (λ e. IsEarly e.cause → e.pager ≡ Some pager) }
-    ensures gone { IfErr result (λ e. (IsEarly e.cause → ⊥) → e.pager ≡ None) }
-    ensures broken { IfErr result (λ e. StartBreaksOff e.cause (S.contents sink) (S.contents e.sink) (S.refused sink) (S.refused e.sink) (first_control cols rows (map wanted_of pager.queue.items))) }
-    ensures rises { IfErr result (λ e. IsStartFault e.cause → Rises (S.refused sink) (S.refused e.sink)) }
-    ensures untouched { IfErr result (λ e. (IsStartFault e.cause → ⊥) → e.sink ≡ sink) }
+    ensures started { IfOk result (λ s. IsStart S.contents S.refused S.terminal pager mode cols rows (record {}) sink s) }
+    ensures refused { IfErr result (λ e. IsRefusedStart S.contents S.refused S.terminal pager mode cols rows sink e) }
 {
     if mode.is_uninitialized() {
         return Err(StartError {
@@ -160,26 +150,14 @@ pub fn init_core<S: OutputSink + Drop>(
             cause: MinusError::BadMode,
         });
     }
-    if !is_size(cols, rows) {
-        return Err(StartError {
+    match first_page(&pager, cols, rows) {
+        Ok(first) => begin(pager, mode, sink, first),
+        Err(cause) => Err(StartError {
             sink,
             pager: Some(pager),
-            cause: MinusError::BadSize(cols, rows),
-        });
+            cause,
+        }),
     }
-    let alloc = pager.alloc;
-    let mut drawing = Vec::new(alloc);
-    let state = match first_page(&pager, &mut drawing, cols, rows) {
-        Ok(state) => state,
-        Err(cause) => {
-            return Err(StartError {
-                sink,
-                pager: Some(pager),
-                cause,
-            });
-        }
-    };
-    begin(alloc, mode, sink, state, drawing)
 }
 
 /// Starts a pager in the mode for a text that grows: [`init_core`] with `Dynamic`, whose errors it has but for the
@@ -190,16 +168,8 @@ pub fn dynamic_paging<S: OutputSink + Drop>(
     cols: usize,
     rows: usize,
 ) -> Result<Session<S>, StartError<S>>
-    ensures started { IfOk result (λ s. IsStarted (seen_of s) (record {}) (map wanted_of pager.queue.items) RunMode.Dynamic cols rows (S.terminal sink) (S.contents sink) (S.contents s.sink)) }
-    ensures stays { IfOk result (λ s. Stays (S.refused sink) (S.refused s.sink)) }
-
-    // A refusal: when it comes, what it hands back, and what it leaves on the sink.
-    ensures refused { IfErr result (λ e. IsStartRefused e.cause RunMode.Dynamic cols rows (S.terminal sink)) }
-    ensures returned { IfErr result (λ e. IsEarly e.cause → e.pager ≡ Some pager) }
-    ensures gone { IfErr result (λ e. (IsEarly e.cause → ⊥) → e.pager ≡ None) }
-    ensures broken { IfErr result (λ e. StartBreaksOff e.cause (S.contents sink) (S.contents e.sink) (S.refused sink) (S.refused e.sink) (first_control cols rows (map wanted_of pager.queue.items))) }
-    ensures rises { IfErr result (λ e. IsStartFault e.cause → Rises (S.refused sink) (S.refused e.sink)) }
-    ensures untouched { IfErr result (λ e. (IsStartFault e.cause → ⊥) → e.sink ≡ sink) }
+    ensures started { IfOk result (λ s. IsStart S.contents S.refused S.terminal pager RunMode.Dynamic cols rows (record {}) sink s) }
+    ensures refused { IfErr result (λ e. IsRefusedStart S.contents S.refused S.terminal pager RunMode.Dynamic cols rows sink e) }
 {
     match init_core(pager, RunMode::Dynamic, sink, cols, rows) {
         Ok(session) => Ok(session),

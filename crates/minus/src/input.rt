@@ -1,5 +1,9 @@
 //! What the events of a terminal ask a pager for, and what decides about them.
+pub mod crossterm_event;
+
 use crate::state::PagerState;
+pub use minus_input::description::{each_text_has_one_meaning, parse_key_event, parse_mouse_event};
+pub use minus_input::names::modifier_of;
 use minus_term::Event;
 
 /// What an event asks for.
@@ -28,25 +32,4 @@ pub trait InputClassifier: Drop {
     /// What the event asks for in this state, if anything.
     fn classify_input(&self, event: Event, state: &PagerState) -> Option<InputEvent>
         ensures { allows self.now event state.now result };
-}
-
-/// The classifier of a session to which none is given: a resize asks for the terminal's new size, and no other event
-/// for anything.
-#[derive(Clone, Copy, Debug, Drop, PartialEq, Eq)]
-pub struct ResizeAlone;
-
-impl InputClassifier for ResizeAlone {
-    ghost use Rattle.minus.specs.Classified.{resize_alone};
-
-    ghost allows = { resize_alone };
-
-    fn classify_input(&self, event: Event, _state: &PagerState) -> Option<InputEvent> {
-        match event {
-            Event::Resize(cols, rows) => Some(InputEvent::UpdateTermArea(
-                usize::from(cols),
-                usize::from(rows),
-            )),
-            _ => Some(InputEvent::Ignore),
-        }
-    }
 }

@@ -1,9 +1,10 @@
 //! The page, as texts.
 ghost use Rattle.std.specs.Prelude.{◌≡◌, ◌<◌, ◌++◌, [], length, replicate, map, string_bytes, OnOk, IfOk};
-ghost use Rattle.minus_term.specs.FullRedraw.{page_of};
-ghost use Rattle.minus.specs.PromptRow.{prompt_row};
+ghost use Rattle.minus.specs.Page.{page_with};
+ghost use Rattle.minus.specs.Reads.{control_of};
 
 use crate::display::format_prompt;
+use crate::state::PagerState;
 use minus_term::MinusError;
 use std::alloc::{AllocError, Global};
 
@@ -27,20 +28,15 @@ fn push_blanks(alloc: Global, rows: &mut Vec<String>, count: usize) -> Result<()
     Ok(())
 }
 
-// The texts of a page of so many rows that begins with these.
-fn page_rows(
-    alloc: Global,
-    cols: usize,
-    rows: usize,
-    shown: &[&str],
-) -> Result<Vec<String>, AllocError>
-    requires { length shown.now < rows }
-    ensures { IfOk result (λ p. map string_bytes p.items ≡ (page_of rows (map (λ r. r.now) shown.now) (prompt_row cols)).texts) }
+// The texts of the page of a state that has these rows of text at its top.
+fn page_rows(alloc: Global, state: &PagerState, shown: &[&str]) -> Result<Vec<String>, AllocError>
+    requires { length shown.now < state.now.rows }
+    ensures { IfOk result (λ p. map string_bytes p.items ≡ (page_with (control_of state.now) (map (λ r. r.now) shown.now)).texts) }
 {
     let mut page = Vec::new(alloc);
     push_copies(alloc, &mut page, shown)?;
-    push_blanks(alloc, &mut page, rows - 1 - shown.len())?;
-    page.push(format_prompt(alloc, cols)?)?;
+    push_blanks(alloc, &mut page, state.rows - 1 - shown.len())?;
+    page.push(format_prompt(alloc, state.cols)?)?;
     Ok(page)
 }
 
@@ -54,24 +50,23 @@ pub struct Page {
 }
 
 impl Page {
-    ghost use Rattle.std.specs.Prelude.{◌≡◌, ◌<◌, length, map, string_bytes, None, IfOk, IfErr};
-    ghost use Rattle.minus_term.specs.FullRedraw.{page_of};
-    ghost use Rattle.minus.specs.PromptRow.{prompt_row};
+    ghost use Rattle.std.specs.Prelude.{◌≡◌, ◌<◌, length, map, string_bytes, IfOk, IfErr};
+    ghost use Rattle.minus.specs.Page.{page_with};
+    ghost use Rattle.minus.specs.Reads.{control_of};
 
-    // The page of these rows of text.
+    // The page of a state that has these rows of text at its top.
     pub(crate) fn form(
         alloc: Global,
-        cols: usize,
-        rows: usize,
+        state: &PagerState,
         shown: &[&str],
     ) -> Result<Page, MinusError>
-        requires { length shown.now < rows }
-        ensures rows { IfOk result (λ p. map string_bytes p.rows.items ≡ (page_of rows (map (λ r. r.now) shown.now) (prompt_row cols)).texts) }
-        ensures cursor { IfOk result (λ p. p.cursor ≡ None) }
+        requires { length shown.now < state.now.rows }
+        ensures rows { IfOk result (λ p. map string_bytes p.rows.items ≡ (page_with (control_of state.now) (map (λ r. r.now) shown.now)).texts) }
+        ensures cursor { IfOk result (λ p. p.cursor ≡ (page_with (control_of state.now) (map (λ r. r.now) shown.now)).cursor) }
         ensures memory { IfErr result (λ e. e ≡ MinusError.Memory) }
     {
         Ok(Page {
-            rows: page_rows(alloc, cols, rows, shown)?,
+            rows: page_rows(alloc, state, shown)?,
             cursor: None,
         })
     }

@@ -1,11 +1,13 @@
 //! A session: a pager over a sink.
-ghost use Rattle.minus.specs.Reads.{IsFormed};
+ghost use Rattle.minus.specs.Control.{IsClamped};
+ghost use Rattle.minus.specs.Reads.{control_of, IsFormed};
 
 use crate::change::{Change, NextText};
 use crate::commands::{Command, Drawing, Input};
-use crate::input::{InputClassifier, InputEvent, ResizeAlone};
+use crate::input::{InputClassifier, InputEvent};
 use crate::page::Page;
 use crate::parts::{Calls, Kinds, Parts};
+use crate::stand_in::ResizeAlone;
 use crate::state::{ExitStrategy, PagerState, RunMode};
 use crate::status::Status;
 use minus_term::{CleanupError, MinusError, OutputSink, cleanup, draw_bytes};
@@ -22,6 +24,7 @@ pub struct Core<S, P: Parts> {
     pub(crate) mode: RunMode,
     pub(crate) status: Status,
     ghost formed: { IsFormed state },
+    ghost clamped: { IsClamped (control_of state) },
 }
 
 /// A pager over a sink.
@@ -41,15 +44,13 @@ pub struct Answer {
 impl Answer {
     ghost use Rattle.std.specs.Prelude.{◌≡◌};
     ghost use Rattle.minus.specs.Answers.{IsAnswer, ends_run};
-    ghost use Rattle.minus.specs.declared.commands.Drawing.TheVariants.{Nothing, Full, Ending};
 
-    // The answer of a step after which the session goes on.
-    fn going_on(alloc: Global) -> Answer
-        ensures full { IsAnswer Full result }
-        ensures nothing { IsAnswer Nothing result }
+    // The answer of a step that exits so, or goes on.
+    fn of_exit(alloc: Global, exited: Option<(ExitStrategy, u8)>) -> Answer
+        ensures { IsAnswer exited result }
     {
         Answer {
-            exited: None,
+            exited,
             copied: None,
             refused: Vec::new(alloc),
         }
@@ -60,17 +61,6 @@ impl Answer {
         ensures { result ≡ ends_run self.now }
     {
         self.exited.is_some() || self.copied.is_some() || !self.refused.is_empty()
-    }
-
-    // The answer of an exit.
-    fn exit(alloc: Global) -> Answer
-        ensures { IsAnswer Ending result }
-    {
-        Answer {
-            exited: Some((ExitStrategy::ProcessQuit, 0)),
-            copied: None,
-            refused: Vec::new(alloc),
-        }
     }
 }
 
@@ -97,11 +87,10 @@ struct Progress {
 
 impl<S, P: Parts> Core<S, P> {
     ghost use Rattle.std.specs.Prelude.{◌≡◌, ◌++◌, map, None, OnOk, OnErr, IfOk, IfErr, string_bytes};
-    ghost use Rattle.minus_term.specs.Written.{written_all};
-    ghost use Rattle.minus_term.specs.FullRedraw.{full_ops};
+    ghost use Rattle.minus_term.specs.Refusals.{refusal_of};
     ghost use Rattle.minus.specs.Control.{Control};
-    ghost use Rattle.minus.specs.Page.{page, shown};
-    ghost use Rattle.minus.specs.PromptRow.{prompt_row};
+    ghost use Rattle.minus.specs.Page.{page};
+    ghost use Rattle.minus.specs.SessionDrawings.{DrawsBetween, with_control};
     ghost use Rattle.minus.specs.Reads.{control_of, wanted_of};
     ghost use Rattle.minus.specs.NextTexts.{IsNext};
     ghost use Rattle.minus.specs.Changes.{IsChange, IsUnformed};
@@ -135,19 +124,19 @@ impl<S, P: Parts> Core<S, P> {
     /// [`MinusError::Memory`] where there is no memory for its texts.
     pub fn page(&self) -> Result<Page, MinusError>
         ensures rows { IfOk result (λ p. map string_bytes p.rows.items ≡ (page (seen_of self.now).control).texts) }
-        ensures cursor { IfOk result (λ p. p.cursor ≡ None) }
+        ensures cursor { IfOk result (λ p. p.cursor ≡ (page (seen_of self.now).control).cursor) }
         ensures memory { IfErr result (λ e. e ≡ MinusError.Memory) }
     {
         let change = self.state.change_to(NextText::Same);
         let shown = self.state.shown_after(self.alloc, &change)?;
-        let page = Page::form(self.alloc, self.state.cols, self.state.rows, &shown)?;
+        let page = Page::form(self.alloc, &self.state, &shown)?;
         Ok(page)
     }
 
     // Draws the page that a change leads to into the buffer of drawings.
-    fn draw_change(&mut self, change: &Change) -> Result<(), MinusError>
+    fn draw_change(&mut self, drawing: Drawing, change: &Change) -> Result<(), MinusError>
         requires { IsNext self.old.state.screen change.now.text }
-        ensures drawn { OnOk result ((new : Control) → IsChange (seen_of self.old).control change.now new → self.new.drawing.items ≡ written_all (full_ops new.rows (shown new) (prompt_row new.cols))) }
+        ensures drawn { OnOk result ((new : Control) → IsChange (control_of self.old.state) change.now new → DrawsBetween self.new drawing (control_of self.old.state) new) }
         ensures state { self.new.state ≡ self.old.state }
         ensures seen { seen_of self.new ≡ seen_of self.old }
         ensures sink { self.new.sink ≡ self.old.sink }
@@ -155,57 +144,53 @@ impl<S, P: Parts> Core<S, P> {
     {
         self.drawing.clear();
         self.state
-            .draw_after(self.alloc, &mut self.drawing, change)?;
+            .draw_after(self.alloc, &mut self.drawing, drawing, change)?;
         Ok(())
     }
 
     // Forms the change of a command, draws it into the buffer and puts it in its place. An `Err` changes nothing.
-    fn take(&mut self, command: Command) -> Result<(), MinusError>
-        ensures done { OnOk result (seen_of self.new ≡ record (seen_of self.old) { control = changed_by (effect (seen_of self.old).control (wanted_of command)) }) }
+    fn take(&mut self, command: Command) -> Result<Drawing, MinusError>
+        ensures kind { IfOk result (λ kind. kind ≡ (effect (control_of self.old.state) (wanted_of command)).drawing) }
+        ensures done { OnOk result (seen_of self.new ≡ with_control self.old (changed_by (effect (control_of self.old.state) (wanted_of command)))) }
         ensures possible { OnOk result (IsPossible (wanted_of command)) }
-        ensures drawn { OnOk result (self.new.drawing.items ≡ written_all (full_ops (seen_of self.new).control.rows (shown (seen_of self.new).control) (prompt_row (seen_of self.new).control.cols))) }
-        ensures size { OnOk result (IsSize (seen_of self.new).control.cols (seen_of self.new).control.rows) }
+        ensures drawn { IfOk result (λ kind. DrawsBetween self.new kind (control_of self.old.state) (control_of self.new.state)) }
+        ensures size { OnOk result (IsSize self.new.state.cols self.new.state.rows) }
         ensures sink { self.new.sink ≡ self.old.sink }
         ensures err { OnErr result (seen_of self.new ≡ seen_of self.old) }
-        ensures unformed { IfErr result (λ e. IsUnformed e (wanted_of command)) }
+        ensures unformed { IfErr result (λ e. IsUnformed (refusal_of e) (wanted_of command)) }
     {
         let change = self.state.prepare(self.alloc, command)?;
-        self.draw_change(&change)?;
+        let drawing = change.drawing(self.state.upper_mark);
+        self.draw_change(drawing, &change)?;
         self.state.place(self.alloc, change)?;
-        Ok(())
+        Ok(drawing)
     }
 }
 
 impl<S: OutputSink + Drop, P: Calls> Core<S, P> {
-    ghost use Rattle.std.specs.Prelude.{◌≡◌, ◌++◌, ◌↔◌, ℕ, [], map, reverse, None, OnOk, OnErr, IfOk, IfErr, IfNone, IsOk, IsErrOf};
+    ghost use Rattle.std.specs.Prelude.{◌≡◌, ◌++◌, ◌↔◌, ℕ, true, [], map, reverse, None, Some, OnOk, OnErr, IfOk, IfErr, IfNone, IsOk, IsErrOf};
     ghost use Rattle.std.specs.Io.KnownBytes.{Appends};
-    ghost use Rattle.minus_term.specs.Counts.{Stays, Rises, AppendsFront};
-    ghost use Rattle.minus_term.specs.Terminal.{cleanup_bytes, CleanupBreaksOff};
-    ghost use Rattle.minus_term.specs.Written.{written_all};
-    ghost use Rattle.minus_term.specs.FullRedraw.{full_ops};
-    ghost use Rattle.minus.specs.Page.{shown};
-    ghost use Rattle.minus.specs.PromptRow.{prompt_row};
+    ghost use Rattle.minus_term.specs.Counts.{Stays, Rises};
+    ghost use Rattle.minus_term.specs.Terminal.{CleanupBreaksOff};
     ghost use Rattle.minus.specs.Reads.{wanted_of, told_of, a_command};
-    ghost use Rattle.minus.specs.Table.{drawing_of};
-    ghost use Rattle.minus.specs.Drawn.{Drawn, BrokenOff};
-    ghost use Rattle.minus.specs.Steps.{Asks, IsStep, Refuses, IsSinkFault, BreaksOffExit, cleanup_after};
-    ghost use Rattle.minus.specs.Runs.{IsRun, StopsAtSink};
+    ghost use Rattle.minus.specs.Table.{effect};
+    ghost use Rattle.minus.specs.Steps.{Asks, cleanup_after};
+    ghost use Rattle.minus.specs.SessionSteps.{IsStepOf, StepsOf, IsRefusedStepOf, IsRunOf};
     ghost use Rattle.minus.specs.Answers.{IsAnswer};
     ghost use Rattle.minus.specs.Core.{seen_of};
-    ghost use Rattle.minus.specs.declared.commands.Drawing.TheVariants.{Full};
     ghost use Rattle.minus.specs.declared.status.Status.TheVariants as status;
 
-    // Does what a command asks for that is drawn in full, and draws the page. A refusal of the sink fails the session.
+    // Does what a command asks for that is no exit, and draws it. A refusal of the sink fails the session.
     fn change(&mut self, command: Command) -> Result<(), MinusError>
-        requires full { drawing_of (wanted_of command) ≡ Full }
+        requires on { (effect (seen_of self.old).control (wanted_of command)).exits_by ≡ None }
         requires running { (seen_of self.old).status ≡ status.Running }
-        ensures step { OnOk result ((answer : Answer) → IsAnswer Full answer → IsStep P.Classifier.allows (seen_of self.old) (a_command (wanted_of command)) (seen_of self.new) answer (S.contents self.old.sink) (S.contents self.new.sink)) }
-        ensures stays { OnOk result (Stays (S.refused self.old.sink) (S.refused self.new.sink)) }
-        ensures refused { IfErr result (λ e. Refuses P.Classifier.allows e (seen_of self.old) (a_command (wanted_of command)) (seen_of self.new) (S.contents self.old.sink) (S.contents self.new.sink)) }
-        ensures rises { IfErr result (λ e. IsSinkFault e → Rises (S.refused self.old.sink) (S.refused self.new.sink)) }
-        ensures untouched { IfErr result (λ e. (IsSinkFault e → ⊥) → self.new.sink ≡ self.old.sink) }
+        ensures step { OnOk result (StepsOf S.contents S.refused P.Classifier.allows self.old (a_command (wanted_of command)) self.new None) }
+        ensures refused { IfErr result (λ e. IsRefusedStepOf S.contents S.refused P.Classifier.allows self.old (a_command (wanted_of command)) self.new e) }
     {
-        self.take(command)?;
+        let drawing = self.take(command)?;
+        if drawing == Drawing::Nothing {
+            return Ok(());
+        }
         if let Err(cause) = draw_bytes(&mut self.sink, &self.drawing) {
             self.status = Status::Failed;
             return Err(MinusError::Draw(cause));
@@ -213,43 +198,32 @@ impl<S: OutputSink + Drop, P: Calls> Core<S, P> {
         Ok(())
     }
 
-    // Cleans the terminal up, and ends the session. A refusal fails it.
-    fn exit(&mut self) -> Result<(), MinusError>
-        ensures ok { OnOk result (Appends (S.contents self.old.sink) (S.contents self.new.sink) cleanup_bytes) }
-        ensures stays { OnOk result (Stays (S.refused self.old.sink) (S.refused self.new.sink)) }
-        ensures ends { OnOk result (seen_of self.new ≡ record (seen_of self.old) { status = status.Ended }) }
-        ensures err { IfErr result (λ e. BreaksOffExit e (S.contents self.old.sink) (S.contents self.new.sink)) }
-        ensures rises { OnErr result (Rises (S.refused self.old.sink) (S.refused self.new.sink)) }
-        ensures fails { OnErr result (seen_of self.new ≡ record (seen_of self.old) { status = status.Failed }) }
+    // Cleans the terminal up, and ends the session by an exit. A refusal fails it.
+    fn exit(&mut self, command: &Command, exit: (ExitStrategy, u8)) -> Result<Answer, MinusError>
+        requires exits { (effect (seen_of self.old).control (wanted_of command.now)).exits_by ≡ Some exit }
+        requires running { (seen_of self.old).status ≡ status.Running }
+        ensures step { IfOk result (λ a. IsStepOf S.contents S.refused P.Classifier.allows self.old (a_command (wanted_of command.now)) self.new a) }
+        ensures refused { IfErr result (λ e. IsRefusedStepOf S.contents S.refused P.Classifier.allows self.old (a_command (wanted_of command.now)) self.new e) }
     {
         if let Err(cause) = cleanup(&mut self.sink, true) {
             self.status = Status::Failed;
             return Err(MinusError::Cleanup(cause));
         }
         self.status = Status::Ended;
-        Ok(())
+        Ok(Answer::of_exit(self.alloc, Some(exit)))
     }
 
     // Does what a command asks for, and draws it.
     fn work_off(&mut self, command: Command) -> Result<Answer, MinusError>
         requires { (seen_of self.old).status ≡ status.Running }
-        ensures step { IfOk result (λ a. IsStep P.Classifier.allows (seen_of self.old) (a_command (wanted_of command)) (seen_of self.new) a (S.contents self.old.sink) (S.contents self.new.sink)) }
-        ensures stays { OnOk result (Stays (S.refused self.old.sink) (S.refused self.new.sink)) }
-        ensures refused { IfErr result (λ e. Refuses P.Classifier.allows e (seen_of self.old) (a_command (wanted_of command)) (seen_of self.new) (S.contents self.old.sink) (S.contents self.new.sink)) }
-        ensures rises { IfErr result (λ e. IsSinkFault e → Rises (S.refused self.old.sink) (S.refused self.new.sink)) }
-        ensures untouched { IfErr result (λ e. (IsSinkFault e → ⊥) → self.new.sink ≡ self.old.sink) }
+        ensures step { IfOk result (λ a. IsStepOf S.contents S.refused P.Classifier.allows self.old (a_command (wanted_of command)) self.new a) }
+        ensures refused { IfErr result (λ e. IsRefusedStepOf S.contents S.refused P.Classifier.allows self.old (a_command (wanted_of command)) self.new e) }
     {
-        match command.drawing() {
-            Drawing::Nothing => Ok(Answer::going_on(self.alloc)),
-            Drawing::Full => {
-                self.change(command)?;
-                Ok(Answer::going_on(self.alloc))
-            }
-            Drawing::Ending => {
-                self.exit()?;
-                Ok(Answer::exit(self.alloc))
-            }
+        if let Some(exit) = self.state.exit_of(&command) {
+            return self.exit(&command, exit);
         }
+        self.change(command)?;
+        Ok(Answer::of_exit(self.alloc, None))
     }
 
     // The command that an input is: for an event, what the classifier answers.
@@ -275,15 +249,12 @@ impl<S: OutputSink + Drop, P: Calls> Core<S, P> {
     /// [`MinusError::Draw`] and, at an exit, [`MinusError::Cleanup`] where the sink refuses a write or the flush, or
     /// takes nothing: a beginning of the bytes was written, and the session has failed.
     pub fn step(&mut self, input: Input) -> Result<Answer, MinusError>
-        ensures step { IfOk result (λ a. IsStep P.Classifier.allows (seen_of self.old) (told_of input) (seen_of self.new) a (S.contents self.old.sink) (S.contents self.new.sink)) }
-        ensures stays { OnOk result (Stays (S.refused self.old.sink) (S.refused self.new.sink)) }
+        ensures step { IfOk result (λ a. IsStepOf S.contents S.refused P.Classifier.allows self.old (told_of input) self.new a) }
 
         // A refusal: what it leaves, and when it comes.
-        ensures refused { IfErr result (λ e. Refuses P.Classifier.allows e (seen_of self.old) (told_of input) (seen_of self.new) (S.contents self.old.sink) (S.contents self.new.sink)) }
+        ensures refused { IfErr result (λ e. IsRefusedStepOf S.contents S.refused P.Classifier.allows self.old (told_of input) self.new e) }
         ensures failed { IsErrOf result MinusError.Failed ↔ ((seen_of self.old).status ≡ status.Failed) }
         ensures ended { IsErrOf result MinusError.Ended ↔ ((seen_of self.old).status ≡ status.Ended) }
-        ensures rises { IfErr result (λ e. IsSinkFault e → Rises (S.refused self.old.sink) (S.refused self.new.sink)) }
-        ensures untouched { IfErr result (λ e. (IsSinkFault e → ⊥) → self.new.sink ≡ self.old.sink) }
     {
         match self.status {
             Status::Running => {}
@@ -297,9 +268,7 @@ impl<S: OutputSink + Drop, P: Calls> Core<S, P> {
 
     // Works inputs off from the end of a list, until one is refused or the session has exited.
     fn run_from_end(&mut self, left: &mut Vec<Input>) -> Progress
-        ensures run { IsRun P.Classifier.allows told_of (seen_of self.old) (seen_of self.new) (reverse left.old.items) result.done result.last result.stopped (reverse left.new.items) (S.contents self.old.sink) (S.contents self.new.sink) }
-        ensures stays { (StopsAtSink result.stopped → ⊥) → Stays (S.refused self.old.sink) (S.refused self.new.sink) }
-        ensures rises { StopsAtSink result.stopped → Rises (S.refused self.old.sink) (S.refused self.new.sink) }
+        ensures { IsRunOf S.contents S.refused P.Classifier.allows self.old self.new (reverse left.old.items) result.done result.last result.stopped (reverse left.new.items) }
     {
         let mut done = 0;
         let mut last = None;
@@ -335,9 +304,7 @@ impl<S: OutputSink + Drop, P: Calls> Core<S, P> {
     /// Works inputs off in order, until one is refused or the session has exited. An input that is refused is dropped,
     /// and those after it, or after an exit, are handed back.
     pub fn run(&mut self, inputs: Vec<Input>) -> Ran
-        ensures run { IsRun P.Classifier.allows told_of (seen_of self.old) (seen_of self.new) inputs.items result.done result.last result.stopped result.rest.items (S.contents self.old.sink) (S.contents self.new.sink) }
-        ensures stays { (StopsAtSink result.stopped → ⊥) → Stays (S.refused self.old.sink) (S.refused self.new.sink) }
-        ensures rises { StopsAtSink result.stopped → Rises (S.refused self.old.sink) (S.refused self.new.sink) }
+        ensures { IsRunOf S.contents S.refused P.Classifier.allows self.old self.new inputs.items result.done result.last result.stopped result.rest.items }
     {
         let mut left = inputs;
         left.reverse();

@@ -1,33 +1,33 @@
 //! What is on show, and how.
 ghost use Rattle.std.specs.Prelude.{◌≡◌, ◌↔◌, IsTrue, OnOk, OnErr, IfOk, IfErr};
-ghost use Rattle.minus_text.specs.Document.{Document};
 ghost use Rattle.minus.specs.NextTexts.{next_document, IsNext};
 ghost use Rattle.minus.specs.Sizes.{IsSize};
 
 use crate::change::{Change, NextText};
-use crate::commands::Command;
-use crate::display::{draw_full, format_prompt};
+use crate::commands::{Command, Drawing};
+use crate::display::{draw_append_text, draw_full, draw_scroll, format_prompt};
 use crate::input::InputEvent;
 use minus_term::MinusError;
 use minus_text::Screen;
 use std::alloc::{AllocError, Global};
 
 /// Whether these are columns and rows of a terminal: each from 1 to 65,535.
-pub fn is_size(cols: usize, rows: usize) -> bool
+pub(crate) fn is_size(cols: usize, rows: usize) -> bool
     ensures { IsTrue result ↔ IsSize cols rows }
 {
     (1..=65_535).contains(&cols) && (1..=65_535).contains(&rows)
 }
 
 // A text with its rows for so many columns.
-fn formed_anew(alloc: Global, text: &str, cols: usize) -> Result<NextText, MinusError>
-    ensures next { IfOk result (λ n. (d : Document) → next_document d n ≡ record { text = text.now; cols = cols }) }
-    ensures belongs { IfOk result (λ n. (d : Document) → IsNext d n) }
+fn formed(alloc: Global, text: &str, cols: usize) -> Result<Screen, MinusError>
+    ensures ok { IfOk result (λ s. s ≡ record { text = text.now; cols = cols }) }
     ensures memory { IfErr result (λ e. e ≡ MinusError.Memory) }
 {
     let mut screen = Screen::new(alloc);
-    let _ = screen.set_text(alloc, text, cols)?;
-    Ok(NextText::Whole(screen))
+    match screen.set_text(alloc, text, cols) {
+        Ok(_) => Ok(screen),
+        Err(cause) => Err(cause),
+    }
 }
 
 // Puts a text that was formed in its place. An `Err` changes nothing.
@@ -96,29 +96,34 @@ pub struct PagerState {
 }
 
 impl PagerState {
-    ghost use Rattle.std.specs.Prelude.{◌≡◌, ◌-◌, [], ◌++◌, map, take, drop, OnOk, OnErr, IfOk, IfErr};
-    ghost use Rattle.minus_text.specs.Document.{rows_of};
-    ghost use Rattle.minus.specs.Control.{document_of};
-    ghost use Rattle.minus.specs.Table.{effect, moved, changed_by, resizes, IsPossible};
+    ghost use Rattle.std.specs.Prelude.{◌≡◌, ◌-◌, ◌++◌, map, take, drop, OnOk, OnErr, IfOk, IfErr};
+    ghost use Rattle.minus.specs.Control.{Control, document_of, first_changed};
+    ghost use Rattle.minus.specs.Table.{effect, moved_by, moved_to, changed_by, resizes, IsPossible};
+    ghost use Rattle.minus_term.specs.Refusals.{refusal_of};
     ghost use Rattle.minus_term.specs.Written.{written_all};
-    ghost use Rattle.minus_term.specs.FullRedraw.{full_ops};
-    ghost use Rattle.minus.specs.PromptRow.{prompt_row};
+    ghost use Rattle.minus.specs.Drawings.{append_from, ops_between};
     ghost use Rattle.minus.specs.Reads.{control_of, wanted_of, IsFormed};
     ghost use Rattle.minus.specs.NextTexts.{next_document, IsNext};
-    ghost use Rattle.minus.specs.Changes.{IsChange, IsUnformed};
-    ghost use Rattle.minus.specs.Starts.{taken};
+    ghost use Rattle.minus.specs.Changes.{IsChange, IsTextFor, shown_by, IsUnformed, IsUnformedState};
+    ghost use Rattle.minus.specs.Starts.{at_start, taken};
 
-    /// No text yet.
+    /// No text yet, for a terminal of so many columns and rows.
+    ///
+    /// # Errors
+    ///
+    /// [`MinusError::BadSize`] where the columns or the rows are not from 1 to 65,535, and [`MinusError::Memory`] where
+    /// there is no memory.
     pub fn new(alloc: Global, cols: usize, rows: usize) -> Result<PagerState, MinusError>
-        requires { IsSize cols rows }
-        ensures control { IfOk result (λ s. control_of s ≡ record { text = []; cols = cols; rows = rows; mark = 0 }) }
+        ensures control { IfOk result (λ s. control_of s ≡ at_start cols rows) }
         ensures formed { IfOk result IsFormed }
-        ensures memory { IfErr result (λ e. e ≡ MinusError.Memory) }
+        ensures size { OnOk result (IsSize cols rows) }
+        ensures refused { IfErr result (λ e. IsUnformedState (refusal_of e) cols rows) }
     {
-        let mut screen = Screen::new(alloc);
-        let _ = screen.set_text(alloc, "", cols)?;
+        if !is_size(cols, rows) {
+            return Err(MinusError::BadSize(cols, rows));
+        }
         Ok(PagerState {
-            screen,
+            screen: formed(alloc, "", cols)?,
             upper_mark: 0,
             cols,
             rows,
@@ -145,6 +150,16 @@ impl PagerState {
         Ok(())
     }
 
+    // How the program is to go on after a command that is an exit, and the code that it ends with.
+    pub(crate) fn exit_of(&self, command: &Command) -> Option<(ExitStrategy, u8)>
+        ensures { result ≡ (effect (control_of self.now) (wanted_of command.now)).exits_by }
+    {
+        match command {
+            Command::UserInput(InputEvent::Exit) => Some((ExitStrategy::ProcessQuit, 0)),
+            _ => None,
+        }
+    }
+
     // The state as it is, but for the text.
     pub(crate) fn change_to(&self, text: NextText) -> Change
         ensures text { result.text ≡ text }
@@ -160,19 +175,31 @@ impl PagerState {
         }
     }
 
+    // The state with its mark moved, as far as the text goes.
+    pub(crate) fn moved_to(&self, mark: usize) -> Change
+        requires { IsFormed self.now }
+        ensures next { IsChange (control_of self.now) result (moved_to (control_of self.now) mark) }
+        ensures text { result.text ≡ NextText.Same }
+    {
+        let rows = self.screen.formatted_lines_count();
+        Change {
+            text: NextText::Same,
+            mark: mark.min(rows.saturating_sub(self.rows - 1)),
+            cols: self.cols,
+            rows: self.rows,
+        }
+    }
+
     // The state in another size, for which the text is formed anew.
     fn resized(&self, alloc: Global, cols: usize, rows: usize) -> Result<Change, MinusError>
-        requires { IsFormed self.now }
+        requires formed { IsFormed self.now }
+        requires size { IsSize cols rows }
         ensures next { IfOk result (λ c. IsChange (control_of self.now) c (record (control_of self.now) { cols = cols; rows = rows })) }
-        ensures possible { OnOk result (IsSize cols rows) }
-        ensures unformed { IfErr result (λ e. IsUnformed e (resizes cols rows)) }
+        ensures text { IfOk result (λ c. IsTextFor c.text (resizes cols rows)) }
+        ensures memory { IfErr result (λ e. e ≡ MinusError.Memory) }
     {
-        if !is_size(cols, rows) {
-            return Err(MinusError::BadSize(cols, rows));
-        }
-        let text = formed_anew(alloc, self.screen.orig_text(), cols)?;
         Ok(Change {
-            text,
+            text: NextText::Whole(formed(alloc, self.screen.orig_text(), cols)?),
             mark: self.upper_mark,
             cols,
             rows,
@@ -182,12 +209,16 @@ impl PagerState {
     // The text and the mark that a command leaves, before the mark is clamped.
     fn next_text(&self, alloc: Global, command: Command) -> Result<Change, MinusError>
         requires { IsFormed self.now }
-        ensures next { IfOk result (λ c. IsChange (control_of self.now) c (moved (effect (control_of self.now) (wanted_of command)).changed (effect (control_of self.now) (wanted_of command)).moves_to)) }
+        ensures next { IfOk result (λ c. IsChange (control_of self.now) c (moved_by (effect (control_of self.now) (wanted_of command)))) }
+        ensures text { IfOk result (λ c. IsTextFor c.text (wanted_of command)) }
         ensures possible { OnOk result (IsPossible (wanted_of command)) }
-        ensures unformed { IfErr result (λ e. IsUnformed e (wanted_of command)) }
+        ensures unformed { IfErr result (λ e. IsUnformed (refusal_of e) (wanted_of command)) }
     {
         match command {
-            Command::SetData(text) => Ok(self.change_to(formed_anew(alloc, &text, self.cols)?)),
+            Command::SetData(text) => {
+                let next = formed(alloc, &text, self.cols)?;
+                Ok(self.change_to(NextText::Whole(next)))
+            }
             Command::AppendData(text) => {
                 let pending = self.screen.prepare_push(alloc, &text, self.cols)?;
                 Ok(self.change_to(NextText::Pushed(text, pending)))
@@ -198,8 +229,11 @@ impl PagerState {
                 cols: self.cols,
                 rows: self.rows,
             }),
-            Command::UserInput(InputEvent::UpdateTermArea(cols, rows)) => {
+            Command::UserInput(InputEvent::UpdateTermArea(cols, rows)) if is_size(cols, rows) => {
                 self.resized(alloc, cols, rows)
+            }
+            Command::UserInput(InputEvent::UpdateTermArea(cols, rows)) => {
+                Err(MinusError::BadSize(cols, rows))
             }
             Command::UserInput(InputEvent::Exit | InputEvent::Ignore) => {
                 Ok(self.change_to(NextText::Same))
@@ -211,8 +245,9 @@ impl PagerState {
     pub(crate) fn prepare(&self, alloc: Global, command: Command) -> Result<Change, MinusError>
         requires { IsFormed self.now }
         ensures next { IfOk result (λ c. IsChange (control_of self.now) c (changed_by (effect (control_of self.now) (wanted_of command)))) }
+        ensures text { IfOk result (λ c. IsTextFor c.text (wanted_of command)) }
         ensures possible { OnOk result (IsPossible (wanted_of command)) }
-        ensures unformed { IfErr result (λ e. IsUnformed e (wanted_of command)) }
+        ensures unformed { IfErr result (λ e. IsUnformed (refusal_of e) (wanted_of command)) }
     {
         let mut change = self.next_text(alloc, command)?;
         let top = change
@@ -230,7 +265,7 @@ impl PagerState {
         change: &'a Change,
     ) -> Result<Vec<&'a str>, AllocError>
         requires { IsNext self.now.screen change.now.text }
-        ensures { IfOk result (λ v. map (λ r. r.now) v.items ≡ take (change.now.rows - 1) (drop change.now.mark (rows_of (next_document self.now.screen change.now.text)))) }
+        ensures { IfOk result (λ v. map (λ r. r.now) v.items ≡ shown_by self.now.screen change.now) }
     {
         let left = change
             .text
@@ -245,20 +280,82 @@ impl PagerState {
         Ok(shown)
     }
 
-    // Adds the bytes that draw the page that a change leads to.
-    pub(crate) fn draw_after<'a>(
+    // The first row that an append may change.
+    fn first_changed(&self) -> usize
+        requires { IsFormed self.now }
+        ensures { result ≡ first_changed (control_of self.now) }
+    {
+        self.screen
+            .formatted_lines_count()
+            .saturating_sub(self.screen.unterminated())
+    }
+
+    // Adds the bytes that draw the rows which an append has changed.
+    fn draw_append<'a>(
         &'a self,
         alloc: Global,
         out: &mut Vec<u8>,
         change: &'a Change,
     ) -> Result<(), AllocError>
-        requires { IsNext self.now.screen change.now.text }
-        ensures { OnOk result (out.new.items ≡ out.old.items ++ written_all (full_ops change.now.rows (take (change.now.rows - 1) (drop change.now.mark (rows_of (next_document self.now.screen change.now.text)))) (prompt_row change.now.cols))) }
+        requires formed { IsFormed self.now }
+        requires belongs { IsNext self.now.screen change.now.text }
+        ensures { OnOk result ((new : Control) → IsChange (control_of self.now) change.now new → out.new.items ≡ out.old.items ++ written_all (ops_between Drawing.Append (control_of self.now) new)) }
     {
         let shown = self.shown_after(alloc, change)?;
-        let prompt = format_prompt(alloc, change.cols)?;
-        draw_full(alloc, out, change.rows as u16, &shown, &prompt)?;
+        let rows = self.screen.formatted_lines_count();
+        let were = rows.saturating_sub(self.upper_mark).min(self.rows - 1);
+        let first = self.first_changed().saturating_sub(self.upper_mark);
+        draw_append_text(alloc, out, first.min(shown.len()), were, &shown)?;
         Ok(())
+    }
+
+    // Adds the bytes that draw the rows of text on the page from one row of the text on, where there were so many.
+    pub(crate) fn draw_rows_from(
+        &self,
+        alloc: Global,
+        out: &mut Vec<u8>,
+        first: usize,
+        old_count: usize,
+    ) -> Result<(), AllocError>
+        requires { IsFormed self.now }
+        ensures { OnOk result (out.new.items ≡ out.old.items ++ written_all (append_from (control_of self.now) first old_count)) }
+    {
+        let change = self.change_to(NextText::Same);
+        let shown = self.shown_after(alloc, &change)?;
+        let were = old_count.saturating_sub(self.upper_mark).min(self.rows - 1);
+        let first = first.saturating_sub(self.upper_mark).min(shown.len());
+        draw_append_text(alloc, out, first, were, &shown)?;
+        Ok(())
+    }
+
+    // Adds the bytes that draw the page that a change leads to, in this way.
+    pub(crate) fn draw_after<'a>(
+        &'a self,
+        alloc: Global,
+        out: &mut Vec<u8>,
+        drawing: Drawing,
+        change: &'a Change,
+    ) -> Result<(), AllocError>
+        requires formed { IsFormed self.now }
+        requires belongs { IsNext self.now.screen change.now.text }
+        ensures { OnOk result ((new : Control) → IsChange (control_of self.now) change.now new → out.new.items ≡ out.old.items ++ written_all (ops_between drawing (control_of self.now) new)) }
+    {
+        match drawing {
+            Drawing::Nothing => Ok(()),
+            Drawing::Append => self.draw_append(alloc, out, change),
+            Drawing::Full => {
+                let shown = self.shown_after(alloc, change)?;
+                let prompt = format_prompt(alloc, change.cols)?;
+                draw_full(alloc, out, change.rows as u16, &shown, &prompt)
+            }
+            Drawing::Scroll => {
+                let (from, to) = (self.upper_mark, change.mark);
+                let shown = self.shown_after(alloc, change)?;
+                let prompt = format_prompt(alloc, change.cols)?;
+                let rows = change.rows as u16;
+                draw_scroll(alloc, out, rows, from, to, &shown, &prompt)
+            }
+        }
     }
 
     // Puts what was formed in its place. An `Err` changes nothing.

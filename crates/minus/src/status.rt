@@ -2,7 +2,7 @@
 
 /// How a session stands.
 #[derive(Clone, Copy, Debug, PartialEq, Eq)]
-pub enum Status {
+pub(crate) enum Status {
     /// It takes steps.
     Running,
     /// It has exited, and each step is refused.

@@ -11,6 +11,3 @@ pub use description::{each_text_has_one_meaning, parse_key_event, parse_mouse_ev
 pub use help_table::{format_help_table_from_entries, format_key};
 pub use key_seq::KeySeq;
 pub use names::modifier_of;
-
-#[cfg(test)]
-mod tests;

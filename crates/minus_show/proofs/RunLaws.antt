@@ -1,31 +1,32 @@
 -- What a run comes to.
-use Rattle.std.proofs.Common.{◌≡◌, ℕ, Bool, true, List, [], ◌∷◌, ◌++◌, length, map, Option, Some, None, inl, inr, refl, sym, ap, subst, ◌∙◌, arith}
+use Rattle.std.proofs.Common.{◌≡◌, ℕ, ◌<◌, Bool, true, false, List, [], ◌∷◌, ◌++◌, length, map, Option, Some, None, inl, inr, refl, sym, ap, subst, ◌∙◌}
+use Rattle.std.specs.Prelude.{◌||◌, is_some, nat_lt}
 use Rattle.std.specs.Io.KnownBytes.{Appends}
 use Rattle.std.proofs.lemmas.List.{map-append}
 use Rattle.minus_term.specs.declared.error.MinusError.{MinusError}
-use Rattle.minus_term.specs.declared.error.MinusError.TheVariants.{Cleanup}
-use Rattle.minus_term.specs.Refusals.{number_of}
-use Rattle.minus.specs.declared.commands.Drawing.{Drawing}
-use Rattle.minus.specs.declared.commands.Drawing.TheVariants.{Nothing, Full, Ending}
-use Rattle.minus.specs.declared.input.ResizeAlone.{ResizeAlone}
+use Rattle.minus_term.specs.declared.error.MinusError.TheVariants.{Memory, BadSize, BadMode, Failed, Ended, Setup, Cleanup, Draw, HandleEvent, Cursor, FmtWriteError, Conversion, SearchExpError}
+use Rattle.minus_term.specs.Refusals.{number_of, refusal_of}
+use Rattle.minus.specs.declared.stand_in.ResizeAlone.{ResizeAlone}
 use Rattle.minus.specs.declared.session.Answer.{Answer}
-use Rattle.minus.specs.declared.state.RunMode.TheVariants.{Dynamic}
+use Rattle.minus.specs.declared.state.RunMode.TheVariants.{Dynamic, Uninitialized}
 use Rattle.minus.specs.declared.status.Status.{Status}
 use Rattle.minus.specs.declared.status.Status.TheVariants as status
-use Rattle.minus.specs.Answers.{IsAnswer}
+use Rattle.minus.specs.Answers.{IsAnswer, ends_run}
+use Rattle.std.specs.List.{last_or}
 use Rattle.minus.specs.Classified.{resize_alone}
 use Rattle.minus.specs.Control.{Control}
 use Rattle.minus.specs.Reads.{Told}
-use Rattle.minus.specs.Runs.{Stops, IsLastAnswer, IsRun}
-use Rattle.minus.specs.Starts.{IsStarted}
-use Rattle.minus.specs.Steps.{Seen, Allows, Steps, none, more, status_after, cleanup_after}
-use Rattle.minus.specs.Table.{Wanted}
+use Rattle.minus.specs.Runs.{Stops, StopsSo, StopsAfter, IsRun}
+use Rattle.minus.specs.Sizes.{IsSize}
+use Rattle.minus.specs.Starts.{IsStarted, IsStartRefused}
+use Rattle.minus.specs.Steps.{Seen, Allows, IsStep, Steps, none, more, Refuses, status_after, cleanup_after}
+use Rattle.minus.specs.Table.{Wanted, Exit}
 use Rattle.minus_show.specs.declared.arguments.Mode.{Mode}
 use Rattle.minus_show.specs.declared.arguments.Mode.TheVariants.{Page, Bytes}
 use Rattle.minus_show.specs.declared.fault.ScriptFault.{ScriptFault}
 use Rattle.minus_show.specs.declared.fault.ScriptFault.TheVariants.{Io, Line, Refused}
-use Rattle.minus_show.specs.Runs.{IsTaken, printed_page, exit_code, printed_after, IsShown, IsStepRefused}
-use Rattle.minus_show.specs.ShowFaults.{IsShowFault, IsCleanupFault, IsMemory}
+use Rattle.minus_show.specs.Runs.{IsTaken, exit_code, printed_after, IsShown, IsSizeAsked, IsRefusal}
+use Rattle.minus_show.specs.ShowFaults.{IsShowFault, IsMemory}
 
 -- a start from no text over a sink that holds nothing
 pub started : (seen : Seen ResizeAlone) (waiting : List Wanted) (cols rows : ℕ) (terminal : Bool) (a b : Option (List ℕ)) → waiting ≡ [] → terminal ≡ true → a ≡ Some [] → IsStarted seen (record {}) waiting Dynamic cols rows terminal a b → IsStarted seen (record {}) [] Dynamic cols rows true (Some []) b
@@ -33,73 +34,66 @@ started seen waiting cols rows terminal a b e f g h =
     subst (λ (x : Option (List ℕ)). IsStarted seen (record {}) [] Dynamic cols rows true x b) g (subst (λ (x : Bool). IsStarted seen (record {}) [] Dynamic cols rows x a b) f (subst (λ (x : List Wanted). IsStarted seen (record {}) x Dynamic cols rows terminal a b) e h))
 
 -- what a run comes to that no refusal stopped
-pub record Came {A : Type 0} (told : A → Told) (cols rows : ℕ) (inputs rest : List A) (done : ℕ) (last : Option Answer) (new : Seen ResizeAlone) (bytes : Option (List ℕ)) : Type 0 where
-  pub taken : IsTaken cols rows (map told inputs) new bytes (map told rest)
-  pub whole : new.status ≡ status.Running → map told rest ≡ []
-  pub answer : IsLastAnswer done new.status last
-  pub unmoved : done ≡ 0 → new.status ≡ status.Running
+pub record Came {A : Type 0} (told : A → Told) (cols rows : ℕ) (inputs rest : List A) (last : Option Answer) (new : Seen ResizeAlone) (bytes : Option (List ℕ)) : Type 0 where
+  pub answers : List Answer
+  pub taken : IsTaken cols rows (map told inputs) answers new bytes (map told rest)
+  pub whole : StopsAfter answers None (map told rest)
+  pub answer : last ≡ last_or None answers
 
-no_steps : {K : Type 0} (allows : Allows K) (a b : Seen K) (ts : List Told) (cs : List Control) (x y : Option (List ℕ)) → ts ≡ [] → Steps allows a ts cs b x y → b ≡ a
-no_steps allows a b ts cs x y e none = refl
-no_steps allows a b ts cs x y e (more s rest) = let no_more = ap length e in absurd (omega (arith, no_more))
+stopped_well : {A K : Type 0} (allows : Allows K) (told : A → Told) (refused : List A) (reached new : Seen K) (a b : Option (List ℕ)) → Stops allows told None refused reached new a b → (refused ≡ []) × (new ≡ reached) × (b ≡ a)
+stopped_well allows told [] reached new a b h = (refl, h.0, h.1)
+stopped_well allows told (x ∷ xs) reached new a b h = absurd h
 
-nothing_taken : {A : Type 0} (told : A → Told) (taken : List A) → 0 ≡ length taken → map told taken ≡ []
-nothing_taken told [] e = refl
-nothing_taken told (x ∷ xs) e = absurd (omega arith)
+stops_told : {A : Type 0} (told : A → Told) (ends : Bool) (stopped : Option MinusError) (rest : List A) → StopsSo ends stopped rest → StopsSo ends stopped (map told rest)
+stops_told told true stopped rest h = h
+stops_told told false stopped rest h = λ well. ap (map told) (h well)
 
-stopped_well : {A K : Type 0} (allows : Allows K) (told : A → Told) (refused rest : List A) (reached new : Seen K) (a b : Option (List ℕ)) → Stops allows told None refused rest reached new a b → (refused ≡ []) × (new ≡ reached) × (b ≡ a) × (reached.status ≡ status.Running → rest ≡ [])
-stopped_well allows told [] rest reached new a b h = (refl, h.0, h.1, h.2)
-stopped_well allows told (x ∷ xs) rest reached new a b h = absurd h
+told_stops : {A : Type 0} (told : A → Told) (answers : List Answer) (stopped : Option MinusError) (rest : List A) → StopsAfter answers stopped rest → StopsAfter answers stopped (map told rest)
+told_stops told [] stopped rest h = stops_told told false stopped rest h
+told_stops told (answer ∷ []) stopped rest h = stops_told told (ends_run answer) stopped rest h
+told_stops told (answer ∷ next ∷ answers) stopped rest h = (h.0, told_stops told (next ∷ answers) stopped rest h.1)
 
 pub run_came : {A : Type 0} (told : A → Told) (old new : Seen ResizeAlone) (inputs : List A) (done : ℕ) (last : Option Answer) (stopped : Option MinusError) (rest : List A) (a b : Option (List ℕ)) (cols rows : ℕ) → IsRun resize_alone told old new inputs done last stopped rest a b → stopped ≡ None → IsStarted old (record {}) [] Dynamic cols rows true (Some []) a
-    → Came told cols rows inputs rest done last new b
+    → Came told cols rows inputs rest last new b
 run_came told old new inputs done last stopped rest a b cols rows h is s =
-    let stop = stopped_well resize_alone told h.refused rest h.reached new h.bytes b (subst (λ (x : Option MinusError). Stops resize_alone told x h.refused rest h.reached new h.bytes b) is h.stop) in
+    let stop = stopped_well resize_alone told h.refused h.reached new h.bytes b (subst (λ (x : Option MinusError). Stops resize_alone told x h.refused h.reached new h.bytes b) is h.stop) in
     let none_refused : h.refused ≡ [] = stop.0 in
     let same : new ≡ h.reached = stop.1 in
     let bytes : b ≡ h.bytes = stop.2 in
     let all : inputs ≡ h.taken ++ rest = h.all ∙ ap (λ x. h.taken ++ (x ++ rest)) none_refused in
-    let to_new = subst (λ (x : Seen ResizeAlone). Steps resize_alone old (map told h.taken) h.passed x a h.bytes) (sym same) h.steps in
+    let to_new = subst (λ (x : Seen ResizeAlone). Steps resize_alone old (map told h.taken) h.passed h.answers x a h.bytes) (sym same) h.steps in
     record {
+      answers = h.answers;
       taken = record {
         first = old;
         begun = a;
         taken = map told h.taken;
         passed = h.passed;
         started = s;
-        steps = subst (λ (x : Option (List ℕ)). Steps resize_alone old (map told h.taken) h.passed new a x) (sym bytes) to_new;
+        steps = subst (λ (x : Option (List ℕ)). Steps resize_alone old (map told h.taken) h.passed h.answers new a x) (sym bytes) to_new;
         all = ap (map told) all ∙ map-append told h.taken rest;
       };
-      whole = λ r. ap (map told) (stop.3 (sym (ap (λ (x : Seen _). x.status) same) ∙ r));
-      answer = subst (λ (x : Seen ResizeAlone). IsLastAnswer done x.status last) (sym same) h.answer;
-      unmoved = λ none. ap (λ (x : Seen _). x.status) (same ∙ no_steps resize_alone old h.reached (map told h.taken) h.passed a h.bytes (nothing_taken told h.taken (sym none ∙ h.count)) h.steps ∙ s.begins);
+      whole = told_stops told h.answers None rest (subst (λ (x : Option MinusError). StopsAfter h.answers x rest) is h.stops);
+      answer = h.answer;
     }
 
--- what is printed after the last answer is what is printed of the page
-pub printed_is : (control : Control) (now : Status) (done : ℕ) (last : Option Answer) → IsLastAnswer done now last → (done ≡ 0 → now ≡ status.Running) → printed_after (exit_code last) control ≡ printed_page now control
-printed_is control now done None h unmoved = ap (λ (x : Status). printed_page x control) (sym (unmoved h))
-printed_is control now done (Some answer) h unmoved = by_drawing h.0 h.2 ∙ ap (λ (x : Status). printed_page x control) (sym h.3)
-  where
-    by_drawing : (d : Drawing) → IsAnswer d answer → printed_after (exit_code (Some answer)) control ≡ printed_page (status_after d) control
-    by_drawing Full a = rw a.exited refl
-    by_drawing Nothing a = rw a.exited refl
-    by_drawing Ending a = rw a.exited refl
-
 -- the page is shown
-pub page_shown : {A : Type 0} (told : A → Told) (cols rows : ℕ) (inputs rest : List A) (done : ℕ) (last : Option Answer) (new : Seen ResizeAlone) (bytes : Option (List ℕ)) (mode : Mode) (output : List ℕ) → Came told cols rows inputs rest done last new bytes → mode ≡ Page → output ≡ printed_after (exit_code last) new.control → IsShown mode cols rows (map told inputs) output
-page_shown told cols rows inputs rest done last new bytes mode output h is e = rw is (record {
+pub page_shown : {A : Type 0} (told : A → Told) (cols rows : ℕ) (inputs rest : List A) (last : Option Answer) (new : Seen ResizeAlone) (bytes : Option (List ℕ)) (mode : Mode) (output : List ℕ) → Came told cols rows inputs rest last new bytes → mode ≡ Page → output ≡ printed_after (exit_code last) new.control → IsShown mode cols rows (map told inputs) output
+page_shown told cols rows inputs rest last new bytes mode output h is e = rw is (record {
+  answers = h.answers;
   reached = new;
   bytes = bytes;
   rest = map told rest;
   taken = h.taken;
   whole = h.whole;
-  prints = e ∙ printed_is new.control new.status done last h.answer h.unmoved;
+  prints = e ∙ ap (λ (x : Option Answer). printed_after (exit_code x) new.control) h.answer;
 })
 
 -- all bytes are shown
-pub bytes_shown : {A : Type 0} (told : A → Told) (cols rows : ℕ) (inputs rest : List A) (done : ℕ) (last : Option Answer) (new : Seen ResizeAlone) (bytes : Option (List ℕ)) (mode : Mode) (output : List ℕ) → Came told cols rows inputs rest done last new bytes → mode ≡ Bytes → Appends bytes (Some output) (cleanup_after new.status)
+pub bytes_shown : {A : Type 0} (told : A → Told) (cols rows : ℕ) (inputs rest : List A) (last : Option Answer) (new : Seen ResizeAlone) (bytes : Option (List ℕ)) (mode : Mode) (output : List ℕ) → Came told cols rows inputs rest last new bytes → mode ≡ Bytes → Appends bytes (Some output) (cleanup_after new.status)
     → IsShown mode cols rows (map told inputs) output
-bytes_shown told cols rows inputs rest done last new bytes mode output h is e = rw is (record {
+bytes_shown told cols rows inputs rest last new bytes mode output h is e = rw is (record {
+  answers = h.answers;
   reached = new;
   bytes = bytes;
   rest = map told rest;
@@ -108,37 +102,76 @@ bytes_shown told cols rows inputs rest done last new bytes mode output h is e = 
   prints = e;
 })
 
+-- a step that does not end a run leaves the session running
+goes_on : {K : Type 0} (exit : Option Exit) (answer : Answer) (old new : Seen K) (c : Control) → IsAnswer exit answer → ends_run answer ≡ false → new ≡ record old { control = c; status = status_after exit } → new.status ≡ status.Running
+goes_on None answer old new c is ends stands = ap (λ s. s.status) stands
+goes_on (Some exit) answer old new c is ends stands = absurd (let both : true ≡ false = subst (λ (x : Option Exit). (is_some x || is_some answer.copied || nat_lt 0 (length answer.refused.items)) ≡ false) is.exited ends in cc)
+
+step_goes_on : {K : Type 0} (allows : Allows K) (old new : Seen K) (t : Told) (answer : Answer) (x y : Option (List ℕ)) → IsStep allows old t new answer x y → ends_run answer ≡ false → new.status ≡ status.Running
+step_goes_on allows old new t answer x y s ends = goes_on s.exit answer old new new.control s.answers ends s.worked.stands
+
+-- after steps before an input that is refused, the session runs
+ends_not : (ends : Bool) (e : MinusError) (rest : List Told) → StopsSo ends (Some e) rest → ends ≡ false
+ends_not true e rest h = absurd (let both : Some e ≡ None = h in cc)
+ends_not false e rest h = refl
+
+pub still_runs : {K : Type 0} (allows : Allows K) (old new : Seen K) (ts : List Told) (cs : List Control) (answers : List Answer) (x y : Option (List ℕ)) (e : MinusError) (rest : List Told) → Steps allows old ts cs answers new x y → old.status ≡ status.Running → StopsAfter answers (Some e) rest → new.status ≡ status.Running
+still_runs allows old new ts cs answers x y e rest (none {a = a}) runs h = runs
+still_runs allows old new ts cs answers x y e rest (more {b = b} {t = t} {answer = answer} {answers = []} {x = u} {y = v} s none) runs h = step_goes_on allows old b t answer u v s (ends_not (ends_run answer) e rest h)
+still_runs allows old new ts cs answers x y e rest (more {b = b} {c = c} {t = t} {ts = us} {cs = ds} {answer = answer} {answers = next ∷ others} {x = u} {y = v} {z = w} s steps) runs h =
+    still_runs allows b c us ds (next ∷ others) v w e rest steps (step_goes_on allows old b t answer u v s h.0) h.1
+
+-- a start that is refused
+pub start_refused : (e : MinusError) (cols rows : ℕ) (told : List Told) → IsStartRefused (refusal_of e) Dynamic cols rows true → IsRefusal (number_of e) cols rows told
+start_refused Memory cols rows told h = inl (inl refl)
+start_refused (BadSize c r) cols rows told h = inr (refl, inl h.3)
+start_refused BadMode cols rows told h = absurd (let both : Dynamic ≡ Uninitialized = h in cc)
+start_refused Failed cols rows told h = absurd h
+start_refused Ended cols rows told h = absurd h
+start_refused (Setup cause) cols rows told h = inl (inr (inl refl))
+start_refused (Cleanup cause) cols rows told h = absurd h
+start_refused (Draw cause) cols rows told h = inl (inr (inr (inr refl)))
+start_refused (HandleEvent cause) cols rows told h = absurd h
+start_refused (Cursor cause) cols rows told h = absurd h
+start_refused (FmtWriteError cause) cols rows told h = absurd h
+start_refused Conversion cols rows told h = absurd h
+start_refused (SearchExpError cause) cols rows told h = absurd h
+
+-- a step that is refused while the session runs
+step_refused : (e : MinusError) (cols rows : ℕ) (told rest : List Told) (t : Told) (answers : List Answer) (reached new : Seen ResizeAlone) (a b : Option (List ℕ)) → IsTaken cols rows told answers reached a (t ∷ rest) → reached.status ≡ status.Running → Refuses resize_alone (refusal_of e) reached t new a b → IsRefusal (number_of e) cols rows told
+step_refused Memory cols rows told rest t answers reached new a b taken runs h = inl (inl refl)
+step_refused (BadSize c r) cols rows told rest t answers reached new a b taken runs h =
+    inr (refl, inr (record { answers = answers; reached = reached; bytes = a; refused = t; rest = rest; columns = c; lines = r; taken = taken; asked = h.0.asked; bad = h.0.bad }))
+step_refused BadMode cols rows told rest t answers reached new a b taken runs h = absurd h
+step_refused Failed cols rows told rest t answers reached new a b taken runs h = absurd (let both : status.Running ≡ status.Failed = sym runs ∙ h.0 in cc)
+step_refused Ended cols rows told rest t answers reached new a b taken runs h = absurd (let both : status.Running ≡ status.Ended = sym runs ∙ h.0 in cc)
+step_refused (Setup cause) cols rows told rest t answers reached new a b taken runs h = absurd h
+step_refused (Cleanup cause) cols rows told rest t answers reached new a b taken runs h = inl (inr (inr (inl refl)))
+step_refused (Draw cause) cols rows told rest t answers reached new a b taken runs h = inl (inr (inr (inr refl)))
+step_refused (HandleEvent cause) cols rows told rest t answers reached new a b taken runs h = absurd h
+step_refused (Cursor cause) cols rows told rest t answers reached new a b taken runs h = absurd h
+step_refused (FmtWriteError cause) cols rows told rest t answers reached new a b taken runs h = absurd h
+step_refused Conversion cols rows told rest t answers reached new a b taken runs h = absurd h
+step_refused (SearchExpError cause) cols rows told rest t answers reached new a b taken runs h = absurd h
+
 -- a refusal stopped the run
-refused_one : {A : Type 0} (told : A → Told) (e : MinusError) (refused rest inputs taken : List A) (old reached new : Seen ResizeAlone) (passed : List Control) (start a b : Option (List ℕ)) (cols rows : ℕ) → Stops resize_alone told (Some e) refused rest reached new a b → inputs ≡ taken ++ (refused ++ rest) → Steps resize_alone old (map told taken) passed reached start a
-    → IsStarted old (record {}) [] Dynamic cols rows true (Some []) start → IsStepRefused e cols rows (map told inputs)
-refused_one told e [] rest inputs taken old reached new passed start a b cols rows h all steps s = absurd h
-refused_one told e (x ∷ y ∷ xs) rest inputs taken old reached new passed start a b cols rows h all steps s = absurd h
-refused_one told e (x ∷ []) rest inputs taken old reached new passed start a b cols rows h all steps s = record {
-  reached = reached;
-  bytes = a;
-  refused = told x;
-  rest = map told rest;
-  taken = record { first = old; begun = start; taken = map told taken; passed = passed; started = s; steps = steps; all = ap (map told) all ∙ map-append told taken (x ∷ rest) };
-  left = new;
-  left_bytes = b;
-  refuses = h;
-}
+refused_one : {A : Type 0} (told : A → Told) (e : MinusError) (refused rest inputs taken : List A) (old reached new : Seen ResizeAlone) (passed : List Control) (answers : List Answer) (start a b : Option (List ℕ)) (cols rows : ℕ) → Stops resize_alone told (Some e) refused reached new a b → inputs ≡ taken ++ (refused ++ rest) → Steps resize_alone old (map told taken) passed answers reached start a
+    → IsStarted old (record {}) [] Dynamic cols rows true (Some []) start → reached.status ≡ status.Running → IsRefusal (number_of e) cols rows (map told inputs)
+refused_one told e [] rest inputs taken old reached new passed answers start a b cols rows h all steps s runs = absurd h
+refused_one told e (x ∷ y ∷ xs) rest inputs taken old reached new passed answers start a b cols rows h all steps s runs = absurd h
+refused_one told e (x ∷ []) rest inputs taken old reached new passed answers start a b cols rows h all steps s runs =
+    step_refused e cols rows (map told inputs) (map told rest) (told x) answers reached new a b (record { first = old; begun = start; taken = map told taken; passed = passed; started = s; steps = steps; all = ap (map told) all ∙ map-append told taken (x ∷ rest) }) runs h
 
-pub run_refused : {A : Type 0} (told : A → Told) (old new : Seen ResizeAlone) (inputs : List A) (done : ℕ) (last : Option Answer) (stopped : Option MinusError) (rest : List A) (a b : Option (List ℕ)) (cols rows : ℕ) (e : MinusError) (mode : Mode) (fault : ScriptFault) → IsRun resize_alone told old new inputs done last stopped rest a b → stopped ≡ Some e
-    → IsStarted old (record {}) [] Dynamic cols rows true (Some []) a → fault ≡ Refused (number_of e) → IsShowFault mode cols rows (map told inputs) fault
-run_refused told old new inputs done last stopped rest a b cols rows e mode fault h is s f =
-    let stop = subst (λ (x : Option MinusError). Stops resize_alone told x h.refused rest h.reached new h.bytes b) is h.stop in
-    rw f (inr (e, refl, inr (inl (refused_one told e h.refused rest inputs h.taken old h.reached new h.passed a h.bytes b cols rows stop h.all h.steps s))))
-
--- the cleanup at the end was refused
-pub finish_refused : {A : Type 0} (told : A → Told) (cols rows : ℕ) (inputs rest : List A) (done : ℕ) (last : Option Answer) (new : Seen ResizeAlone) (bytes : Option (List ℕ)) (mode : Mode) (fault : ScriptFault) → Came told cols rows inputs rest done last new bytes → mode ≡ Bytes → IsCleanupFault bytes fault → IsShowFault mode cols rows (map told inputs) fault
-finish_refused told cols rows inputs rest done last new bytes mode (Io cause) h is e = absurd e
-finish_refused told cols rows inputs rest done last new bytes mode (Line number) h is e = absurd e
-finish_refused told cols rows inputs rest done last new bytes mode (Refused number) h is e =
-    inr (Cleanup e.1, e.0, inr (inr (record { bytes_asked = is; reached = new; bytes = bytes; rest = map told rest; taken = h.taken; cause = e.1; is = refl; left_bytes = e.2; broken = e.3 })))
+pub run_refused : {A : Type 0} (told : A → Told) (old new : Seen ResizeAlone) (inputs : List A) (done : ℕ) (last : Option Answer) (stopped : Option MinusError) (rest : List A) (a b : Option (List ℕ)) (cols rows : ℕ) (e : MinusError) (fault : ScriptFault) → IsRun resize_alone told old new inputs done last stopped rest a b → stopped ≡ Some e
+    → IsStarted old (record {}) [] Dynamic cols rows true (Some []) a → fault ≡ Refused (number_of e) → IsShowFault cols rows (map told inputs) fault
+run_refused told old new inputs done last stopped rest a b cols rows e fault h is s f =
+    let stop = subst (λ (x : Option MinusError). Stops resize_alone told x h.refused h.reached new h.bytes b) is h.stop in
+    let stops = told_stops told h.answers (Some e) rest (subst (λ (x : Option MinusError). StopsAfter h.answers x rest) is h.stops) in
+    let runs = still_runs resize_alone old h.reached (map told h.taken) h.passed h.answers a h.bytes e (map told rest) h.steps (ap (λ (x : Seen ResizeAlone). x.status) s.begins) stops in
+    rw f (refused_one told e h.refused rest inputs h.taken old h.reached new h.passed h.answers a h.bytes b cols rows stop h.all h.steps s runs)
 
 -- memory ran out
-pub memory_fault : (mode : Mode) (cols rows : ℕ) (told : List Told) (fault : ScriptFault) → IsMemory fault → IsShowFault mode cols rows told fault
-memory_fault mode cols rows told (Io cause) e = absurd e
-memory_fault mode cols rows told (Line number) e = absurd e
-memory_fault mode cols rows told (Refused number) e = inl e
+pub memory_fault : (cols rows : ℕ) (told : List Told) (fault : ScriptFault) → IsMemory fault → IsShowFault cols rows told fault
+memory_fault cols rows told (Io stream cause) e = absurd e
+memory_fault cols rows told (Line number) e = absurd e
+memory_fault cols rows told (Refused number) e = inl e

@@ -7,6 +7,8 @@ pub mod ScriptFaults
 pub mod Printed
 pub mod ProgramArguments
 pub mod Reading
+pub mod WriteFaults
 pub mod Runs
+pub mod Programs
 pub mod ShowFaults
 pub mod Statuses

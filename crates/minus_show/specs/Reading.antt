@@ -1,12 +1,13 @@
 -- How the reading of a script may fail.
-use Rattle.std.specs.Prelude.{◌≡◌, ℕ, List, Option, ⊤}
+use Rattle.std.specs.Prelude.{◌≡◌, ℕ, List, Option}
 use Rattle.std.specs.Io.KnownBytes.{Consumes}
+use Rattle.minus_show.specs.declared.fault.Stream.TheVariants.{Input}
 use Rattle.minus_show.specs.declared.fault.ScriptFault.{ScriptFault}
 use Rattle.minus_show.specs.declared.fault.ScriptFault.TheVariants.{Io, Line, Refused}
 
--- the reader failed, or it is want of memory
+-- standard input failed, or memory ran out
 abbrev pub IsReadFault : ScriptFault → Type 0
-IsReadFault (Io cause) = ⊤
+IsReadFault (Io stream cause) = stream ≡ Input
 IsReadFault (Line number) = ⊥
 IsReadFault (Refused reason) = reason ≡ 1
 

@@ -1,49 +1,44 @@
 -- A run of a script.
 use Rattle.std.specs.Prelude.{◌≡◌, ℕ, List, [], ◌∷◌, ◌++◌, true, Option, Some, None, Ok, Err, codes, decimal, ◌⊎◌}
+use Rattle.std.specs.List.{last_or}
 use Rattle.std.specs.Option.{option_and_then, option_map}
 use Rattle.std.specs.Io.KnownBytes.{Appends, Consumes, IsAtEnd}
-use Rattle.minus_term.specs.declared.error.MinusError.{MinusError}
-use Rattle.minus_term.specs.declared.error.MinusError.TheVariants.{Cleanup}
-use Rattle.minus_term.specs.declared.error.CleanupError.{CleanupError}
-use Rattle.minus_term.specs.Refusals.{number_of}
-use Rattle.minus_term.specs.Terminal.{CleanupBreaksOff}
-use Rattle.minus.specs.declared.input.ResizeAlone.{ResizeAlone}
+use Rattle.minus_term.specs.Counts.{AppendsFront}
+use Rattle.minus.specs.declared.stand_in.ResizeAlone.{ResizeAlone}
 use Rattle.minus.specs.declared.session.Answer.{Answer}
 use Rattle.minus.specs.declared.state.RunMode.TheVariants.{Dynamic}
-use Rattle.minus.specs.declared.status.Status.{Status}
-use Rattle.minus.specs.declared.status.Status.TheVariants as status
 use Rattle.minus.specs.Classified.{resize_alone}
 use Rattle.minus.specs.Control.{Control}
 use Rattle.minus.specs.Page.{page}
 use Rattle.minus.specs.Reads.{Told}
-use Rattle.minus.specs.Starts.{IsStarted, IsStartRefused}
-use Rattle.minus.specs.Steps.{Seen, Steps, Refuses, cleanup_after}
+use Rattle.minus.specs.Runs.{StopsAfter}
+use Rattle.minus.specs.Sizes.{IsSize}
+use Rattle.minus.specs.Starts.{IsStarted}
+use Rattle.minus.specs.Steps.{Seen, Asks, Steps, cleanup_after}
+use Rattle.minus.specs.Table.{resizes}
 use Rattle.minus_show.specs.Script.{script_lines, script_told}
 use Rattle.minus_show.specs.Printed.{printed_all}
+use Rattle.minus_show.specs.Reading.{ConsumesSome}
 use Rattle.minus_show.specs.declared.arguments.Mode.{Mode}
 use Rattle.minus_show.specs.declared.arguments.Mode.TheVariants.{Page, Bytes}
+use Rattle.minus_show.specs.declared.fault.Stream.TheVariants.{Input, Output}
 use Rattle.minus_show.specs.declared.fault.ScriptFault.{ScriptFault}
 use Rattle.minus_show.specs.declared.fault.ScriptFault.TheVariants.{Io, Line, Refused}
 
--- a pager was started without a text over a sink that held nothing, and took what it was told in order, up to a rest
-pub record IsTaken (cols rows : ℕ) (told : List Told) (reached : Seen ResizeAlone) (bytes : Option (List ℕ)) (rest : List Told) : Type 0 where
+-- a pager was started without a text over a sink that held nothing, and took what it was told in order, with these answers,
+-- up to a rest
+pub record IsTaken (cols rows : ℕ) (told : List Told) (answers : List Answer) (reached : Seen ResizeAlone) (bytes : Option (List ℕ)) (rest : List Told) : Type 0 where
   pub first : Seen ResizeAlone
   pub begun : Option (List ℕ)
   pub taken : List Told
   pub passed : List Control
   pub started : IsStarted first (record {}) [] Dynamic cols rows true (Some []) begun
-  pub steps : Steps resize_alone first taken passed reached begun bytes
+  pub steps : Steps resize_alone first taken passed answers reached begun bytes
   pub all : told ≡ taken ++ rest
 
 -- what is printed after an exit: the code that the program would end with
 abbrev pub printed_exit : ℕ → List ℕ
 printed_exit code = codes "exit " ++ decimal code ++ codes "\n"
-
--- what is printed of the page: its rows, or, after an exit, its code, which is 0
-abbrev pub printed_page : Status → Control → List ℕ
-printed_page status.Running control = printed_all (page control).texts
-printed_page status.Ended control = printed_exit 0
-printed_page status.Failed control = []
 
 -- the code of an exit that the last step answered
 abbrev pub exit_code : Option Answer → Option ℕ
@@ -55,67 +50,76 @@ printed_after None control = printed_all (page control).texts
 printed_after (Some code) control = printed_exit code
 
 -- what the modes print: the page, or all bytes of the sink, with those that clean the terminal up
-abbrev pub Prints : Mode → Seen ResizeAlone → Option (List ℕ) → List ℕ → Type 0
-Prints Page reached bytes output = output ≡ printed_page reached.status reached.control
-Prints Bytes reached bytes output = Appends bytes (Some output) (cleanup_after reached.status)
+abbrev pub Prints : Mode → List Answer → Seen ResizeAlone → Option (List ℕ) → List ℕ → Type 0
+Prints Page answers reached bytes output = output ≡ printed_after (exit_code (last_or None answers)) reached.control
+Prints Bytes answers reached bytes output = Appends bytes (Some output) (cleanup_after reached.status)
 
 -- the pager took all that it was told, or all up to an exit, and what it came to was printed
 pub record IsShown (mode : Mode) (cols rows : ℕ) (told : List Told) (output : List ℕ) : Type 0 where
+  pub answers : List Answer
   pub reached : Seen ResizeAlone
   pub bytes : Option (List ℕ)
   pub rest : List Told
-  pub taken : IsTaken cols rows told reached bytes rest
-  pub whole : reached.status ≡ status.Running → rest ≡ []
-  pub prints : Prints mode reached bytes output
+  pub taken : IsTaken cols rows told answers reached bytes rest
+  pub whole : StopsAfter answers None rest
+  pub prints : Prints mode answers reached bytes output
 
--- the script was read to its end, each of its lines is well formed, and what they lead to was printed
-pub record IsScriptRun (mode : Mode) (cols rows : ℕ) (old_input new_input old_output new_output : Option (List ℕ)) : Type 0 where
+-- a script was read to its end, each of its lines is well formed, and this is what they lead to
+pub record IsScriptShown (mode : Mode) (cols rows : ℕ) (old_input new_input : Option (List ℕ)) (printed : List ℕ) : Type 0 where
   pub script : List ℕ
   pub told : List Told
-  pub printed : List ℕ
   pub read : Consumes old_input new_input script
   pub end : IsAtEnd new_input
   pub lines : script_told (script_lines script) ≡ Ok told
   pub shown : IsShown mode cols rows told printed
-  pub output : Appends old_output new_output printed
 
--- a step was refused after those before it
-pub record IsStepRefused (e : MinusError) (cols rows : ℕ) (told : List Told) : Type 0 where
+-- what the script leads to was printed
+abbrev pub IsScriptRun : Mode → ℕ → ℕ → Option (List ℕ) → Option (List ℕ) → Option (List ℕ) → Option (List ℕ) → Type 0
+IsScriptRun mode cols rows old_input new_input old_output new_output =
+    (printed : List ℕ) × IsScriptShown mode cols rows old_input new_input printed × Appends old_output new_output printed
+
+-- memory ran out: the program's, or that of the pager's sink, which is a vector in memory and refuses a setup, a cleanup or a
+-- drawing for nothing else
+abbrev pub IsWantOfMemory : ℕ → Type 0
+IsWantOfMemory number = (number ≡ 1) ⊎ ((number ≡ 12) ⊎ ((number ≡ 13) ⊎ (number ≡ 14)))
+
+-- after a part of what it was told, the pager was asked for a size that is none of a terminal
+pub record IsSizeAsked (cols rows : ℕ) (told : List Told) : Type 0 where
+  pub answers : List Answer
   pub reached : Seen ResizeAlone
   pub bytes : Option (List ℕ)
   pub refused : Told
   pub rest : List Told
-  pub taken : IsTaken cols rows told reached bytes (refused ∷ rest)
-  pub left : Seen ResizeAlone
-  pub left_bytes : Option (List ℕ)
-  pub refuses : Refuses resize_alone e reached refused left bytes left_bytes
+  pub columns : ℕ
+  pub lines : ℕ
+  pub taken : IsTaken cols rows told answers reached bytes (refused ∷ rest)
+  pub asked : Asks resize_alone reached refused (resizes columns lines)
+  pub bad : IsSize columns lines → ⊥
 
--- all was taken, and the cleanup at the end was refused, whose bytes are asked for
-pub record IsFinishRefused (e : MinusError) (mode : Mode) (cols rows : ℕ) (told : List Told) : Type 0 where
-  pub bytes_asked : mode ≡ Bytes
-  pub reached : Seen ResizeAlone
-  pub bytes : Option (List ℕ)
-  pub rest : List Told
-  pub taken : IsTaken cols rows told reached bytes rest
-  pub cause : CleanupError
-  pub is : e ≡ Cleanup cause
-  pub left_bytes : Option (List ℕ)
-  pub broken : CleanupBreaksOff cause bytes left_bytes
-
--- why the pager refuses: at its start, at a step, or at its end
-abbrev pub PagerRefuses : MinusError → Mode → ℕ → ℕ → List Told → Type 0
-PagerRefuses e mode cols rows told = IsStartRefused e Dynamic cols rows true ⊎ (IsStepRefused e cols rows told ⊎ IsFinishRefused e mode cols rows told)
-
--- memory ran out, or the pager refuses, by its number
-abbrev pub IsRefusal : ℕ → Mode → ℕ → ℕ → List Told → Type 0
-IsRefusal number mode cols rows told = (number ≡ 1) ⊎ ((e : MinusError) × (number ≡ number_of e) × PagerRefuses e mode cols rows told)
+-- memory ran out, or the size of the start, or one that was asked for later, is none of a terminal
+abbrev pub IsRefusal : ℕ → ℕ → ℕ → List Told → Type 0
+IsRefusal number cols rows told = IsWantOfMemory number ⊎ ((number ≡ 5) × ((IsSize cols rows → ⊥) ⊎ IsSizeAsked cols rows told))
 
 -- a script was read to its end
 abbrev pub IsRead : Option (List ℕ) → Option (List ℕ) → List ℕ → Type 0
 IsRead old_input new_input script = Consumes old_input new_input script × IsAtEnd new_input
 
--- why a script is refused: input or output failed, its first faulty line, or a refusal, by its number
-abbrev pub IsRunFault : Mode → ℕ → ℕ → Option (List ℕ) → Option (List ℕ) → ScriptFault → Type 0
-IsRunFault mode cols rows old_input new_input (Io cause) = Unit {0}
-IsRunFault mode cols rows old_input new_input (Line number) = (script : List ℕ) × IsRead old_input new_input script × (script_told (script_lines script) ≡ Err number)
-IsRunFault mode cols rows old_input new_input (Refused number) = (number ≡ 1) ⊎ ((script : List ℕ) × (told : List Told) × IsRead old_input new_input script × (script_told (script_lines script) ≡ Ok told) × IsRefusal number mode cols rows told)
+-- what a fault of the output leaves: a beginning of what was to be printed
+abbrev pub IsOutputFault : Mode → ℕ → ℕ → Option (List ℕ) → Option (List ℕ) → Option (List ℕ) → Option (List ℕ) → Type 0
+IsOutputFault mode cols rows old_input new_input old_output new_output =
+    (printed : List ℕ) × IsScriptShown mode cols rows old_input new_input printed × AppendsFront old_output new_output printed
+
+-- why a script is refused, before anything is printed: input failed, its first faulty line, or a refusal, by its number; or,
+-- while it is printed: output failed
+abbrev pub IsRunFault : Mode → ℕ → ℕ → Option (List ℕ) → Option (List ℕ) → Option (List ℕ) → Option (List ℕ) → ScriptFault → Type 0
+IsRunFault mode cols rows old_input new_input old_output new_output (Io Input cause) = ConsumesSome old_input new_input
+IsRunFault mode cols rows old_input new_input old_output new_output (Io Output cause) = IsOutputFault mode cols rows old_input new_input old_output new_output
+IsRunFault mode cols rows old_input new_input old_output new_output (Line number) =
+    (script : List ℕ) × IsRead old_input new_input script × (script_told (script_lines script) ≡ Err number)
+IsRunFault mode cols rows old_input new_input old_output new_output (Refused number) =
+    (number ≡ 1) ⊎ ((script : List ℕ) × (told : List Told) × IsRead old_input new_input script × (script_told (script_lines script) ≡ Ok told) × IsRefusal number cols rows told)
+
+-- a fault that came before anything was printed
+abbrev pub IsBeforePrinting : ScriptFault → Type 0
+IsBeforePrinting (Io Output cause) = ⊥
+IsBeforePrinting fault = Unit {0}

@@ -6,6 +6,6 @@ use Rattle.minus_show.specs.declared.fault.ScriptFault.TheVariants.{Io, Line, Re
 
 -- the fault names the first faulty line, or is want of memory
 abbrev pub IsScriptFault : Result (List Told) ℕ → ScriptFault → Type 0
-IsScriptFault told (Io cause) = ⊥
+IsScriptFault told (Io stream cause) = ⊥
 IsScriptFault told (Line number) = told ≡ Err number
 IsScriptFault told (Refused reason) = reason ≡ 1

@@ -7,6 +7,6 @@ use Rattle.minus_show.specs.declared.program.ProgramFault.TheVariants.{Usage, Sc
 -- 1 where input or output failed, 2 for the arguments or a line of the script, 3 where the pager refused
 abbrev pub status_of : ProgramFault → ℕ
 status_of Usage = 2
-status_of (Script (Io cause)) = 1
+status_of (Script (Io stream cause)) = 1
 status_of (Script (Line number)) = 2
 status_of (Script (Refused number)) = 3

@@ -1,19 +1,37 @@
 //! The errors of the program.
 ghost use Rattle.std.specs.Prelude.{◌≡◌};
 ghost use Rattle.minus_term.specs.Refusals.{number_of};
-ghost use Rattle.minus_show.specs.declared.fault.ScriptFault.TheVariants.{Io, Refused};
+ghost use Rattle.minus_show.specs.declared.fault.ScriptFault.TheVariants.{Refused};
 
 use minus::MinusError;
 use std::alloc::{AllocError, AllocFailed};
-use std::io;
+use std::{fmt, io};
 use thiserror::Error;
+
+/// A stream of the program.
+#[derive(Clone, Copy, Debug, PartialEq, Eq)]
+pub enum Stream {
+    /// Standard input.
+    Input,
+    /// Standard output.
+    Output,
+}
+
+impl fmt::Display for Stream {
+    fn fmt<W: fmt::Write>(&self, f: &mut fmt::Formatter<W>) -> fmt::Result {
+        match self {
+            Stream::Input => f.write_str("input"),
+            Stream::Output => f.write_str("output"),
+        }
+    }
+}
 
 /// Why the program ends without having run its script.
 #[derive(Debug, Drop, Error)]
 pub enum ScriptFault {
     /// Standard input or output failed.
-    #[error("standard input or output failed")]
-    Io(io::Error),
+    #[error("standard {0} failed")]
+    Io(Stream, io::Error),
     /// The line with this number, counted from 1, is faulty.
     #[error("script line {0}")]
     Line(usize),
@@ -35,14 +53,6 @@ impl<T: Drop> From<AllocFailed<T>> for ScriptFault {
 
     fn from(_cause: AllocFailed<T>) -> ScriptFault {
         ScriptFault::Refused(1)
-    }
-}
-
-impl From<io::Error> for ScriptFault {
-    ghost from_gives = { λ cause e. e ≡ Io cause };
-
-    fn from(cause: io::Error) -> ScriptFault {
-        ScriptFault::Io(cause)
     }
 }
 

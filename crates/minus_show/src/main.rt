@@ -11,11 +11,11 @@ mod run;
 mod script;
 
 pub use arguments::{Arguments, Mode, parse_arguments};
-pub use fault::ScriptFault;
+pub use fault::{ScriptFault, Stream};
 pub use number::{parse_usize, usize_of_is_what_parse_reads};
-pub use printed::{print_row, print_rows, printed_rows_read_back};
-pub use program::ProgramFault;
-use program::run_program;
+pub use printed::{print_row, print_rows, printed_rows_read_back, write_out};
+use program::run_to_end;
+pub use program::{ProgramFault, run_words};
 pub use reading::read_script;
 pub use run::run_script;
 pub use script::parse_script;
@@ -25,12 +25,5 @@ use std::process::ExitCode;
 mod tests;
 
 fn main(rt: HostRuntime) -> ExitCode {
-    match run_program(&rt) {
-        Ok(()) => ExitCode::SUCCESS,
-        Err(fault) => {
-            let status = fault.status();
-            let _ = rt.eprintln(fault);
-            ExitCode::from(status)
-        }
-    }
+    run_to_end(&rt)
 }

@@ -1,15 +1,16 @@
 //! The program's faults, and the statuses that it ends with.
-ghost use Rattle.std.specs.Prelude.{◌≡◌};
-ghost use Rattle.minus_show.specs.Statuses.{status_of};
+ghost use Rattle.std.specs.Prelude.{◌≡◌, map, string_bytes, OnOk, IfErr, IsErrOf};
+ghost use Rattle.minus_show.specs.Programs.{IsProgramRun, IsProgramFault, IsSilent};
 ghost use Rattle.minus_show.specs.declared.program.ProgramFault.TheVariants.{Usage, Script};
 ghost use Rattle.minus_show.specs.declared.fault.ScriptFault.TheVariants.{Refused};
 
 use crate::arguments::{Arguments, parse_arguments};
 use crate::fault::ScriptFault;
 use crate::run::run_script;
-use std::alloc::AllocError;
+use std::alloc::{AllocError, Global};
 use std::env;
-use std::io::ErrorKind;
+use std::io::{ErrorKind, Read, Write};
+use std::process::ExitCode;
 use thiserror::Error;
 
 /// Why the program fails.
@@ -21,14 +22,6 @@ pub enum ProgramFault {
     /// The script was not run to its end.
     #[error("{0}")]
     Script(ScriptFault),
-}
-
-impl From<ScriptFault> for ProgramFault {
-    ghost from_gives = { λ cause e. e ≡ Script cause };
-
-    fn from(cause: ScriptFault) -> ProgramFault {
-        ProgramFault::Script(cause)
-    }
 }
 
 impl From<AllocError> for ProgramFault {
@@ -50,7 +43,7 @@ impl ProgramFault {
     {
         match self {
             ProgramFault::Usage | ProgramFault::Script(ScriptFault::Line(_)) => 2,
-            ProgramFault::Script(ScriptFault::Io(_)) => 1,
+            ProgramFault::Script(ScriptFault::Io(..)) => 1,
             ProgramFault::Script(ScriptFault::Refused(_)) => 3,
         }
     }
@@ -70,19 +63,46 @@ fn words(rt: &HostRuntime) -> Result<Vec<String>, ProgramFault> {
     }
 }
 
-/// Runs the script on standard input as the program's arguments say, and prints to standard output.
-pub(crate) fn run_program(rt: &HostRuntime) -> Result<(), ProgramFault> {
-    let words = words(rt)?;
-    let Some(Arguments { mode, cols, rows }) = parse_arguments(&words) else {
+/// Runs the script that a reader gives, as the words after the program's name say, and prints to a writer.
+///
+/// # Errors
+///
+/// [`ProgramFault::Usage`] where the words are no arguments: nothing is read or written then.
+/// [`ProgramFault::Script`] where [`run_script`] is refused.
+pub fn run_words<R: Read, W: Write>(
+    alloc: Global,
+    words: &[String],
+    reader: &mut R,
+    writer: &mut W,
+) -> Result<(), ProgramFault>
+    ensures run { OnOk result (IsProgramRun (map string_bytes words.now) (R.remaining reader.old) (R.remaining reader.new) (W.contents writer.old) (W.contents writer.new)) }
+    ensures fault { IfErr result (IsProgramFault (map string_bytes words.now) (R.remaining reader.old) (R.remaining reader.new) (W.contents writer.old) (W.contents writer.new)) }
+    ensures unread { IsErrOf result ProgramFault.Usage → reader.new ≡ reader.old }
+    ensures unwritten { IfErr result (λ e. IsSilent e → writer.new ≡ writer.old) }
+{
+    let Some(Arguments { mode, cols, rows }) = parse_arguments(words) else {
         return Err(ProgramFault::Usage);
     };
-    run_script(
-        rt.alloc(),
-        mode,
-        cols,
-        rows,
-        &mut rt.stdin(),
-        &mut rt.stdout(),
-    )?;
-    Ok(())
+    match run_script(alloc, mode, cols, rows, reader, writer) {
+        Ok(()) => Ok(()),
+        Err(fault) => Err(ProgramFault::Script(fault)),
+    }
+}
+
+/// Runs the script on standard input, and prints to standard output.
+fn run_program(rt: &HostRuntime) -> Result<(), ProgramFault> {
+    let words = words(rt)?;
+    run_words(rt.alloc(), &words, &mut rt.stdin(), &mut rt.stdout())
+}
+
+/// Runs the program, tells a fault on standard error, and answers the status that the process ends with.
+pub(crate) fn run_to_end(rt: &HostRuntime) -> ExitCode {
+    match run_program(rt) {
+        Ok(()) => ExitCode::SUCCESS,
+        Err(fault) => {
+            let status = fault.status();
+            let _ = rt.eprintln(fault);
+            ExitCode::from(status)
+        }
+    }
 }

@@ -5,7 +5,7 @@ ghost use Rattle.std.specs.Io.KnownBytes.{Consumes, IsAtEnd};
 ghost use Rattle.minus_show.specs.declared.fault.ScriptFault.TheVariants.{Io, Line, Refused};
 ghost use Rattle.minus_show.specs.Reading.{IsReadFault, ConsumesSome};
 
-use crate::fault::ScriptFault;
+use crate::fault::{ScriptFault, Stream};
 use std::alloc::Global;
 use std::io;
 use std::io::{ErrorKind, Read};
@@ -22,7 +22,7 @@ pub fn read_script<R: Read>(alloc: Global, reader: &mut R) -> Result<Vec<u8>, Sc
     ensures bytes { IfOk result (λ script. Consumes (R.remaining reader.old) (R.remaining reader.new) script.items) }
     ensures end { IfOk result (λ _. IsAtEnd (R.remaining reader.new)) }
     ensures fault { IfErr result IsReadFault }
-    ensures retried { IfErr result (λ e. elim e [ Io cause ↦ error_kind cause ≢ ErrorKind.Interrupted | Line number ↦ ⊤ | Refused reason ↦ ⊤ ]) }
+    ensures retried { IfErr result (λ e. elim e [ Io stream cause ↦ error_kind cause ≢ ErrorKind.Interrupted | Line number ↦ ⊤ | Refused reason ↦ ⊤ ]) }
     ensures lost { OnErr result (ConsumesSome (R.remaining reader.old) (R.remaining reader.new)) }
 {
     let mut script = Vec::new(alloc);
@@ -33,10 +33,11 @@ pub fn read_script<R: Read>(alloc: Global, reader: &mut R) -> Result<Vec<u8>, Sc
             Ok(n) => script.extend_from_slice(&buffer[..n])?,
             Err(e) => {
                 if e.kind() != ErrorKind::Interrupted {
-                    return Err(ScriptFault::Io(e));
+                    return Err(ScriptFault::Io(Stream::Input, e));
                 }
             }
         }
     }
-    Err(ScriptFault::Io(io::Error::from(ErrorKind::InvalidData)))
+    let endless = io::Error::from(ErrorKind::InvalidData);
+    Err(ScriptFault::Io(Stream::Input, endless))
 }

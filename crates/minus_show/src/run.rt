@@ -1,21 +1,19 @@
 //! A run of a script.
-ghost use Rattle.std.specs.Prelude.{◌≡◌, ⊤, map, Some, string_bytes, IfOk, IfErr, OnOk};
+ghost use Rattle.std.specs.Prelude.{◌≡◌, map, Some, string_bytes, IfOk, IfErr, OnOk};
 ghost use Rattle.std.specs.Io.KnownBytes.{Appends};
 ghost use Rattle.minus.specs.Reads.{told_of};
 ghost use Rattle.minus.specs.Core.{seen_of};
 ghost use Rattle.minus.specs.Steps.{cleanup_after};
-ghost use Rattle.minus_show.specs.Runs.{exit_code, printed_exit, printed_after, IsShown, IsScriptRun, IsRunFault};
-ghost use Rattle.minus_show.specs.ShowFaults.{IsShowFault, IsCleanupFault, IsMemory};
-ghost use Rattle.minus_show.specs.declared.fault.ScriptFault.TheVariants.{Io, Line, Refused};
+ghost use Rattle.minus_show.specs.Runs.{exit_code, printed_exit, printed_after, IsShown, IsScriptRun, IsRunFault, IsBeforePrinting};
+ghost use Rattle.minus_show.specs.ShowFaults.{IsShowFault, IsMemory};
 
 use crate::arguments::Mode;
 use crate::fault::ScriptFault;
-use crate::printed::print_rows;
+use crate::printed::{print_rows, write_out};
 use crate::reading::read_script;
 use crate::script::parse_script;
 use minus::{Answer, Input, MinusError, Pager, Ran, Session, WithTty, dynamic_paging};
 use std::alloc::{AllocError, Global};
-use std::io;
 use std::io::{Read, Write};
 
 // The sink of the program's sessions, which keeps all that is written to it.
@@ -68,7 +66,7 @@ fn print_page(
 // All bytes of a session's sink, with those that clean the terminal up.
 fn all_written(session: Session<Held>) -> Result<Vec<u8>, ScriptFault>
     ensures bytes { IfOk result (λ written. Appends (Some session.sink.inner.items) (Some written.items) (cleanup_after (seen_of session).status)) }
-    ensures broken { IfErr result (IsCleanupFault (Some session.sink.inner.items)) }
+    ensures memory { IfErr result IsMemory }
 {
     let (sink, cleaned) = session.finish();
     match cleaned {
@@ -86,7 +84,7 @@ fn show(
     inputs: Vec<Input>,
 ) -> Result<Vec<u8>, ScriptFault>
     ensures shown { IfOk result (λ printed. IsShown mode cols rows (map told_of inputs.items) printed.items) }
-    ensures fault { IfErr result (IsShowFault mode cols rows (map told_of inputs.items)) }
+    ensures fault { IfErr result (IsShowFault cols rows (map told_of inputs.items)) }
 {
     let sink = WithTty::new(Vec::new(alloc), true);
     let mut session = match dynamic_paging(Pager::new(alloc), sink, cols, rows) {
@@ -103,23 +101,16 @@ fn show(
     }
 }
 
-// Writes bytes, and hands them on.
-fn write_out<W: Write>(writer: &mut W, bytes: &[u8]) -> io::Result<()>
-    ensures { OnOk result (Appends (W.contents writer.old) (W.contents writer.new) bytes.now) }
-{
-    writer.write_all(bytes)?;
-    writer.flush()?;
-    Ok(())
-}
-
 /// Reads a script to its end, runs it on a pager of so many columns and rows, and prints what the mode asks for: the
 /// rows of the last page, or, after an exit, `exit` and its code; or all bytes that the terminal was sent, with those
 /// that clean it up at the end. What follows an exit in the script is not run.
 ///
 /// # Errors
 ///
-/// [`ScriptFault::Line`] at the first faulty line, counted from 1, and [`ScriptFault::Refused`] with the number of the
-/// pager's first refusal: nothing is written then. [`ScriptFault::Io`] where the reader or the writer fails.
+/// [`ScriptFault::Io`] where the reader fails, [`ScriptFault::Line`] at the first faulty line, counted from 1, and
+/// [`ScriptFault::Refused`] where a size is none of a terminal, with number 5, or where memory runs out, with number 1,
+/// or 12, 13 or 14 where the pager's sink wanted it: nothing is written then. [`ScriptFault::Io`] where the writer
+/// fails: a beginning of what was to be printed was written.
 pub fn run_script<R: Read, W: Write>(
     alloc: Global,
     mode: Mode,
@@ -129,8 +120,8 @@ pub fn run_script<R: Read, W: Write>(
     writer: &mut W,
 ) -> Result<(), ScriptFault>
     ensures shown { OnOk result (IsScriptRun mode cols rows (R.remaining reader.old) (R.remaining reader.new) (W.contents writer.old) (W.contents writer.new)) }
-    ensures fault { IfErr result (IsRunFault mode cols rows (R.remaining reader.old) (R.remaining reader.new)) }
-    ensures untouched { IfErr result (λ e. elim e [ Io cause ↦ ⊤ | Line number ↦ writer.new ≡ writer.old | Refused number ↦ writer.new ≡ writer.old ]) }
+    ensures fault { IfErr result (IsRunFault mode cols rows (R.remaining reader.old) (R.remaining reader.new) (W.contents writer.old) (W.contents writer.new)) }
+    ensures untouched { IfErr result (λ e. IsBeforePrinting e → writer.new ≡ writer.old) }
 {
     let script = read_script(alloc, reader)?;
     let inputs = parse_script(alloc, &script)?;

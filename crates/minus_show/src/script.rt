@@ -11,8 +11,9 @@ ghost use Rattle.minus.specs.Table.{moves_mark};
 
 use crate::fault::ScriptFault;
 use crate::number::parse_usize;
-use minus::{Command, Event, Input, InputEvent};
-use minus_term::{KeyCode, KeyEvent, KeyEventKind, KeyEventState, KeyModifiers};
+use minus::{
+    Command, Event, Input, InputEvent, KeyCode, KeyEvent, KeyEventKind, KeyEventState, KeyModifiers,
+};
 use std::alloc::{AllocError, Global};
 
 /// The place of the first newline.

@@ -20,7 +20,7 @@ abbrev pub column_after : List (List ℕ) → Option ℕ → Option ℕ
 column_after [] column = column
 column_after (text ∷ texts) column = None
 
-column_none : (texts : List (List ℕ)) → column_after texts None ≡ None
+pub column_none : (texts : List (List ℕ)) → column_after texts None ≡ None
 column_none [] = refl
 column_none (text ∷ texts) = refl
 
@@ -68,7 +68,7 @@ play_prompt rows prompt s xs y e l =
     let first : play_all (GoTo 0 rows ∷ Return ∷ ClearRow ∷ []) s ≡ record { texts = xs ++ blank ∷ []; row = Some (length xs); column = Some 0 } = rw (e, last, cleared) refl in
     ap (λ (c : PlayedScreen). (play_all (cond (nat_eq (length prompt) 0) [] (Put prompt ∷ [])) c).texts) first ∙ put_last prompt xs (Some 0)
 
-map_blank : (k : ℕ) → map Some (replicate k []) ≡ replicate k blank
+pub map_blank : (k : ℕ) → map Some (replicate k []) ≡ replicate k blank
 map_blank zero = refl
 map_blank (suc k) = ap (λ xs. blank ∷ xs) (map_blank k)
 
@@ -91,10 +91,10 @@ full_redraw_lem rows shown prompt s e l =
     map-append Some (shown ++ replicate k []) (prompt ∷ []) ∙ ap (λ xs. xs ++ Some prompt ∷ []) (map-append Some shown (replicate k []) ∙ ap (λ xs. map Some shown ++ xs) (map_blank k)) in
     record { texts = ap (λ (p : PlayedScreen). p.texts) all ∙ play_prompt rows prompt after (map Some shown ++ replicate k blank) blank texts n ∙ sym page; cursor = tt }
 
-Contains-head : {X : Type 0} (x : X) (xs : List X) → Contains (x ∷ xs) x
+pub Contains-head : {X : Type 0} (x : X) (xs : List X) → Contains (x ∷ xs) x
 Contains-head x xs = (0, omega arith, refl)
 
-Contains-tail : {X : Type 0} (x : X) (xs : List X) (y : X) → Contains xs y → Contains (x ∷ xs) y
+pub Contains-tail : {X : Type 0} (x : X) (xs : List X) (y : X) → Contains xs y → Contains (x ∷ xs) y
 Contains-tail x xs y h = (suc h.0, omega (arith, h.1), h.2)
 
 -- rows of text are clean where each is a row of one of the pages

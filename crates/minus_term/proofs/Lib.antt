@@ -2,6 +2,9 @@
 pub mod FullRedrawLaws
 pub mod PlayLaws
 pub mod PutsLaws
+pub mod ScrollLaws
+pub mod AppendLaws
+pub mod JoinLaws
 pub mod SinkLaws
 pub mod TerminalLaws
 pub mod WrittenLaws

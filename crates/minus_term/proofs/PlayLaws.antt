@@ -5,7 +5,7 @@ use Rattle.std.proofs.lemmas.Bool.{cases_Bool}
 use Rattle.std.proofs.lemmas.Option.{IfSome_then}
 use Rattle.std.proofs.lemmas.List.{length-replicate, length-set, length-append, length-drop, length-take}
 use Rattle.minus_term.specs.Operations.{Op, ClearAll, ClearRow, GoTo, Return, NextRow, Put, ScrollUp, ScrollDown, ShowCursor, HideCursor}
-use Rattle.minus_term.specs.PlayedScreen.{ShownPage, PlayedScreen, blank, unknown_texts, unknown_screen, screen_of, cleared_row, put_text, scrolled_up, scrolled_down, next_texts, next_row, play, play_all, Below, AllBelow, IsBelow, Shows, Draws, PlayIsMonotone}
+use Rattle.minus_term.specs.PlayedScreen.{ShownPage, PlayedScreen, blank, unknown_texts, unknown_screen, screen_of, cleared_row, put_text, scrolled_up, scrolled_down, next_texts, next_row, play, play_all, Below, AllBelow, IsBelow, Shows, Draws, PlayIsMonotone, UnknownStandsForAll}
 
 -- the texts of a screen's rows, where they are known
 abbrev pub Texts : Type 0
@@ -142,7 +142,7 @@ next_row_below : (m n : ℕ) (r q : Option ℕ) → m ≡ n → Below r q → Be
 next_row_below m n None q e k = tt
 next_row_below m n (Some a) q e k = rw (k, e) (Below-refl (next_row n (Some a)))
 
-play_below : (op : Op) (s t : PlayedScreen) → IsBelow s t → IsBelow (play op s) (play op t)
+pub play_below : (op : Op) (s t : PlayedScreen) → IsBelow s t → IsBelow (play op s) (play op t)
 play_below ClearAll s t h = rw (length_below s.texts t.texts h.texts) (record { texts = AllBelow-refl (replicate (length t.texts) blank); row = h.row; column = h.column })
 play_below ClearRow s t h = record { texts = cleared_below s.texts t.texts s.row t.row h.texts h.row; row = h.row; column = h.column }
 play_below (GoTo x y) s t h = rw (length_below s.texts t.texts h.texts) (record { texts = h.texts; row = refl; column = refl })
@@ -217,3 +217,6 @@ draws_from ops old new s drawn shown = shows_below new (play_all ops (screen_of 
 -- a screen with so many rows is known at least as well as one of which nothing is
 pub unknown_below : (rows : ℕ) (s : PlayedScreen) → length s.texts ≡ rows → IsBelow (unknown_screen rows) s
 unknown_below rows s e = record { texts = rw (sym e) (unknown_texts_below s.texts s.texts refl); row = tt; column = tt }
+
+pub unknown_stands_lem : UnknownStandsForAll
+unknown_stands_lem ops page s shown = shows_below page (play_all ops (unknown_screen (length s.texts))) (play_all ops s) (play_is_monotone_lem ops (unknown_screen (length s.texts)) s (unknown_below (length s.texts) s refl)) shown

@@ -1,5 +1,5 @@
 -- What a sink tells: the bytes that it holds, and how many of its calls were refused.
-use Rattle.std.specs.Prelude.{◌≡◌, ℕ, ◌+◌, ◌-◌, ◌^◌, ◌<◌, ◌≤◌, ◌==◌, ◌++◌, Bool, true, false, if◌then◌else◌, Option, None, Some, Result, Ok, Err, List, length, take, ⊤}
+use Rattle.std.specs.Prelude.{◌≡◌, ℕ, ◌+◌, ◌-◌, ◌^◌, ◌<◌, ◌≤◌, ◌==◌, ◌++◌, Bool, true, false, if◌then◌else◌, Option, None, Some, Result, Ok, Err, List, length, take, min, ⊤}
 use Rattle.std.specs.Io.KnownBytes.{Appends}
 
 -- a sink's count before and after one call: one more where the call was refused; a count that is not told stays so
@@ -38,6 +38,11 @@ AppendsFront old new bytes = (k : ℕ) × (k ≤ length bytes) × Appends old ne
 -- the bytes that the sink holds grew by the first of these and a beginning of the second, perhaps none or all of it
 abbrev pub AppendsPart : Option (List ℕ) → Option (List ℕ) → List ℕ → List ℕ → Type 0
 AppendsPart old new before part = (k : ℕ) × (k ≤ length part) × Appends old new (before ++ take k part)
+
+-- a count of 64 bits after a call: one more where the call was refused, up to the greatest value
+abbrev pub count_after : ℕ → Bool → ℕ
+count_after n true = min (n + 1) (2 ^ 64 - 1)
+count_after n false = n
 
 -- a count of 64 bits, as it is told: its greatest value may be any count from there on, and is not told
 abbrev pub told_count : ℕ → Option ℕ

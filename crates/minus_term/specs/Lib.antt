@@ -4,6 +4,8 @@ pub mod PlayedScreen
 pub mod Puts
 pub mod Counts
 pub mod FullRedraw
+pub mod Scroll
+pub mod Append
 pub mod Refusals
 pub mod Written
 pub mod Terminal

@@ -107,6 +107,10 @@ pub record IsBelow (s t : PlayedScreen) : Type 0 where
   pub row : Below s.row t.row
   pub column : Below s.column t.column
 
+-- what operations show on a screen of which nothing is known, they show on every screen with as many rows
+abbrev pub UnknownStandsForAll : Type 0
+UnknownStandsForAll = (ops : List Op) (page : ShownPage) (s : PlayedScreen) → Shows (play_all ops (unknown_screen (length s.texts))) page → Shows (play_all ops s) page
+
 -- what a play makes known from a screen, it makes known from each screen of which more is known
 abbrev pub PlayIsMonotone : Type 0
 PlayIsMonotone = (ops : List Op) (s t : PlayedScreen) → IsBelow s t → IsBelow (play_all ops s) (play_all ops t)

@@ -1,5 +1,7 @@
--- The number of each refusal.
+-- The number and the kind of each refusal.
 use Rattle.std.specs.Prelude.{ℕ}
+use Rattle.minus_term.specs.declared.error.SetupError.{SetupError}
+use Rattle.minus_term.specs.declared.error.CleanupError.{CleanupError}
 use Rattle.minus_term.specs.declared.error.MinusError.{MinusError}
 use Rattle.minus_term.specs.declared.error.MinusError.TheVariants.{Memory, BadSize, BadMode, Failed, Ended, Setup, Cleanup, Draw, HandleEvent, Cursor, FmtWriteError, Conversion, SearchExpError}
 
@@ -18,3 +20,27 @@ number_of (FmtWriteError cause) = 16
 number_of (HandleEvent cause) = 0
 number_of (Cursor cause) = 0
 number_of Conversion = 0
+
+-- the kinds of refusals that contracts tell apart: for want of memory; for a size or a mode; after a failure or an exit; by
+-- the sink, at the setup, the cleanup or a drawing; and those that no call of the pager answers
+pub data Refusal : Type 0 where
+  for_memory : Refusal
+  for_size : (columns rows : ℕ) → Refusal
+  for_mode : Refusal
+  after_failure : Refusal
+  after_exit : Refusal
+  at_setup : SetupError → Refusal
+  at_cleanup : CleanupError → Refusal
+  at_drawing : Refusal
+  of_no_call : Refusal
+
+abbrev pub refusal_of : MinusError → Refusal
+refusal_of Memory = for_memory
+refusal_of (BadSize columns rows) = for_size columns rows
+refusal_of BadMode = for_mode
+refusal_of Failed = after_failure
+refusal_of Ended = after_exit
+refusal_of (Setup cause) = at_setup cause
+refusal_of (Cleanup cause) = at_cleanup cause
+refusal_of (Draw cause) = at_drawing
+refusal_of e = of_no_call

@@ -1,8 +1,10 @@
 //! The operations that a screen is drawn by, and their bytes.
 ghost use Rattle.std.specs.Prelude.{◌≡◌, ◌++◌, OnOk, OnErr, IfOk, string_bytes};
 ghost use Rattle.minus_term.specs.FullRedraw.{FullRedrawShowsItsPage};
+ghost use Rattle.minus_term.specs.Append.{AppendShowsItsPage, AppendPutsFew};
+ghost use Rattle.minus_term.specs.Scroll.{ScrollShowsItsPage, ScrollPutsFew};
 ghost use Rattle.minus_term.specs.Operations.{op_of, GoTo};
-ghost use Rattle.minus_term.specs.PlayedScreen.{PlayIsMonotone};
+ghost use Rattle.minus_term.specs.PlayedScreen.{PlayIsMonotone, UnknownStandsForAll};
 ghost use Rattle.minus_term.specs.Written.{written, scroll_bytes};
 
 use std::alloc::{AllocError, Global};
@@ -88,7 +90,33 @@ pub fn play_is_monotone()
     ensures { PlayIsMonotone }
 {}
 
+/// A law: what operations show on a screen of which nothing is known, they show on every screen of
+/// that size.
+pub fn the_unknown_screen_stands_for_all()
+    ensures { UnknownStandsForAll }
+{}
+
 /// A law: the drawing of a whole page shows it, whatever the screen showed before.
 pub fn full_redraw_shows_its_page()
     ensures { FullRedrawShowsItsPage }
+{}
+
+/// A law: a scroll leads from the page at one mark to the page at another.
+pub fn scroll_shows_its_page()
+    ensures { ScrollShowsItsPage }
+{}
+
+/// A law: a scroll puts no more texts than rows were moved.
+pub fn scroll_puts_few()
+    ensures { ScrollPutsFew }
+{}
+
+/// A law: an append leads from the page of the old rows of text to the page of the new ones.
+pub fn append_shows_its_page()
+    ensures { AppendShowsItsPage }
+{}
+
+/// A law: an append puts no more texts than rows from the first that changed on.
+pub fn append_puts_few()
+    ensures { AppendPutsFew }
 {}

@@ -2,8 +2,6 @@
 ghost use Rattle.std.specs.Prelude.{⊤, [], ◌∷◌, codes};
 
 pub mod equality;
-#[cfg(test)]
-mod tests;
 
 use bitflags::{Flag, Flags, bitflag_items};
 

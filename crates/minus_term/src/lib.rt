@@ -14,7 +14,10 @@ pub mod with_tty;
 pub mod wrappers;
 pub mod writes;
 
-pub use draw::{DrawOp, full_redraw_shows_its_page, play_is_monotone, write_op};
+pub use draw::{
+    DrawOp, append_puts_few, append_shows_its_page, full_redraw_shows_its_page, play_is_monotone,
+    scroll_puts_few, scroll_shows_its_page, the_unknown_screen_stands_for_all, write_op,
+};
 pub use error::{CleanupError, DescriptionError, MinusError, RegexError, SetupError, TermError};
 pub use event::equality::{
     NormalKey, equal_keys_hash_equally, keys_of_one_normal_form_are_equal,
@@ -29,6 +32,3 @@ pub use sink::{OutputSink, draw_bytes, write_bytes};
 pub use term::{cleanup, setup};
 pub use with_tty::WithTty;
 pub use writes::{clear_entire_screen, move_cursor, write_raw_lines};
-
-#[cfg(test)]
-mod tests;

@@ -2,7 +2,7 @@
 ghost use Rattle.std.specs.Prelude.{◌≡◌};
 ghost use Rattle.std.specs.Io.{WritesAtMost};
 ghost use Rattle.std.specs.Io.KnownBytes.{WriteAppends, Keeps};
-ghost use Rattle.minus_term.specs.Counts.{CountsCall, told_count, is_refused, is_fault};
+ghost use Rattle.minus_term.specs.Counts.{CountsCall, count_after, told_count, is_refused, is_fault};
 
 use crate::sink::OutputSink;
 use std::io;
@@ -42,6 +42,7 @@ impl<W: Write> Write for WithTty<W> {
         ensures bound { WritesAtMost result bytes.now }
         ensures bytes { WriteAppends (W.contents self.old.inner) (W.contents self.new.inner) result bytes.now }
         ensures counted { CountsCall (told_count self.old.refusals) (told_count self.new.refusals) (is_refused result) }
+        ensures refusals { self.new.refusals ≡ count_after self.old.refusals (is_refused result) }
         ensures tty { self.new.tty ≡ self.old.tty }
     {
         let taken = self.inner.write(bytes);
@@ -54,6 +55,7 @@ impl<W: Write> Write for WithTty<W> {
     fn flush(&mut self) -> io::Result<()>
         ensures bytes { Keeps (W.contents self.old.inner) (W.contents self.new.inner) }
         ensures counted { CountsCall (told_count self.old.refusals) (told_count self.new.refusals) (is_fault result) }
+        ensures refusals { self.new.refusals ≡ count_after self.old.refusals (is_fault result) }
         ensures tty { self.new.tty ≡ self.old.tty }
     {
         let flushed = self.inner.flush();
@@ -69,11 +71,22 @@ impl<W: Write> OutputSink for WithTty<W> {
 
     ghost terminal = { λ s. s.tty };
 
-    fn put(&mut self, bytes: &[u8]) -> io::Result<usize> {
+    fn put(&mut self, bytes: &[u8]) -> io::Result<usize>
+        ensures bound { WritesAtMost result bytes.now }
+        ensures bytes { WriteAppends (W.contents self.old.inner) (W.contents self.new.inner) result bytes.now }
+        ensures counted { CountsCall (told_count self.old.refusals) (told_count self.new.refusals) (is_refused result) }
+        ensures refusals { self.new.refusals ≡ count_after self.old.refusals (is_refused result) }
+        ensures tty { self.new.tty ≡ self.old.tty }
+    {
         self.write(bytes)
     }
 
-    fn settle(&mut self) -> io::Result<()> {
+    fn settle(&mut self) -> io::Result<()>
+        ensures bytes { Keeps (W.contents self.old.inner) (W.contents self.new.inner) }
+        ensures counted { CountsCall (told_count self.old.refusals) (told_count self.new.refusals) (is_fault result) }
+        ensures refusals { self.new.refusals ≡ count_after self.old.refusals (is_fault result) }
+        ensures tty { self.new.tty ≡ self.old.tty }
+    {
         self.flush()
     }
 

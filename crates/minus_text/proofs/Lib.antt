@@ -27,4 +27,5 @@ pub mod BorderLaws
 pub mod ScreenLaws
 pub mod RowTextLaws
 pub mod FormatResultLaws
+pub mod PushedLaws
 pub mod PendingLaws

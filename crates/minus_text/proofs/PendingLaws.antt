@@ -13,10 +13,10 @@ use Rattle.minus_text.specs.Lines.{Cut, cut, whole, behind, finished_lines, unfi
 use Rattle.minus_text.specs.Document.{Document, rows_of, rows_of_lines, pushed}
 use Rattle.minus_text.specs.Kept.{open_rows, IsRestart, IsRestartOf, line_going_on, piece_behind}
 use Rattle.minus_text.specs.Pending.{Pending, IsPending}
-use Rattle.minus_text.proofs.LinesLaws.{cut-append, lines-cut}
+use Rattle.minus_text.proofs.LinesLaws.{lines-cut}
 use Rattle.minus_text.proofs.PlacesLaws.{joined, cut_joined, sides}
 use Rattle.minus_text.proofs.PreparedLaws.{front_cut, whole_append, whole_drop}
-use Rattle.minus_text.proofs.ScreenLaws.{lines_front}
+use Rattle.minus_text.proofs.PushedLaws.{lines_pushed}
 
 -- ---- the rows of a line that goes on, and of the lines behind it
 
@@ -54,10 +54,6 @@ pub rows_go_on : (cols : ℕ) (line piece : List ℕ) (start : Restart) → IsRe
 rows_go_on cols line piece start r u = rows_on cols line piece start (cut piece).closed (cut piece).open_line r u refl
 
 -- ---- the rows of a document that goes on
-
--- the lines of a text that went on: its finished lines, and those of its unfinished line and the piece
-lines_pushed : (text piece : List ℕ) → lines (text ++ piece) ≡ finished_lines text ++ lines (unfinished_line text ++ piece)
-lines_pushed text piece = lines_front (text ++ piece) (unfinished_line text ++ piece) (cut text).closed (cut-append text piece)
 
 -- the rows of a text: those of its finished lines, and the unfinished ones
 rows_split : (text : List ℕ) (cols : ℕ) → rows_of_lines cols (lines text) ≡ rows_of_lines cols (finished_lines text) ++ open_rows cols (unfinished_line text)

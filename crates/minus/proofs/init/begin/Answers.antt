@@ -1,11 +1,35 @@
 -- The first page is drawn whole, or broken off.
+use Rattle.std.proofs.Common.{refl}
+use Rattle.minus_term.specs.Refusals.{refusal_of}
 use Rattle.minus.specs.Reads.{control_of}
-use Rattle.minus.proofs.StartLaws.{start_broken}
+use Rattle.minus.proofs.StartLaws.{start_broken, shown_at_start}
 use Rattle.minus.proofs.DrawnLaws.{first_drawn}
 use Rattle.minus.proofs.init.begin.Goals as goal
 
-pub returns-in-Err-clause-broken : goal.returns-in-Err-clause-broken
-returns-in-Err-clause-broken g c = start_broken c.in-Err.cause _ _ _ _ _ _ _ (control_of c.args.state) c.args.state.sized.some_rows c.deref.ensures.value c.requires.drawn c.in-Err.ensures.refused c.in-Err.ensures.broken
+pub returns-in-Err-clause-refused : goal.returns-in-Err-clause-refused
+returns-in-Err-clause-refused g c =
+    let first = c.args.first in
+    let shown = c.in-Err.ensures in
+    let late = shown_at_start (refusal_of c.in-Err.cause) c.args.mode first.state.cols first.state.rows _ (record { runs = c.requires.runs; size = first.state.sized }) shown.refused in
+    record {
+      refused = late.0;
+      returned = λ early. absurd (late.1 early);
+      gone = λ written. refl;
+      broken = rw (← c.requires.control) (start_broken (refusal_of c.in-Err.cause) _ _ _ _ _ _ _ (control_of first.state) first.state.sized.some_rows c.deref.ensures.value first.drawn shown.refused shown.broken);
+      rises = shown.rises;
+      untouched = shown.untouched;
+    }
 
-pub returns-clause-drawn : goal.returns-clause-drawn
-returns-clause-drawn g c = first_drawn _ _ _ _ (control_of c.args.state) c.args.state.sized.some_rows c.deref.ensures.value c.requires.drawn c.in_default.ensures.ok
+pub returns-clause-started : goal.returns-clause-started
+returns-clause-started g c =
+    let first = c.args.first in
+    let shown = c.in_default.ensures in
+    record {
+      started = record {
+        can = record { runs = c.requires.runs; size = first.state.sized };
+        on_terminal = shown.terminal;
+        begins = rw (← c.requires.control) refl;
+        drawn = rw (← c.requires.control) (first_drawn _ _ _ _ (control_of first.state) first.state.sized.some_rows c.deref.ensures.value first.drawn shown.ok);
+      };
+      stays = shown.stays;
+    }

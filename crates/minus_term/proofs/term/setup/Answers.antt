@@ -1,4 +1,5 @@
 -- Each part comes after those before it.
+use Rattle.std.proofs.Common.{rules}
 use Rattle.minus_term.proofs.TerminalLaws.{alternate_screen_is, mouse_on_is, hide_cursor_is, first_added, part_added, first_broken, part_broken}
 use Rattle.minus_term.proofs.term.setup.Goals as goal
 
@@ -21,3 +22,15 @@ returns-clause-ok g c =
     let screen = first_added _ _ _ _ alternate_screen_is c.in_default.ensures.ok in
     let mouse = part_added _ _ _ _ _ _ mouse_on_is screen c.in_default-send.ensures.ok in
     part_added _ _ _ _ _ _ hide_cursor_is mouse c.in_default-send-2.ensures.ok
+
+pub returns-in-Err-clause-terminal : goal.returns-in-Err-clause-terminal
+returns-in-Err-clause-terminal g c = search rules
+
+pub returns-in-Err-send-clause-terminal : goal.returns-in-Err-send-clause-terminal
+returns-in-Err-send-clause-terminal g c = search rules
+
+pub returns-in-Err-send-2-clause-terminal : goal.returns-in-Err-send-2-clause-terminal
+returns-in-Err-send-2-clause-terminal g c = search rules
+
+pub returns-clause-terminal : goal.returns-clause-terminal
+returns-clause-terminal g c = search rules

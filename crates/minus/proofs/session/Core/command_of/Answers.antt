@@ -11,4 +11,4 @@ answered None = refl
 answered (Some event) = refl
 
 pub returns-in-Event : goal.returns-in-Event
-returns-in-Event g c = rw c.in-Event.is (c.args.self.now.state, c.classify_input-answer.result, refl, c.classify_input-answer.ensures, ap event_wanted c.unwrap_or.ensures ∙ answered c.classify_input-answer.result)
+returns-in-Event g c = rw c.in-Event.is (c.args.self.now.state, c.classify_input-answer.result, c.args.self.now.formed, refl, c.classify_input-answer.ensures, ap event_wanted c.unwrap_or.ensures ∙ answered c.classify_input-answer.result)

@@ -20,26 +20,35 @@ overflow_add-done g c =
     let small = c.args.left.now.small in
     omega (arith, h.count, parts, all, small)
 
-pub returns-then-ends_a_run-clause-run : goal.returns-then-ends_a_run-clause-run
-returns-then-ends_a_run-clause-run g c = run_ended _ told_of (seen_of c.args.self.now) (seen_of c.loop-input.self) (seen_of c.step.new.self) (reverse c.args.left.now.items) c.loop-input.left.items c.pop.new.self.items c.in-Some.input c.loop-input.done _ _ _ _ _ c.loop-input.invariant.1 c.in-Some.ensures.items c.in-Ok.ensures.step (sym c.ends_a_run.ensures ∙ c.if-ends_a_run.true)
+pub returns-then-ends_a_run : goal.returns-then-ends_a_run
+returns-then-ends_a_run g c =
+    let step = c.in-Ok.ensures.step in
+    record {
+      run = run_ended _ told_of (seen_of c.args.self.now) (seen_of c.loop-input.self) (seen_of c.step.new.self) (reverse c.args.left.now.items) c.loop-input.left.items c.pop.new.self.items c.in-Some.input c.loop-input.done _ _ _ _ _ c.loop-input.invariant.1 c.in-Some.ensures.items step.step (sym c.ends_a_run.ensures ∙ c.if-ends_a_run.true);
+      stays = λ well. Stays-trans _ _ _ c.loop-input.invariant.0 step.stays;
+      rises = λ fault. absurd fault;
+    }
 
 pub loop-input-preserved : goal.loop-input-preserved
-loop-input-preserved g c = (Stays-trans _ _ _ c.loop-input.invariant.0 c.in-Ok.ensures.stays, one_step _ told_of (seen_of c.args.self.now) (seen_of c.loop-input.self) (seen_of c.step.new.self) (reverse c.args.left.now.items) c.loop-input.left.items c.pop.new.self.items c.in-Some.input c.loop-input.done _ _ _ _ _ c.loop-input.invariant.1 c.in-Some.ensures.items c.in-Ok.ensures.step (sym c.ends_a_run.ensures ∙ c.if-ends_a_run.false))
+loop-input-preserved g c =
+    let step = c.in-Ok.ensures.step in
+    (Stays-trans _ _ _ c.loop-input.invariant.0 step.stays, one_step _ told_of (seen_of c.args.self.now) (seen_of c.loop-input.self) (seen_of c.step.new.self) (reverse c.args.left.now.items) c.loop-input.left.items c.pop.new.self.items c.in-Some.input c.loop-input.done _ _ _ _ _ c.loop-input.invariant.1 c.in-Some.ensures.items step.step (sym c.ends_a_run.ensures ∙ c.if-ends_a_run.false))
 
-pub returns-in-Err-clause-run : goal.returns-in-Err-clause-run
-returns-in-Err-clause-run g c = run_stopped _ told_of (seen_of c.args.self.now) (seen_of c.loop-input.self) (seen_of c.step.new.self) (reverse c.args.left.now.items) c.loop-input.left.items c.pop.new.self.items c.in-Some.input c.loop-input.done _ c.in-Err.refusal _ _ _ c.loop-input.invariant.1 c.in-Some.ensures.items c.in-Err.ensures.refused
+pub returns-in-Err : goal.returns-in-Err
+returns-in-Err g c =
+    let refused = c.in-Err.ensures.refused in
+    record {
+      run = run_stopped _ told_of (seen_of c.args.self.now) (seen_of c.loop-input.self) (seen_of c.step.new.self) (reverse c.args.left.now.items) c.loop-input.left.items c.pop.new.self.items c.in-Some.input c.loop-input.done _ c.in-Err.refusal _ _ _ c.loop-input.invariant.1 c.in-Some.ensures.items refused.refuses;
+      stays = λ well. subst (λ (x : _). Stays (g.S.OutputSink.refused c.args.self.now.sink) (g.S.OutputSink.refused x)) (sym (refused.untouched well)) c.loop-input.invariant.0;
+      rises = λ fault. Stays-rises _ _ _ c.loop-input.invariant.0 (refused.rises fault);
+    }
 
-pub returns-clause-run : goal.returns-clause-run
-returns-clause-run g c =
+pub returns : goal.returns
+returns g c =
     let none = c.in_default.ensures.cases in
     let len = c.pop.new.self.ok.0 in
-    run_over _ told_of (seen_of c.args.self.now) (seen_of c.loop-input.self) (reverse c.args.left.now.items) c.loop-input.left.items c.pop.new.self.items c.loop-input.done _ _ _ c.loop-input.invariant.1 c.in_default.ensures.items (omega (arith, none.1, len))
-
-pub returns-then-ends_a_run-clause-stays : goal.returns-then-ends_a_run-clause-stays
-returns-then-ends_a_run-clause-stays g c well = Stays-trans _ _ _ c.loop-input.invariant.0 c.in-Ok.ensures.stays
-
-pub returns-in-Err-clause-stays : goal.returns-in-Err-clause-stays
-returns-in-Err-clause-stays g c well = subst (λ (x : _). Stays (g.S.OutputSink.refused c.args.self.now.sink) (g.S.OutputSink.refused x)) (sym (c.in-Err.ensures.untouched well)) c.loop-input.invariant.0
-
-pub returns-in-Err-clause-rises : goal.returns-in-Err-clause-rises
-returns-in-Err-clause-rises g c fault = Stays-rises _ _ _ c.loop-input.invariant.0 (c.in-Err.ensures.rises fault)
+    record {
+      run = run_over _ told_of (seen_of c.args.self.now) (seen_of c.loop-input.self) (reverse c.args.left.now.items) c.loop-input.left.items c.pop.new.self.items c.loop-input.done _ _ _ c.loop-input.invariant.1 c.in_default.ensures.items (omega (arith, none.1, len));
+      stays = λ well. c.loop-input.invariant.0;
+      rises = λ fault. absurd fault;
+    }

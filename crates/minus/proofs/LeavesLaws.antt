@@ -1,0 +1,99 @@
+-- What a step leaves of the page that the sink's bytes leave.
+use Rattle.std.proofs.Common.{◌≡◌, ℕ, zero, suc, get_or, ◌<◌, true, false, inl, inr, List, [], ◌∷◌, ◌++◌, length, map, Option, Some, None, refl, sym, ap, subst, ◌∙◌, arith, append_assoc}
+use Rattle.std.specs.List.{Contains}
+use Rattle.std.proofs.lemmas.Bool.{cases_Bool}
+use Rattle.std.proofs.lemmas.List.Elements.{Contains-append_left, Contains-append_right}
+use Rattle.std.proofs.lemmas.List.{map-append, length-map, get_or-map}
+use Rattle.minus_term.specs.Operations.{Op}
+use Rattle.minus_term.specs.PlayedScreen.{ShownPage, PlayedScreen, Shows, play_all, screen_of, unknown_screen}
+use Rattle.minus_term.specs.Written.{written_all}
+use Rattle.minus_term.proofs.PlayLaws.{play_all-append, draws_from}
+use Rattle.minus_term.proofs.WrittenLaws.{written_all-append, IsClean-append, IsClean-more}
+use Rattle.minus.specs.declared.status.Status.TheVariants as status
+use Rattle.minus.specs.Control.{Control}
+use Rattle.minus.specs.Page.{page}
+use Rattle.minus.specs.Table.{Wanted, Exit, effect, changed_by}
+use Rattle.minus.specs.Works.{Work, work_of, WorkedOff, all, one, up_to, passed_in, some_full}
+use Rattle.minus.specs.Drawn.{Drawn, Leaves}
+use Rattle.minus.specs.Steps.{Seen, Works, Writes, status_after}
+use Rattle.minus.proofs.TableLaws.{unresized}
+
+head_there : {X : Type 0} (x : X) (xs : List X) → Contains (x ∷ xs) x
+head_there x xs = (0, omega arith, refl)
+
+tail_there : {X : Type 0} (x : X) (xs : List X) (y : X) → Contains xs y → Contains (x ∷ xs) y
+tail_there x xs y h = (suc h.0, omega (arith, h.1), h.2)
+
+-- the control that works leave is among those that they pass, the one before them among these
+pub last_passed : {c d : Control} {ws : List Wanted} {works : List Work} {exit : Option Exit} → WorkedOff c ws works exit d → Contains (c ∷ passed_in works) d
+last_passed (all {c = c}) = head_there c []
+last_passed (one {c = c} {d = d} {w = w} {works = works} possible on more) = tail_there c (passed_in (work_of (effect c w) ∷ works)) d (last_passed more)
+last_passed (up_to {c = c} {w = w} possible is) = tail_there c (changed_by (effect c w) ∷ []) (changed_by (effect c w)) (head_there (changed_by (effect c w)) [])
+
+-- what is among a first one and some is among those and any that contain the first
+pub after_first : {X : Type 0} (before ps : List X) (x y : X) → Contains before x → Contains (x ∷ ps) y → Contains (before ++ ps) y
+after_first before ps x y here h = at_place h.0 h.1 h.2
+  where
+    at_place : (k : ℕ) → k < length (x ∷ ps) → get_or (x ∷ ps) k y ≡ y → Contains (before ++ ps) y
+    at_place zero l e = subst (λ z. Contains (before ++ ps) z) e (Contains-append_left before ps x here)
+    at_place (suc k) l e = Contains-append_right before ps y (k, omega (arith, l), e)
+
+page_among : (cs : List Control) (c : Control) → Contains cs c → Contains (map page cs) (page c)
+page_among cs c h = (h.0, (let n = length-map cs page in let l = h.1 in omega arith), get_or-map page cs h.0 c (page c) h.1 ∙ ap page h.2)
+
+pub pages_after : (before ps : List Control) (c : Control) (p : ShownPage) → Contains before c → Contains (map page (c ∷ ps)) p → Contains (map page (before ++ ps)) p
+pages_after before ps c p here h = rw (map-append page before ps) (after_first (map page before) (map page ps) (page c) p (page_among before c here) h)
+
+pub pages_before : (before ps : List Control) (p : ShownPage) → Contains (map page before) p → Contains (map page (before ++ ps)) p
+pages_before before ps p h = rw (map-append page before ps) (Contains-append_left (map page before) (map page ps) p h)
+
+-- a drawing that is partial goes on from what was drawn before
+goes_on : (x y : List ℕ) (old new : Control) (works : List Work) (before : List Control) → some_full works ≡ false → old.rows ≡ new.rows → Contains (old ∷ passed_in works) new → (d : Drawn (Some x) (Some y) old works new) → Leaves (Some x) before old → Leaves (Some y) (before ++ passed_in works) new
+goes_on x y old new works before partial rows reached d h =
+    let front : List ℕ = h.0 in
+    let ops : List Op = h.1 in
+    let whole = h.3 in
+    let ps : List Control = passed_in works in
+    let pages : List ShownPage = map page (before ++ ps) in
+    let bytes : y ≡ front ++ written_all (ops ++ d.0) = d.1 ∙ ap (λ z. z ++ written_all d.0) h.2 ∙ append_assoc front (written_all ops) (written_all d.0) ∙ ap (λ z. front ++ z) (sym (written_all-append ops d.0)) in
+    let from_page : Shows (play_all d.0 (screen_of (page old))) (page new) = (let shown = d.2.shows in rw partial at shown) in
+    let then_shows : Shows (play_all d.0 (play_all ops (unknown_screen old.rows))) (page new) = draws_from d.0 (page old) (page new) (play_all ops (unknown_screen old.rows)) from_page whole.shows in
+    let shows : Shows (play_all (ops ++ d.0) (unknown_screen old.rows)) (page new) = subst (λ (s : PlayedScreen). Shows s (page new)) (sym (play_all-append ops d.0 (unknown_screen old.rows))) then_shows in (
+      front,
+      ops ++ d.0,
+      bytes,
+      record {
+        here = after_first before ps old new whole.here reached;
+        shows = subst (λ (n : ℕ). Shows (play_all (ops ++ d.0) (unknown_screen n)) (page new)) rows shows;
+        clean = IsClean-append pages ops d.0 (IsClean-more (map page before) pages (λ p k. pages_before before ps p k) ops whole.clean) (IsClean-more (map page (old ∷ ps)) pages (λ p k. pages_after before ps old p whole.here k) d.0 d.2.clean);
+      },
+    )
+
+-- a drawing from the unknown screen begins anew
+begins_anew : (x y : List ℕ) (old new : Control) (works : List Work) (before : List Control) → some_full works ≡ true → Contains (old ∷ passed_in works) new → (d : Drawn (Some x) (Some y) old works new) → Leaves (Some x) before old → Leaves (Some y) (before ++ passed_in works) new
+begins_anew x y old new works before anew reached d h =
+    let ps : List Control = passed_in works in
+    let whole = h.3 in
+    let shown = d.2.shows in (
+      x,
+      d.0,
+      d.1,
+      record {
+        here = after_first before ps old new whole.here reached;
+        shows = rw anew at shown;
+        clean = IsClean-more (map page (old ∷ ps)) (map page (before ++ ps)) (λ p k. pages_after before ps old p whole.here k) d.0 d.2.clean;
+      },
+    )
+
+pub leaves_more : (a b : Option (List ℕ)) (old new : Control) (works : List Work) (before : List Control) → (some_full works ≡ false → old.rows ≡ new.rows) → Contains (old ∷ passed_in works) new → Drawn a b old works new → Leaves a before old → Leaves b (before ++ passed_in works) new
+leaves_more None b old new works before rows reached d h = absurd h
+leaves_more (Some x) None old new works before rows reached d h = absurd d.1
+leaves_more (Some x) (Some y) old new works before rows reached d h = elim (cases_Bool (some_full works)) [
+  | inl e ↦ begins_anew x y old new works before e reached d h
+  | inr e ↦ goes_on x y old new works before e (rows e) reached d h
+]
+
+-- what works leave of it, as long as the session goes on
+pub leaves_after : {K : Type 0} (old new : Seen K) (items : List Wanted) (works : List Work) (exit : Option Exit) (a b : Option (List ℕ)) (before : List Control) → Works old items works exit (status_after exit) new → Writes exit old.control works new.control a b → Leaves a before old.control → new.status ≡ status.Running → Leaves b (before ++ passed_in works) new.control
+leaves_after old new items works None a b before h writes k running = leaves_more a b old.control new.control works before (unresized h.worked) (last_passed h.worked) writes k
+leaves_after old new items works (Some exit) a b before h writes k running = let both : status.Running ≡ status.Ended = sym running ∙ ap (λ (x : Seen _). x.status) h.stands in cc

@@ -1,0 +1,7 @@
+-- Found by search.
+use Rattle.std.proofs.Common.{arith}
+use Rattle.std.proofs.lemmas.Grind.{common_steps}
+use Rattle.minus.proofs.page.page_rows.Goals as goal
+
+pub returns : goal.returns
+returns c = grind (arith, common_steps)

@@ -1,0 +1,9 @@
+-- Found by search.
+use Rattle.std.proofs.Common.{rules}
+use Rattle.minus.proofs.session.Core.finish.Goals as goal
+
+pub returns-clause-ended : goal.returns-clause-ended
+returns-clause-ended g c = search rules
+
+pub returns-clause-ok : goal.returns-clause-ok
+returns-clause-ok g c = search rules

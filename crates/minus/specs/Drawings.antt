@@ -1,0 +1,31 @@
+-- How the page is drawn.
+use Rattle.std.specs.Prelude.{ℕ, ◌-◌, min, List, [], length}
+use Rattle.minus_term.specs.Operations.{Op}
+use Rattle.minus_term.specs.FullRedraw.{full_ops}
+use Rattle.minus_term.specs.Scroll.{scroll_ops}
+use Rattle.minus_term.specs.Append.{append_ops}
+use Rattle.minus.specs.declared.commands.Drawing.{Drawing}
+use Rattle.minus.specs.declared.commands.Drawing.TheVariants.{Nothing, Full, Scroll, Append}
+use Rattle.minus.specs.Control.{Control, first_changed}
+use Rattle.minus.specs.Table.{move_drawing, moved_to}
+use Rattle.minus.specs.Page.{shown}
+use Rattle.minus.specs.PromptRow.{prompt_row}
+
+-- the list that draws a page whole
+abbrev pub whole_page : Control → List Op
+whole_page c = full_ops c.rows (shown c) (prompt_row c)
+
+-- the list that draws the rows of text of a page from one row on, where there were so many rows in all
+abbrev pub append_from : Control → ℕ → ℕ → List Op
+append_from c first were = append_ops (min (first - c.mark) (length (shown c))) (min (were - c.mark) (c.rows - 1)) (shown c)
+
+-- the list that the page is drawn by, on the way from one control to another
+abbrev pub ops_between : Drawing → Control → Control → List Op
+ops_between Nothing old new = []
+ops_between Full old new = whole_page new
+ops_between Scroll old new = scroll_ops new.rows old.mark new.mark (shown new) (prompt_row new)
+ops_between Append old new = append_ops (min (first_changed old - old.mark) (length (shown new))) (length (shown old)) (shown new)
+
+-- the list that a move of the mark is drawn by
+abbrev pub scroll_to : Control → ℕ → List Op
+scroll_to c mark = ops_between (move_drawing c mark) c (moved_to c mark)

@@ -1,0 +1,25 @@
+-- Starts of sessions on their sinks.
+use Rattle.std.specs.Prelude.{◌≡◌, ℕ, List, map, Bool, Option, None, Some}
+use Rattle.minus_term.specs.Counts.{Stays, Rises}
+use Rattle.minus_term.specs.Refusals.{refusal_of}
+use Rattle.minus.specs.declared.init.StartError.{StartError}
+use Rattle.minus.specs.declared.pager.Pager.{Pager}
+use Rattle.minus.specs.declared.session.Core.{Core}
+use Rattle.minus.specs.declared.state.RunMode.{RunMode}
+use Rattle.minus.specs.Core.{seen_of}
+use Rattle.minus.specs.Reads.{wanted_of}
+use Rattle.minus.specs.Starts.{first_control, IsStarted, IsStartRefused, IsEarly, StartBreaksOff, IsStartFault}
+
+-- a start of a pager over a sink that ends well: the sink refused nothing
+pub record IsStart {S P K : Type 0} (contents : S → Option (List ℕ)) (count : S → Option ℕ) (terminal : S → Bool) (pager : Pager) (mode : RunMode) (cols rows : ℕ) (classifier : K) (sink : S) (session : Core S P K) : Type 0 where
+  pub started : IsStarted (seen_of session) classifier (map wanted_of pager.queue.items) mode cols rows (terminal sink) (contents sink) (contents session.sink)
+  pub stays : Stays (count sink) (count session.sink)
+
+-- a start that is refused: when it is, whether the pager comes back, and what it leaves on the sink, which comes back too
+pub record IsRefusedStart {S : Type 0} (contents : S → Option (List ℕ)) (count : S → Option ℕ) (terminal : S → Bool) (pager : Pager) (mode : RunMode) (cols rows : ℕ) (sink : S) (e : StartError S) : Type 0 where
+  pub refused : IsStartRefused (refusal_of e.cause) mode cols rows (terminal sink)
+  pub returned : IsEarly (refusal_of e.cause) → e.pager ≡ Some pager
+  pub gone : (IsEarly (refusal_of e.cause) → ⊥) → e.pager ≡ None
+  pub broken : StartBreaksOff (refusal_of e.cause) (contents sink) (contents e.sink) (count sink) (count e.sink) (first_control cols rows (map wanted_of pager.queue.items))
+  pub rises : IsStartFault (refusal_of e.cause) → Rises (count sink) (count e.sink)
+  pub untouched : (IsStartFault (refusal_of e.cause) → ⊥) → e.sink ≡ sink

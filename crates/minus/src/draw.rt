@@ -1,0 +1,142 @@
+//! Drawings of a state on a sink.
+ghost use Rattle.std.specs.Prelude.{◌≡◌, OnOk, OnErr, IfErr};
+ghost use Rattle.std.specs.Io.KnownBytes.{Appends};
+ghost use Rattle.minus_term.specs.Counts.{Stays};
+ghost use Rattle.minus_term.specs.FullRedraw.{prompt_ops};
+ghost use Rattle.minus_term.specs.Writes.{WriteRefuses};
+ghost use Rattle.minus_term.specs.Written.{written_all};
+ghost use Rattle.minus.specs.Control.{Control, clamp};
+ghost use Rattle.minus.specs.Changes.{IsChange};
+ghost use Rattle.minus.specs.Drawings.{whole_page, append_from, scroll_to, ops_between};
+ghost use Rattle.minus.specs.NextTexts.{IsNext};
+ghost use Rattle.minus.specs.Reads.{IsFormed, control_of};
+ghost use Rattle.minus.specs.Table.{moved_to};
+
+use crate::change::Change;
+use crate::commands::Drawing;
+use crate::display;
+use crate::state::PagerState;
+use minus_term::{MinusError, OutputSink, draw_bytes};
+use std::alloc::Global;
+
+/// Draws the prompt row in the last of so many rows. An empty one is not put.
+///
+/// # Errors
+///
+/// [`MinusError::Memory`] where there is none for the bytes: nothing was written then. [`MinusError::Draw`] where the
+/// sink refused a write or the flush: a beginning of the bytes was written.
+pub fn write_prompt<W: OutputSink>(
+    alloc: Global,
+    out: &mut W,
+    text: &str,
+    rows: u16,
+) -> Result<(), MinusError>
+    ensures ok { OnOk result (Appends (W.contents out.old) (W.contents out.new) (written_all (prompt_ops rows text.now))) }
+    ensures stays { OnOk result (Stays (W.refused out.old) (W.refused out.new)) }
+    ensures err { IfErr result (λ e. WriteRefuses W.contents W.refused e out.old out.new (written_all (prompt_ops rows text.now))) }
+{
+    let mut bytes = Vec::new(alloc);
+    display::write_prompt(alloc, &mut bytes, rows, text)?;
+    draw_bytes(out, &bytes)?;
+    Ok(())
+}
+
+// Draws the page that a change leads to over the page of a state, in this way.
+fn draw_change<W: OutputSink>(
+    alloc: Global,
+    out: &mut W,
+    state: &PagerState,
+    drawing: Drawing,
+    change: &Change,
+) -> Result<(), MinusError>
+    requires formed { IsFormed state.now }
+    requires belongs { IsNext state.now.screen change.now.text }
+    ensures ok { OnOk result ((new : Control) → IsChange (control_of state.now) change.now new → Appends (W.contents out.old) (W.contents out.new) (written_all (ops_between drawing (control_of state.now) new))) }
+    ensures stays { OnOk result (Stays (W.refused out.old) (W.refused out.new)) }
+    ensures err { IfErr result (λ e. (new : Control) → IsChange (control_of state.now) change.now new → WriteRefuses W.contents W.refused e out.old out.new (written_all (ops_between drawing (control_of state.now) new))) }
+{
+    let mut bytes = Vec::new(alloc);
+    state.draw_after(alloc, &mut bytes, drawing, change)?;
+    draw_bytes(out, &bytes)?;
+    Ok(())
+}
+
+/// Draws the whole page of a state, whose mark is clamped first: at most the one at which the last page is full.
+///
+/// # Errors
+///
+/// [`MinusError::Memory`] where there is none for the bytes: nothing was written then. [`MinusError::Draw`] where the
+/// sink refused a write or the flush: a beginning of the bytes was written. The state stays as it was.
+pub fn draw_full<W: OutputSink>(
+    alloc: Global,
+    out: &mut W,
+    state: &mut PagerState,
+) -> Result<(), MinusError>
+    requires { IsFormed state.old }
+    ensures control { OnOk result (control_of state.new ≡ clamp (control_of state.old)) }
+    ensures formed { IsFormed state.new }
+    ensures ok { OnOk result (Appends (W.contents out.old) (W.contents out.new) (written_all (whole_page (clamp (control_of state.old))))) }
+    ensures stays { OnOk result (Stays (W.refused out.old) (W.refused out.new)) }
+    ensures err { IfErr result (λ e. WriteRefuses W.contents W.refused e out.old out.new (written_all (whole_page (clamp (control_of state.old))))) }
+    ensures kept { OnErr result (state.new ≡ state.old) }
+{
+    let change = state.moved_to(state.upper_mark);
+    draw_change(alloc, out, state, Drawing::Full, &change)?;
+    state.upper_mark = change.mark;
+    Ok(())
+}
+
+/// Moves the mark of a state, as far as the text goes, and draws the rows that come onto its page. The new mark is put
+/// into the one that was asked for.
+///
+/// # Errors
+///
+/// [`MinusError::Memory`] where there is none for the bytes: nothing was written then. [`MinusError::Draw`] where the
+/// sink refused a write or the flush: a beginning of the bytes was written. The marks stay as they were.
+pub fn draw_for_change<W: OutputSink>(
+    alloc: Global,
+    out: &mut W,
+    state: &mut PagerState,
+    new_upper_mark: &mut usize,
+) -> Result<(), MinusError>
+    requires { IsFormed state.old }
+    ensures control { OnOk result (control_of state.new ≡ moved_to (control_of state.old) new_upper_mark.old) }
+    ensures formed { IsFormed state.new }
+    ensures mark { OnOk result (new_upper_mark.new ≡ state.new.upper_mark) }
+    ensures ok { OnOk result (Appends (W.contents out.old) (W.contents out.new) (written_all (scroll_to (control_of state.old) new_upper_mark.old))) }
+    ensures stays { OnOk result (Stays (W.refused out.old) (W.refused out.new)) }
+    ensures err { IfErr result (λ e. WriteRefuses W.contents W.refused e out.old out.new (written_all (scroll_to (control_of state.old) new_upper_mark.old))) }
+    ensures kept { OnErr result (state.new ≡ state.old) }
+    ensures mark_kept { OnErr result (new_upper_mark.new ≡ new_upper_mark.old) }
+{
+    let change = state.moved_to(*new_upper_mark);
+    draw_change(alloc, out, state, change.drawing(state.upper_mark), &change)?;
+    *new_upper_mark = change.mark;
+    state.upper_mark = change.mark;
+    Ok(())
+}
+
+/// Draws the rows of text of a state's page from a row of the text on, counted from 0, where there were so many rows
+/// of text before: each is cleared, and put where it is there now.
+///
+/// # Errors
+///
+/// [`MinusError::Memory`] where there is none for the bytes: nothing was written then. [`MinusError::Draw`] where the
+/// sink refused a write or the flush: a beginning of the bytes was written.
+pub fn draw_append_text<W: OutputSink>(
+    alloc: Global,
+    out: &mut W,
+    state: &PagerState,
+    first: usize,
+    old_count: usize,
+) -> Result<(), MinusError>
+    requires { IsFormed state.now }
+    ensures ok { OnOk result (Appends (W.contents out.old) (W.contents out.new) (written_all (append_from (control_of state.now) first old_count))) }
+    ensures stays { OnOk result (Stays (W.refused out.old) (W.refused out.new)) }
+    ensures err { IfErr result (λ e. WriteRefuses W.contents W.refused e out.old out.new (written_all (append_from (control_of state.now) first old_count))) }
+{
+    let mut bytes = Vec::new(alloc);
+    state.draw_rows_from(alloc, &mut bytes, first, old_count)?;
+    draw_bytes(out, &bytes)?;
+    Ok(())
+}

@@ -1,0 +1,4 @@
+//! Why calls are refused.
+pub use minus_term::error::{
+    CleanupError, DescriptionError, MinusError, RegexError, SetupError, TermError,
+};

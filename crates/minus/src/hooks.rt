@@ -1,0 +1,2 @@
+//! When the pager calls back.
+pub use minus_term::hooks::Hook;

@@ -1,0 +1,91 @@
+//! Worked descriptions of keys.
+use minus_input::parse_key_event;
+use minus_term::{DescriptionError, KeyCode, KeyModifiers};
+use std::test::Fail;
+
+// Whether a text describes a key with this code and these modifiers.
+fn is_key(text: &str, code: KeyCode, modifiers: KeyModifiers) -> bool {
+    parse_key_event(text).map(|key| (key.code, key.modifiers)) == Ok((code, modifiers))
+}
+
+// Whether a text describes no key, for this reason.
+fn is_refused(text: &str, fault: DescriptionError) -> bool {
+    parse_key_event(text).err() == Some(fault)
+}
+
+#[test]
+fn modifiers_and_keys_are_read(rt: HostRuntime) {
+    let table = [
+        ("c--x", KeyCode::Char('x'), KeyModifiers::CONTROL),
+        ("c-", KeyCode::Null, KeyModifiers::CONTROL),
+        ("-", KeyCode::Null, KeyModifiers::NONE),
+        ("c", KeyCode::Char('c'), KeyModifiers::NONE),
+        ("q-c-", KeyCode::Char('q'), KeyModifiers::CONTROL),
+        ("s-g", KeyCode::Char('g'), KeyModifiers::SHIFT),
+        (" x\n", KeyCode::Char('x'), KeyModifiers::NONE),
+    ];
+    for (text, code, modifiers) in table {
+        assert!(rt; is_key(text, code, modifiers), "at {text}");
+    }
+}
+
+#[test]
+fn the_first_fault_from_the_left_is_told(rt: HostRuntime) {
+    let table = [
+        ("a--x", DescriptionError::EmptySegment),
+        ("q-c", DescriptionError::SecondKey),
+        ("--", DescriptionError::EmptySegment),
+        ("é", DescriptionError::NotAscii),
+        ("  ", DescriptionError::Empty),
+        ("c-c-x", DescriptionError::RepeatedModifier),
+        ("foo", DescriptionError::UnknownName),
+        ("f13", DescriptionError::UnknownName),
+        ("a-b", DescriptionError::SecondKey),
+        ("c---x", DescriptionError::EmptySegment),
+        ("foo-c-c-x", DescriptionError::UnknownName),
+        ("c-c-foo", DescriptionError::RepeatedModifier),
+        ("x-foo", DescriptionError::UnknownName),
+        ("C-x", DescriptionError::SecondKey),
+    ];
+    for (text, fault) in table {
+        assert!(rt; is_refused(text, fault), "at {text}");
+    }
+}
+
+#[test]
+fn names_are_read_in_any_case(rt: HostRuntime) {
+    let table = [
+        ("Enter", KeyCode::Enter),
+        ("TAB", KeyCode::Tab),
+        ("backTab", KeyCode::BackTab),
+        ("BackSpace", KeyCode::Backspace),
+        ("uP", KeyCode::Up),
+        ("Down", KeyCode::Down),
+        ("rIght", KeyCode::Right),
+        ("LEFT", KeyCode::Left),
+        ("PageUp", KeyCode::PageUp),
+        ("pageDown", KeyCode::PageDown),
+        ("Home", KeyCode::Home),
+        ("eNd", KeyCode::End),
+        ("INSERT", KeyCode::Insert),
+        ("Delete", KeyCode::Delete),
+        ("eSC", KeyCode::Esc),
+        ("Dash", KeyCode::Char('-')),
+        ("sPace", KeyCode::Char(' ')),
+        ("F1", KeyCode::F(1)),
+        ("f2", KeyCode::F(2)),
+        ("F3", KeyCode::F(3)),
+        ("f4", KeyCode::F(4)),
+        ("F5", KeyCode::F(5)),
+        ("f6", KeyCode::F(6)),
+        ("F7", KeyCode::F(7)),
+        ("f8", KeyCode::F(8)),
+        ("F9", KeyCode::F(9)),
+        ("f10", KeyCode::F(10)),
+        ("F11", KeyCode::F(11)),
+        ("f12", KeyCode::F(12)),
+    ];
+    for (name, code) in table {
+        assert!(rt; is_key(name, code, KeyModifiers::NONE), "at {name}");
+    }
+}

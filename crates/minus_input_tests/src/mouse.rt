@@ -1,0 +1,58 @@
+//! Worked descriptions of the mouse's actions.
+use minus_input::parse_mouse_event;
+use minus_term::{DescriptionError, KeyModifiers, MouseButton, MouseEventKind};
+use std::test::Fail;
+
+// Whether a text describes this action of the mouse with these modifiers.
+fn is_mouse(text: &str, kind: MouseEventKind, modifiers: KeyModifiers) -> bool {
+    parse_mouse_event(text).map(|mouse| (mouse.kind, mouse.modifiers)) == Ok((kind, modifiers))
+}
+
+// Whether a text describes no action, for this reason.
+fn is_refused(text: &str, fault: DescriptionError) -> bool {
+    parse_mouse_event(text).err() == Some(fault)
+}
+
+#[test]
+fn buttons_and_wheel_are_read(rt: HostRuntime) {
+    let table = [
+        ("Left:Down", MouseEventKind::Down(MouseButton::Left)),
+        ("left:up", MouseEventKind::Up(MouseButton::Left)),
+        ("LEFT:drag", MouseEventKind::Drag(MouseButton::Left)),
+        ("right:down", MouseEventKind::Down(MouseButton::Right)),
+        ("Right:up", MouseEventKind::Up(MouseButton::Right)),
+        ("right:DRAG", MouseEventKind::Drag(MouseButton::Right)),
+        ("mid:down", MouseEventKind::Down(MouseButton::Middle)),
+        ("Mid:drag", MouseEventKind::Drag(MouseButton::Middle)),
+        ("scroll:UP", MouseEventKind::ScrollUp),
+        ("Scroll:down", MouseEventKind::ScrollDown),
+    ];
+    for (name, kind) in table {
+        assert!(rt; is_mouse(name, kind, KeyModifiers::NONE), "at {name}");
+    }
+}
+
+#[test]
+fn modifiers_are_read_before_an_action(rt: HostRuntime) {
+    let two = KeyModifiers::ALT | KeyModifiers::CONTROL;
+    let all = two | KeyModifiers::SHIFT;
+    let up = MouseEventKind::Up(MouseButton::Middle);
+    let has_two = is_mouse("m-c-mid:up", up, two);
+    let has_all = is_mouse("m-c-s-move", MouseEventKind::Moved, all);
+    assert!(rt; has_two && has_all);
+}
+
+#[test]
+fn what_is_no_action_is_refused(rt: HostRuntime) {
+    let table = [
+        ("é", DescriptionError::NotAscii),
+        ("  ", DescriptionError::Empty),
+        ("m", DescriptionError::UnknownName),
+        ("c-", DescriptionError::NoAction),
+        ("x-left:up", DescriptionError::UnknownName),
+        ("left:up-move", DescriptionError::SecondKey),
+    ];
+    for (text, fault) in table {
+        assert!(rt; is_refused(text, fault), "at {text}");
+    }
+}

@@ -1,0 +1,22 @@
+//! Tests of `minus`, of what no contract says: worked sessions with the pages and the bytes that they must have, and
+//! sinks that refuse.
+#![tactic(auto)]
+
+#[cfg(test)]
+mod drawings;
+#[cfg(test)]
+mod endings;
+#[cfg(test)]
+mod inputs;
+#[cfg(test)]
+mod pages;
+#[cfg(test)]
+mod refusals;
+#[cfg(test)]
+mod sessions;
+#[cfg(test)]
+mod sinks;
+#[cfg(test)]
+mod starts;
+#[cfg(test)]
+mod stubborn;

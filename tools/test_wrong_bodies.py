@@ -1,0 +1,145 @@
+#!/usr/bin/env python3
+"""Tests of wrong_bodies.py: how a body's function is found, how rounds are made, and how a check's lines are judged."""
+import os
+import sys
+import tempfile
+import unittest
+
+sys.path.insert(0, os.path.dirname(os.path.abspath(__file__)))
+from wrong_bodies import Body, Place, judge, next_round, place_of, read_body, texts_of, try_all, verdicts_of
+
+SOURCE = """const LIMIT: usize = 3;
+
+pub fn free(n: usize) -> usize {
+    if n == 0 {
+        1
+    } else {
+        2
+    }
+}
+
+impl<T: Sink> Sink for io::Cursor<T>
+where
+    T: Write,
+{
+    const NAME: usize = 4;
+
+    fn put(&mut self) -> usize {
+        5
+    }
+}
+
+impl From<fmt::Error> for Fault {
+    fn from(cause: fmt::Error) -> Fault {
+        Fault::Six(cause)
+    }
+}
+
+pub trait Named {
+    fn name(&self) -> usize {
+        7
+    }
+}
+"""
+
+
+def place(mark):
+    return place_of(SOURCE, SOURCE.index(mark), "m")
+
+
+def body(label, name, at=0):
+    return Body(label, [("src/m.rt", at, at + 1, "x")], {Place("m", name=name)})
+
+
+class Places(unittest.TestCase):
+    def test_a_function_is_known_by_its_module(self):
+        self.assertEqual(place("else"), Place("m", name="free"))
+        self.assertTrue(place("else").is_of("krate::m::free"))
+        self.assertFalse(place("else").is_of("krate::other::free"))
+
+    def test_a_method_is_known_by_its_type_and_trait(self):
+        self.assertEqual(place("5"), Place("m", "Cursor", "Sink", "", "put"))
+        self.assertTrue(place("5").is_of("krate::m::CursorSink::put"))
+        self.assertFalse(place("5").is_of("krate::m::BoxSink::put"))
+
+    def test_an_argument_tells_impls_apart(self):
+        self.assertTrue(place("Fault::Six").is_of("krate::m::FaultFromFmtError::from"))
+        self.assertFalse(place("Fault::Six").is_of("krate::m::FaultFromIoError::from"))
+
+    def test_constants_and_defaults_stand_in_no_function(self):
+        for mark in ("LIMIT", "4;", "7"):
+            self.assertEqual(place(mark), Place())
+
+
+class Rounds(unittest.TestCase):
+    def test_a_round_turns_each_function_once(self):
+        first, again, other = body("a", "f"), body("b", "f", 3), body("c", "g", 6)
+        self.assertEqual(next_round([first, again, other]), [first, other])
+
+    def test_a_body_outside_a_function_is_alone(self):
+        constant = Body("a", [("src/m.rt", 0, 1, "x")], {Place()})
+        self.assertEqual(next_round([constant, body("b", "f", 3)]), [constant])
+        self.assertEqual(next_round([body("b", "f", 3), constant]), [body("b", "f", 3)])
+
+    def test_a_file_gets_all_that_a_round_changes(self):
+        with tempfile.TemporaryDirectory() as folder:
+            os.mkdir(f"{folder}/src")
+            with open(f"{folder}/src/m.rt", "w", encoding="utf-8") as out:
+                out.write("fn f() {\n    one\n}\n\nfn g() {\n    two\n}\n")
+            with open(f"{folder}/it.edit", "w", encoding="utf-8") as out:
+                out.write("file: src/m.rt\nold: two\nnew: three\nold: one\nnew: four\n")
+            it = read_body(f"{folder}/it.edit", folder)
+            self.assertEqual(texts_of([it], folder)["src/m.rt"], "fn f() {\n    four\n}\n\nfn g() {\n    three\n}\n")
+            self.assertEqual({place.name for place in it.places}, {"f", "g"})
+            with open(f"{folder}/it.edit", "w", encoding="utf-8") as out:
+                out.write("file: src/m.rt\nold: fn\nnew: const\n")
+            self.assertIn("2 times", read_body(f"{folder}/it.edit", folder).fault)
+
+
+class Verdicts(unittest.TestCase):
+    def judged(self, said, is_alone=True):
+        return judge(body("a", "f"), verdicts_of(said), is_alone)
+
+    def test_a_goal_of_its_own(self):
+        self.assertTrue(self.judged("fn k::m::f: no proof: `search` did not prove `returns`; it calls `k::m::g`, which is not proved\n")[0])
+        self.assertTrue(self.judged("./proofs/m/f/Answers.antt:3:5: error: `returns`: the two types differ\nfn k::m::f: not proved\n")[0])
+
+    def test_a_body_that_is_proved(self):
+        self.assertEqual(self.judged("fn k::m::f: proved\n"), (False, "NOT REFUSED: it is proved"))
+
+    def test_a_body_that_no_line_names(self):
+        self.assertFalse(self.judged("fn k::m::g: not proved\n")[0])
+
+    def test_an_answer_that_names_what_is_gone(self):
+        said = "proofs/m/f/Answers.antt:3:5: error: `returns`: record `R`\n  has no field `push`\nfn k::m::f: not proved\n"
+        self.assertFalse(self.judged(said)[0])
+
+    def test_a_function_that_waits_for_another(self):
+        said = "fn k::m::f: no proof: it calls `k::m::g`, which is not proved\n"
+        self.assertIsNone(self.judged(said, False)[0])
+        self.assertFalse(self.judged(said, True)[0])
+
+
+class Tries(unittest.TestCase):
+    def test_who_waits_is_tried_again(self):
+        def check(bodies):
+            lines = {"f": "fn k::m::f: no proof: `search` did not prove `returns`", "g": "fn k::m::g: no proof: `search` did not prove `returns`"}
+            if len(bodies) == 2:
+                lines["f"] = "fn k::m::f: no proof: it calls `k::m::g`, which is not proved"
+            return "\n".join([*lines.values(), "logic=not-proved"])
+
+        told = [(it.label, is_refused) for it, is_refused, _ in try_all([body("a", "f"), body("b", "g", 3)], check)]
+        self.assertEqual(told, [("b", True), ("a", True)])
+
+    def test_who_does_not_compile_fails_alone(self):
+        def check(bodies):
+            if any(it.label == "b" for it in bodies):
+                return "error: a type is missing\n"
+            return "fn k::m::f: no proof: `search` did not prove `returns`\nlogic=not-proved\n"
+
+        told = {it.label: is_refused for it, is_refused, _ in try_all([body("a", "f"), body("b", "g", 3)], check)}
+        self.assertEqual(told, {"a": True, "b": False})
+
+
+if __name__ == "__main__":
+    unittest.main()
