@@ -1,5 +1,5 @@
 -- Laws of the rows of lines, their first rows and their longest line.
-use Rattle.std.proofs.Common.{◌≡◌, ℕ, zero, suc, ◌+◌, Bool, true, false, eqb, cond, List, [], ◌∷◌, ◌++◌, length, max, refl, ap, ◌∙◌, arith, append_assoc, inl, inr}
+use Rattle.std.proofs.Common.{◌≡◌, ℕ, zero, suc, ◌+◌, Bool, true, false, eqb, cond, List, [], ◌∷◌, ◌++◌, length, max, refl, sym, ap, ◌∙◌, arith, append_assoc, inl, inr}
 use Rattle.std.specs.List.Sorted.{IsStrictlyIncreasing}
 use Rattle.std.specs.Str.Lines.{lines}
 use Rattle.std.proofs.lemmas.Bool.{cases_Bool}
@@ -47,13 +47,13 @@ unfolding line_map
 line_map-ascends d = first_rows-ascend d.cols 0 (lines d.text)
 
 pub pushes-join : PushesJoin
-pushes-join d a b cols =
-    let e : pushed (pushed d a cols) b cols ≡ pushed d (a ++ b) cols = ap (λ t. let r : Document = record { text = t; cols = cols } in r) (append_assoc d.text a b) in
+pushes-join d one two whole a b cols e f g =
+    let both : two ≡ whole = f ∙ ap (λ (x : Document). pushed x b cols) e ∙ ap (λ t. let r : Document = record { text = t; cols = cols } in r) (append_assoc d.text a b) ∙ sym g in
     record {
-      same_rows = ap rows_of e;
-      same_map = ap line_map e;
-      same_count = ap (λ (x : Document). length (lines x.text)) e;
-      same_longest = ap longest e;
+      same_rows = ap rows_of both;
+      same_map = ap line_map both;
+      same_count = ap (λ (x : Document). length (lines x.text)) both;
+      same_longest = ap longest both;
     }
 
 -- the rows of a text are those of its finished lines and its unfinished ones

@@ -4,6 +4,7 @@ pub mod UnitsLaws
 pub mod FrontsLaws
 pub mod PartsLaws
 pub mod WordsLaws
+pub mod JointsLaws
 pub mod RowsMeasured
 pub mod PiecesLaws
 pub mod RowsLaws

@@ -3,7 +3,7 @@ use Rattle.std.proofs.Common.{◌≡◌, ◌≢◌, ℕ, zero, suc, ◌+◌, ◌
 use Rattle.std.specs.Str.{IsUtf8, IsCharBoundary, encode_utf8_all}
 use Rattle.std.specs.Str.Lines.{strip_carriage_return}
 use Rattle.std.proofs.lemmas.Bool.{cases_Bool, eqb-true, ne_eqb}
-use Rattle.std.proofs.lemmas.List.{append-nil, length-append, length-drop, length-take-le, length-map, drop-drop, take-append-drop, map-append, take-map, get_or-drop, get_or-map, get_or_append_left, take_more}
+use Rattle.std.proofs.lemmas.List.{append-nil, length-append, length-drop, length-take-le, length-map, drop-drop, take-append-drop, map-append, take-map, get_or-drop, get_or-map, get_or_append_left, get_or-append_right, take_more}
 use Rattle.std.proofs.lemmas.List.Concat.{flat_map-append}
 use Rattle.std.proofs.lemmas.Str.{IsUtf8-take, IsUtf8-drop, IsUtf8-between, IsCharBoundary-start, IsCharBoundary-after_ascii, IsCharBoundary-before_ascii, chars-append, chars-IsAscii, encodes-IsAscii, encodes-append, encodes-chars, length-le-encodes}
 use Rattle.minus_text.specs.declared.wrap.Span.{Span}
@@ -12,7 +12,7 @@ use Rattle.minus_text.specs.RowRuns.{fits_row}
 use Rattle.minus_text.specs.RunsLaws.{two_fronts}
 use Rattle.minus_text.specs.Rows.{the_rows, run_text, line_runs, line_rows, line_places, places}
 use Rattle.minus_text.specs.Kept.{moved, line_stored, open_stored, open_rows, GoesOn}
-use Rattle.minus_text.specs.Seams.{WordBeginsAt}
+use Rattle.minus_text.specs.Seams.{WordBeginsAt, RowsGoOn}
 use Rattle.minus_text.proofs.StretchesLaws.{one_space}
 use Rattle.minus_text.proofs.PiecesLaws.{pieces_join_lem}
 use Rattle.minus_text.proofs.WordsLaws.{some_chars}
@@ -219,3 +219,10 @@ stored_seam cols base line rows at later i d u e w v lt l is =
     let one : get_or rows i d ≡ moved base (get_or (line_places cols line) i d) = ap (λ rs. get_or rs i d) stored ∙ get_or-map (moved base) (line_places cols line) i d d (omega arith) in
     let start : (get_or rows i d).start ≡ base + (get_or (line_places cols line) i d).start = ap (λ (s : Span). s.start) one in
     seam_goes_on cols line at later i d u w v lt (omega arith) (omega (arith, start, is))
+
+-- the law, over the texts of lines
+pub rows_go_on : RowsGoOn
+rows_go_on cols line before row after later u e w v lt =
+    let few : length before < length (line_places cols line) = omega (arith, ap length e, length-append before (row ∷ after)) in
+    let here : get_or (before ++ row ∷ after) (length before) row ≡ row = get_or-append_right before (row ∷ after) (length before) (length before) row refl (omega arith) ∙ ap (λ n. get_or (row ∷ after) n row) (let z : length before - length before ≡ 0 = omega arith in z) in
+    seam_goes_on cols line row.start later (length before) row u w v lt few (ap (λ (ss : List Span). (get_or ss (length before) row).start) e ∙ ap (λ (s : Span). s.start) here)

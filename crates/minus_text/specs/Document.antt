@@ -1,5 +1,5 @@
 -- A document: a text and the columns of its rows, and what follows from them.
-use Rattle.std.specs.Prelude.{◌≡◌, ℕ, ◌+◌, ◌==◌, List, [], ◌∷◌, ◌++◌, length, max, if◌then◌else◌}
+use Rattle.std.specs.Prelude.{◌≡◌, ℕ, ◌+◌, ◌==◌, Bool, List, [], ◌∷◌, ◌++◌, length, max, if◌then◌else◌}
 use Rattle.std.specs.List.{flat_map}
 use Rattle.std.specs.List.Sorted.{IsStrictlyIncreasing}
 use Rattle.std.specs.Str.Lines.{lines}
@@ -50,6 +50,10 @@ unfinished_rows d = if length (unfinished_line d.text) == 0 then 0 else length (
 abbrev pub pushed : Document → List ℕ → ℕ → Document
 pushed d piece cols = record { text = d.text ++ piece; cols = cols }
 
+-- whether a push under these columns keeps the rows of the finished lines; else all rows are formed anew
+abbrev pub keeps_rows : Document → ℕ → Bool
+keeps_rows d cols = cols == d.cols
+
 -- two documents look the same: their rows, the first row of each line, their number of lines and their longest line
 pub record LooksTheSame (d e : Document) : Type 0 where
   pub same_rows : rows_of d ≡ rows_of e
@@ -57,9 +61,9 @@ pub record LooksTheSame (d e : Document) : Type 0 where
   pub same_count : line_count d ≡ line_count e
   pub same_longest : longest d ≡ longest e
 
--- to push one piece and then another is to push both joined
+-- two calls that push one piece and then another leave what one call leaves that pushes both joined
 abbrev pub PushesJoin : Type 0
-PushesJoin = (d : Document) (a b : List ℕ) (cols : ℕ) → LooksTheSame (pushed (pushed d a cols) b cols) (pushed d (a ++ b) cols)
+PushesJoin = (d one two whole : Document) (a b : List ℕ) (cols : ℕ) → one ≡ pushed d a cols → two ≡ pushed one b cols → whole ≡ pushed d (a ++ b) cols → LooksTheSame two whole
 
 -- each line begins at a later row than the line before it
 abbrev pub LineMapAscends : Type 0

@@ -3,7 +3,7 @@ use Rattle.std.specs.Prelude.{◌≡◌, ℕ, ◌-◌, ◌==◌, Bool, true, Lis
 use Rattle.std.specs.Str.Lines.{lines}
 use Rattle.minus_text.specs.declared.screen.FormatResult.{FormatResult}
 use Rattle.minus_text.specs.Lines.{unfinished_line}
-use Rattle.minus_text.specs.Document.{Document, rows_of, first_rows, line_count, longest, unfinished_rows}
+use Rattle.minus_text.specs.Document.{Document, keeps_rows, rows_of, first_rows, line_count, longest, unfinished_rows}
 
 -- a result tells of a document formed: its counts of lines and rows, its unfinished rows, the first row of each line where the document's first row has a number, its longest line, and whether nothing was attached
 pub record Tells (result : FormatResult) (formed : Document) (first_row : ℕ) (clean : Bool) : Type 0 where
@@ -16,12 +16,12 @@ pub record Tells (result : FormatResult) (formed : Document) (first_row : ℕ) (
 
 -- what a push forms: the unfinished line and the piece, or the whole text and the piece where the columns change
 abbrev pub formed_by : Document → List ℕ → ℕ → Document
-formed_by d piece cols = record { text = (if cols == d.cols then unfinished_line d.text else d.text) ++ piece; cols = cols }
+formed_by d piece cols = record { text = (if keeps_rows d cols then unfinished_line d.text else d.text) ++ piece; cols = cols }
 
 -- the number of the first row that a push forms: the number of rows of the finished lines, or 0 where the columns change
 abbrev pub first_formed : Document → ℕ → ℕ
-first_formed d cols = if cols == d.cols then length (rows_of d) - unfinished_rows d else 0
+first_formed d cols = if keeps_rows d cols then length (rows_of d) - unfinished_rows d else 0
 
 -- whether a push attaches nothing to the piece: there is no unfinished line, or the columns change and the whole is formed anew
 abbrev pub is_clean : Document → ℕ → Bool
-is_clean d cols = if cols == d.cols then length (unfinished_line d.text) == 0 else true
+is_clean d cols = if keeps_rows d cols then length (unfinished_line d.text) == 0 else true

@@ -1,4 +1,5 @@
 -- What fits in a front of a part that is too wide for its columns.
+-- With the proofs that the division into runs needs.
 use Rattle.std.proofs.Common.{ℕ, ◌≤◌, ◌||◌, Bool, cond, nat_le, nat_lt, List, [], ◌∷◌, ◌++◌, arith, inl, inr}
 use Rattle.std.specs.List.{sum_by, count_by}
 use Rattle.std.proofs.lemmas.Bool.{cases_Bool, leb-true, le-leb, or_cases, or_left, or_right}

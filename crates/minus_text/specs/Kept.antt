@@ -11,7 +11,7 @@ use Rattle.minus_text.specs.declared.formed.Formed.{Formed}
 use Rattle.minus_text.specs.Units.{columns}
 use Rattle.minus_text.specs.Rows.{line_rows, line_places}
 use Rattle.minus_text.specs.Lines.{Cut, cut, whole, unfinished_line}
-use Rattle.minus_text.specs.Document.{Document, rows_of_lines, first_rows, longest_of}
+use Rattle.minus_text.specs.Document.{Document, keeps_rows, rows_of_lines, first_rows, longest_of}
 
 -- a part of a line, as a part of the text in which the line begins at a place
 abbrev pub moved : ℕ → Span → Span
@@ -96,15 +96,15 @@ pub record IsFormed (text : List ℕ) (cols : ℕ) (rows : List Span) (map : Lis
   pub its_longest : longest_line ≡ longest_of (lines text)
   pub its_border : IsBorder (unfinished_line text) border
 
--- whether a push under these columns goes on behind what is formed, or forms all anew
+-- what a push under these columns keeps and goes on: the finished lines and the unfinished one, or nothing where all is formed anew
 abbrev pub kept_lines : Document → ℕ → List (List ℕ)
-kept_lines d cols = if cols == d.cols then (cut d.text).closed else []
+kept_lines d cols = if keeps_rows d cols then (cut d.text).closed else []
 
 abbrev pub line_going_on : Document → ℕ → List ℕ
-line_going_on d cols = if cols == d.cols then unfinished_line d.text else []
+line_going_on d cols = if keeps_rows d cols then unfinished_line d.text else []
 
 abbrev pub piece_behind : Document → ℕ → List ℕ → List ℕ
-piece_behind d cols piece = if cols == d.cols then piece else d.text ++ piece
+piece_behind d cols piece = if keeps_rows d cols then piece else d.text ++ piece
 
 -- where a push under these columns begins to form
 pub record IsRestartOf (d : Document) (cols : ℕ) (start : Restart) : Type 0 where

@@ -7,6 +7,7 @@ pub mod RunsLaws
 pub mod TheRuns
 pub mod Fronts
 pub mod Pieces
+pub mod Joints
 pub mod RowRuns
 pub mod Rows
 pub mod Measures

@@ -1,4 +1,5 @@
 -- What fits on a row.
+-- With the proofs that the division into runs needs.
 use Rattle.std.proofs.Common.{ℕ, ◌+◌, ◌≤◌, ◌||◌, Bool, nat_le, List, [], ◌∷◌, ◌++◌, length, arith, inl, inr}
 use Rattle.std.proofs.lemmas.Bool.{leb-true, le-leb, or_cases, or_left, or_right}
 use Rattle.std.proofs.lemmas.List.{length-append}

@@ -14,4 +14,8 @@ pub use line_numbers::digits;
 pub use lines_row_map::LinesRowMap;
 pub use pending::PendingPush;
 pub use screen::{FormatResult, Line, OwnedTextBlock, Row, Rows, Screen, TextBlock};
-pub use wrap::{Span, columns, format_line, pieces_join, rows_are_determined, rows_fit, wrap_line};
+pub use seams::rows_go_on;
+pub use wrap::{
+    Span, columns, format_line, pieces_join, rows_are_determined, rows_fit,
+    words_are_cut_at_joints, wrap_line,
+};

@@ -3,7 +3,7 @@ ghost use Rattle.std.specs.Prelude.{◌≡◌, ℕ, List, ◌-◌, ◌<◌, ◌�
 ghost use Rattle.std.specs.List.{All};
 ghost use Rattle.std.specs.Str.{IsUtf8};
 ghost use Rattle.minus_text.specs.Kept.{GoesOn, open_stored};
-ghost use Rattle.minus_text.specs.Seams.{WordBeginsAt};
+ghost use Rattle.minus_text.specs.Seams.{WordBeginsAt, RowsGoOn};
 
 use crate::wrap::Span;
 
@@ -48,3 +48,9 @@ pub(crate) fn last_seam(line: &str, rows: &[Span], first: usize, base: usize, bo
     }
     Seam { rows: 0, bytes: 0 }
 }
+
+/// The rows of an unfinished line before one that begins with a word stay however the line goes on,
+/// if a later word of the line begins before its end; the others are those formed from there on.
+pub fn rows_go_on()
+    ensures { RowsGoOn }
+{}

@@ -10,6 +10,7 @@ ghost use Rattle.minus_text.specs.Runs.{IsRun, AreRuns};
 ghost use Rattle.minus_text.specs.Pieces.{pieces, body_len, parts, fronts, with_spaces, part_len_after, begins_alphanumeric};
 ghost use Rattle.minus_text.specs.Kept.{IsBorder};
 ghost use Rattle.minus_text.specs.Settled.{SettlesFirst};
+ghost use Rattle.minus_text.specs.Joints.{WordsAreCutAtJoints};
 ghost use Rattle.minus_text.specs.Rows.{line_places, line_rows, ArePlaces, RowsAreDetermined, PiecesJoin, RowsFit};
 ghost use Rattle.minus_text.specs.Measures.{measure, size, end_of, fits_measured, measured_places, class_test, SplitsUnit, SplitsFront, SplitsPart, SplitsWord};
 
@@ -561,6 +562,11 @@ pub fn columns(text: &str) -> usize
 /// The pieces of a line, one after another, are the line.
 pub fn pieces_join()
     ensures { PiecesJoin }
+{}
+
+/// Each cut of a word stands after a hyphen between ASCII letters or digits, and no such hyphen is left inside a part.
+pub fn words_are_cut_at_joints()
+    ensures { WordsAreCutAtJoints }
 {}
 
 /// Pieces are divided into rows in one way.
