@@ -86,7 +86,7 @@ struct Progress {
 }
 
 impl<S, P: Parts> Core<S, P> {
-    ghost use Rattle.std.specs.Prelude.{◌≡◌, ◌++◌, map, None, OnOk, OnErr, IfOk, IfErr, string_bytes};
+    ghost use Rattle.std.specs.Prelude.{◌≡◌, map, None, OnOk, OnErr, IfOk, IfErr, string_bytes};
     ghost use Rattle.minus_term.specs.Refusals.{refusal_of};
     ghost use Rattle.minus.specs.Control.{Control};
     ghost use Rattle.minus.specs.Page.{page};
@@ -169,7 +169,7 @@ impl<S, P: Parts> Core<S, P> {
 }
 
 impl<S: OutputSink + Drop, P: Calls> Core<S, P> {
-    ghost use Rattle.std.specs.Prelude.{◌≡◌, ◌++◌, ◌↔◌, ℕ, true, [], map, reverse, None, Some, OnOk, OnErr, IfOk, IfErr, IfNone, IsOk, IsErrOf};
+    ghost use Rattle.std.specs.Prelude.{◌≡◌, ◌↔◌, true, map, reverse, None, Some, OnOk, OnErr, IfOk, IfErr, IsOk, IsErrOf};
     ghost use Rattle.std.specs.Io.KnownBytes.{Appends};
     ghost use Rattle.minus_term.specs.Counts.{Stays, Rises};
     ghost use Rattle.minus_term.specs.Terminal.{CleanupBreaksOff};

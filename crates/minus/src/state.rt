@@ -96,8 +96,8 @@ pub struct PagerState {
 }
 
 impl PagerState {
-    ghost use Rattle.std.specs.Prelude.{◌≡◌, ◌-◌, ◌++◌, map, take, drop, OnOk, OnErr, IfOk, IfErr};
-    ghost use Rattle.minus.specs.Control.{Control, document_of, first_changed};
+    ghost use Rattle.std.specs.Prelude.{◌≡◌, ◌-◌, ◌++◌, map, OnOk, OnErr, IfOk, IfErr};
+    ghost use Rattle.minus.specs.Control.{Control, first_changed};
     ghost use Rattle.minus.specs.Table.{effect, moved_by, moved_to, changed_by, resizes, IsPossible};
     ghost use Rattle.minus_term.specs.Refusals.{refusal_of};
     ghost use Rattle.minus_term.specs.Written.{written_all};
