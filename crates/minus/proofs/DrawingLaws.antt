@@ -1,10 +1,11 @@
 -- Bytes of operations, added one after another.
-use Rattle.std.proofs.Common.{◌≡◌, ℕ, zero, suc, min, drop, refl, arith, ◌+◌, ◌-◌, ◌<◌, ◌≤◌, List, [], ◌∷◌, ◌++◌, length, map, take, get_or, sym, ap, ◌∙◌, append_assoc, append-nil}
+use Rattle.std.proofs.Common.{◌≡◌, ℕ, zero, suc, min, drop, refl, arith, ◌+◌, ◌-◌, ◌<◌, List, [], ◌∷◌, ◌++◌, length, map, take, get_or, sym, ap, ◌∙◌, append_assoc, append-nil}
 use Rattle.std.specs.List.{flat_map}
 use Rattle.std.proofs.Math.Seq.{drop-nil}
 use Rattle.std.proofs.lemmas.List.{map_more, take_min, length-drop, length-map, length-take-le}
 use Rattle.std.proofs.lemmas.List.Concat.{flat_map-append}
-use Rattle.minus_term.specs.Append.{rows_anew, append_ops}
+use Rattle.minus_term.specs.Append.{rows_anew}
+use Rattle.minus.specs.Drawings.{rows_after}
 use Rattle.minus_term.specs.Operations.{Op, GoTo, ClearRow, Put}
 use Rattle.minus_term.specs.Written.{written, written_all}
 use Rattle.minus_term.specs.FullRedraw.{row_ops}
@@ -38,7 +39,7 @@ rows_more f xs i d old a b l e g =
     row_added old a b (map f (take i xs)) (f (get_or xs i d)) e g ∙ ap (λ rs. old ++ written_all (flat_map row_ops rs)) (sym (map_more f xs i d l))
 
 -- the last rows and the first rows of a list, as the code cuts them off
-drop_all : {X : Type 0} (xs : List X) (n : ℕ) → drop (min n (length xs)) xs ≡ drop n xs
+pub drop_all : {X : Type 0} (xs : List X) (n : ℕ) → drop (min n (length xs)) xs ≡ drop n xs
 drop_all [] n = let z : min n 0 ≡ 0 = omega arith in rw z (sym (drop-nil n))
 drop_all (x ∷ xs) zero = let z : min 0 (length (x ∷ xs)) ≡ 0 = omega arith in rw z refl
 drop_all (x ∷ xs) (suc n) = let z : min (suc n) (length (x ∷ xs)) ≡ suc (min n (length xs)) = omega arith in rw z (drop_all xs n)
@@ -96,10 +97,11 @@ anew_next f xs first i d old a b l e g =
 pub blank_next : (first i : ℕ) (old a b : List ℕ) → a ≡ old ++ written_all (rows_anew first [] i) → b ≡ a ++ written_all (GoTo 0 (first + i) ∷ ClearRow ∷ []) → b ≡ old ++ written_all (rows_anew first [] (i + 1))
 blank_next first i old a b e g = ops_added old a b (rows_anew first [] i) (GoTo 0 (first + i) ∷ ClearRow ∷ []) e g ∙ ap (λ ops. old ++ written_all ops) (sym (blanks_more first i))
 
--- all of an append
-pub append_added : (old a b : List ℕ) (first were : ℕ) (shown : List (List ℕ)) → first ≤ length shown → a ≡ old ++ written_all (rows_anew first (drop first shown) 0) → b ≡ a ++ written_all (rows_anew (length shown) [] (were - length shown)) → b ≡ old ++ written_all (append_ops first were shown)
-append_added old a b first were shown l e g =
-    let end : first + length (drop first shown) ≡ length shown = omega (arith, length-drop first shown) in
-    ops_added old a b (rows_anew first (drop first shown) 0) (rows_anew (length shown) [] (were - length shown)) e g
-    ∙ ap (λ (n : ℕ). old ++ written_all (rows_anew first (drop first shown) 0 ++ rows_anew n [] (were - length shown))) (sym end)
-    ∙ ap (λ ops. old ++ written_all ops) (sym (anew_parts first (drop first shown) (were - length shown)))
+-- the texts, and the blank rows after them
+pub anew_added : (old a b : List ℕ) (first blanks : ℕ) (texts : List (List ℕ)) → a ≡ old ++ written_all (rows_anew first texts 0) → b ≡ a ++ written_all (rows_anew (first + length texts) [] blanks) → b ≡ old ++ written_all (rows_anew first texts blanks)
+anew_added old a b first blanks texts e g = ops_added old a b (rows_anew first texts 0) (rows_anew (first + length texts) [] blanks) e g ∙ ap (λ ops. old ++ written_all ops) (sym (anew_parts first texts blanks))
+
+-- the rows from one on are those from the page's end where there are no more
+pub rows_after_is : (first were count : ℕ) (shown texts : List (List ℕ)) → count ≡ length shown → texts ≡ drop first shown → rows_anew (min first count) texts (were - count) ≡ rows_after first were shown
+rows_after_is first were count shown texts c t =
+    ap (λ (n : ℕ). rows_anew (min first n) texts (were - n)) c ∙ ap (λ (ts : List (List ℕ)). rows_anew (min first (length shown)) ts (were - length shown)) (t ∙ sym (drop_all shown first))

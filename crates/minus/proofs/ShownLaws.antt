@@ -1,7 +1,8 @@
 -- The rows of text on a page.
-use Rattle.std.proofs.Common.{◌≡◌, ℕ, zero, suc, ◌+◌, ◌-◌, ◌<◌, min, List, [], ◌∷◌, ◌++◌, length, map, take, drop, get_or, Some, None, sym, ap, ◌∙◌, arith}
+use Rattle.std.proofs.Common.{◌≡◌, ℕ, zero, suc, ◌+◌, ◌-◌, ◌<◌, ◌≤◌, min, List, [], ◌∷◌, ◌++◌, length, map, take, drop, get_or, Some, None, sym, ap, ◌∙◌, arith}
 use Rattle.std.specs.List.{slice_get}
-use Rattle.std.proofs.lemmas.List.{take_more, get_or-drop, length-drop, take_min, map_push}
+use Rattle.std.proofs.Math.ListN.{drop_of_length-le}
+use Rattle.std.proofs.lemmas.List.{take_more, get_or-drop, length-drop, length-take, drop-append-le, take_min, map_push}
 
 get_some : {X : Type 0} (xs : List X) (i : ℕ) (x d : X) → Some x ≡ slice_get xs i → get_or xs i d ≡ x
 get_some [] i x d e = cc
@@ -27,3 +28,21 @@ pub shown_all : (rows : List (List ℕ)) (mark n k : ℕ) → n ≡ min (length 
 shown_all rows mark n k e =
     let m : n ≡ min k (length (drop mark rows)) = omega (arith, e, length-drop mark rows) in
     ap (λ j. take j (drop mark rows)) m ∙ take_min k (drop mark rows)
+
+-- no row yet, from one on
+pub none_yet : {X : Type 0} (n : ℕ) (xs : List X) → [] ≡ drop n (take n xs)
+none_yet n xs = sym (drop_of_length-le (take n xs) (omega (arith, length-take n xs)))
+
+-- one more row from one on
+pub more_from : (n i : ℕ) (xs news rows : List (List ℕ)) (row : List ℕ) → n ≤ i → i < length rows → get_or rows i [] ≡ row → xs ≡ drop n (take i rows) → news ≡ xs ++ row ∷ [] → news ≡ drop n (take (i + 1) rows)
+more_from n i xs news rows row l there is h e =
+    let count : length (take i rows) ≡ i = omega (arith, length-take i rows) in
+    e ∙ ap (λ ts. ts ++ row ∷ []) h ∙ sym (ap (drop n) (take_more rows i [] there ∙ ap (λ r. take i rows ++ r ∷ []) is) ∙ drop-append-le n (take i rows) (row ∷ []) (omega (arith, l, count)))
+
+-- one more row on the page, from one on
+pub shown_more_from : {X : Type 0} (f : X → List ℕ) (xs news : List X) (x : X) (rows : List (List ℕ)) (mark n i : ℕ) → n ≤ i → mark + i < length rows → map f xs ≡ drop n (take i (drop mark rows)) → Some (f x) ≡ slice_get rows (mark + i) → news ≡ xs ++ x ∷ []
+    → map f news ≡ drop n (take (i + 1) (drop mark rows))
+shown_more_from f xs news x rows mark n i l there h e g =
+    let left : i < length (drop mark rows) = omega (arith, length-drop mark rows) in
+    let is : get_or (drop mark rows) i [] ≡ f x = get_or-drop mark rows i [] ∙ get_some rows (mark + i) (f x) [] e in
+    more_from n i (map f xs) (map f news) (drop mark rows) (f x) l left is h (ap (map f) g ∙ map_push f xs x)

@@ -1,7 +1,7 @@
 //! Drawings, as bytes in a buffer.
 ghost use Rattle.std.specs.Prelude.{◌≡◌, ◌==◌, [], ◌∷◌, ◌++◌, ◌+◌, ◌-◌, ◌^◌, ◌<◌, ◌≤◌, length, replicate, if◌then◌else◌, map, OnOk, IfOk, string_bytes};
 ghost use Rattle.std.specs.List.{flat_map};
-ghost use Rattle.minus_term.specs.Append.{rows_anew, append_ops};
+ghost use Rattle.minus_term.specs.Append.{rows_anew};
 ghost use Rattle.minus_term.specs.Operations.{GoTo, ClearRow, Put};
 ghost use Rattle.minus_term.specs.Written.{written_all};
 ghost use Rattle.minus_term.specs.FullRedraw.{full_ops, prompt_ops, row_ops};
@@ -204,23 +204,20 @@ fn write_blanks(alloc: Global, out: &mut Vec<u8>, first: u16, count: u16) -> Res
     Ok(())
 }
 
-/// Adds the bytes that draw the rows of text of a page from the first on that has changed, counted from 0 on the page,
-/// where so many were shown before.
+/// Adds the bytes that draw rows of a page from one on, counted from 0: each is made blank, these texts are put, and so
+/// many rows after them stay blank.
 pub(crate) fn draw_append_text(
     alloc: Global,
     out: &mut Vec<u8>,
     first: usize,
-    were: usize,
-    shown: &[&str],
+    blanks: usize,
+    texts: &[&str],
 ) -> Result<(), AllocError>
-    requires first { first ≤ length shown.now }
-    requires few { length shown.now < 2 ^ 16 }
-    requires were_few { were < 2 ^ 16 }
-    ensures { OnOk result (out.new.items ≡ out.old.items ++ written_all (append_ops first were (map (λ r. r.now) shown.now))) }
+    requires { first + length texts.now + blanks < 2 ^ 16 }
+    ensures { OnOk result (out.new.items ≡ out.old.items ++ written_all (rows_anew first (map (λ r. r.now) texts.now) blanks)) }
 {
-    let blanks = were.saturating_sub(shown.len());
-    write_texts_anew(alloc, out, first as u16, &shown[first..])?;
-    write_blanks(alloc, out, shown.len() as u16, blanks as u16)?;
+    write_texts_anew(alloc, out, first as u16, texts)?;
+    write_blanks(alloc, out, (first + texts.len()) as u16, blanks as u16)?;
     Ok(())
 }
 

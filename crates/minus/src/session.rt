@@ -128,7 +128,7 @@ impl<S, P: Parts> Core<S, P> {
         ensures memory { IfErr result (λ e. e ≡ MinusError.Memory) }
     {
         let change = self.state.change_to(NextText::Same);
-        let shown = self.state.shown_after(self.alloc, &change)?;
+        let shown = self.state.shown_after(self.alloc, &change, 0)?;
         let page = Page::form(self.alloc, &self.state, &shown)?;
         Ok(page)
     }

@@ -96,12 +96,12 @@ pub struct PagerState {
 }
 
 impl PagerState {
-    ghost use Rattle.std.specs.Prelude.{◌≡◌, ◌-◌, ◌++◌, map, OnOk, OnErr, IfOk, IfErr};
+    ghost use Rattle.std.specs.Prelude.{◌≡◌, ◌+◌, ◌-◌, ◌++◌, ◌^◌, ◌<◌, length, map, drop, OnOk, OnErr, IfOk, IfErr};
     ghost use Rattle.minus.specs.Control.{Control, first_changed};
     ghost use Rattle.minus.specs.Table.{effect, moved_by, moved_to, changed_by, resizes, IsPossible};
     ghost use Rattle.minus_term.specs.Refusals.{refusal_of};
     ghost use Rattle.minus_term.specs.Written.{written_all};
-    ghost use Rattle.minus.specs.Drawings.{append_from, ops_between};
+    ghost use Rattle.minus.specs.Drawings.{rows_after, append_from, ops_between};
     ghost use Rattle.minus.specs.Reads.{control_of, wanted_of, IsFormed};
     ghost use Rattle.minus.specs.NextTexts.{next_document, IsNext};
     ghost use Rattle.minus.specs.Changes.{IsChange, IsTextFor, shown_by, IsUnformed, IsUnformedState};
@@ -258,22 +258,33 @@ impl PagerState {
         Ok(change)
     }
 
-    // The texts of the rows of text on the page that a change leads to.
-    pub(crate) fn shown_after<'a>(
-        &'a self,
-        alloc: Global,
-        change: &'a Change,
-    ) -> Result<Vec<&'a str>, AllocError>
+    // How many rows of text the page has that a change leads to.
+    fn count_after(&self, change: &Change) -> usize
         requires { IsNext self.now.screen change.now.text }
-        ensures { IfOk result (λ v. map (λ r. r.now) v.items ≡ shown_by self.now.screen change.now) }
+        ensures count { result ≡ length (shown_by self.now.screen change.now) }
+        ensures within { change.now.mark + result < 2 ^ 64 }
     {
         let left = change
             .text
             .rows_after(&self.screen)
             .saturating_sub(change.mark);
-        let count = left.min(change.rows - 1);
-        let mut shown = Vec::with_capacity(alloc, count)?;
-        for i in 0..count {
+        left.min(change.rows - 1)
+    }
+
+    // The texts of the rows of text on the page that a change leads to, from one of them on.
+    pub(crate) fn shown_after<'a>(
+        &'a self,
+        alloc: Global,
+        change: &'a Change,
+        first: usize,
+    ) -> Result<Vec<&'a str>, AllocError>
+        requires { IsNext self.now.screen change.now.text }
+        ensures { IfOk result (λ v. map (λ r. r.now) v.items ≡ drop first (shown_by self.now.screen change.now)) }
+    {
+        let count = self.count_after(change);
+        let start = first.min(count);
+        let mut shown = Vec::with_capacity(alloc, count - start)?;
+        for i in start..count {
             if let Some(row) = change.text.row_after(&self.screen, change.mark + i) {
                 shown.push(row)?;
             }
@@ -291,6 +302,31 @@ impl PagerState {
             .saturating_sub(self.screen.unterminated())
     }
 
+    // Adds the bytes that draw the rows of the page that a change leads to, from one of them on, where so many were shown.
+    fn draw_rows_after<'a>(
+        &'a self,
+        alloc: Global,
+        out: &mut Vec<u8>,
+        change: &'a Change,
+        first: usize,
+        were: usize,
+    ) -> Result<(), AllocError>
+        requires belongs { IsNext self.now.screen change.now.text }
+        requires few { were < 2 ^ 16 }
+        ensures { OnOk result (out.new.items ≡ out.old.items ++ written_all (rows_after first were (shown_by self.now.screen change.now))) }
+    {
+        let count = self.count_after(change);
+        let texts = self.shown_after(alloc, change, first)?;
+        draw_append_text(
+            alloc,
+            out,
+            first.min(count),
+            were.saturating_sub(count),
+            &texts,
+        )?;
+        Ok(())
+    }
+
     // Adds the bytes that draw the rows which an append has changed.
     fn draw_append<'a>(
         &'a self,
@@ -303,11 +339,10 @@ impl PagerState {
         ensures { OnOk result ((new : Control) → IsChange (control_of self.now) change.now new →
             out.new.items ≡ out.old.items ++ written_all (ops_between Drawing.Append (control_of self.now) new)) }
     {
-        let shown = self.shown_after(alloc, change)?;
         let rows = self.screen.formatted_lines_count();
         let were = rows.saturating_sub(self.upper_mark).min(self.rows - 1);
         let first = self.first_changed().saturating_sub(self.upper_mark);
-        draw_append_text(alloc, out, first.min(shown.len()), were, &shown)?;
+        self.draw_rows_after(alloc, out, change, first, were)?;
         Ok(())
     }
 
@@ -323,10 +358,9 @@ impl PagerState {
         ensures { OnOk result (out.new.items ≡ out.old.items ++ written_all (append_from (control_of self.now) first old_count)) }
     {
         let change = self.change_to(NextText::Same);
-        let shown = self.shown_after(alloc, &change)?;
         let were = old_count.saturating_sub(self.upper_mark).min(self.rows - 1);
-        let first = first.saturating_sub(self.upper_mark).min(shown.len());
-        draw_append_text(alloc, out, first, were, &shown)?;
+        let first = first.saturating_sub(self.upper_mark);
+        self.draw_rows_after(alloc, out, &change, first, were)?;
         Ok(())
     }
 
@@ -347,13 +381,13 @@ impl PagerState {
             Drawing::Nothing => Ok(()),
             Drawing::Append => self.draw_append(alloc, out, change),
             Drawing::Full => {
-                let shown = self.shown_after(alloc, change)?;
+                let shown = self.shown_after(alloc, change, 0)?;
                 let prompt = format_prompt(alloc, change.cols)?;
                 draw_full(alloc, out, change.rows as u16, &shown, &prompt)
             }
             Drawing::Scroll => {
                 let (from, to) = (self.upper_mark, change.mark);
-                let shown = self.shown_after(alloc, change)?;
+                let shown = self.shown_after(alloc, change, 0)?;
                 let prompt = format_prompt(alloc, change.cols)?;
                 let rows = change.rows as u16;
                 draw_scroll(alloc, out, rows, from, to, &shown, &prompt)
