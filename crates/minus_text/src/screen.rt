@@ -480,7 +480,9 @@ impl Screen {
             formed,
             cols,
         } = pending;
-        if !self.forms(start, &tail, text, cols) {
+        let is_formed = self.forms(start, &tail, text, cols);
+        drop(tail);
+        if !is_formed {
             return Ok(self.push_piece(alloc, text, cols)?);
         }
         Ok(self.place_formed(text, start, formed, cols)?)
