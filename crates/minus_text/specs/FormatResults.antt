@@ -25,3 +25,7 @@ first_formed d cols = if keeps_rows d cols then length (rows_of d) - unfinished_
 -- whether a push attaches nothing to the piece: there is no unfinished line, or the columns change and the whole is formed anew
 abbrev pub is_clean : Document → ℕ → Bool
 is_clean d cols = if keeps_rows d cols then length (unfinished_line d.text) == 0 else true
+
+-- a result tells of a push
+abbrev pub TellsPush : FormatResult → Document → List ℕ → ℕ → Type 0
+TellsPush result d piece cols = Tells result (formed_by d piece cols) (first_formed d cols) (is_clean d cols)

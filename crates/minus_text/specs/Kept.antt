@@ -1,6 +1,7 @@
 -- What a Screen keeps beside its text: places in it in the stead of rows.
-use Rattle.std.specs.Prelude.{◌≡◌, ℕ, ◌+◌, ◌<◌, ◌≤◌, ◌==◌, List, [], ◌∷◌, ◌++◌, length, map, max, take, drop, if◌then◌else◌}
+use Rattle.std.specs.Prelude.{◌≡◌, ℕ, ◌+◌, ◌^◌, ◌<◌, ◌≤◌, ◌==◌, List, [], ◌∷◌, ◌++◌, length, map, max, take, drop, if◌then◌else◌}
 use Rattle.std.specs.List.{sum_by}
+use Rattle.std.specs.List.Sorted.{IsStrictlyIncreasing}
 use Rattle.std.specs.Str.{IsUtf8, IsCharBoundary}
 use Rattle.std.specs.Str.Lines.{lines, strip_carriage_return}
 use Rattle.minus_text.specs.declared.wrap.Span.{Span}
@@ -115,3 +116,19 @@ pub record IsRestartOf (d : Document) (cols : ℕ) (start : Restart) : Type 0 wh
 pub record IsPrepared (cols : ℕ) (tail : List ℕ) (start : Restart) (f : Formed) : Type 0 where
   pub its_rows : f.rows.items ≡ stored_from cols (start.finished.bytes + start.bytes) (cut tail)
   pub its_form : (line piece : List ℕ) → IsRestart cols line start → IsUtf8 (line ++ piece) → tail ≡ drop start.bytes line ++ piece → IsFormOf cols line piece start f
+
+-- and it has numbers to spare
+abbrev pub IsPreparedPush : ℕ → List ℕ → Restart → Formed → Type 0
+IsPreparedPush cols tail start f = IsPrepared cols tail start f × (start.finished.rows + start.rows < 2 ^ 63) × (start.finished.bytes + start.bytes < 2 ^ 63)
+
+-- a text goes on in some unfinished line, behind the bytes that stay
+abbrev pub GoesOnInSome : ℕ → List ℕ → Restart → Type 0
+GoesOnInSome cols text start = (line : List ℕ) × (piece : List ℕ) × IsRestart cols line start × IsUtf8 (line ++ piece) × (text ≡ drop start.bytes line ++ piece)
+
+-- in whatever unfinished line a text goes on, the line is measured up to a border then
+abbrev pub IsBorderOfEach : List ℕ → Restart → Border → Type 0
+IsBorderOfEach text start border = (cols : ℕ) (line piece : List ℕ) → IsRestart cols line start → IsUtf8 (line ++ piece) → text ≡ drop start.bytes line ++ piece → IsBorder (line ++ piece) border
+
+-- whatever is formed of a text, its first rows ascend behind those that are kept
+abbrev pub AscendsBehind : ℕ → List ℕ → Restart → List ℕ → Type 0
+AscendsBehind cols text start firsts = (f : Formed) → IsPrepared cols text start f → IsStrictlyIncreasing (take start.finished.lines firsts ++ f.first_rows)

@@ -4,7 +4,7 @@ ghost use Rattle.std.specs.Str.{IsUtf8, IsCharBoundary};
 ghost use Rattle.minus_text.specs.Lines.{cut, whole};
 ghost use Rattle.minus_text.specs.Rows.{line_rows};
 ghost use Rattle.minus_text.specs.Units.{columns};
-ghost use Rattle.minus_text.specs.Kept.{line_stored, IsBorder, IsRestart, IsPrepared};
+ghost use Rattle.minus_text.specs.Kept.{line_stored, IsPrepared, GoesOnInSome, IsBorderOfEach};
 ghost use Rattle.minus_text.specs.Forms.{IsBegun, IsFormOfLines};
 
 use crate::lines::{split_line, without_return};
@@ -226,7 +226,7 @@ fn grown_border(start: Restart, text: &str, width: usize) -> Border
     requires behind { start.bytes ≤ start.border.bytes }
     requires boundary { IsCharBoundary text.now (start.border.bytes - start.bytes) }
     requires columns { width ≡ start.border.columns + columns (drop (start.border.bytes - start.bytes) text.now) }
-    ensures { (cols : ℕ) (line piece : List ℕ) → IsRestart cols line start → IsUtf8 (line ++ piece) → text.now ≡ drop start.bytes line ++ piece → IsBorder (line ++ piece) result }
+    ensures { IsBorderOfEach text.now start result }
 {
     let unmeasured = &text[start.border.bytes - start.bytes..];
     if is_unescaped(unmeasured) && !unmeasured.ends_with('\r') {
@@ -251,7 +251,7 @@ fn form_unfinished(
 ) -> Result<Formed, AllocError>
     requires bytes { (start.finished.bytes + start.bytes) + length text.now < 2 ^ 64 }
     requires whole { cut text.now ≡ whole text.now }
-    requires start { (line : List ℕ) × (piece : List ℕ) × IsRestart cols line start × IsUtf8 (line ++ piece) × (text.now ≡ drop start.bytes line ++ piece) }
+    requires start { GoesOnInSome cols text.now start }
     ensures { IfOk result (λ f. IsPrepared cols text.now start f) }
 {
     if text.is_empty() {
@@ -283,7 +283,7 @@ pub(crate) fn form(
     requires bytes { (start.finished.bytes + start.bytes) + length text.now < 2 ^ 64 }
     requires lines { start.finished.lines + length text.now < 2 ^ 64 }
     requires rows { start.finished.rows + start.rows < 2 ^ 63 }
-    requires start { (line : List ℕ) × (piece : List ℕ) × IsRestart cols line start × IsUtf8 (line ++ piece) × (text.now ≡ drop start.bytes line ++ piece) }
+    requires start { GoesOnInSome cols text.now start }
     ensures { IfOk result (λ f. IsPrepared cols text.now start f) }
 {
     let Some((first, more)) = split_line(text) else {

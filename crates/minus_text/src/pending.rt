@@ -16,15 +16,15 @@ pub struct PendingPush {
 }
 
 impl Model for PendingPush {
-    ghost use Rattle.std.specs.Prelude.{◌+◌, ◌^◌, ◌<◌, string_bytes};
+    ghost use Rattle.std.specs.Prelude.{◌+◌, string_bytes};
     ghost use Rattle.minus_text.specs.Pending.{Pending};
-    ghost use Rattle.minus_text.specs.Kept.{IsPrepared};
+    ghost use Rattle.minus_text.specs.Kept.{IsPreparedPush};
 
     ghost Value = { Pending };
 
     ghost view = { λ p. record { kept_rows = p.start.finished.rows + p.start.rows; tail = record { text = string_bytes p.tail; cols = p.cols } } };
 
-    ghost invariant = { λ p. IsPrepared p.cols (string_bytes p.tail) p.start p.formed × (p.start.finished.rows + p.start.rows < 2 ^ 63) × (p.start.finished.bytes + p.start.bytes < 2 ^ 63) };
+    ghost invariant = { λ p. IsPreparedPush p.cols (string_bytes p.tail) p.start p.formed };
 }
 
 impl PendingPush {

@@ -4,10 +4,9 @@ ghost use Rattle.std.specs.List.Sorted.{IsStrictlyIncreasing};
 ghost use Rattle.std.specs.Str.{IsUtf8, IsCharBoundary};
 ghost use Rattle.std.specs.String.{string_len, string_capacity};
 ghost use Rattle.minus_text.specs.Document.{rows_of, line_map, line_count, longest, unfinished_rows, pushed, PushesJoin, LineMapAscends};
-ghost use Rattle.minus_text.specs.declared.formed.Formed.{Formed};
-ghost use Rattle.minus_text.specs.Kept.{IsFormOf, IsPrepared, IsRestart, IsRestartOf, line_going_on, piece_behind};
-ghost use Rattle.minus_text.specs.Pending.{IsPending};
-ghost use Rattle.minus_text.specs.FormatResults.{Tells, formed_by, first_formed, is_clean};
+ghost use Rattle.minus_text.specs.Kept.{IsFormOf, IsPrepared, IsRestartOf, GoesOnInSome, AscendsBehind, line_going_on, piece_behind};
+ghost use Rattle.minus_text.specs.Pending.{IsPending, RowIsPending};
+ghost use Rattle.minus_text.specs.FormatResults.{Tells, TellsPush};
 
 use crate::formed::{Border, Finished, Formed, Restart, form};
 use crate::lines_row_map::LinesRowMap;
@@ -140,8 +139,8 @@ fn form_end(
     requires place { IsCharBoundary text.now (start.finished.bytes + start.bytes) }
     requires lines { start.finished.lines ≤ length text.now }
     requires rows { start.finished.rows + start.rows < 2 ^ 63 }
-    requires start { (line : List ℕ) × (piece : List ℕ) × IsRestart cols line start × IsUtf8 (line ++ piece) × (drop (start.finished.bytes + start.bytes) text.now ≡ drop start.bytes line ++ piece) }
-    requires ascends { (f : Formed) → IsPrepared cols (drop (start.finished.bytes + start.bytes) text.now) start f → IsStrictlyIncreasing (take start.finished.lines first_rows.old ++ f.first_rows) }
+    requires start { GoesOnInSome cols (drop (start.finished.bytes + start.bytes) text.now) start }
+    requires ascends { AscendsBehind cols (drop (start.finished.bytes + start.bytes) text.now) start first_rows.old }
     ensures formed { IfOk result (λ f. IsPrepared cols (drop (start.finished.bytes + start.bytes) text.now) start f) }
     ensures rows { IfOk result (λ f. rows.new.items ≡ take (start.finished.rows + start.rows) rows.old.items ++ f.rows.items) }
     ensures first_rows { IfOk result (λ f. first_rows.new ≡ take start.finished.lines first_rows.old ++ f.first_rows) }
@@ -321,7 +320,7 @@ impl Screen {
         cols: usize,
     ) -> Result<FormatResult, AllocError>
         ensures ok { OnOk result (self.new ≡ pushed self.old piece.now cols) }
-        ensures told { IfOk result (λ r. Tells r (formed_by self.old piece.now cols) (first_formed self.old cols) (is_clean self.old cols)) }
+        ensures told { IfOk result (λ r. TellsPush r self.old piece.now cols) }
         ensures err { OnErr result (self.new ≡ self.old) }
     {
         let start = self.restart(cols);
@@ -361,7 +360,7 @@ impl Screen {
         requires start { IsRestartOf self.old cols start }
         requires formed { IsFormOf cols (line_going_on self.old cols) (piece_behind self.old cols piece.now) start formed }
         ensures ok { OnOk result (self.new ≡ pushed self.old piece.now cols) }
-        ensures told { IfOk result (λ r. Tells r (formed_by self.old piece.now cols) (first_formed self.old cols) (is_clean self.old cols)) }
+        ensures told { IfOk result (λ r. TellsPush r self.old piece.now cols) }
         ensures err { OnErr result (self.new ≡ self.old) }
     {
         let clean = attaches_nothing(self.finished, self.text.len(), self.cols, cols);
@@ -404,7 +403,7 @@ impl Screen {
         cols: usize,
     ) -> Result<FormatResult, MinusError>
         ensures ok { OnOk result (self.new ≡ pushed self.old text.now cols) }
-        ensures told { IfOk result (λ r. Tells r (formed_by self.old text.now cols) (first_formed self.old cols) (is_clean self.old cols)) }
+        ensures told { IfOk result (λ r. TellsPush r self.old text.now cols) }
         ensures err { OnErr result (self.new ≡ self.old) }
         ensures memory { IfErr result (λ e. e ≡ MinusError.Memory) }
     {
@@ -447,7 +446,7 @@ impl Screen {
 
     /// The text of a row, counted from 0, as it would be after the push. It takes no memory.
     pub fn row_after<'a>(&'a self, pending: &'a PendingPush, i: usize) -> Option<&'a str>
-        ensures { (piece : List ℕ) (cols : ℕ) → IsPending self.now piece cols pending.now → option_map (λ r. r.now) result ≡ slice_get (rows_of (pushed self.now piece cols)) i }
+        ensures { RowIsPending self.now pending.now i (option_map (λ r. r.now) result) }
     {
         let kept = pending.kept_rows();
         if i < kept {
@@ -470,7 +469,7 @@ impl Screen {
         pending: PendingPush,
     ) -> Result<FormatResult, MinusError>
         ensures ok { OnOk result (self.new ≡ pushed self.old text.now pending.tail.cols) }
-        ensures told { IfOk result (λ r. Tells r (formed_by self.old text.now pending.tail.cols) (first_formed self.old pending.tail.cols) (is_clean self.old pending.tail.cols)) }
+        ensures told { IfOk result (λ r. TellsPush r self.old text.now pending.tail.cols) }
         ensures err { OnErr result (self.new ≡ self.old) }
         ensures memory { IfErr result (λ e. e ≡ MinusError.Memory) }
     {
@@ -480,7 +479,9 @@ impl Screen {
             formed,
             cols,
         } = pending;
-        if !self.forms(start, &tail, text, cols) {
+        let is_formed = self.forms(start, &tail, text, cols);
+        drop(tail);
+        if !is_formed {
             return Ok(self.push_piece(alloc, text, cols)?);
         }
         Ok(self.place_formed(text, start, formed, cols)?)

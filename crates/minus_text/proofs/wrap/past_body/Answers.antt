@@ -1,5 +1,5 @@
 -- The first space, or the end.
-use Rattle.std.proofs.Common.{get_or, arith, sym, ap, ◌∙◌, inl, inr}
+use Rattle.std.proofs.Common.{rules, get_or, arith, sym, ap, ◌∙◌, inl, inr}
 use Rattle.minus_text.proofs.StretchesLaws.{body_at}
 use Rattle.minus_text.proofs.wrap.past_body.Goals.{then-loop-at-test+else-bytes-at-ne32, else-loop-at-test}
 use Rattle.minus_text.proofs.wrap.past_body.Goals as goal
@@ -11,3 +11,6 @@ returns-clause-chars c =
       | then-loop-at-test+else-bytes-at-ne32 w ↦ inr (omega (arith, w.loop-at-test), ap (λ xs. get_or xs c.loop-at.at 0) (sym c.as_bytes-bytes.ensures.value) ∙ w.if-bytes-at-ne32.false)
       | else-loop-at-test w ↦ inl (omega (arith, w.loop-at-test))
     ])
+
+pub loop-at-preserved : goal.loop-at-preserved
+loop-at-preserved c = search rules
