@@ -12,6 +12,7 @@ pub mod RowRuns
 pub mod Rows
 pub mod Measures
 pub mod Lines
+pub mod Matches
 pub mod Document
 pub mod LineMaps
 pub mod Kept

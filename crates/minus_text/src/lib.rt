@@ -7,12 +7,14 @@ pub mod lines;
 pub mod lines_row_map;
 pub mod pending;
 pub mod screen;
+pub mod search;
 mod seams;
 pub mod wrap;
 
 pub use line_numbers::digits;
 pub use lines_row_map::LinesRowMap;
 pub use pending::PendingPush;
+pub use search::next_nth_match;
 pub use screen::{FormatResult, Line, OwnedTextBlock, Row, Rows, Screen, TextBlock};
 pub use seams::rows_go_on;
 pub use wrap::{
