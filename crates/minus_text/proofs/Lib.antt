@@ -11,6 +11,8 @@ pub mod RowsLaws
 pub mod PlainLaws
 pub mod PiecesSomeLaws
 pub mod RestartLaws
+pub mod MatchPlacesLaws
+pub mod PartedLaws
 pub mod GoesOnLaws
 pub mod FewColumnsLaws
 pub mod ColumnsLaws

@@ -13,6 +13,8 @@ pub mod Rows
 pub mod Measures
 pub mod Lines
 pub mod Matches
+pub mod Escapes
+pub mod FixedPatterns
 pub mod Document
 pub mod LineMaps
 pub mod Kept

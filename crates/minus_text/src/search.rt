@@ -1,4 +1,8 @@
 //! Search in texts.
+pub mod escapes;
 pub mod matches;
+pub mod patterns;
 
+pub use escapes::strip_escapes;
 pub use matches::next_nth_match;
+pub use patterns::Patterns;

@@ -9,5 +9,5 @@ use Rattle.minus_text.proofs.search.matches.nearest.Goals as goal
 pub returns : goal.returns
 returns c =
     let found : c.position.result ≡ position (counts_first c.args.mark c.args.jump) c.args.rows.now.keys =
-        position_from_yields_List (counts_first c.args.mark c.args.jump) _ _ c.position.result c.position.ensures.ran (YieldsList-from_rest _ c.iter.ensures.rest) (λ x b q k. search rules) in
+    position_from_yields_List (counts_first c.args.mark c.args.jump) _ _ c.position.result c.position.ensures.ran (YieldsList-from_rest _ c.iter.ensures.rest) (λ x b q k. search rules) in
     c.unwrap_or.ensures ∙ ap (λ at. unwrap_or at 0) found

@@ -1,0 +1,37 @@
+-- The escape sequences of a text, and the text without them. Places count bytes from 0.
+use Rattle.std.specs.Prelude.{ℕ, ◌+◌, ◌-◌, ◌≤◌, List, [], ◌∷◌, ◌++◌, map, drop, slice_range, IsCharBoundary}
+use Rattle.regex.specs.Patterns.{Re, find_all_str, span}
+use Rattle.minus_text.specs.declared.search.escapes.Insert.{Insert}
+
+-- where a pattern's matches begin and end in a text
+abbrev pub match_places : Re → List ℕ → List (ℕ × ℕ)
+match_places pattern text = map span (find_all_str pattern text)
+
+-- what stands in a text from a place on, less what stands between these places
+abbrev pub outside : List ℕ → ℕ → List (ℕ × ℕ) → List ℕ
+outside text at [] = drop at text
+outside text at (p ∷ ps) = slice_range text at p.0 ++ outside text p.1 ps
+
+-- what stands between these places, each with its place in what is outside of them, where so many bytes stand before
+abbrev pub inside : List ℕ → ℕ → ℕ → List (ℕ × ℕ) → List (ℕ × List ℕ)
+inside text at before [] = []
+inside text at before (p ∷ ps) =
+    let place = before + (p.0 - at) in
+    (place, slice_range text p.0 p.1) ∷ inside text p.1 place ps
+
+-- a line without its escape sequences
+abbrev pub stripped : Re → List ℕ → List ℕ
+stripped escape line = outside line 0 (match_places escape line)
+
+-- the escape sequences of a line, each with its place in the stripped line
+abbrev pub escapes : Re → List ℕ → List (ℕ × List ℕ)
+escapes escape line = inside line 0 0 (match_places escape line)
+
+-- the places lie in order in a text from a place on, each between two characters
+abbrev pub CutsText : List ℕ → ℕ → List (ℕ × ℕ) → Type 0
+CutsText text at [] = IsCharBoundary text at
+CutsText text at (p ∷ ps) = IsCharBoundary text at × (at ≤ p.0) × IsCharBoundary text p.0 × (p.0 ≤ p.1) × CutsText text p.1 ps
+
+-- what is inserted, and where
+abbrev pub insert_of : Insert → ℕ × List ℕ
+insert_of i = (i.place, i.text.now)
