@@ -13,6 +13,8 @@ pub mod PiecesSomeLaws
 pub mod RestartLaws
 pub mod MatchPlacesLaws
 pub mod PartedLaws
+pub mod HighlightLaws
+pub mod StandLaws
 pub mod GoesOnLaws
 pub mod FewColumnsLaws
 pub mod ColumnsLaws

@@ -15,6 +15,7 @@ pub mod Lines
 pub mod Matches
 pub mod Escapes
 pub mod FixedPatterns
+pub mod Highlight
 pub mod Document
 pub mod LineMaps
 pub mod Kept

@@ -3,6 +3,7 @@ ghost use Rattle.std.specs.Prelude.{◌≡◌, map, IfOk, string_bytes, slice_ra
 ghost use Rattle.regex.specs.Strings.{regex_pattern, matcher_pattern};
 ghost use Rattle.minus_text.specs.Escapes.{match_places, outside, inside, stripped, escapes, insert_of, CutsText};
 ghost use Rattle.minus_text.specs.FixedPatterns.{escape_pattern};
+ghost use Rattle.minus_text.specs.Highlight.{StandIn};
 
 use crate::search::patterns::Patterns;
 use regex::Matcher;
@@ -46,6 +47,7 @@ pub(crate) fn part<'l>(
 ) -> Result<Parted<'l>, AllocError>
     requires { CutsText line.now 0 places.now }
     ensures text { IfOk result (λ p. string_bytes p.text ≡ outside line.now 0 places.now) }
+    ensures stand { IfOk result (λ p. StandIn (string_bytes p.text) 0 (map insert_of p.escapes.items)) }
     ensures escapes { IfOk result (λ p. map insert_of p.escapes.items ≡ inside line.now 0 0 places.now) }
 {
     let mut text = String::new(alloc);
@@ -70,6 +72,7 @@ pub(crate) fn part_line<'l>(
     line: &'l str,
 ) -> Result<Parted<'l>, AllocError>
     ensures text { IfOk result (λ p. string_bytes p.text ≡ stripped (escape_pattern patterns.now) line.now) }
+    ensures stand { IfOk result (λ p. StandIn (string_bytes p.text) 0 (map insert_of p.escapes.items)) }
     ensures escapes { IfOk result (λ p. map insert_of p.escapes.items ≡ escapes (escape_pattern patterns.now) line.now) }
 {
     let mut matcher = patterns.escape.matcher(alloc)?;

@@ -1,7 +1,9 @@
-use Rattle.std.proofs.Common.{rules, ◌≡◌, map, length, ◌++◌, ◌-◌, ◌+◌, string_bytes, sym, ap, ap₂, ℕ, List, ◌∙◌, arith, get_or}
+use Rattle.std.proofs.Common.{rules, ◌≡◌, map, length, ◌++◌, ◌-◌, ◌+◌, string_bytes, sym, ap, ap₂, subst₂, ℕ, List, ◌∙◌, arith, get_or}
 use Rattle.std.proofs.lemmas.List.{append-nil, length-append, drop_all}
 use Rattle.minus_text.specs.Escapes.{outside, inside, insert_of}
 use Rattle.minus_text.proofs.PartedLaws.{cuts_at, cuts_here, one_more_outside, one_more_inside}
+use Rattle.minus_text.specs.Highlight.{StandIn}
+use Rattle.minus_text.proofs.StandLaws.{escapes_stand}
 use Rattle.minus_text.proofs.search.escapes.part.Goals as goal
 
 pub loop-place-init : goal.loop-place-init
@@ -68,3 +70,7 @@ returns-clause-escapes c =
     let before = length (string_bytes c.loop-place.text) in
     sym (append-nil found)
     ∙ ap (λ ps. found ++ inside line c.loop-place.at before ps) (sym (drop_all c.loop-place.place-index c.args.places.now c.loop-place-test.false)) ∙ c.loop-place.invariant.1
+
+pub returns-clause-stand : goal.returns-clause-stand
+returns-clause-stand c =
+    subst₂ (λ t es. StandIn t 0 es) (sym (returns-clause-text c)) (sym (returns-clause-escapes c)) (escapes_stand c.args.line.now c.utf8.line c.args.places.now c.requires)
