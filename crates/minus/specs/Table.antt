@@ -42,7 +42,9 @@ pub record Effect : Type 0 where
 
 abbrev pub effect : Control → Wanted → Effect
 effect c (sets_data text) = record { changed = record c { text = text }; moves_to = None; drawing = Full; exits_by = None }
-effect c (appends_data text) = let new : Control = record c { text = c.text ++ text } in record { changed = new; moves_to = None; drawing = append_drawing c new; exits_by = None }
+effect c (appends_data text) =
+    let new : Control = record c { text = c.text ++ text } in
+    record { changed = new; moves_to = None; drawing = append_drawing c new; exits_by = None }
 effect c (moves_mark mark) = record { changed = c; moves_to = Some mark; drawing = move_drawing c mark; exits_by = None }
 effect c (resizes cols rows) = record { changed = record c { cols = cols; rows = rows }; moves_to = None; drawing = Full; exits_by = None }
 effect c exits = record { changed = c; moves_to = None; drawing = Nothing; exits_by = Some (ProcessQuit, 0) }

@@ -15,6 +15,9 @@ use std::alloc::{AllocError, Global};
 // What the prompt says.
 const PROMPT: &str = "minus";
 
+// How many bytes its style has, with the style's end.
+const STYLED: usize = 14;
+
 // Adds a row of text, and goes to the next.
 fn write_row(alloc: Global, out: &mut Vec<u8>, row: &str) -> Result<(), AllocError>
     ensures { OnOk result (out.new.items ≡ out.old.items ++ written_all (row_ops row.now)) }
@@ -244,7 +247,8 @@ fn push_fitted(row: &mut String, cols: usize) -> Result<(), AllocError>
 pub(crate) fn format_prompt(alloc: Global, cols: usize) -> Result<String, AllocError>
     ensures { IfOk result (λ row. (c : Control) → c.cols ≡ cols → string_bytes row ≡ prompt_row c) }
 {
-    let mut row = String::from_str(alloc, "\x1b[2;40;37m")?;
+    let mut row = String::with_capacity(alloc, cols.saturating_add(STYLED))?;
+    row.push_str("\x1b[2;40;37m")?;
     push_fitted(&mut row, cols)?;
     row.push_str("\x1b[0m")?;
     Ok(row)

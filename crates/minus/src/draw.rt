@@ -51,9 +51,11 @@ fn draw_change<W: OutputSink>(
 ) -> Result<(), MinusError>
     requires formed { IsFormed state.now }
     requires belongs { IsNext state.now.screen change.now.text }
-    ensures ok { OnOk result ((new : Control) → IsChange (control_of state.now) change.now new → Appends (W.contents out.old) (W.contents out.new) (written_all (ops_between drawing (control_of state.now) new))) }
+    ensures ok { OnOk result ((new : Control) → IsChange (control_of state.now) change.now new →
+        Appends (W.contents out.old) (W.contents out.new) (written_all (ops_between drawing (control_of state.now) new))) }
     ensures stays { OnOk result (Stays (W.refused out.old) (W.refused out.new)) }
-    ensures err { IfErr result (λ e. (new : Control) → IsChange (control_of state.now) change.now new → WriteRefuses W.contents W.refused e out.old out.new (written_all (ops_between drawing (control_of state.now) new))) }
+    ensures err { IfErr result (λ e. (new : Control) → IsChange (control_of state.now) change.now new →
+        WriteRefuses W.contents W.refused e out.old out.new (written_all (ops_between drawing (control_of state.now) new))) }
 {
     let mut bytes = Vec::new(alloc);
     state.draw_after(alloc, &mut bytes, drawing, change)?;

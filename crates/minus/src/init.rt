@@ -79,7 +79,8 @@ fn show<S: OutputSink>(sink: &mut S, drawing: &[u8]) -> Result<(), MinusError>
     ensures stays { OnOk result (Stays (S.refused sink.old) (S.refused sink.new)) }
     ensures terminal { OnOk result (S.terminal sink.old ≡ true) }
     ensures refused { IfErr result (λ e. IsShowRefused (refusal_of e) (S.terminal sink.old)) }
-    ensures broken { IfErr result (λ e. ShowBreaksOff (refusal_of e) (S.contents sink.old) (S.contents sink.new) (S.refused sink.old) (S.refused sink.new) drawing.now) }
+    ensures broken { IfErr result (λ e. ShowBreaksOff (refusal_of e) (S.contents sink.old) (S.contents sink.new)
+        (S.refused sink.old) (S.refused sink.new) drawing.now) }
     ensures rises { IfErr result (λ e. IsStartFault (refusal_of e) → Rises (S.refused sink.old) (S.refused sink.new)) }
     ensures untouched { IfErr result (λ e. (IsStartFault (refusal_of e) → ⊥) → sink.new ≡ sink.old) }
 {

@@ -136,7 +136,8 @@ impl<S, P: Parts> Core<S, P> {
     // Draws the page that a change leads to into the buffer of drawings.
     fn draw_change(&mut self, drawing: Drawing, change: &Change) -> Result<(), MinusError>
         requires { IsNext self.old.state.screen change.now.text }
-        ensures drawn { OnOk result ((new : Control) → IsChange (control_of self.old.state) change.now new → DrawsBetween self.new drawing (control_of self.old.state) new) }
+        ensures drawn { OnOk result ((new : Control) → IsChange (control_of self.old.state) change.now new →
+            DrawsBetween self.new drawing (control_of self.old.state) new) }
         ensures state { self.new.state ≡ self.old.state }
         ensures seen { seen_of self.new ≡ seen_of self.old }
         ensures sink { self.new.sink ≡ self.old.sink }
@@ -268,7 +269,8 @@ impl<S: OutputSink + Drop, P: Calls> Core<S, P> {
 
     // Works inputs off from the end of a list, until one is refused or the session has exited.
     fn run_from_end(&mut self, left: &mut Vec<Input>) -> Progress
-        ensures { IsRunOf S.contents S.refused P.Classifier.allows self.old self.new (reverse left.old.items) result.done result.last result.stopped (reverse left.new.items) }
+        ensures { IsRunOf S.contents S.refused P.Classifier.allows self.old self.new (reverse left.old.items)
+            result.done result.last result.stopped (reverse left.new.items) }
     {
         let mut done = 0;
         let mut last = None;

@@ -271,8 +271,9 @@ impl PagerState {
             .text
             .rows_after(&self.screen)
             .saturating_sub(change.mark);
-        let mut shown = Vec::new(alloc);
-        for i in 0..left.min(change.rows - 1) {
+        let count = left.min(change.rows - 1);
+        let mut shown = Vec::with_capacity(alloc, count)?;
+        for i in 0..count {
             if let Some(row) = change.text.row_after(&self.screen, change.mark + i) {
                 shown.push(row)?;
             }
@@ -299,7 +300,8 @@ impl PagerState {
     ) -> Result<(), AllocError>
         requires formed { IsFormed self.now }
         requires belongs { IsNext self.now.screen change.now.text }
-        ensures { OnOk result ((new : Control) → IsChange (control_of self.now) change.now new → out.new.items ≡ out.old.items ++ written_all (ops_between Drawing.Append (control_of self.now) new)) }
+        ensures { OnOk result ((new : Control) → IsChange (control_of self.now) change.now new →
+            out.new.items ≡ out.old.items ++ written_all (ops_between Drawing.Append (control_of self.now) new)) }
     {
         let shown = self.shown_after(alloc, change)?;
         let rows = self.screen.formatted_lines_count();
@@ -338,7 +340,8 @@ impl PagerState {
     ) -> Result<(), AllocError>
         requires formed { IsFormed self.now }
         requires belongs { IsNext self.now.screen change.now.text }
-        ensures { OnOk result ((new : Control) → IsChange (control_of self.now) change.now new → out.new.items ≡ out.old.items ++ written_all (ops_between drawing (control_of self.now) new)) }
+        ensures { OnOk result ((new : Control) → IsChange (control_of self.now) change.now new →
+            out.new.items ≡ out.old.items ++ written_all (ops_between drawing (control_of self.now) new)) }
     {
         match drawing {
             Drawing::Nothing => Ok(()),

@@ -35,7 +35,7 @@ impl Named for MouseEventKind {
 }
 
 /// What the segments read so far say.
-#[derive(Clone, Copy, Debug, PartialEq, Eq)]
+#[derive(Clone, Copy)]
 pub struct KeySeq<C = KeyCode> {
     /// The modifiers.
     pub modifiers: KeyModifiers,

@@ -9,7 +9,7 @@ use std::{fmt, io};
 use thiserror::Error;
 
 /// A stream of the program.
-#[derive(Clone, Copy, Debug, PartialEq, Eq)]
+#[derive(Clone, Copy, Debug)]
 pub enum Stream {
     /// Standard input.
     Input,

@@ -75,8 +75,10 @@ pub fn run_words<R: Read, W: Write>(
     reader: &mut R,
     writer: &mut W,
 ) -> Result<(), ProgramFault>
-    ensures run { OnOk result (IsProgramRun (map string_bytes words.now) (R.remaining reader.old) (R.remaining reader.new) (W.contents writer.old) (W.contents writer.new)) }
-    ensures fault { IfErr result (IsProgramFault (map string_bytes words.now) (R.remaining reader.old) (R.remaining reader.new) (W.contents writer.old) (W.contents writer.new)) }
+    ensures run { OnOk result (IsProgramRun (map string_bytes words.now)
+        (R.remaining reader.old) (R.remaining reader.new) (W.contents writer.old) (W.contents writer.new)) }
+    ensures fault { IfErr result (IsProgramFault (map string_bytes words.now)
+        (R.remaining reader.old) (R.remaining reader.new) (W.contents writer.old) (W.contents writer.new)) }
     ensures unread { IsErrOf result ProgramFault.Usage → reader.new ≡ reader.old }
     ensures unwritten { IfErr result (λ e. IsSilent e → writer.new ≡ writer.old) }
 {

@@ -22,7 +22,11 @@ pub fn read_script<R: Read>(alloc: Global, reader: &mut R) -> Result<Vec<u8>, Sc
     ensures bytes { IfOk result (λ script. Consumes (R.remaining reader.old) (R.remaining reader.new) script.items) }
     ensures end { IfOk result (λ _. IsAtEnd (R.remaining reader.new)) }
     ensures fault { IfErr result IsReadFault }
-    ensures retried { IfErr result (λ e. elim e [ Io stream cause ↦ error_kind cause ≢ ErrorKind.Interrupted | Line number ↦ ⊤ | Refused reason ↦ ⊤ ]) }
+    ensures retried { IfErr result (λ e. elim e [
+      | Io stream cause ↦ error_kind cause ≢ ErrorKind.Interrupted
+      | Line number ↦ ⊤
+      | Refused reason ↦ ⊤
+    ]) }
     ensures lost { OnErr result (ConsumesSome (R.remaining reader.old) (R.remaining reader.new)) }
 {
     let mut script = Vec::new(alloc);

@@ -11,7 +11,7 @@ use bitflags::Flags;
 use std::hash::{Hash, Hasher};
 
 /// The form of a key that keys are compared and hashed by.
-#[derive(Clone, Copy, Debug, PartialEq, Eq, Hash)]
+#[derive(Clone, Copy, PartialEq, Eq, Hash)]
 pub struct NormalKey {
     /// The key.
     pub code: KeyCode,

@@ -1,5 +1,5 @@
 -- One more write: what it took is done too.
-use Rattle.std.proofs.Common.{◌++◌, take}
+use Rattle.std.proofs.Common.{rules, ◌++◌, take}
 use Rattle.std.proofs.KnownBytes.{Appends-trans}
 use Rattle.minus_term.proofs.SinkLaws.{AppendsFront-of, Appends-kept, moves_front}
 use Rattle.minus_show.proofs.printed.write_all.Goals as goal
@@ -22,3 +22,6 @@ pub returns-then-ne-clause-err : goal.returns-then-ne-clause-err
 returns-then-ne-clause-err g c =
     let writing = c.loop-rest.invariant in
     AppendsFront-of _ _ _ writing.done _ writing.all (Appends-kept _ _ _ _ writing.appended c.in-Err.ensures.bytes)
+
+pub loop-rest-init : goal.loop-rest-init
+loop-rest-init g c = search rules

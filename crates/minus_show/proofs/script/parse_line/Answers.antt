@@ -1,4 +1,4 @@
-use Rattle.std.proofs.Common.{◌≡◌, ◌∙◌, lit<}
+use Rattle.std.proofs.Common.{rules, ◌≡◌, ◌∙◌, lit<}
 use Rattle.std.specs.Option.{option_map}
 use Rattle.std.proofs.lemmas.Result.{IfOk-weaker}
 use Rattle.minus_show.specs.Script.{line_told, word_told}
@@ -17,3 +17,6 @@ returns-in-Some c =
     let at = rw is.0 at h.2 in
     let tells : word_told c.in-Some.word.now c.in-Some.argument.now ≡ line_told line = rw (h.0, h.1, is.0) (line_told-at line is.1 at) in
     IfOk-weaker c.parse_word.result (λ parsed. option_map told_by parsed ≡ word_told c.in-Some.word.now c.in-Some.argument.now) (λ parsed. option_map told_by parsed ≡ line_told line) (λ parsed e. e ∙ tells) c.parse_word.ensures
+
+pub returns-in-None : goal.returns-in-None
+returns-in-None c = search rules

@@ -12,7 +12,7 @@ loop-i-preserved c =
     let mark : ℕ = c.args.change.now.mark in
     let count = c.rows_after.ensures in
     let left = c.saturating_sub-left.ensures in
-    let end = c.min-i-end.ensures in
+    let end = c.min-count.ensures in
     let test = c.loop-i-test.true in
     let within : mark + c.loop-i.i < length rows = omega (arith, count, left, end, test) in
     elim c.match-row_after.branch [
