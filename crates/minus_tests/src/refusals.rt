@@ -122,7 +122,10 @@ fn a_run_stops_at_a_refused_write(rt: HostRuntime) -> Result<(), Fail> {
 fn scrolled(alloc: Global) -> Result<([u8; 2], usize, Vec<u8>), Fail> {
     let sink = WithTty::new(Vec::with_capacity(alloc, 4096)?, true);
     let mut session = session_on(alloc, sink, 20, 4)?;
-    let _ = session.run(inputs(alloc, &[Asked::Push("l0\nl1\nl2\nl3\nl4\nl5")])?);
+    let _ = session.run(inputs(
+        alloc,
+        &[Asked::Push("l0\nl1\nl2\nl3\nl4\nl5\nl6\nl7\nl8\nl9")],
+    )?);
     let first = number_of(alloc, &mut session, Asked::Mark(2))?;
     let mark = session.state().upper_mark;
     let again = number_of(alloc, &mut session, Asked::Mark(2))?;
