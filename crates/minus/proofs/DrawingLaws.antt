@@ -2,7 +2,7 @@
 use Rattle.std.proofs.Common.{◌≡◌, ℕ, zero, suc, min, drop, refl, arith, ◌+◌, ◌-◌, ◌<◌, List, [], ◌∷◌, ◌++◌, length, map, take, get_or, sym, ap, ◌∙◌, append_assoc, append-nil}
 use Rattle.std.specs.List.{flat_map}
 use Rattle.std.proofs.Math.Seq.{drop-nil}
-use Rattle.std.proofs.lemmas.List.{map_more, take_min, length-drop, length-map, length-take-le}
+use Rattle.std.proofs.lemmas.List.{map_more, length-map, length-take-le}
 use Rattle.std.proofs.lemmas.List.Concat.{flat_map-append}
 use Rattle.minus_term.specs.Append.{rows_anew}
 use Rattle.minus.specs.Drawings.{rows_after}
@@ -38,32 +38,11 @@ pub rows_more : {X : Type 0} (f : X → List ℕ) (xs : List X) (i : ℕ) (d : X
 rows_more f xs i d old a b l e g =
     row_added old a b (map f (take i xs)) (f (get_or xs i d)) e g ∙ ap (λ rs. old ++ written_all (flat_map row_ops rs)) (sym (map_more f xs i d l))
 
--- the last rows and the first rows of a list, as the code cuts them off
+-- the rows from one on, or from the end where there are no more
 pub drop_all : {X : Type 0} (xs : List X) (n : ℕ) → drop (min n (length xs)) xs ≡ drop n xs
 drop_all [] n = let z : min n 0 ≡ 0 = omega arith in rw z (sym (drop-nil n))
 drop_all (x ∷ xs) zero = let z : min 0 (length (x ∷ xs)) ≡ 0 = omega arith in rw z refl
 drop_all (x ∷ xs) (suc n) = let z : min (suc n) (length (x ∷ xs)) ≡ suc (min n (length xs)) = omega arith in rw z (drop_all xs n)
-
-drop-map : {X : Type 0} (f : X → List ℕ) (n : ℕ) (xs : List X) → map f (drop n xs) ≡ drop n (map f xs)
-drop-map f zero xs = refl
-drop-map f (suc n) [] = refl
-drop-map f (suc n) (x ∷ xs) = drop-map f n xs
-
-take-map : {X : Type 0} (f : X → List ℕ) (n : ℕ) (xs : List X) → map f (take n xs) ≡ take n (map f xs)
-take-map f zero xs = refl
-take-map f (suc n) [] = refl
-take-map f (suc n) (x ∷ xs) = ap (λ ys. f x ∷ ys) (take-map f n xs)
-
-take_whole : {X : Type 0} (xs : List X) → take (length xs) xs ≡ xs
-take_whole [] = refl
-take_whole (x ∷ xs) = ap (λ ys. x ∷ ys) (take_whole xs)
-
-pub last_rows : {X : Type 0} (f : X → List ℕ) (xs : List X) (n cut : ℕ) → cut ≡ min n (length xs) → map f (take (length xs - cut) (drop cut xs)) ≡ drop n (map f xs)
-last_rows f xs n cut e =
-    ap (λ (k : ℕ). map f (take k (drop cut xs))) (sym (length-drop cut xs)) ∙ ap (map f) (take_whole (drop cut xs)) ∙ ap (λ (k : ℕ). map f (drop k xs)) e ∙ ap (map f) (drop_all xs n) ∙ drop-map f n xs
-
-pub first_rows : {X : Type 0} (f : X → List ℕ) (xs : List X) (n cut : ℕ) → cut ≡ min n (length xs) → map f (take cut xs) ≡ take n (map f xs)
-first_rows f xs n cut e = ap (λ (k : ℕ). map f (take k xs)) e ∙ ap (map f) (take_min n xs) ∙ take-map f n xs
 
 -- ---- rows of the page that are made blank
 
