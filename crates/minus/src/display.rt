@@ -16,6 +16,10 @@ use std::alloc::{AllocError, Global};
 // What the prompt says.
 const PROMPT: &str = "minus";
 
+// Spaces for a row of the most usual width.
+const SPACES: &str =
+    "                                                                                ";
+
 // How many bytes its style has, with the style's end.
 const STYLED: usize = 14;
 
@@ -216,8 +220,11 @@ pub(crate) fn draw_append_text(
 fn push_spaces(row: &mut String, count: usize) -> Result<(), AllocError>
     ensures { OnOk result (string_bytes row.new ≡ string_bytes row.old ++ replicate count 32) }
 {
-    for _space in 0..count {
-        row.push(' ')?;
+    let mut left = count;
+    while left > 0 {
+        let piece = left.min(SPACES.len());
+        row.push_str(&SPACES[..piece])?;
+        left -= piece;
     }
     Ok(())
 }
