@@ -102,9 +102,14 @@ spaces_cut k n h =
     IsCharBoundary-from_ascii spaces n (spaces_ascii k) (omega (arith, h, count))
 
 -- one more piece of spaces
+spaces_joined : (j n k : ℕ) (piece : List ℕ) → n ≤ k → piece ≡ take n (replicate k 32) → replicate j 32 ++ piece ≡ replicate (j + n) 32
+spaces_joined j n k piece h e = ap (λ bs. replicate j 32 ++ bs) (e ∙ take-replicate n k 32 h) ∙ replicate-append-replicate j n 32
+
+spaces_added : (old a b piece : List ℕ) (j n k : ℕ) → n ≤ k → a ≡ old ++ replicate j 32 → piece ≡ take n (replicate k 32) → b ≡ a ++ piece → b ≡ old ++ replicate (j + n) 32
+spaces_added old a b piece j n k h e g f = f ∙ ap (λ bs. bs ++ piece) e ∙ append_assoc old (replicate j 32) piece ∙ ap (λ bs. old ++ bs) (spaces_joined j n k piece h g)
+
 pub spaces_more : (old a b piece : List ℕ) (count left k n : ℕ) → left ≤ count → n ≤ left → n ≤ k → a ≡ old ++ replicate (count - left) 32 → piece ≡ take n (replicate k 32) → b ≡ a ++ piece
     → b ≡ old ++ replicate (count - (left - n)) 32
 spaces_more old a b piece count left k n l m h e g f =
     let sum : count - left + n ≡ count - (left - n) = omega (arith, l, m) in
-    f ∙ ap (λ bs. bs ++ piece) e ∙ append_assoc old (replicate (count - left) 32) piece ∙ ap (λ bs. old ++ (replicate (count - left) 32 ++ bs)) (g ∙ take-replicate n k 32 h)
-    ∙ ap (λ bs. old ++ bs) (replicate-append-replicate (count - left) n 32) ∙ ap (λ (j : ℕ). old ++ replicate j 32) sum
+    rw (← sum) (spaces_added old a b piece (count - left) n k h e g f)
