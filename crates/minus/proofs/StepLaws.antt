@@ -1,7 +1,8 @@
 -- A step, from what its parts ensure.
-use Rattle.std.proofs.Common.{◌≡◌, ℕ, ◌≤◌, true, List, [], ◌∷◌, Option, None, Some, refl, sym, ap, subst, ◌∙◌}
+use Rattle.std.proofs.Common.{◌≡◌, ℕ, ◌≤◌, true, List, [], ◌∷◌, length, Option, None, Some, refl, sym, ap, subst, ◌∙◌, ◌<◌, arith}
 use Rattle.std.specs.Io.KnownBytes.{Appends}
 use Rattle.std.proofs.KnownBytes.{Appends-nil}
+use Rattle.std.proofs.lemmas.List.{nil_from_length}
 use Rattle.minus_term.proofs.WrittenLaws.{written_all-nil}
 use Rattle.minus_term.specs.Counts.{AppendsFront}
 use Rattle.minus_term.specs.declared.error.CleanupError.{CleanupError}
@@ -22,7 +23,7 @@ use Rattle.minus.specs.Table.{Wanted, Exit, Effect, effect, changed_by, IsPossib
 use Rattle.minus.specs.Works.{Work, work_of, WorkedOff, all, one, up_to, items_of, is_drawn}
 use Rattle.minus.specs.Drawings.{ops_between}
 use Rattle.minus.specs.Steps.{Seen, Allows, Asks, Works, Writes, IsStep, IsBroken, IsBrokenStep, IsBrokenExit, Refuses, status_after}
-use Rattle.minus.proofs.TableLaws.{undrawn, exit_quiet}
+use Rattle.minus.proofs.TableLaws.{undrawn, exit_quiet, drawn_kind}
 use Rattle.minus.proofs.CommandLaws.{step_drawn, step_broken}
 use Rattle.minus.proofs.DrawnLaws.{quiet_work, nothing_drawn}
 use Rattle.minus.proofs.LeavesLaws.{leaves_after}
@@ -95,12 +96,16 @@ drawn_broken allows old mid new w kind a b c bytes is_kind drawn on clamped runn
 quiet_drawn : (a : Option (List ℕ)) (c new : Control) (w : Wanted) → IsClamped c → (effect c w).drawing ≡ drawing.Nothing → new ≡ c → Drawn a a c (work_of (effect c w) ∷ []) new
 quiet_drawn a c new w clamped quiet same = let work : work_of (effect c w) ≡ quiet_work c = work_is (effect c w) drawing.Nothing c quiet (undrawn c w clamped quiet) in rw (work, same) (nothing_drawn a c)
 
--- a command that is not drawn
-pub quiet_step : {K : Type 0} (allows : Allows K) (old new : Seen K) (w : Wanted) (kind : Drawing) (answer : Answer) (a b : Option (List ℕ)) → kind ≡ (effect old.control w).drawing → kind ≡ drawing.Nothing → (effect old.control w).exits_by ≡ None → IsClamped old.control → old.status ≡ status.Running → IsPossible w
-    → IsSize old.control.cols old.control.rows → IsSize new.control.cols new.control.rows → new ≡ record old { control = changed_by (effect old.control w) } → b ≡ a → IsAnswer None answer → IsStep allows old (a_command w) new answer a b
-quiet_step allows old new w kind answer a b is_kind quiet on clamped running possible size new_size done same answers =
-    let none : [] ≡ written_all (ops_between kind old.control new.control) = rw quiet (sym written_all-nil) in
-    drawn_step allows old new new w kind answer a a b [] is_kind on clamped running possible size new_size done refl none refl (rw same (Appends-nil a)) answers
+-- what has bytes is drawn
+pub drawn_bytes : (d : Drawing) (old new : Control) (bytes : List ℕ) → bytes ≡ written_all (ops_between d old new) → 0 < length bytes → is_drawn d ≡ true
+drawn_bytes d old new bytes is some =
+    drawn_kind d (λ e. let none : length bytes ≡ 0 = ap length is ∙ ap (λ (k : Drawing). length (written_all (ops_between k old new))) e ∙ ap length written_all-nil in absurd (omega (arith, some, none)))
+
+-- a command that is drawn by no bytes
+pub quiet_step : {K : Type 0} (allows : Allows K) (old new : Seen K) (w : Wanted) (answer : Answer) (a b : Option (List ℕ)) (bytes : List ℕ) → bytes ≡ written_all (ops_between (effect old.control w).drawing old.control new.control) → length bytes ≡ 0 → (effect old.control w).exits_by ≡ None → IsClamped old.control → old.status ≡ status.Running
+    → IsPossible w → IsSize old.control.cols old.control.rows → IsSize new.control.cols new.control.rows → new ≡ record old { control = changed_by (effect old.control w) } → b ≡ a → IsAnswer None answer → IsStep allows old (a_command w) new answer a b
+quiet_step allows old new w answer a b bytes is none on clamped running possible size new_size done same answers =
+    drawn_step allows old new new w (effect old.control w).drawing answer a a b bytes refl on clamped running possible size new_size done refl is refl (rw (nil_from_length bytes none, same) (Appends-nil a)) answers
 
 exit_worked : (c new : Control) (w : Wanted) (x : Exit) → IsClamped c → (effect c w).exits_by ≡ Some x → new ≡ c → WorkedOff c (w ∷ []) (work_of (effect c w) ∷ []) (Some x) new
 exit_worked c new w x clamped is same =

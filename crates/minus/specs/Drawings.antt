@@ -1,5 +1,5 @@
 -- How the page is drawn.
-use Rattle.std.specs.Prelude.{ℕ, ◌-◌, min, List, [], length}
+use Rattle.std.specs.Prelude.{ℕ, ◌-◌, nat_le, min, List, [], length, take, drop, if◌then◌else◌}
 use Rattle.minus_term.specs.Operations.{Op}
 use Rattle.minus_term.specs.FullRedraw.{full_ops}
 use Rattle.minus_term.specs.Scroll.{scroll_ops}
@@ -22,6 +22,10 @@ rows_after first were shown = append_ops (min first (length shown)) were shown
 -- the list that draws those from a row of the text on, where there were so many rows in all
 abbrev pub append_from : Control → ℕ → ℕ → List Op
 append_from c first were = rows_after (first - c.mark) (min (were - c.mark) (c.rows - 1)) (shown c)
+
+-- the rows of text that come onto a page of so many rows on the way from one mark to another, of those on show then
+abbrev pub rows_newly : ℕ → ℕ → ℕ → List (List ℕ) → List (List ℕ)
+rows_newly rows from to shown = if nat_le from to then drop (rows - 1 - min (to - from) (rows - 1)) shown else take (min (from - to) (rows - 1)) shown
 
 -- the list that the page is drawn by, on the way from one control to another
 abbrev pub ops_between : Drawing → Control → Control → List Op

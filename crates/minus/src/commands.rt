@@ -23,7 +23,7 @@ pub enum Input {
 }
 
 /// How what comes of a command is drawn.
-#[derive(Clone, Copy, Debug, PartialEq, Eq)]
+#[derive(Clone, Copy, Debug)]
 pub(crate) enum Drawing {
     /// Not at all: the page stays as it is.
     Nothing,

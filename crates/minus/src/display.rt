@@ -1,5 +1,5 @@
 //! Drawings, as bytes in a buffer.
-ghost use Rattle.std.specs.Prelude.{◌≡◌, ◌==◌, [], ◌∷◌, ◌++◌, ◌+◌, ◌-◌, ◌^◌, ◌<◌, ◌≤◌, length, replicate, if◌then◌else◌, map, OnOk, IfOk, string_bytes};
+ghost use Rattle.std.specs.Prelude.{◌≡◌, ◌==◌, ℕ, List, [], ◌∷◌, ◌++◌, ◌+◌, ◌-◌, ◌^◌, ◌<◌, ◌≤◌, length, take, drop, replicate, if◌then◌else◌, map, OnOk, IfOk, string_bytes};
 ghost use Rattle.std.specs.List.{flat_map};
 ghost use Rattle.minus_term.specs.Append.{rows_anew};
 ghost use Rattle.minus_term.specs.Operations.{GoTo, ClearRow, Put};
@@ -7,6 +7,7 @@ ghost use Rattle.minus_term.specs.Written.{written_all};
 ghost use Rattle.minus_term.specs.FullRedraw.{full_ops, prompt_ops, row_ops};
 ghost use Rattle.minus_term.specs.Scroll.{down_ops, up_ops, scroll_ops};
 ghost use Rattle.minus.specs.Control.{Control};
+ghost use Rattle.minus.specs.Drawings.{rows_newly};
 ghost use Rattle.minus.specs.PromptRow.{prompt_row, prompt, fitted};
 
 use minus_term::{DrawOp, write_op};
@@ -14,6 +15,10 @@ use std::alloc::{AllocError, Global};
 
 // What the prompt says.
 const PROMPT: &str = "minus";
+
+// Spaces for a row of the most usual width.
+const SPACES: &str =
+    "                                                                                ";
 
 // How many bytes its style has, with the style's end.
 const STYLED: usize = 14;
@@ -92,78 +97,68 @@ fn clear_row(alloc: Global, drawing: &mut Vec<u8>, row: u16) -> Result<(), Alloc
     Ok(())
 }
 
-// Adds the bytes that move the page's rows up by k, and draw the last k rows of text and the prompt row.
+// Adds the bytes that move the page's rows up by k, and draw its last k rows of text, which these are, and the prompt row.
 fn draw_down(
     alloc: Global,
     out: &mut Vec<u8>,
     rows: u16,
     k: u16,
-    shown: &[&str],
+    texts: &[&str],
     prompt: &str,
 ) -> Result<(), AllocError>
     requires some { 1 ≤ rows }
     requires within { k ≤ rows - 1 }
-    ensures { OnOk result (out.new.items ≡ out.old.items ++ written_all (down_ops rows k (map (λ r. r.now) shown.now) prompt.now)) }
+    ensures { OnOk result ((shown : List (List ℕ)) → map (λ r. r.now) texts.now ≡ drop (rows - 1 - k) shown →
+        out.new.items ≡ out.old.items ++ written_all (down_ops rows k shown prompt.now)) }
 {
-    let last = usize::from(rows - 1 - k).min(shown.len());
     write_op(alloc, out, &DrawOp::ScrollUp(k))?;
     clear_row(alloc, out, rows - k - 1)?;
-    write_rows(alloc, out, &shown[last..])?;
+    write_rows(alloc, out, texts)?;
     write_prompt(alloc, out, rows, prompt)?;
     Ok(())
 }
 
-// Adds the bytes that move the page's rows down by k, and draw the first k rows of text and the prompt row.
+// Adds the bytes that move the page's rows down by k, and draw its first k rows of text, which these are, and the prompt row.
 fn draw_up(
     alloc: Global,
     out: &mut Vec<u8>,
     rows: u16,
     k: u16,
-    shown: &[&str],
+    texts: &[&str],
     prompt: &str,
 ) -> Result<(), AllocError>
-    ensures { OnOk result (out.new.items ≡ out.old.items ++ written_all (up_ops rows k (map (λ r. r.now) shown.now) prompt.now)) }
+    ensures { OnOk result ((shown : List (List ℕ)) → map (λ r. r.now) texts.now ≡ take k shown →
+        out.new.items ≡ out.old.items ++ written_all (up_ops rows k shown prompt.now)) }
 {
-    let first = usize::from(k).min(shown.len());
     write_op(alloc, out, &DrawOp::ScrollDown(k))?;
     write_op(alloc, out, &DrawOp::GoTo(0, 0))?;
-    write_rows(alloc, out, &shown[..first])?;
+    write_rows(alloc, out, texts)?;
     write_prompt(alloc, out, rows, prompt)?;
     Ok(())
 }
 
-/// Adds the bytes that draw the page at the second mark over the page at the first.
+/// Adds the bytes that draw the page at the second mark over the page at the first: these are the rows of text that come
+/// onto it.
 pub(crate) fn draw_scroll(
     alloc: Global,
     out: &mut Vec<u8>,
     rows: u16,
     from: usize,
     to: usize,
-    shown: &[&str],
+    texts: &[&str],
     prompt: &str,
 ) -> Result<(), AllocError>
     requires { 1 ≤ rows }
-    ensures { OnOk result (out.new.items ≡ out.old.items ++ written_all (scroll_ops rows from to (map (λ r. r.now) shown.now) prompt.now)) }
+    ensures { OnOk result ((shown : List (List ℕ)) → map (λ r. r.now) texts.now ≡ rows_newly rows from to shown →
+        out.new.items ≡ out.old.items ++ written_all (scroll_ops rows from to shown prompt.now)) }
 {
     let most = usize::from(rows - 1);
     if from <= to {
-        draw_down(
-            alloc,
-            out,
-            rows,
-            (to - from).min(most) as u16,
-            shown,
-            prompt,
-        )?;
+        let k = (to - from).min(most) as u16;
+        draw_down(alloc, out, rows, k, texts, prompt)?;
     } else {
-        draw_up(
-            alloc,
-            out,
-            rows,
-            (from - to).min(most) as u16,
-            shown,
-            prompt,
-        )?;
+        let k = (from - to).min(most) as u16;
+        draw_up(alloc, out, rows, k, texts, prompt)?;
     }
     Ok(())
 }
@@ -225,8 +220,11 @@ pub(crate) fn draw_append_text(
 fn push_spaces(row: &mut String, count: usize) -> Result<(), AllocError>
     ensures { OnOk result (string_bytes row.new ≡ string_bytes row.old ++ replicate count 32) }
 {
-    for _space in 0..count {
-        row.push(' ')?;
+    let mut left = count;
+    while left > 0 {
+        let piece = left.min(SPACES.len());
+        row.push_str(&SPACES[..piece])?;
+        left -= piece;
     }
     Ok(())
 }

@@ -150,11 +150,10 @@ impl<S, P: Parts> Core<S, P> {
     }
 
     // Forms the change of a command, draws it into the buffer and puts it in its place. An `Err` changes nothing.
-    fn take(&mut self, command: Command) -> Result<Drawing, MinusError>
-        ensures kind { IfOk result (λ kind. kind ≡ (effect (control_of self.old.state) (wanted_of command)).drawing) }
+    fn take(&mut self, command: Command) -> Result<(), MinusError>
         ensures done { OnOk result (seen_of self.new ≡ with_control self.old (changed_by (effect (control_of self.old.state) (wanted_of command)))) }
         ensures possible { OnOk result (IsPossible (wanted_of command)) }
-        ensures drawn { IfOk result (λ kind. DrawsBetween self.new kind (control_of self.old.state) (control_of self.new.state)) }
+        ensures drawn { OnOk result (DrawsBetween self.new (effect (control_of self.old.state) (wanted_of command)).drawing (control_of self.old.state) (control_of self.new.state)) }
         ensures size { OnOk result (IsSize self.new.state.cols self.new.state.rows) }
         ensures sink { self.new.sink ≡ self.old.sink }
         ensures err { OnErr result (seen_of self.new ≡ seen_of self.old) }
@@ -164,7 +163,7 @@ impl<S, P: Parts> Core<S, P> {
         let drawing = change.drawing(self.state.upper_mark);
         self.draw_change(drawing, &change)?;
         self.state.place(self.alloc, change)?;
-        Ok(drawing)
+        Ok(())
     }
 }
 
@@ -188,8 +187,8 @@ impl<S: OutputSink + Drop, P: Calls> Core<S, P> {
         ensures step { OnOk result (StepsOf S.contents S.refused P.Classifier.allows self.old (a_command (wanted_of command)) self.new None) }
         ensures refused { IfErr result (λ e. IsRefusedStepOf S.contents S.refused P.Classifier.allows self.old (a_command (wanted_of command)) self.new e) }
     {
-        let drawing = self.take(command)?;
-        if drawing == Drawing::Nothing {
+        self.take(command)?;
+        if self.drawing.is_empty() {
             return Ok(());
         }
         if let Err(cause) = draw_bytes(&mut self.sink, &self.drawing) {

@@ -96,12 +96,12 @@ pub struct PagerState {
 }
 
 impl PagerState {
-    ghost use Rattle.std.specs.Prelude.{◌≡◌, ◌+◌, ◌-◌, ◌++◌, ◌^◌, ◌<◌, length, map, drop, OnOk, OnErr, IfOk, IfErr};
+    ghost use Rattle.std.specs.Prelude.{◌≡◌, ◌+◌, ◌-◌, ◌++◌, ◌^◌, ◌<◌, length, map, take, drop, OnOk, OnErr, IfOk, IfErr};
     ghost use Rattle.minus.specs.Control.{Control, first_changed};
     ghost use Rattle.minus.specs.Table.{effect, moved_by, moved_to, changed_by, resizes, IsPossible};
     ghost use Rattle.minus_term.specs.Refusals.{refusal_of};
     ghost use Rattle.minus_term.specs.Written.{written_all};
-    ghost use Rattle.minus.specs.Drawings.{rows_after, append_from, ops_between};
+    ghost use Rattle.minus.specs.Drawings.{rows_after, rows_newly, append_from, ops_between};
     ghost use Rattle.minus.specs.Reads.{control_of, wanted_of, IsFormed};
     ghost use Rattle.minus.specs.NextTexts.{next_document, IsNext};
     ghost use Rattle.minus.specs.Changes.{IsChange, IsTextFor, shown_by, IsUnformed, IsUnformedState};
@@ -271,6 +271,28 @@ impl PagerState {
         left.min(change.rows - 1)
     }
 
+    // The texts of the rows of text on the page that a change leads to, from one of them on and before another.
+    fn shown_between<'a>(
+        &'a self,
+        alloc: Global,
+        change: &'a Change,
+        first: usize,
+        end: usize,
+    ) -> Result<Vec<&'a str>, AllocError>
+        requires { IsNext self.now.screen change.now.text }
+        ensures { IfOk result (λ v. map (λ r. r.now) v.items ≡ drop first (take end (shown_by self.now.screen change.now))) }
+    {
+        let count = self.count_after(change).min(end);
+        let start = first.min(count);
+        let mut shown = Vec::with_capacity(alloc, count - start)?;
+        for i in start..count {
+            if let Some(row) = change.text.row_after(&self.screen, change.mark + i) {
+                shown.push(row)?;
+            }
+        }
+        Ok(shown)
+    }
+
     // The texts of the rows of text on the page that a change leads to, from one of them on.
     pub(crate) fn shown_after<'a>(
         &'a self,
@@ -281,15 +303,27 @@ impl PagerState {
         requires { IsNext self.now.screen change.now.text }
         ensures { IfOk result (λ v. map (λ r. r.now) v.items ≡ drop first (shown_by self.now.screen change.now)) }
     {
-        let count = self.count_after(change);
-        let start = first.min(count);
-        let mut shown = Vec::with_capacity(alloc, count - start)?;
-        for i in start..count {
-            if let Some(row) = change.text.row_after(&self.screen, change.mark + i) {
-                shown.push(row)?;
-            }
+        self.shown_between(alloc, change, first, change.rows - 1)
+    }
+
+    // The texts of the rows of text that come onto the page that a change leads to, where the mark was this one.
+    fn shown_newly<'a>(
+        &'a self,
+        alloc: Global,
+        change: &'a Change,
+        from: usize,
+    ) -> Result<Vec<&'a str>, AllocError>
+        requires { IsNext self.now.screen change.now.text }
+        ensures { IfOk result (λ v. map (λ r. r.now) v.items ≡ rows_newly change.now.rows from change.now.mark (shown_by self.now.screen change.now)) }
+    {
+        let most = change.rows - 1;
+        if from <= change.mark {
+            let k = (change.mark - from).min(most);
+            self.shown_after(alloc, change, most - k)
+        } else {
+            let k = (from - change.mark).min(most);
+            self.shown_between(alloc, change, 0, k)
         }
-        Ok(shown)
     }
 
     // The first row that an append may change.
@@ -387,7 +421,7 @@ impl PagerState {
             }
             Drawing::Scroll => {
                 let (from, to) = (self.upper_mark, change.mark);
-                let shown = self.shown_after(alloc, change, 0)?;
+                let shown = self.shown_newly(alloc, change, from)?;
                 let prompt = format_prompt(alloc, change.cols)?;
                 let rows = change.rows as u16;
                 draw_scroll(alloc, out, rows, from, to, &shown, &prompt)

@@ -1,11 +1,11 @@
 -- An append.
-use Rattle.std.proofs.Common.{◌≡◌, ℕ, zero, suc, ◌+◌, ◌-◌, ◌<◌, ◌≤◌, min, List, [], ◌∷◌, ◌++◌, length, map, take, drop, replicate, set, get_or, Option, Some, None, refl, sym, ap, subst, ◌∙◌, arith, inr, append_assoc}
+use Rattle.std.proofs.Common.{◌≡◌, ℕ, zero, suc, ◌+◌, ◌-◌, ◌<◌, ◌≤◌, min, List, [], ◌∷◌, ◌++◌, length, map, take, drop, replicate, set, get_or, Option, Some, None, refl, sym, ap, ◌∙◌, arith, inr, append_assoc}
 use Rattle.std.proofs.Math.ListN.{drop_of_length-le}
-use Rattle.std.proofs.lemmas.List.{length-append, length-map, length-take, length-drop, get_or_at, set_at, map-append, append-nil, take-append-drop}
+use Rattle.std.proofs.lemmas.List.{length-append, length-map, length-take, length-drop, get_or_at, set_at, map-append, take-append-drop}
 use Rattle.minus_term.specs.Append.{rows_anew, append_ops, AppendShowsItsPage, AppendPutsFew}
 use Rattle.minus_term.specs.FullRedraw.{page_of}
-use Rattle.minus_term.specs.Operations.{Op, GoTo, ClearRow, Put}
-use Rattle.minus_term.specs.PlayedScreen.{PlayedScreen, blank, play, play_all, screen_of}
+use Rattle.minus_term.specs.Operations.{GoTo, ClearRow, Put}
+use Rattle.minus_term.specs.PlayedScreen.{PlayedScreen, blank, play, play_all}
 use Rattle.minus_term.specs.Puts.{puts}
 use Rattle.std.specs.List.{Contains}
 use Rattle.std.proofs.lemmas.List.Elements.{Contains-append_left}

@@ -1,5 +1,5 @@
 -- A scroll.
-use Rattle.std.proofs.Common.{◌≡◌, ℕ, zero, suc, ◌+◌, ◌-◌, ◌<◌, ◌≤◌, leb, min, ◌&&◌, false, true, cond, List, [], ◌∷◌, ◌++◌, length, map, take, drop, replicate, set, get_or, Option, Some, None, refl, sym, ap, subst, ◌∙◌, arith, inl, inr, append_assoc}
+use Rattle.std.proofs.Common.{◌≡◌, ℕ, zero, suc, ◌+◌, ◌-◌, ◌<◌, ◌≤◌, leb, min, ◌&&◌, false, List, [], ◌∷◌, ◌++◌, length, map, take, drop, replicate, set, get_or, Option, Some, None, refl, sym, ap, subst, ◌∙◌, arith, inl, inr, append_assoc}
 use Rattle.std.specs.List.{Contains, flat_map}
 use Rattle.std.proofs.lemmas.List.Elements.{Contains-push, Contains-append_left, Contains-append_right}
 use Rattle.std.proofs.Math.Seq.{drop-nil}
@@ -9,7 +9,7 @@ use Rattle.minus_term.specs.FullRedraw.{page_of, row_ops, prompt_ops}
 use Rattle.minus_term.specs.Operations.{Op, GoTo, ClearRow, ScrollUp, ScrollDown, Return, Put, NextRow}
 use Rattle.minus_term.specs.PlayedScreen.{ShownPage, PlayedScreen, Draws, blank, play, play_all, screen_of}
 use Rattle.minus_term.specs.Puts.{puts, put_of, is_in_last_row, is_still}
-use Rattle.minus_term.specs.Scroll.{shown_from, down_ops, up_ops, scroll_ops, distance, ScrollShowsItsPage, ScrollPutsFew}
+use Rattle.minus_term.specs.Scroll.{shown_from, down_ops, up_ops, scroll_ops, ScrollShowsItsPage, ScrollPutsFew}
 use Rattle.minus_term.proofs.FullRedrawLaws.{column_after, column_none, map_blank, play_prompt, IsClean-rows, IsClean-prompt}
 use Rattle.minus_term.specs.Written.{IsClean, IsRowOf}
 use Rattle.minus_term.proofs.WrittenLaws.{IsClean-append}

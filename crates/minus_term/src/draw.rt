@@ -1,12 +1,13 @@
 //! The operations that a screen is drawn by, and their bytes.
-ghost use Rattle.std.specs.Prelude.{◌≡◌, ◌++◌, OnOk, OnErr, IfOk, string_bytes};
+ghost use Rattle.std.specs.Prelude.{◌≡◌, ◌+◌, ◌-◌, ◌^◌, ◌<◌, ◌≤◌, [], ◌∷◌, ◌++◌, drop, decimal, OnOk, OnErr};
 ghost use Rattle.minus_term.specs.FullRedraw.{FullRedrawShowsItsPage};
 ghost use Rattle.minus_term.specs.Append.{AppendShowsItsPage, AppendPutsFew};
 ghost use Rattle.minus_term.specs.Scroll.{ScrollShowsItsPage, ScrollPutsFew};
 ghost use Rattle.minus_term.specs.Operations.{op_of, GoTo};
 ghost use Rattle.minus_term.specs.PlayedScreen.{PlayIsMonotone, UnknownStandsForAll};
-ghost use Rattle.minus_term.specs.Written.{written, scroll_bytes};
+ghost use Rattle.minus_term.specs.Written.{escape, written, scroll_bytes};
 
+use itoa::write_digits;
 use std::alloc::{AllocError, Global};
 
 /// One operation on a terminal.
@@ -43,25 +44,72 @@ fn push_bytes(out: &mut Vec<u8>, bytes: &[u8]) -> Result<(), AllocError>
     Ok(())
 }
 
-/// The bytes that move the cursor to the column x and the row y.
-#[tactic(auto, unfolding(crate::specs::Written::written))]
-fn go_to(alloc: Global, x: u16, y: u16) -> Result<String, AllocError>
-    ensures { IfOk result (λ text. string_bytes text ≡ written (GoTo x y)) }
+// How many bytes the longest operation of numbers has, and some more.
+const ROOM: usize = 48;
+
+// Writes a byte before a place, and returns where it stands.
+fn write_byte(bytes: &mut [u8; ROOM], end: usize, byte: u8) -> usize
+    requires some { 0 < end }
+    requires within { end ≤ 48 }
+    ensures at { result ≡ end - 1 }
+    ensures written { drop result bytes.new ≡ byte ∷ drop end bytes.old }
 {
-    let row = u32::from(y) + 1;
-    let column = u32::from(x) + 1;
-    let text = format!(in alloc; "\x1b[{row};{column}H")?;
-    Ok(text)
+    bytes[end - 1] = byte;
+    end - 1
 }
 
-/// The bytes that move the rows by n, with the direction's letter; none for 0.
-fn scroll(alloc: Global, n: u16, letter: &str) -> Result<String, AllocError>
-    ensures { IfOk result (λ text. string_bytes text ≡ scroll_bytes n letter.now) }
+// Writes a number's digits before a place, and returns where they start.
+fn write_number(bytes: &mut [u8; ROOM], end: usize, n: u64) -> usize
+    requires few { n < 10 ^ 5 }
+    requires room { 5 ≤ end }
+    requires within { end ≤ 48 }
+    ensures at { end ≤ result + 5 }
+    ensures before { result ≤ end }
+    ensures written { drop result bytes.new ≡ decimal n ++ drop end bytes.old }
+{
+    write_digits(n, bytes, end)
+}
+
+// Writes the start of a control sequence before a place, and returns where it stands.
+fn write_escape(bytes: &mut [u8; ROOM], end: usize) -> usize
+    requires some { 2 ≤ end }
+    requires within { end ≤ 48 }
+    ensures written { drop result bytes.new ≡ escape ++ drop end bytes.old }
+{
+    let end = write_byte(bytes, end, b'[');
+    write_byte(bytes, end, b'\x1b')
+}
+
+// Adds the bytes that move the cursor to the column x and the row y, or on an error none of them.
+#[tactic(auto, unfolding(crate::specs::Written::written))]
+fn push_go_to(out: &mut Vec<u8>, x: u16, y: u16) -> Result<(), AllocError>
+    ensures ok { OnOk result (out.new.items ≡ out.old.items ++ written (GoTo x y)) }
+    ensures err { OnErr result (out.new.items ≡ out.old.items) }
+{
+    let row = u64::from(y) + 1;
+    let column = u64::from(x) + 1;
+    let mut bytes = [0; ROOM];
+    let end = write_byte(&mut bytes, ROOM, b'H');
+    let end = write_number(&mut bytes, end, column);
+    let end = write_byte(&mut bytes, end, b';');
+    let end = write_number(&mut bytes, end, row);
+    let start = write_escape(&mut bytes, end);
+    push_bytes(out, &bytes[start..])
+}
+
+// Adds the bytes that move the rows by n, with the direction's letter, or on an error none of them; none for 0.
+fn push_scroll(out: &mut Vec<u8>, n: u16, letter: u8) -> Result<(), AllocError>
+    ensures ok { OnOk result (out.new.items ≡ out.old.items ++ scroll_bytes n (letter ∷ [])) }
+    ensures err { OnErr result (out.new.items ≡ out.old.items) }
 {
     if n == 0 {
-        return Ok(String::new(alloc));
+        return Ok(());
     }
-    format!(in alloc; "\x1b[{n}{letter}")
+    let mut bytes = [0; ROOM];
+    let end = write_byte(&mut bytes, ROOM, letter);
+    let end = write_number(&mut bytes, end, u64::from(n));
+    let start = write_escape(&mut bytes, end);
+    push_bytes(out, &bytes[start..])
 }
 
 /// Adds the bytes of an operation to a buffer, or on an error none of them.
@@ -73,12 +121,12 @@ pub fn write_op(alloc: Global, out: &mut Vec<u8>, op: &DrawOp<'_>) -> Result<(),
     match op {
         DrawOp::ClearAll => push_bytes(out, b"\x1b[2J"),
         DrawOp::ClearRow => push_bytes(out, b"\x1b[2K"),
-        DrawOp::GoTo(x, y) => push_bytes(out, go_to(alloc, *x, *y)?.as_bytes()),
+        DrawOp::GoTo(x, y) => push_go_to(out, *x, *y),
         DrawOp::Return => push_bytes(out, b"\r"),
         DrawOp::NextRow => push_bytes(out, b"\n"),
         DrawOp::Put(text) => push_bytes(out, text.as_bytes()),
-        DrawOp::ScrollUp(n) => push_bytes(out, scroll(alloc, *n, "S")?.as_bytes()),
-        DrawOp::ScrollDown(n) => push_bytes(out, scroll(alloc, *n, "T")?.as_bytes()),
+        DrawOp::ScrollUp(n) => push_scroll(out, *n, b'S'),
+        DrawOp::ScrollDown(n) => push_scroll(out, *n, b'T'),
         DrawOp::ShowCursor => push_bytes(out, b"\x1b[?25h"),
         DrawOp::HideCursor => push_bytes(out, b"\x1b[?25l"),
     }

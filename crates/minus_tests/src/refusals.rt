@@ -122,7 +122,13 @@ fn a_run_stops_at_a_refused_write(rt: HostRuntime) -> Result<(), Fail> {
 fn scrolled(alloc: Global) -> Result<([u8; 2], usize, Vec<u8>), Fail> {
     let sink = WithTty::new(Vec::with_capacity(alloc, 4096)?, true);
     let mut session = session_on(alloc, sink, 20, 4)?;
-    let _ = session.run(inputs(alloc, &[Asked::Push("l0\nl1\nl2\nl3\nl4\nl5")])?);
+    let pushed = session.run(inputs(
+        alloc,
+        &[Asked::Push("l0\nl1\nl2\nl3\nl4\nl5\nl6\nl7\nl8\nl9")],
+    )?);
+    if pushed.stopped.is_some() {
+        return Err(Fail::from("memory was wanted before the scroll"));
+    }
     let first = number_of(alloc, &mut session, Asked::Mark(2))?;
     let mark = session.state().upper_mark;
     let again = number_of(alloc, &mut session, Asked::Mark(2))?;
@@ -130,7 +136,7 @@ fn scrolled(alloc: Global) -> Result<([u8; 2], usize, Vec<u8>), Fail> {
     Ok(([first, again], mark, sink.inner))
 }
 
-// Run as it is, memory suffices. `rt try --test --fail-alloc N..` has each request refused in turn.
+// Run as it is, memory suffices. `rt try --test --fail-alloc N` has the Nth request refused.
 #[test]
 fn a_scroll_that_wants_memory_changes_nothing(rt: HostRuntime) -> Result<(), Fail> {
     let (numbers, mark, bytes) = scrolled(rt.alloc())?;

@@ -2,6 +2,7 @@
 use Rattle.std.proofs.Common.{◌≡◌, sym, subst, ◌∙◌}
 use Rattle.minus_term.specs.Written.{written_all}
 use Rattle.minus.specs.Drawings.{ops_between}
+use Rattle.minus.specs.declared.commands.Drawing.{Drawing}
 use Rattle.minus.specs.Control.{Control}
 use Rattle.minus.specs.Table.{effect, changed_by}
 use Rattle.minus.specs.Reads.{control_of, wanted_of}
@@ -10,12 +11,11 @@ use Rattle.minus.proofs.session.Core.take.Goals as goal
 
 pub returns-clause-drawn : goal.returns-clause-drawn
 returns-clause-drawn g c =
-    let new : Control = changed_by (effect (control_of c.args.self.now.state) (wanted_of c.args.command)) in
-    let h = c.in_ok-change.ensures.next in
-    let is = placed_after c.args.self.now.state c.draw_change.new.self.state c.place.new.self c.in_ok-change.change new c.draw_change.ensures.state c.args.self.now.formed h c.in_ok-place.ensures.screen c.in_ok-place.ensures.mark c.in_ok-place.ensures.cols c.in_ok-place.ensures.rows in
-    subst (λ (x : Control). c.draw_change.new.self.drawing.items ≡ written_all (ops_between c.drawing-drawing.result (control_of c.args.self.now.state) x)) (sym is) (c.in_ok-draw_change.ensures.drawn new h)
-
-pub returns-clause-kind : goal.returns-clause-kind
-returns-clause-kind g c =
+    let old : Control = control_of c.args.self.now.state in
+    let new : Control = changed_by (effect old (wanted_of c.args.command)) in
     let change = c.in_ok-change.change in
-    c.drawing-drawing.ensures ∙ drawn_as (control_of c.args.self.now.state) (wanted_of c.args.command) change.text change.mark c.in_ok-change.ensures.text c.args.self.now.clamped c.in_ok-change.ensures.next.mark_is
+    let h = c.in_ok-change.ensures.next in
+    let is = placed_after c.args.self.now.state c.draw_change.new.self.state c.place.new.self change new c.draw_change.ensures.state c.args.self.now.formed h c.in_ok-place.ensures.screen c.in_ok-place.ensures.mark c.in_ok-place.ensures.cols c.in_ok-place.ensures.rows in
+    let kind = c.drawing-drawing.ensures ∙ drawn_as old (wanted_of c.args.command) change.text change.mark c.in_ok-change.ensures.text c.args.self.now.clamped h.mark_is in
+    subst (λ (d : Drawing). c.draw_change.new.self.drawing.items ≡ written_all (ops_between d old (control_of c.place.new.self))) kind
+    (subst (λ (x : Control). c.draw_change.new.self.drawing.items ≡ written_all (ops_between c.drawing-drawing.result old x)) (sym is) (c.in_ok-draw_change.ensures.drawn new h))
