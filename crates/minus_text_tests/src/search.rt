@@ -93,12 +93,37 @@ fn matches_are_shown_in_reverse(rt: HostRuntime) -> Result<(), Fail> {
     let cut = "this \x1b[34mis a te\x1b[0mst";
     let inner = "this is a t\x1b[34mes\x1b[0mt again";
     let table = [
-        (cut, "test", true, "this \x1b[34mis a \x1b[7mte\x1b[0mst\x1b[27m"),
-        (cut, "test", false, "this \x1b[34mis a \x1b[7mtest\x1b[27m\x1b[0m"),
-        (inner, "test", true, "this is a \x1b[7mt\x1b[34mes\x1b[0mt\x1b[27m again"),
-        (inner, "test", false, "this is a \x1b[7mtest\x1b[27m\x1b[34m\x1b[0m again"),
+        (
+            cut,
+            "test",
+            true,
+            "this \x1b[34mis a \x1b[7mte\x1b[0mst\x1b[27m",
+        ),
+        (
+            cut,
+            "test",
+            false,
+            "this \x1b[34mis a \x1b[7mtest\x1b[27m\x1b[0m",
+        ),
+        (
+            inner,
+            "test",
+            true,
+            "this is a \x1b[7mt\x1b[34mes\x1b[0mt\x1b[27m again",
+        ),
+        (
+            inner,
+            "test",
+            false,
+            "this is a \x1b[7mtest\x1b[27m\x1b[34m\x1b[0m again",
+        ),
         ("\x1b[34mtest", "test", true, "\x1b[7m\x1b[34mtest\x1b[27m"),
-        ("nisl. placerat non", "\\W\\w+t\\W", false, "nisl.\x1b[7m placerat \x1b[27mnon"),
+        (
+            "nisl. placerat non",
+            "\\W\\w+t\\W",
+            false,
+            "nisl.\x1b[7m placerat \x1b[27mnon",
+        ),
         ("ab", "$", true, "ab\x1b[7m\x1b[27m"),
         ("\u{9b}[31mred", "red", true, "\x1b[7m\u{9b}[31mred\x1b[27m"),
         ("\x1b[31ab", "ab", true, "\x1b[7m\x1b[31ab\x1b[27m"),
