@@ -18,6 +18,7 @@ mod page;
 mod pager;
 mod parts;
 pub mod screen;
+pub mod search;
 mod session;
 pub mod sink;
 mod stand_in;
@@ -55,6 +56,7 @@ pub use minus_text::{
 pub use page::Page;
 pub use pager::Pager;
 pub use screen::{FormatResult, Line, OwnedTextBlock, Row, Rows, Screen, TextBlock};
+pub use search::{Patterns, highlight_line_matches, next_nth_match, strip_escapes};
 pub use session::{Answer, Ran, Session};
 pub use sink::{
     OutputSink, WithTty, cleanup, clear_entire_screen, draw_bytes, move_cursor, setup, write_bytes,
