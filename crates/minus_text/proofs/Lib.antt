@@ -20,6 +20,7 @@ pub mod FewColumnsLaws
 pub mod ColumnsLaws
 pub mod RowsFitLaws
 pub mod DigitsLaws
+pub mod SpacesLaws
 pub mod LineMapLaws
 pub mod LinesLaws
 pub mod DocumentLaws

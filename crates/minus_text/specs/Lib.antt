@@ -12,6 +12,7 @@ pub mod RowRuns
 pub mod Rows
 pub mod Measures
 pub mod Lines
+pub mod Prefixes
 pub mod Matches
 pub mod Escapes
 pub mod FixedPatterns
