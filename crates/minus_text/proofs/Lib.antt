@@ -23,6 +23,7 @@ pub mod DigitsLaws
 pub mod SpacesLaws
 pub mod LineMapLaws
 pub mod LinesLaws
+pub mod LayoutLaws
 pub mod DocumentLaws
 pub mod FormLaws
 pub mod PlacesLaws
@@ -34,3 +35,4 @@ pub mod RowTextLaws
 pub mod FormatResultLaws
 pub mod PushedLaws
 pub mod PendingLaws
+pub mod LineCountLaws

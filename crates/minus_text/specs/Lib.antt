@@ -17,7 +17,9 @@ pub mod Matches
 pub mod Escapes
 pub mod FixedPatterns
 pub mod Highlight
+pub mod Layouts
 pub mod Document
+pub mod Fragments
 pub mod LineMaps
 pub mod Kept
 pub mod Seams

@@ -2,6 +2,7 @@
 #![tactic(auto)]
 
 mod formed;
+pub mod layout;
 pub mod line_numbers;
 pub mod lines;
 pub mod lines_row_map;
@@ -12,6 +13,7 @@ pub mod search;
 pub mod spaces;
 pub mod wrap;
 
+pub use layout::Layout;
 pub use line_numbers::{LineNumbers, digits, numbers_toggle_twice, prefix_columns, push_prefix};
 pub use lines_row_map::LinesRowMap;
 pub use pending::PendingPush;
