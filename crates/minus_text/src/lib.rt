@@ -2,6 +2,7 @@
 #![tactic(auto)]
 
 mod formed;
+pub mod layout;
 pub mod line_numbers;
 pub mod lines;
 pub mod lines_row_map;
@@ -9,14 +10,17 @@ pub mod pending;
 pub mod screen;
 mod seams;
 pub mod search;
+pub mod spaces;
 pub mod wrap;
 
-pub use line_numbers::digits;
+pub use layout::Layout;
+pub use line_numbers::{LineNumbers, digits, numbers_toggle_twice, prefix_columns, push_prefix};
 pub use lines_row_map::LinesRowMap;
 pub use pending::PendingPush;
 pub use screen::{FormatResult, Line, OwnedTextBlock, Row, Rows, Screen, TextBlock};
 pub use seams::rows_go_on;
 pub use search::{Patterns, highlight_line_matches, next_nth_match, strip_escapes};
+pub use spaces::push_spaces;
 pub use wrap::{
     Span, columns, format_line, pieces_join, rows_are_determined, rows_fit,
     words_are_cut_at_joints, wrap_line,
