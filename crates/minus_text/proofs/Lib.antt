@@ -21,6 +21,8 @@ pub mod ColumnsLaws
 pub mod RowsFitLaws
 pub mod DigitsLaws
 pub mod SpacesLaws
+pub mod TextUnitsLaws
+pub mod CropLaws
 pub mod LineMapLaws
 pub mod LinesLaws
 pub mod LayoutLaws

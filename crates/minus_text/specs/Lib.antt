@@ -13,6 +13,8 @@ pub mod Rows
 pub mod Measures
 pub mod Lines
 pub mod Prefixes
+pub mod TextUnits
+pub mod Crop
 pub mod Matches
 pub mod Escapes
 pub mod FixedPatterns
