@@ -1,6 +1,6 @@
 -- Found by search.
 use Rattle.std.proofs.Common.{rules}
-use Rattle.minus.proofs.pager.Pager.new.Goals as goal
+use Rattle.minus.proofs.pager.PagerOf.new.Goals as goal
 
 pub returns : goal.returns
-returns c = search rules
+returns g c = search rules
