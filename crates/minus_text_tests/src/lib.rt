@@ -11,3 +11,5 @@ mod rows;
 mod screens;
 #[cfg(test)]
 mod search;
+#[cfg(test)]
+mod shown;
