@@ -13,3 +13,5 @@ mod rows;
 mod screens;
 #[cfg(test)]
 mod search;
+#[cfg(test)]
+mod shown;
