@@ -13,9 +13,12 @@ pub mod Rows
 pub mod Measures
 pub mod Lines
 pub mod Matches
-pub mod Escapes
 pub mod FixedPatterns
+pub mod Escapes
 pub mod Highlight
+pub mod Shown
+pub mod Found
+pub mod FoundRows
 pub mod Document
 pub mod LineMaps
 pub mod Kept
