@@ -12,6 +12,9 @@ pub mod RowRuns
 pub mod Rows
 pub mod Measures
 pub mod Lines
+pub mod Prefixes
+pub mod TextUnits
+pub mod Crop
 pub mod Matches
 pub mod FixedPatterns
 pub mod Escapes
@@ -19,7 +22,9 @@ pub mod Highlight
 pub mod Shown
 pub mod Found
 pub mod FoundRows
+pub mod Layouts
 pub mod Document
+pub mod Fragments
 pub mod LineMaps
 pub mod Kept
 pub mod Seams

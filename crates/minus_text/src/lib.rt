@@ -1,7 +1,9 @@
 //! The text of a pager: lines, rows and what is kept of them.
 #![tactic(auto)]
 
+pub mod crop;
 mod formed;
+pub mod layout;
 pub mod line_numbers;
 pub mod lines;
 pub mod lines_row_map;
@@ -9,9 +11,13 @@ pub mod pending;
 pub mod screen;
 mod seams;
 pub mod search;
+pub mod spaces;
+pub mod units;
 pub mod wrap;
 
-pub use line_numbers::digits;
+pub use crop::{Window, crop_columns, cropped_texts_fit, fitted_texts_fill, push_fitted};
+pub use layout::Layout;
+pub use line_numbers::{LineNumbers, digits, numbers_toggle_twice, prefix_columns, push_prefix};
 pub use lines_row_map::LinesRowMap;
 pub use pending::PendingPush;
 pub use screen::{FormatResult, Line, OwnedTextBlock, Row, Rows, Screen, TextBlock};
@@ -20,6 +26,8 @@ pub use search::{
     HighlightMatchesArgs, Patterns, highlight_line_matches, highlights_add_markers_alone,
     next_nth_match, only_matches_are_highlighted, strip_escapes,
 };
+pub use spaces::push_spaces;
+pub use units::{Unit, Units};
 pub use wrap::{
     Span, columns, format_line, pieces_join, rows_are_determined, rows_fit,
     words_are_cut_at_joints, wrap_line,
