@@ -1,11 +1,12 @@
 -- The rows of an unfinished line before one at whose beginning forming can begin anew stay however the line goes on.
-use Rattle.std.proofs.Common.{◌≡◌, ℕ, zero, suc, ◌+◌, ◌-◌, ◌<◌, ◌&&◌, Bool, true, false, eqb, List, [], ◌∷◌, ◌++◌, length, map, take, drop, get_or, chars, encode_utf8, arith, refl, sym, ap, ◌∙◌, append_assoc, inl, inr}
+use Rattle.std.proofs.Common.{◌≡◌, ℕ, zero, suc, ◌+◌, ◌-◌, ◌<◌, ◌&&◌, Bool, true, false, eqb, List, [], ◌∷◌, ◌++◌, length, map, take, drop, get_or, chars, encode_utf8, arith, refl, sym, ap, ◌∙◌, append_assoc, inl, inr, ◌≤◌}
 use Rattle.std.specs.Char.{is_ascii_alphanumeric}
 use Rattle.std.specs.Str.{IsUtf8, IsAscii, IsCharBoundary, encode_utf8_all}
 use Rattle.std.specs.Str.Lines.{strip_carriage_return}
 use Rattle.std.proofs.lemmas.Bool.{cases_Bool, cases_lt, and_parts, eqb-true, ne_eqb}
 use Rattle.std.proofs.lemmas.Bool.Decides.{nat_tests}
-use Rattle.std.proofs.lemmas.List.{append-nil, length-append, length-drop, length-take-le, length-map, take-append-drop, take_at, take_all, take_more, map-append, take-map, get_or-drop, get_or-take, get_or-map, get_or_push, get_or_append_left, get_or-append_right}
+use Rattle.std.proofs.lemmas.List.{append-nil, length-append, length-drop, length-take-le, length-map, take-append-drop, take_at, take_all, take_more, map-append, take-map, get_or-drop, get_or-take, get_or-map, get_or_push, get_or_append_left, get_or-append_right, drop_all, drop_more, drop-drop}
+use Rattle.std.proofs.lemmas.List.Elements.{All-nil, All-cons, All-drop}
 use Rattle.std.proofs.lemmas.List.Concat.{flat_map-append}
 use Rattle.std.proofs.lemmas.Str.{IsUtf8-take, IsUtf8-drop, IsCharBoundary-start, chars-append, chars-IsAscii, encodes-IsAscii, encodes-append, encodes-chars, length-le-encodes}
 use Rattle.minus_text.specs.declared.wrap.Span.{Span}
@@ -14,7 +15,7 @@ use Rattle.minus_text.specs.RowRuns.{fits_row}
 use Rattle.minus_text.specs.RunsLaws.{two_fronts}
 use Rattle.minus_text.specs.Rows.{the_rows, run_text, line_runs, line_rows, line_places, places}
 use Rattle.minus_text.specs.Kept.{moved, line_stored, open_stored, open_rows, GoesOn}
-use Rattle.minus_text.specs.Seams.{StandsAlone, RowsGoOn}
+use Rattle.minus_text.specs.Seams.{StandsAlone, NoneAlone, RowsGoOn}
 use Rattle.minus_text.proofs.PiecesLaws.{pieces_join_lem}
 use Rattle.minus_text.proofs.WordsLaws.{some_chars}
 use Rattle.minus_text.proofs.RowsLaws.{line_places-are, place_at as row_at}
@@ -312,6 +313,24 @@ stored_seam cols base line rows at i d u e s l is =
     let one : get_or rows i d ≡ moved base (get_or (line_places cols line) i d) = ap (λ rs. get_or rs i d) stored ∙ get_or-map (moved base) (line_places cols line) i d d (omega arith) in
     let start : (get_or rows i d).start ≡ base + (get_or (line_places cols line) i d).start = ap (λ (s : Span). s.start) one in
     seam_goes_on cols line at i d u s (omega arith) (omega (arith, start, is))
+
+-- ---- rows that do not
+
+-- behind the last row there is none
+pub none_behind : (line : List ℕ) (base border n : ℕ) (rows : List Span) → length rows ≤ n → NoneAlone line base border (drop n rows)
+none_behind line base border n rows l = rw (drop_all n rows l) (All-nil (λ r. r.start - base ≤ border → StandsAlone line (r.start - base) → ⊥))
+
+-- nor from one that does not stand alone up to the border
+pub none_from : (line : List ℕ) (base border n m : ℕ) (rows : List Span) (d : Span) → m < length rows → m + 1 ≡ n → ((get_or rows m d).start - base ≤ border → StandsAlone line ((get_or rows m d).start - base) → ⊥)
+    → NoneAlone line base border (drop n rows) → NoneAlone line base border (drop m rows)
+none_from line base border n m rows d l e here h =
+    rw (drop_more rows m d l, e) (All-cons (λ r. r.start - base ≤ border → StandsAlone line (r.start - base) → ⊥) (get_or rows m d) (drop n rows) here h)
+
+-- nor further on
+pub none_further : (line : List ℕ) (base border n m : ℕ) (rows : List Span) → n ≤ m → NoneAlone line base border (drop n rows) → NoneAlone line base border (drop m rows)
+none_further line base border n m rows l h =
+    let to : n + (m - n) ≡ m = omega arith in
+    rw (drop-drop (m - n) n rows, to) at (All-drop (λ r. r.start - base ≤ border → StandsAlone line (r.start - base) → ⊥) (m - n) (drop n rows) h)
 
 -- the law, over the texts of lines
 pub rows_go_on : RowsGoOn

@@ -1,9 +1,10 @@
 //! Where in an unfinished line forming can begin again.
-ghost use Rattle.std.specs.Prelude.{◌≡◌, ℕ, List, ◌-◌, ◌<◌, ◌≤◌, IsTrue, length, drop};
+ghost use Rattle.std.specs.Prelude.{◌≡◌, ℕ, List, ◌+◌, ◌-◌, ◌<◌, ◌≤◌, length, drop};
+ghost use Rattle.std.specs.Bool.{Decides};
 ghost use Rattle.std.specs.List.{All};
 ghost use Rattle.std.specs.Str.{IsUtf8};
 ghost use Rattle.minus_text.specs.Kept.{GoesOn, open_stored};
-ghost use Rattle.minus_text.specs.Seams.{StandsAlone, RowsGoOn};
+ghost use Rattle.minus_text.specs.Seams.{StandsAlone, NoneAlone, RowsGoOn};
 
 use crate::wrap::Span;
 
@@ -17,7 +18,7 @@ pub(crate) struct Seam {
 // Whether what stands at a place of a line needs nothing before it, however the line goes on: no
 // carriage return that a newline takes away, and no hyphen behind which its word is cut, or may be yet.
 fn stands_alone(line: &str, at: usize) -> bool
-    ensures { IsTrue result → StandsAlone line.now at }
+    ensures { Decides result (StandsAlone line.now at) }
 {
     let bytes = line.as_bytes();
     if at >= bytes.len() {
@@ -43,6 +44,7 @@ pub(crate) fn last_seam(line: &str, rows: &[Span], first: usize, base: usize, bo
     requires behind { All (λ r. base ≤ r.start) (drop first rows.now) }
     ensures goes_on { (cols : ℕ) → IsUtf8 line.now → drop first rows.now ≡ open_stored cols base line.now → GoesOn cols line.now result.rows result.bytes }
     ensures border { result.bytes ≤ border }
+    ensures last { NoneAlone line.now base border (drop (first + result.rows + 1) rows.now) }
 {
     let mut i = rows.len();
     while i > first {
