@@ -9,8 +9,10 @@ pub mod RowsMeasured
 pub mod PiecesLaws
 pub mod RowsLaws
 pub mod PlainLaws
-pub mod PiecesSomeLaws
 pub mod RestartLaws
+pub mod BodyLaws
+pub mod FirstPieceLaws
+pub mod FirstColumnsLaws
 pub mod MatchPlacesLaws
 pub mod FindPlacesLaws
 pub mod PartedLaws
