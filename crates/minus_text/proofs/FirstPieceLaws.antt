@@ -176,7 +176,7 @@ pieces_all cols (c ∷ cs) l =
     ∙ sym (word_at cols false whole h.body h.spaces h.more h.word)
 
 -- nor does it matter what stands before where no hyphen comes first that ends a part
-pub pieces_either : (cols : ℕ) (before : Bool) (c : ℕ) (cs : List ℕ) → (before && (eqb c 45 && begins_alphanumeric cs)) ≡ false → pieces_after cols before (c ∷ cs) ≡ pieces cols (c ∷ cs)
+pieces_either : (cols : ℕ) (before : Bool) (c : ℕ) (cs : List ℕ) → (before && (eqb c 45 && begins_alphanumeric cs)) ≡ false → pieces_after cols before (c ∷ cs) ≡ pieces cols (c ∷ cs)
 pieces_either cols before c cs e =
     let h = has_word (c ∷ cs) in
     word_at cols before (c ∷ cs) h.body h.spaces h.more h.word ∙ ap (λ bs. with_spaces bs h.spaces ++ pieces cols h.more) (bodies h.body (replicate h.spaces 32 ++ h.more) h.word.joins)

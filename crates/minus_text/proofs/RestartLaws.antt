@@ -22,14 +22,6 @@ pub runs_elements : {X : Type 0} (fits : List X → Bool) (xs : List X) (rs : Li
 runs_elements fits xs [] h = h
 runs_elements fits xs (r ∷ rs) h = h.1 ∙ ap (λ ys. r ++ ys) (runs_elements fits h.0 rs h.3)
 
--- what follows the first runs is divided into the others
-pub runs_drop : {X : Type 0} (fits : List X → Bool) (before after : List (List X)) (xs : List X) → AreRuns fits (elements before ++ xs) (before ++ after) → AreRuns fits xs after
-runs_drop fits [] after xs h = h
-runs_drop fits (r ∷ before) after xs h =
-    let e : r ++ (elements before ++ xs) ≡ r ++ h.0 = sym (append_assoc r (elements before) xs) ∙ h.1 in
-    let same : elements before ++ xs ≡ h.0 = append_cancel_left r (elements before ++ xs) h.0 e in
-    runs_drop fits before after xs (rw (← same) at h.3)
-
 -- a run that is full before the one is full before the other
 abbrev pub StaysFull : {X : Type 0} → (List X → Bool) → List X → List X → Type 0
 StaysFull {X} fits xs ys = (run : List X) → IsFull fits run xs → IsFull fits run ys
