@@ -145,12 +145,9 @@ impl PagerState {
                 let _ = self.screen.set_text(alloc, text, layout)?;
             }
             Command::AppendData(text) => {
-                let _ = self.screen.push_screen_buf(
-                    alloc,
-                    text,
-                    LineNumbers::Disabled,
-                    self.cols,
-                )?;
+                let _ = self
+                    .screen
+                    .push_screen_buf(alloc, text, LineNumbers::Disabled, self.cols)?;
             }
             Command::UserInput(_) => {}
         }
@@ -227,12 +224,9 @@ impl PagerState {
                 Ok(self.change_to(NextText::Whole(next)))
             }
             Command::AppendData(text) => {
-                let pending = self.screen.prepare_push(
-                    alloc,
-                    &text,
-                    LineNumbers::Disabled,
-                    self.cols,
-                )?;
+                let pending = self
+                    .screen
+                    .prepare_push(alloc, &text, LineNumbers::Disabled, self.cols)?;
                 Ok(self.change_to(NextText::Pushed(text, pending)))
             }
             Command::UserInput(InputEvent::UpdateUpperMark(mark)) => Ok(Change {
