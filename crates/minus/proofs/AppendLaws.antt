@@ -5,7 +5,9 @@ use Rattle.std.proofs.lemmas.List.{length-take, length-take-le, length-drop, tak
 use Rattle.minus_term.specs.Append.{append_ops}
 use Rattle.minus_term.specs.PlayedScreen.{screen_of}
 use Rattle.minus_term.proofs.AppendLaws.{append_shows_lem, append_puts_lem, IsClean-changed}
-use Rattle.minus_text.specs.Document.{Document, rows_of, unfinished_rows}
+use Rattle.minus_text.specs.declared.line_numbers.LineNumbers.TheVariants.{Disabled}
+use Rattle.minus_text.specs.Document.{Document, rows_of, unfinished_rows, plan_of}
+use Rattle.minus_text.specs.Fragments.{rows_in}
 use Rattle.minus_text.specs.FormatResults.{formed_by, first_formed}
 use Rattle.minus_text.proofs.PushedLaws.{rows_pushed}
 use Rattle.minus.specs.declared.commands.Drawing.TheVariants.{Append}
@@ -33,10 +35,12 @@ agree_shown xs ys k m n f e l w = take-take f n (drop m xs) w ∙ shown_so ∙ s
 rows_stay : (c : Control) (text : List ℕ) → take (first_changed c) (text_rows c) ≡ take (first_changed c) (text_rows (record c { text = c.text ++ text }))
 rows_stay c text =
     let d : Document = document_of c in
-    let same : (c.cols == c.cols) ≡ true = grind arith in
-    let first : first_formed d c.cols ≡ first_changed c = ap (λ (b : Bool). cond b (length (rows_of d) - unfinished_rows d) 0) same in
-    let more : List (List ℕ) = rows_of (formed_by d text c.cols) in
-    let is : text_rows (record c { text = c.text ++ text }) ≡ take (first_changed c) (text_rows c) ++ more = rows_pushed d text c.cols ∙ ap (λ (n : ℕ). take n (rows_of d) ++ more) first in
+    let plan = plan_of d text Disabled c.cols in
+    let equal : (c.cols == c.cols) ≡ true = grind arith in
+    let same : plan.keeps ≡ true = rw equal refl in
+    let first : first_formed d plan ≡ first_changed c = ap (λ (b : Bool). cond b (length (rows_of d) - unfinished_rows d) 0) same in
+    let more : List (List ℕ) = rows_in (formed_by c.text text plan) in
+    let is : text_rows (record c { text = c.text ++ text }) ≡ take (first_changed c) (text_rows c) ++ more = rows_pushed d text Disabled c.cols ∙ ap (λ (n : ℕ). take n (rows_of d) ++ more) first in
     let count : length (take (first_changed c) (text_rows c)) ≡ first_changed c = length-take-le (first_changed c) (text_rows c) (omega arith) in
     sym (ap (take (first_changed c)) is ∙ take_at (take (first_changed c) (text_rows c)) more (first_changed c) count)
 

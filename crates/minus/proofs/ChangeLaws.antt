@@ -1,5 +1,6 @@
 -- A change that was put in its place.
 use Rattle.std.proofs.Common.{◌≡◌, ℕ, ◌-◌, List, take, drop, refl, ap, ◌∙◌}
+use Rattle.minus_text.specs.Layouts.{plain}
 use Rattle.minus_text.specs.Document.{Document, rows_of}
 use Rattle.minus.specs.declared.state.PagerState.{PagerState}
 use Rattle.minus.specs.declared.change.Change.{Change}
@@ -31,7 +32,7 @@ pub placed_after : (s d t : PagerState) (change : Change) (new : Control) → d 
 placed_after s d t change new same f h e m c r = placed s t change new f h (e ∙ ap (λ (x : PagerState). next_document x.screen change.text) same) m c r
 
 abbrev pub document : List ℕ → ℕ → Document
-document text cols = record { text = text; cols = cols }
+document text cols = record { text = text; layout = plain cols }
 
 -- a change to a text that was formed anew
 pub change_anew : (s : PagerState) (change : Change) (next : Document) (text : List ℕ) (cols : ℕ) (new : Control) → change.text ≡ Whole next → next ≡ document text cols → text ≡ new.text → cols ≡ new.cols → change.mark ≡ new.mark → change.cols ≡ new.cols → change.rows ≡ new.rows → IsChange (control_of s) change new

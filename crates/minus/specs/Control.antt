@@ -1,5 +1,6 @@
 -- What the commands define: the text on show, the size and the mark.
 use Rattle.std.specs.Prelude.{◌≡◌, ℕ, ◌-◌, ◌≤◌, min, List, length}
+use Rattle.minus_text.specs.Layouts.{plain}
 use Rattle.minus_text.specs.Document.{Document, rows_of, unfinished_rows}
 
 pub record Control : Type 0 where
@@ -10,7 +11,7 @@ pub record Control : Type 0 where
 
 -- the document of the text on show
 abbrev pub document_of : Control → Document
-document_of c = record { text = c.text; cols = c.cols }
+document_of c = record { text = c.text; layout = plain c.cols }
 
 -- the texts of its rows
 abbrev pub text_rows : Control → List (List ℕ)

@@ -52,8 +52,8 @@ pub use minus_term::{
     scroll_puts_few, scroll_shows_its_page, the_unknown_screen_stands_for_all, write_op,
 };
 pub use minus_text::{
-    LinesRowMap, PendingPush, Span, columns, digits, format_line, pieces_join, rows_are_determined,
-    rows_fit, wrap_line,
+    Layout, LineNumbers, LinesRowMap, PendingPush, Span, columns, digits, format_line, pieces_join,
+    rows_are_determined, rows_fit, wrap_line,
 };
 pub use page::Page;
 pub use pager::{Pager, PagerOf};

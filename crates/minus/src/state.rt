@@ -2,6 +2,7 @@
 ghost use Rattle.std.specs.Prelude.{◌≡◌, ◌↔◌, IsTrue, OnOk, OnErr, IfOk, IfErr};
 ghost use Rattle.minus.specs.NextTexts.{next_document, IsNext};
 ghost use Rattle.minus.specs.Sizes.{IsSize};
+ghost use Rattle.minus_text.specs.Layouts.{plain};
 
 use crate::change::{Change, NextText, Prepared};
 use crate::commands::{CommandOf, Drawing, Redraw};
@@ -9,7 +10,7 @@ use crate::display::{draw_append_text, draw_full, draw_scroll, format_prompt};
 use crate::input::InputEvent;
 use crate::parts::Parts;
 use minus_term::MinusError;
-use minus_text::Screen;
+use minus_text::{Layout, LineNumbers, Screen};
 use std::alloc::{AllocError, Global};
 
 /// Whether these are columns and rows of a terminal: each from 1 to 65,535.
@@ -21,11 +22,11 @@ pub(crate) fn is_size(cols: usize, rows: usize) -> bool
 
 // A text with its rows for so many columns.
 fn formed(alloc: Global, text: &str, cols: usize) -> Result<Screen, MinusError>
-    ensures ok { IfOk result (λ s. s ≡ record { text = text.now; cols = cols }) }
+    ensures ok { IfOk result (λ s. s ≡ record { text = text.now; layout = plain cols }) }
     ensures memory { IfErr result (λ e. e ≡ MinusError.Memory) }
 {
     let mut screen = Screen::new(alloc);
-    match screen.set_text(alloc, text, cols) {
+    match screen.set_text(alloc, text, Layout::plain(cols)) {
         Ok(_) => Ok(screen),
         Err(cause) => Err(cause),
     }
@@ -145,10 +146,16 @@ impl PagerState {
     {
         match command {
             CommandOf::SetData(text) => {
-                let _ = self.screen.set_text(alloc, text, self.cols)?;
+                let layout = Layout::plain(self.cols);
+                let _ = self.screen.set_text(alloc, text, layout)?;
             }
             CommandOf::AppendData(text) => {
-                let _ = self.screen.push_screen_buf(alloc, text, self.cols)?;
+                let _ = self.screen.push_screen_buf(
+                    alloc,
+                    text,
+                    LineNumbers::Disabled,
+                    self.cols,
+                )?;
             }
             CommandOf::UserInput(_) | CommandOf::SetInputClassifier(_) => {}
         }
@@ -234,7 +241,12 @@ impl PagerState {
                 Ok(Prepared::of(self.change_to(NextText::Whole(next), Redraw::Whole)))
             }
             CommandOf::AppendData(text) => {
-                let pending = self.screen.prepare_push(alloc, &text, self.cols)?;
+                let pending = self.screen.prepare_push(
+                    alloc,
+                    &text,
+                    LineNumbers::Disabled,
+                    self.cols,
+                )?;
                 let next = NextText::Pushed(text, pending);
                 Ok(Prepared::of(self.change_to(next, Redraw::Appended)))
             }

@@ -1,6 +1,6 @@
 //! The bytes of partial drawings, as a person works them out.
 use crate::sessions::{Asked, PROMPT_ROW, all_bytes, draws};
-use minus::{PagerState, draw_append_text, draw_for_change, draw_full, write_prompt};
+use minus::{Layout, PagerState, draw_append_text, draw_for_change, draw_full, write_prompt};
 use std::alloc::{AllocError, Global};
 use std::test::Fail;
 
@@ -122,7 +122,7 @@ fn a_resize_draws_the_whole_page(rt: HostRuntime) -> Result<(), Fail> {
 // the last on, and given another prompt.
 fn drawn_by_itself(alloc: Global) -> Result<Vec<u8>, Fail> {
     let mut state = PagerState::new(alloc, 20, 4)?;
-    let _ = state.screen.set_text(alloc, LINES, 20)?;
+    let _ = state.screen.set_text(alloc, LINES, Layout::plain(20))?;
     let mut sink = Vec::new(alloc);
     let mut mark = 9;
     draw_full(alloc, &mut sink, &mut state)?;

@@ -9,7 +9,9 @@ use Rattle.minus_text.specs.declared.wrap.Span.{Span}
 use Rattle.minus_text.specs.declared.formed.Finished.{Finished}
 use Rattle.minus_text.specs.declared.formed.Formed.{Formed}
 use Rattle.minus_text.specs.declared.formed.Forming.{Forming}
-use Rattle.minus_text.specs.Rows.{line_rows, IsPlace, ArePlaces}
+use Rattle.minus_text.specs.declared.layout.Wrap.{Wrap}
+use Rattle.minus_text.specs.Layouts.{own_rows}
+use Rattle.minus_text.specs.Rows.{IsPlace, ArePlaces}
 use Rattle.minus_text.specs.Units.{columns}
 use Rattle.minus_text.specs.Lines.{Cut, cut, whole, finished_lines, unfinished_line}
 use Rattle.minus_text.specs.Document.{rows_of_lines, first_rows, longest_of}
@@ -32,30 +34,30 @@ place_within text (s ∷ ss) (r ∷ rs) zero d h l = let one : IsPlace text s r 
 place_within text (s ∷ ss) (r ∷ rs) (suc i) d h l = place_within text ss rs i d h.1 (omega arith)
 
 -- what is formed of the finished lines of a text behind others, and what is left of it
-pub record IsFormOfFinished (old : Forming) (rows : List Span) (firsts : List ℕ) (greatest : ℕ) (place : Finished) (rest text : List ℕ) (from : Finished) (cols : ℕ) : Type 0 where
-  pub its_rows : rows ≡ old.rows.items ++ closed_stored cols from.bytes (cut text).closed
-  pub its_count : length rows ≡ length old.rows.items + length (rows_of_lines cols (finished_lines text))
-  pub its_map : firsts ≡ old.first_rows.items ++ first_rows cols from.rows (finished_lines text)
+pub record IsFormOfFinished (old : Forming) (rows : List Span) (firsts : List ℕ) (greatest : ℕ) (place : Finished) (rest text : List ℕ) (from : Finished) (wrap : Wrap) : Type 0 where
+  pub its_rows : rows ≡ old.rows.items ++ closed_stored wrap from.bytes (cut text).closed
+  pub its_count : length rows ≡ length old.rows.items + length (rows_of_lines wrap (finished_lines text))
+  pub its_map : firsts ≡ old.first_rows.items ++ first_rows wrap from.rows (finished_lines text)
   pub its_longest : greatest ≡ max old.longest (longest_of (finished_lines text))
   pub its_line : place.lines ≡ from.lines + length (cut text).closed
-  pub its_row : place.rows ≡ from.rows + length (rows_of_lines cols (finished_lines text))
+  pub its_row : place.rows ≡ from.rows + length (rows_of_lines wrap (finished_lines text))
   pub its_byte : place.bytes ≡ from.bytes + sum_by bytes_of (cut text).closed
   pub its_rest : rest ≡ unfinished_line text
 
 -- with no newline left they are all there
-pub all_finished : (old : Forming) (kept : ℕ) (rows : List Span) (firsts : List ℕ) (greatest : ℕ) (place : Finished) (rest text : List ℕ) (from : Finished) (cols : ℕ)
+pub all_finished : (old : Forming) (kept : ℕ) (rows : List Span) (firsts : List ℕ) (greatest : ℕ) (place : Finished) (rest text : List ℕ) (from : Finished) (wrap : Wrap)
     → cut rest ≡ whole rest
-    → rows ++ closed_stored cols place.bytes (cut rest).closed ≡ old.rows.items ++ closed_stored cols from.bytes (cut text).closed
-    → length rows + length (rows_of_lines cols (finished_lines rest)) ≡ length old.rows.items + length (rows_of_lines cols (finished_lines text))
-    → firsts ++ first_rows cols place.rows (finished_lines rest) ≡ old.first_rows.items ++ first_rows cols from.rows (finished_lines text)
+    → rows ++ closed_stored wrap place.bytes (cut rest).closed ≡ old.rows.items ++ closed_stored wrap from.bytes (cut text).closed
+    → length rows + length (rows_of_lines wrap (finished_lines rest)) ≡ length old.rows.items + length (rows_of_lines wrap (finished_lines text))
+    → firsts ++ first_rows wrap place.rows (finished_lines rest) ≡ old.first_rows.items ++ first_rows wrap from.rows (finished_lines text)
     → place.rows ≡ kept + length rows
     → from.rows ≡ kept + length old.rows.items
     → max greatest (longest_of (finished_lines rest)) ≡ max old.longest (longest_of (finished_lines text))
     → place.lines + length (cut rest).closed ≡ from.lines + length (cut text).closed
     → place.bytes + sum_by bytes_of (cut rest).closed ≡ from.bytes + sum_by bytes_of (cut text).closed
     → (cut rest).open_line ≡ (cut text).open_line
-    → IsFormOfFinished old rows firsts greatest place rest text from cols
-all_finished old kept rows firsts greatest place rest text from cols e stored count starts reached began widest line at open_line =
+    → IsFormOfFinished old rows firsts greatest place rest text from wrap
+all_finished old kept rows firsts greatest place rest text from wrap e stored count starts reached began widest line at open_line =
     let none : (cut rest).closed ≡ [] = ap (λ (c : Cut). c.closed) e in
     let count0 = rw none at count in
     let widest0 = rw none at widest in
@@ -73,10 +75,10 @@ all_finished old kept rows firsts greatest place rest text from cols e stored co
     }
 
 -- how far the finished lines go
-form_reaches : (old : Forming) (rows : List Span) (firsts : List ℕ) (greatest : ℕ) (place : Finished) (rest text : List ℕ) (from : Finished) (cols widest : ℕ)
-    → IsFormOfFinished old rows firsts greatest place rest text from cols → old.longest ≤ from.longest → widest ≡ max from.longest greatest
-    → Reaches cols from (cut text).closed (record { lines = place.lines; rows = place.rows; bytes = place.bytes; longest = widest })
-form_reaches old rows firsts greatest place rest text from cols widest h few e = record {
+form_reaches : (old : Forming) (rows : List Span) (firsts : List ℕ) (greatest : ℕ) (place : Finished) (rest text : List ℕ) (from : Finished) (wrap : Wrap) (widest : ℕ)
+    → IsFormOfFinished old rows firsts greatest place rest text from wrap → old.longest ≤ from.longest → widest ≡ max from.longest greatest
+    → Reaches wrap from (cut text).closed (record { lines = place.lines; rows = place.rows; bytes = place.bytes; longest = widest })
+form_reaches old rows firsts greatest place rest text from wrap widest h few e = record {
   by_lines = h.its_line;
   by_rows = h.its_row;
   by_bytes = h.its_byte;
@@ -84,66 +86,66 @@ form_reaches old rows firsts greatest place rest text from cols widest h few e =
 }
 
 -- what is formed where nothing follows the last newline
-pub form_closed : (old : Forming) (rows : List Span) (firsts : List ℕ) (greatest : ℕ) (place : Finished) (rest text : List ℕ) (from : Finished) (cols widest : ℕ) (f : Formed)
-    → IsFormOfFinished old rows firsts greatest place rest text from cols → old.longest ≤ from.longest → widest ≡ max from.longest greatest → eqb (length rest) 0 ≡ true
+pub form_closed : (old : Forming) (rows : List Span) (firsts : List ℕ) (greatest : ℕ) (place : Finished) (rest text : List ℕ) (from : Finished) (wrap : Wrap) (widest : ℕ) (f : Formed)
+    → IsFormOfFinished old rows firsts greatest place rest text from wrap → old.longest ≤ from.longest → widest ≡ max from.longest greatest → eqb (length rest) 0 ≡ true
     → f.rows.items ≡ rows → f.first_rows ≡ firsts → f.longest ≡ greatest → f.finished ≡ record { lines = place.lines; rows = place.rows; bytes = place.bytes; longest = widest } → f.border ≡ record { bytes = 0; columns = 0 }
-    → IsFormOfLines cols old text from f
-form_closed old rows firsts greatest place rest text from cols widest f h few e none fr ff fl fp fb =
+    → IsFormOfLines wrap old text from f
+form_closed old rows firsts greatest place rest text from wrap widest f h few e none fr ff fl fp fb =
     let empty : eqb (length (unfinished_line text)) 0 ≡ true = rw h.its_rest at none in
     let all = lines_closed text empty in
-    let closed : List Span = closed_stored cols from.bytes (cut text).closed in
+    let closed : List Span = closed_stored wrap from.bytes (cut text).closed in
     record {
-      its_rows = fr ∙ h.its_rows ∙ ap (λ rs. old.rows.items ++ rs) (sym (append-nil closed) ∙ ap (λ (b : Bool). closed ++ cond b [] (line_stored cols (from.bytes + sum_by bytes_of (cut text).closed) (cut text).open_line)) (sym empty));
-      its_count = ap length fr ∙ h.its_count ∙ ap (λ ls. length old.rows.items + length (rows_of_lines cols ls)) (sym all);
-      its_map = ff ∙ h.its_map ∙ ap (λ ls. old.first_rows.items ++ first_rows cols from.rows ls) (sym all);
-      its_finish = rw fp (form_reaches old rows firsts greatest place rest text from cols widest h few e);
+      its_rows = fr ∙ h.its_rows ∙ ap (λ rs. old.rows.items ++ rs) (sym (append-nil closed) ∙ ap (λ (b : Bool). closed ++ cond b [] (line_stored wrap (from.bytes + sum_by bytes_of (cut text).closed) (cut text).open_line)) (sym empty));
+      its_count = ap length fr ∙ h.its_count ∙ ap (λ ls. length old.rows.items + length (rows_of_lines wrap ls)) (sym all);
+      its_map = ff ∙ h.its_map ∙ ap (λ ls. old.first_rows.items ++ first_rows wrap from.rows ls) (sym all);
+      its_finish = rw fp (form_reaches old rows firsts greatest place rest text from wrap widest h few e);
       its_longest = fl ∙ h.its_longest ∙ ap (λ ls. max old.longest (longest_of ls)) (sym all);
       its_border = fb;
     }
 
 -- what is formed where something follows it
-pub form_open : (old : Forming) (rows : List Span) (firsts : List ℕ) (greatest : ℕ) (place : Finished) (rest text : List ℕ) (from : Finished) (cols widest : ℕ) (f : Formed)
-    → IsFormOfFinished old rows firsts greatest place rest text from cols → old.longest ≤ from.longest → widest ≡ max from.longest greatest → eqb (length rest) 0 ≡ false
-    → f.rows.items ≡ rows ++ line_stored cols place.bytes rest → length f.rows.items ≡ length rows + length (line_rows cols rest)
+pub form_open : (old : Forming) (rows : List Span) (firsts : List ℕ) (greatest : ℕ) (place : Finished) (rest text : List ℕ) (from : Finished) (wrap : Wrap) (widest : ℕ) (f : Formed)
+    → IsFormOfFinished old rows firsts greatest place rest text from wrap → old.longest ≤ from.longest → widest ≡ max from.longest greatest → eqb (length rest) 0 ≡ false
+    → f.rows.items ≡ rows ++ line_stored wrap place.bytes rest → length f.rows.items ≡ length rows + length (own_rows wrap rest)
     → f.first_rows ≡ firsts ++ place.rows ∷ [] → f.longest ≡ max greatest (columns rest) → f.finished ≡ record { lines = place.lines; rows = place.rows; bytes = place.bytes; longest = widest } → f.border ≡ record { bytes = 0; columns = 0 }
-    → IsFormOfLines cols old text from f
-form_open old rows firsts greatest place rest text from cols widest f h few e some fr fc ff fl fp fb =
+    → IsFormOfLines wrap old text from f
+form_open old rows firsts greatest place rest text from wrap widest f h few e some fr fc ff fl fp fb =
     let o : List ℕ = (cut text).open_line in
     let filled : eqb (length (unfinished_line text)) 0 ≡ false = rw h.its_rest at some in
     let all = lines_open text filled in
     let front : List (List ℕ) = finished_lines text in
     let rest_is : rest ≡ o = h.its_rest in
-    let last : length (rows_of_lines cols (o ∷ [])) ≡ length (line_rows cols o) = ap length (append-nil (line_rows cols o)) in
-    let both = length-rows_of_lines-append cols front (o ∷ []) in
+    let last : length (rows_of_lines wrap (o ∷ [])) ≡ length (own_rows wrap o) = ap length (append-nil (own_rows wrap o)) in
+    let both = length-rows_of_lines-append wrap front (o ∷ []) in
     let widths = longest_of-append front (o ∷ []) in
-    let closed : List Span = closed_stored cols from.bytes (cut text).closed in
+    let closed : List Span = closed_stored wrap from.bytes (cut text).closed in
     let at : ℕ = from.bytes + sum_by bytes_of (cut text).closed in
-    let count : length f.rows.items ≡ length rows + length (line_rows cols o) = fc ∙ ap (λ x. length rows + length (line_rows cols x)) rest_is in
+    let count : length f.rows.items ≡ length rows + length (own_rows wrap o) = fc ∙ ap (λ x. length rows + length (own_rows wrap x)) rest_is in
     let long : f.longest ≡ max greatest (columns o) = fl ∙ ap (λ x. max greatest (columns x)) rest_is in
     record {
-      its_rows = fr ∙ ap (λ rs. rs ++ line_stored cols place.bytes rest) h.its_rows ∙ ap (λ n. (old.rows.items ++ closed) ++ line_stored cols n rest) h.its_byte ∙ ap (λ x. (old.rows.items ++ closed) ++ line_stored cols at x) rest_is
-          ∙ append_assoc old.rows.items closed (line_stored cols at o) ∙ ap (λ (b : Bool). old.rows.items ++ (closed ++ cond b [] (line_stored cols at o))) (sym filled);
+      its_rows = fr ∙ ap (λ rs. rs ++ line_stored wrap place.bytes rest) h.its_rows ∙ ap (λ n. (old.rows.items ++ closed) ++ line_stored wrap n rest) h.its_byte ∙ ap (λ x. (old.rows.items ++ closed) ++ line_stored wrap at x) rest_is
+          ∙ append_assoc old.rows.items closed (line_stored wrap at o) ∙ ap (λ (b : Bool). old.rows.items ++ (closed ++ cond b [] (line_stored wrap at o))) (sym filled);
       its_count = rw all (omega (arith, count, h.its_count, both, last));
-      its_map = ff ∙ ap (λ ns. ns ++ place.rows ∷ []) h.its_map ∙ ap (λ n. (old.first_rows.items ++ first_rows cols from.rows front) ++ n ∷ []) h.its_row ∙ append_assoc old.first_rows.items (first_rows cols from.rows front) ((from.rows + length (rows_of_lines cols front)) ∷ [])
-          ∙ ap (λ ns. old.first_rows.items ++ ns) (sym (first_rows-append cols from.rows front (o ∷ [])) ∙ ap (first_rows cols from.rows) (sym all));
-      its_finish = rw fp (form_reaches old rows firsts greatest place rest text from cols widest h few e);
+      its_map = ff ∙ ap (λ ns. ns ++ place.rows ∷ []) h.its_map ∙ ap (λ n. (old.first_rows.items ++ first_rows wrap from.rows front) ++ n ∷ []) h.its_row ∙ append_assoc old.first_rows.items (first_rows wrap from.rows front) ((from.rows + length (rows_of_lines wrap front)) ∷ [])
+          ∙ ap (λ ns. old.first_rows.items ++ ns) (sym (first_rows-append wrap from.rows front (o ∷ [])) ∙ ap (first_rows wrap from.rows) (sym all));
+      its_finish = rw fp (form_reaches old rows firsts greatest place rest text from wrap widest h few e);
       its_longest = rw all (omega (arith, long, h.its_longest, widths));
       its_border = fb;
     }
 
 -- a place behind a place
-pub Reaches-trans : (cols : ℕ) (from mid to : Finished) (xs ys : List (List ℕ)) → Reaches cols from xs mid → Reaches cols mid ys to → Reaches cols from (xs ++ ys) to
-Reaches-trans cols from mid to xs ys h k =
+pub Reaches-trans : (wrap : Wrap) (from mid to : Finished) (xs ys : List (List ℕ)) → Reaches wrap from xs mid → Reaches wrap mid ys to → Reaches wrap from (xs ++ ys) to
+Reaches-trans wrap from mid to xs ys h k =
     let both : map strip_carriage_return (xs ++ ys) ≡ map strip_carriage_return xs ++ map strip_carriage_return ys = map-append strip_carriage_return xs ys in
     record {
       by_lines = omega (arith, h.by_lines, k.by_lines, length-append xs ys);
-      by_rows = rw both (omega (arith, h.by_rows, k.by_rows, length-rows_of_lines-append cols (map strip_carriage_return xs) (map strip_carriage_return ys)));
+      by_rows = rw both (omega (arith, h.by_rows, k.by_rows, length-rows_of_lines-append wrap (map strip_carriage_return xs) (map strip_carriage_return ys)));
       by_bytes = omega (arith, h.by_bytes, k.by_bytes, sum_by-append bytes_of xs ys);
       longest_line = rw both (omega (arith, h.longest_line, k.longest_line, longest_of-append (map strip_carriage_return xs) (map strip_carriage_return ys)));
     }
 
 -- the first rows of lines behind one that is before them
-pub behind_ascends : (cols row n : ℕ) (ls : List (List ℕ)) → row < n → IsStrictlyIncreasing (row ∷ first_rows cols n ls)
-behind_ascends cols row n [] l k m = absurd (omega arith)
-behind_ascends cols row n (x ∷ ls) l zero m = omega arith
-behind_ascends cols row n (x ∷ ls) l (suc k) m = let e : suc k + 1 ≡ suc (k + 1) = omega arith in rw e (first_rows-ascend cols n (x ∷ ls) k (omega arith))
+pub behind_ascends : (wrap : Wrap) (row n : ℕ) (ls : List (List ℕ)) → row < n → IsStrictlyIncreasing (row ∷ first_rows wrap n ls)
+behind_ascends wrap row n [] l k m = absurd (omega arith)
+behind_ascends wrap row n (x ∷ ls) l zero m = omega arith
+behind_ascends wrap row n (x ∷ ls) l (suc k) m = let e : suc k + 1 ≡ suc (k + 1) = omega arith in rw e (first_rows-ascend wrap n (x ∷ ls) k (omega arith))

@@ -20,8 +20,12 @@ pub mod FewColumnsLaws
 pub mod ColumnsLaws
 pub mod RowsFitLaws
 pub mod DigitsLaws
+pub mod SpacesLaws
+pub mod TextUnitsLaws
+pub mod CropLaws
 pub mod LineMapLaws
 pub mod LinesLaws
+pub mod LayoutLaws
 pub mod DocumentLaws
 pub mod FormLaws
 pub mod PlacesLaws
@@ -33,3 +37,4 @@ pub mod RowTextLaws
 pub mod FormatResultLaws
 pub mod PushedLaws
 pub mod PendingLaws
+pub mod LineCountLaws

@@ -8,11 +8,13 @@ use Rattle.std.proofs.lemmas.List.{length-append, get_or_append_left, get_or-app
 use Rattle.std.proofs.lemmas.List.Concat.{flat_map-append}
 use Rattle.std.proofs.lemmas.Str.{IsCharBoundary-after_ascii, IsCharBoundary-before_ascii, IsCharBoundary-from_rest, IsUtf8-take, IsUtf8-drop}
 use Rattle.minus_text.specs.declared.wrap.Span.{Span}
-use Rattle.minus_text.specs.Rows.{line_rows, line_places, IsPlace, ArePlaces}
+use Rattle.minus_text.specs.declared.layout.Wrap.{Wrap}
+use Rattle.minus_text.specs.Layouts.{own_rows, own_places}
+use Rattle.minus_text.specs.Rows.{IsPlace, ArePlaces}
 use Rattle.minus_text.specs.Lines.{Cut, cut, onto, finished_lines, unfinished_line}
 use Rattle.minus_text.specs.Document.{rows_of_lines}
 use Rattle.minus_text.specs.Kept.{moved, line_stored, closed_stored, stored_from, bytes_of}
-use Rattle.minus_text.proofs.RowsLaws.{line_places-are}
+use Rattle.minus_text.proofs.LayoutLaws.{own_places-are}
 use Rattle.minus_text.proofs.LinesLaws.{open_at, open_boundary}
 use Rattle.minus_text.proofs.DocumentLaws.{lines_closed, lines_open}
 
@@ -86,8 +88,8 @@ moved_places text x rest at [] (r ∷ rs) le e a h = absurd h
 moved_places text x rest at (s ∷ ss) [] le e a h = absurd h
 moved_places text x rest at (s ∷ ss) (r ∷ rs) le e a h = (moved_place text x rest r at s le e a h.0, moved_places text x rest at ss rs le e a h.1)
 
-line_stored-are : (text x rest : List ℕ) (cols at : ℕ) → at ≤ length text → drop at text ≡ x ++ rest → (0 < length rest → get_or rest 0 0 < 128) → IsUtf8 x → ArePlaces text (line_stored cols at x) (line_rows cols x)
-line_stored-are text x rest cols at le e a u = moved_places text x rest at (line_places cols x) (line_rows cols x) le e a (line_places-are cols x u)
+line_stored-are : (text x rest : List ℕ) (wrap : Wrap) (at : ℕ) → at ≤ length text → drop at text ≡ x ++ rest → (0 < length rest → get_or rest 0 0 < 128) → IsUtf8 x → ArePlaces text (line_stored wrap at x) (own_rows wrap x)
+line_stored-are text x rest wrap at le e a u = moved_places text x rest at (own_places wrap x) (own_rows wrap x) le e a (own_places-are wrap x u)
 
 -- a line without its carriage return
 pub stripped : (x : List ℕ) → IsUtf8 x → (rest : List ℕ) × (x ≡ strip_carriage_return x ++ rest) × (0 < length rest → get_or rest 0 0 < 128) × IsUtf8 (strip_carriage_return x)
@@ -138,10 +140,10 @@ small_head : (xs ys : List ℕ) → (0 < length xs → get_or xs 0 0 < 128) → 
 small_head [] ys h k = k
 small_head (x ∷ xs) ys h k = h (omega arith)
 
-closed_stored-are : (text : List ℕ) (cols at : ℕ) (xs : List (List ℕ)) (o : List ℕ) → at ≤ length text → drop at text ≡ joined xs o → IsUtf8 (joined xs o)
-    → ArePlaces text (closed_stored cols at xs) (rows_of_lines cols (map strip_carriage_return xs))
-closed_stored-are text cols at [] o le e u = tt
-closed_stored-are text cols at (x ∷ xs) o le e u =
+closed_stored-are : (text : List ℕ) (wrap : Wrap) (at : ℕ) (xs : List (List ℕ)) (o : List ℕ) → at ≤ length text → drop at text ≡ joined xs o → IsUtf8 (joined xs o)
+    → ArePlaces text (closed_stored wrap at xs) (rows_of_lines wrap (map strip_carriage_return xs))
+closed_stored-are text wrap at [] o le e u = tt
+closed_stored-are text wrap at (x ∷ xs) o le e u =
     let more : List ℕ = joined xs o in
     let both = sides x more u in
     let w = stripped x both.0 in
@@ -149,17 +151,17 @@ closed_stored-are text cols at (x ∷ xs) o le e u =
     let len : length text - at ≡ length x + suc (length more) = sym (length-drop at text) ∙ ap length e ∙ length-append x (10 ∷ more) in
     let one : length x + 1 ≡ suc (length x) = omega arith in
     let next : drop (at + bytes_of x) text ≡ more = sym (drop-drop (length x + 1) at text) ∙ ap (drop (length x + 1)) e ∙ sym (drop-drop 1 (length x) (x ++ 10 ∷ more)) ∙ ap (drop 1) (drop_at x (10 ∷ more) (length x) refl) in
-    ArePlaces-append text (line_stored cols at (strip_carriage_return x)) (closed_stored cols (at + bytes_of x) xs) (line_rows cols (strip_carriage_return x)) (rows_of_lines cols (map strip_carriage_return xs))
-    (line_stored-are text (strip_carriage_return x) (w.0 ++ 10 ∷ more) cols at le here (λ _. small_head w.0 (10 ∷ more) w.2 (omega arith)) w.3)
-    (closed_stored-are text cols (at + bytes_of x) xs o (omega arith) next both.1)
+    ArePlaces-append text (line_stored wrap at (strip_carriage_return x)) (closed_stored wrap (at + bytes_of x) xs) (own_rows wrap (strip_carriage_return x)) (rows_of_lines wrap (map strip_carriage_return xs))
+    (line_stored-are text (strip_carriage_return x) (w.0 ++ 10 ∷ more) wrap at le here (λ _. small_head w.0 (10 ∷ more) w.2 (omega arith)) w.3)
+    (closed_stored-are text wrap (at + bytes_of x) xs o (omega arith) next both.1)
 
 -- the stored rows of the finished lines
-pub finished-are : (text : List ℕ) (cols : ℕ) → IsUtf8 text → ArePlaces text (closed_stored cols 0 (cut text).closed) (rows_of_lines cols (finished_lines text))
-finished-are text cols u = closed_stored-are text cols 0 (cut text).closed (cut text).open_line (omega arith) (cut_joined text) (rw (cut_joined text) at u)
+pub finished-are : (text : List ℕ) (wrap : Wrap) → IsUtf8 text → ArePlaces text (closed_stored wrap 0 (cut text).closed) (rows_of_lines wrap (finished_lines text))
+finished-are text wrap u = closed_stored-are text wrap 0 (cut text).closed (cut text).open_line (omega arith) (cut_joined text) (rw (cut_joined text) at u)
 
 -- the stored rows of a text
-pub stored-are : (text : List ℕ) (cols : ℕ) → IsUtf8 text → ArePlaces text (stored_from cols 0 (cut text)) (rows_of_lines cols (lines text))
-stored-are text cols u =
+pub stored-are : (text : List ℕ) (wrap : Wrap) → IsUtf8 text → ArePlaces text (stored_from wrap 0 (cut text)) (rows_of_lines wrap (lines text))
+stored-are text wrap u =
     let c : Cut = cut text in
     let h = open_at text in
     let at : ℕ = sum_by bytes_of c.closed in
@@ -167,11 +169,11 @@ stored-are text cols u =
     let nil : text ++ [] ≡ text = append-nil text in
     let b : IsCharBoundary text at = rw nil at (open_boundary text [] (rw nil u)) in
     let uo : IsUtf8 c.open_line = rw h.rest at (IsUtf8-drop text at u b) in
-    let front = finished-are text cols u in
+    let front = finished-are text wrap u in
     elim (cases_Bool (eqb (length (unfinished_line text)) 0)) [
-      | inl none ↦ rw (lines_closed text none, none, append-nil (closed_stored cols 0 c.closed)) front
+      | inl none ↦ rw (lines_closed text none, none, append-nil (closed_stored wrap 0 c.closed)) front
       | inr some ↦
-          let last = line_stored-are text c.open_line [] cols at h.within (h.rest ∙ sym (append-nil c.open_line)) (λ l. absurd (omega arith)) uo in
-          rw (lines_open text some, some, z, flat_map-append (line_rows cols) (finished_lines text) (c.open_line ∷ []))
-          (ArePlaces-append text (closed_stored cols 0 c.closed) (line_stored cols at c.open_line) (rows_of_lines cols (finished_lines text)) (line_rows cols c.open_line ++ []) front (rw (append-nil (line_rows cols c.open_line)) last))
+          let last = line_stored-are text c.open_line [] wrap at h.within (h.rest ∙ sym (append-nil c.open_line)) (λ l. absurd (omega arith)) uo in
+          rw (lines_open text some, some, z, flat_map-append (own_rows wrap) (finished_lines text) (c.open_line ∷ []))
+          (ArePlaces-append text (closed_stored wrap 0 c.closed) (line_stored wrap at c.open_line) (rows_of_lines wrap (finished_lines text)) (own_rows wrap c.open_line ++ []) front (rw (append-nil (own_rows wrap c.open_line)) last))
     ]

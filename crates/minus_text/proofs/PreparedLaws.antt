@@ -13,10 +13,11 @@ use Rattle.minus_text.specs.declared.formed.Restart.{Restart}
 use Rattle.minus_text.specs.declared.formed.Formed.{Formed}
 use Rattle.minus_text.specs.declared.formed.Forming.{Forming}
 use Rattle.minus_text.specs.Units.{columns}
-use Rattle.minus_text.specs.Rows.{line_rows}
+use Rattle.minus_text.specs.declared.layout.Wrap.{Wrap}
+use Rattle.minus_text.specs.Layouts.{own_rows}
 use Rattle.minus_text.specs.Lines.{Cut, onto, cut, whole, behind, unfinished_line}
-use Rattle.minus_text.specs.Document.{rows_of_lines, first_rows, longest_of}
-use Rattle.minus_text.specs.Kept.{line_stored, closed_stored, open_stored, open_rows, stored_from, bytes_of, Reaches, IsBorder, IsRestart, IsFormOf, IsPrepared}
+use Rattle.minus_text.specs.Document.{rows_of_lines, first_rows, longest_of, open_rows}
+use Rattle.minus_text.specs.Kept.{line_stored, closed_stored, open_stored, stored_from, bytes_of, Reaches, IsBorder, IsRestart, IsFormOf, IsPrepared}
 use Rattle.minus_text.specs.Forms.{IsBegun, IsFormOfLines}
 use Rattle.minus_text.proofs.LinesLaws.{lines-cut, open_at, open_boundary}
 use Rattle.minus_text.proofs.FewColumnsLaws.{columns_few}
@@ -93,17 +94,17 @@ lines_whole text e some =
     let other : eqb (length text) 0 ≡ false = ne_eqb (length text) 0 (λ z. omega arith) in
     lines-cut text ∙ ap (λ (c : Cut). map strip_carriage_return c.closed ++ cond (eqb (length c.open_line) 0) [] (c.open_line ∷ [])) e ∙ ap (λ (b : Bool). cond b [] (text ∷ [])) other
 
-stored_behind : (cols at : ℕ) (first : List ℕ) (c : Cut) → stored_from cols at (behind first c) ≡ line_stored cols at (strip_carriage_return first) ++ stored_from cols (at + bytes_of first) c
-stored_behind cols at first c =
+stored_behind : (wrap : Wrap) (at : ℕ) (first : List ℕ) (c : Cut) → stored_from wrap at (behind first c) ≡ line_stored wrap at (strip_carriage_return first) ++ stored_from wrap (at + bytes_of first) c
+stored_behind wrap at first c =
     let bytes : at + sum_by bytes_of (first ∷ c.closed) ≡ (at + bytes_of first) + sum_by bytes_of c.closed = omega (arith, sum_by-cons bytes_of first c.closed) in
-    append_assoc (line_stored cols at (strip_carriage_return first)) (closed_stored cols (at + bytes_of first) c.closed) (open_stored cols (at + sum_by bytes_of (first ∷ c.closed)) c.open_line)
-    ∙ ap (λ n. line_stored cols at (strip_carriage_return first) ++ (closed_stored cols (at + bytes_of first) c.closed ++ open_stored cols n c.open_line)) bytes
+    append_assoc (line_stored wrap at (strip_carriage_return first)) (closed_stored wrap (at + bytes_of first) c.closed) (open_stored wrap (at + sum_by bytes_of (first ∷ c.closed)) c.open_line)
+    ∙ ap (λ n. line_stored wrap at (strip_carriage_return first) ++ (closed_stored wrap (at + bytes_of first) c.closed ++ open_stored wrap n c.open_line)) bytes
 
-stored_whole : (cols at : ℕ) (text : List ℕ) → cut text ≡ whole text → stored_from cols at (cut text) ≡ open_stored cols at text
-stored_whole cols at text e = let z : at + 0 ≡ at = omega arith in ap (stored_from cols at) e ∙ ap (λ n. open_stored cols n text) z
+stored_whole : (wrap : Wrap) (at : ℕ) (text : List ℕ) → cut text ≡ whole text → stored_from wrap at (cut text) ≡ open_stored wrap at text
+stored_whole wrap at text e = let z : at + 0 ≡ at = omega arith in ap (stored_from wrap at) e ∙ ap (λ n. open_stored wrap n text) z
 
-open_some : (cols at : ℕ) (text : List ℕ) → 0 < length text → (open_stored cols at text ≡ line_stored cols at text) × (open_rows cols text ≡ line_rows cols text)
-open_some cols at text some = let other : eqb (length text) 0 ≡ false = ne_eqb (length text) 0 (λ z. omega arith) in (rw other refl, rw other refl)
+open_some : (wrap : Wrap) (at : ℕ) (text : List ℕ) → 0 < length text → (open_stored wrap at text ≡ line_stored wrap at text) × (open_rows wrap text ≡ own_rows wrap text)
+open_some wrap at text some = let other : eqb (length text) 0 ≡ false = ne_eqb (length text) 0 (λ z. omega arith) in (rw other refl, rw other refl)
 
 -- ---- the carriage return of what is left of a line
 
@@ -195,17 +196,17 @@ left_twice line more at to le within =
     drop-append-le (to - at) (drop at line) more (omega (arith, length-drop at line)) ∙ ap (λ xs. xs ++ more) (drop-drop (to - at) at line ∙ ap (λ n. drop n line) e)
 
 -- the border's place in what is left of a line, and its columns, which are few
-pub rest_boundary : (cols : ℕ) (text : List ℕ) (start : Restart) (line piece : List ℕ) → IsRestart cols line start → IsUtf8 (line ++ piece) → text ≡ drop start.bytes line ++ piece → IsCharBoundary text (start.border.bytes - start.bytes)
-rest_boundary cols text start line piece r u t =
+pub rest_boundary : (wrap : Wrap) (text : List ℕ) (start : Restart) (line piece : List ℕ) → IsRestart wrap line start → IsUtf8 (line ++ piece) → text ≡ drop start.bytes line ++ piece → IsCharBoundary text (start.border.bytes - start.bytes)
+rest_boundary wrap text start line piece r u t =
     let within : start.border.bytes ≤ length line = r.measured.within in
     let le : start.bytes ≤ start.border.bytes = r.behind in
     let left : drop (start.border.bytes - start.bytes) text ≡ drop start.border.bytes line ++ piece = ap (drop (start.border.bytes - start.bytes)) t ∙ left_twice line piece start.bytes start.border.bytes le within in
     let size : length text ≡ (length line - start.bytes) + length piece = ap length t ∙ length-append (drop start.bytes line) piece ∙ ap (λ n. n + length piece) (length-drop start.bytes line) in
     IsCharBoundary-from_drop text (start.border.bytes - start.bytes) (omega arith) (rw left (left_of_front line piece start.border.bytes r.text u r.measured.boundary))
 
-pub rest_few : (cols : ℕ) (text : List ℕ) (start : Restart) (line piece : List ℕ) → IsRestart cols line start → IsUtf8 (line ++ piece) → text ≡ drop start.bytes line ++ piece
+pub rest_few : (wrap : Wrap) (text : List ℕ) (start : Restart) (line piece : List ℕ) → IsRestart wrap line start → IsUtf8 (line ++ piece) → text ≡ drop start.bytes line ++ piece
     → start.border.columns + (length text - (start.border.bytes - start.bytes)) ≤ start.bytes + length text
-rest_few cols text start line piece r u t =
+rest_few wrap text start line piece r u t =
     let within : start.border.bytes ≤ length line = r.measured.within in
     let le : start.bytes ≤ start.border.bytes = r.behind in
     let size : length text ≡ (length line - start.bytes) + length piece = ap length t ∙ length-append (drop start.bytes line) piece ∙ ap (λ n. n + length piece) (length-drop start.bytes line) in
@@ -213,50 +214,50 @@ rest_few cols text start line piece r u t =
 
 -- ---- what is formed of a text that no newline ends
 
-pub unfinished_prepared : (cols : ℕ) (text : List ℕ) (start : Restart) (g : Forming) (f : Formed) → cut text ≡ whole text → 0 < length text → IsBegun cols text start g
+pub unfinished_prepared : (wrap : Wrap) (text : List ℕ) (start : Restart) (g : Forming) (f : Formed) → cut text ≡ whole text → 0 < length text → IsBegun wrap text start g
     → f.rows.items ≡ g.rows.items → f.first_rows ≡ g.first_rows.items → f.finished ≡ start.finished
-    → ((line piece : List ℕ) → IsRestart cols line start → IsUtf8 (line ++ piece) → text ≡ drop start.bytes line ++ piece → IsBorder (line ++ piece) f.border) → f.longest ≡ g.longest → IsPrepared cols text start f
-unfinished_prepared cols text start g f e some h fr ff fp fb fl =
+    → ((line piece : List ℕ) → IsRestart wrap line start → IsUtf8 (line ++ piece) → text ≡ drop start.bytes line ++ piece → IsBorder (line ++ piece) f.border) → f.longest ≡ g.longest → IsPrepared wrap text start f
+unfinished_prepared wrap text start g f e some h fr ff fp fb fl =
     let at : ℕ = start.finished.bytes + start.bytes in
     record {
-      its_rows = fr ∙ h.its_rows ∙ sym (open_some cols at text some).0 ∙ sym (stored_whole cols at text e);
+      its_rows = fr ∙ h.its_rows ∙ sym (open_some wrap at text some).0 ∙ sym (stored_whole wrap at text e);
       its_form = λ line piece r u t. formed line piece r u t;
     }
   where
-    formed : (line piece : List ℕ) → IsRestart cols line start → IsUtf8 (line ++ piece) → text ≡ drop start.bytes line ++ piece → IsFormOf cols line piece start f
+    formed : (line piece : List ℕ) → IsRestart wrap line start → IsUtf8 (line ++ piece) → text ≡ drop start.bytes line ++ piece → IsFormOf wrap line piece start f
     formed line piece r u t =
         let at : ℕ = start.finished.bytes + start.bytes in
         let all : List ℕ = line ++ piece in
         let tail : cut piece ≡ whole piece = whole_behind (drop start.bytes line) piece (rw t at e) in
         let is : cut all ≡ whole all = whole_append line piece r.one_line tail in
-        let few : start.rows ≤ length (open_rows cols line) = r.goes_on.few in
+        let few : start.rows ≤ length (open_rows wrap line) = r.goes_on.few in
         let within : start.bytes ≤ length line = r.goes_on.boundary.0 in
         let size : length text ≡ (length line - start.bytes) + length piece = ap length t ∙ length-append (drop start.bytes line) piece ∙ ap (λ n. n + length piece) (length-drop start.bytes line) in
         let many : 0 < length all = omega (arith, some, size, within, length-append line piece) in
         let its_lines : lines all ≡ all ∷ [] = lines_whole all is many in
         let rest : drop (start.border.bytes - start.bytes) text ≡ drop start.border.bytes line ++ piece = ap (drop (start.border.bytes - start.bytes)) t ∙ left_twice line piece start.bytes start.border.bytes r.behind r.measured.within in
-        let rows : line_rows cols all ≡ take start.rows (open_rows cols line) ++ line_rows cols text =
-        sym (open_some cols 0 all many).1 ∙ r.goes_on.open_go_on piece u ∙ ap (λ x. take start.rows (open_rows cols line) ++ open_rows cols x) (sym t) ∙ ap (λ rs. take start.rows (open_rows cols line) ++ rs) (open_some cols 0 text some).1 in
+        let rows : own_rows wrap all ≡ take start.rows (open_rows wrap line) ++ own_rows wrap text =
+        sym (open_some wrap 0 all many).1 ∙ r.goes_on.open_go_on piece u ∙ ap (λ x. take start.rows (open_rows wrap line) ++ open_rows wrap x) (sym t) ∙ ap (λ rs. take start.rows (open_rows wrap line) ++ rs) (open_some wrap 0 text some).1 in
         record {
-          its_rows = stored_whole cols start.finished.bytes all is ∙ r.goes_on.open_places start.finished.bytes piece u ∙ ap (λ x. take start.rows (open_stored cols start.finished.bytes line) ++ open_stored cols at x) (sym t)
-              ∙ ap (λ rs. take start.rows (open_stored cols start.finished.bytes line) ++ rs) ((open_some cols at text some).0 ∙ sym (fr ∙ h.its_rows));
-          its_count = ap (λ ls. length (rows_of_lines cols ls)) its_lines ∙ ap length (append-nil (line_rows cols all) ∙ rows) ∙ length-append (take start.rows (open_rows cols line)) (line_rows cols text)
-              ∙ (let l = length-take-le start.rows (open_rows cols line) few in omega (arith, l, h.its_count, ap length fr));
-          its_map = ff ∙ h.its_map ∙ ap (first_rows cols start.finished.rows) (sym its_lines);
+          its_rows = stored_whole wrap start.finished.bytes all is ∙ r.goes_on.open_places start.finished.bytes piece u ∙ ap (λ x. take start.rows (open_stored wrap start.finished.bytes line) ++ open_stored wrap at x) (sym t)
+              ∙ ap (λ rs. take start.rows (open_stored wrap start.finished.bytes line) ++ rs) ((open_some wrap at text some).0 ∙ sym (fr ∙ h.its_rows));
+          its_count = ap (λ ls. length (rows_of_lines wrap ls)) its_lines ∙ ap length (append-nil (own_rows wrap all) ∙ rows) ∙ length-append (take start.rows (open_rows wrap line)) (own_rows wrap text)
+              ∙ (let l = length-take-le start.rows (open_rows wrap line) few in omega (arith, l, h.its_count, ap length fr));
+          its_map = ff ∙ h.its_map ∙ ap (first_rows wrap start.finished.rows) (sym its_lines);
           its_finish = rw (fp, ap (λ (c : Cut). c.closed) is) (record { by_lines = omega arith; by_rows = omega arith; by_bytes = omega arith; longest_line = omega arith });
           its_longest = fl ∙ h.its_longest ∙ ap (λ x. start.border.columns + columns x) rest ∙ sym (columns_on line piece start.border r.text u r.measured) ∙ (let z : columns all ≡ longest_of (all ∷ []) = omega arith in z) ∙ ap longest_of (sym its_lines);
           its_border = rw (ap (λ (c : Cut). c.open_line) is) (fb line piece r u t);
         }
 
 -- nothing is formed of no text
-pub nothing_prepared : (cols : ℕ) (text : List ℕ) (start : Restart) (f : Formed) → length text ≡ 0 → f.rows.items ≡ [] → f.first_rows ≡ [] → f.finished ≡ start.finished → f.border ≡ start.border → f.longest ≡ 0 → IsPrepared cols text start f
-nothing_prepared cols (b ∷ text) start f e fr ff fp fb fl = absurd (omega arith)
-nothing_prepared cols [] start f e fr ff fp fb fl = record {
+pub nothing_prepared : (wrap : Wrap) (text : List ℕ) (start : Restart) (f : Formed) → length text ≡ 0 → f.rows.items ≡ [] → f.first_rows ≡ [] → f.finished ≡ start.finished → f.border ≡ start.border → f.longest ≡ 0 → IsPrepared wrap text start f
+nothing_prepared wrap (b ∷ text) start f e fr ff fp fb fl = absurd (omega arith)
+nothing_prepared wrap [] start f e fr ff fp fb fl = record {
   its_rows = fr;
   its_form = λ line piece r u t. formed line piece r u t;
 }
   where
-    none : (line piece : List ℕ) → IsRestart cols line start → [] ≡ drop start.bytes line ++ piece → (line ≡ []) × (piece ≡ [])
+    none : (line piece : List ℕ) → IsRestart wrap line start → [] ≡ drop start.bytes line ++ piece → (line ≡ []) × (piece ≡ [])
     none [] piece r t = (refl, ap (λ xs. xs) (behind start.bytes piece t))
       where
         behind : (n : ℕ) (piece : List ℕ) → [] ≡ drop n [] ++ piece → piece ≡ []
@@ -265,10 +266,10 @@ nothing_prepared cols [] start f e fr ff fp fb fl = record {
         let left : start.bytes < length (b ∷ line) = r.goes_on.some_left (omega arith) in
         absurd (omega (arith, left, ap length t, length-append (drop start.bytes (b ∷ line)) piece, length-drop start.bytes (b ∷ line)))
 
-    formed : (line piece : List ℕ) → IsRestart cols line start → IsUtf8 (line ++ piece) → [] ≡ drop start.bytes line ++ piece → IsFormOf cols line piece start f
+    formed : (line piece : List ℕ) → IsRestart wrap line start → IsUtf8 (line ++ piece) → [] ≡ drop start.bytes line ++ piece → IsFormOf wrap line piece start f
     formed line piece r u t =
         let n = none line piece r t in
-        let k : IsRestart cols [] start = rw n.0 at r in
+        let k : IsRestart wrap [] start = rw n.0 at r in
         let rows : start.rows ≡ 0 = let few : start.rows ≤ 0 = k.goes_on.few in omega arith in
         rw (n.0, n.1) (record {
           its_rows = rw (rows, fr) refl;
@@ -289,9 +290,9 @@ open_utf8 text u =
     rw (open_at text).rest at (IsUtf8-drop text (sum_by bytes_of (cut text).closed) u (rw nil at b))
 
 -- its first line
-pub ended_is : (cols : ℕ) (text first more : List ℕ) (start : Restart) (line piece : List ℕ) → cut text ≡ behind first (cut more) → IsRestart cols line start → IsUtf8 (line ++ piece) → text ≡ drop start.bytes line ++ piece
+pub ended_is : (wrap : Wrap) (text first more : List ℕ) (start : Restart) (line piece : List ℕ) → cut text ≡ behind first (cut more) → IsRestart wrap line start → IsUtf8 (line ++ piece) → text ≡ drop start.bytes line ++ piece
     → (p : List ℕ) × (first ≡ drop start.bytes line ++ p) × IsUtf8 (line ++ p)
-ended_is cols text first more start line piece e r u t =
+ended_is wrap text first more start line piece e r u t =
     let found = first_goes_on (drop start.bytes line) piece first (cut more) (whole_drop start.bytes line r.one_line) (rw t at e) in
     let p : List ℕ = found.0 in
     let behind_it : List ℕ = joined (cut more).closed (cut more).open_line in
@@ -300,9 +301,9 @@ ended_is cols text first more start line piece e r u t =
     (p, found.1, (sides (line ++ p) behind_it (rw split at u)).0)
 
 -- the border's place in it without its carriage return, and its columns
-pub ended_boundary : (cols : ℕ) (first : List ℕ) (start : Restart) (line p : List ℕ) → IsRestart cols line start → IsUtf8 (line ++ p) → first ≡ drop start.bytes line ++ p
+pub ended_boundary : (wrap : Wrap) (first : List ℕ) (start : Restart) (line p : List ℕ) → IsRestart wrap line start → IsUtf8 (line ++ p) → first ≡ drop start.bytes line ++ p
     → IsCharBoundary (strip_carriage_return first) (start.border.bytes - start.bytes) × (start.border.columns + (length (strip_carriage_return first) - (start.border.bytes - start.bytes)) ≤ start.bytes + length (strip_carriage_return first))
-ended_boundary cols first start line p r u e =
+ended_boundary wrap first start line p r u e =
     let within : start.border.bytes ≤ length line = r.measured.within in
     let le : start.bytes ≤ start.border.bytes = r.behind in
     let text : List ℕ = strip_carriage_return first in
@@ -326,19 +327,19 @@ strip_few xs = elim (cases_Bool (eqb (get_or xs (length xs - 1) 0) 13)) [
 ]
 
 -- what is formed of it, and of the lines behind it
-pub ended_prepared : (cols : ℕ) (text first more : List ℕ) (start : Restart) (g : Forming) (place : Finished) (f : Formed) → cut text ≡ behind first (cut more) → IsBegun cols (strip_carriage_return first) start g → IsFormOfLines cols g more place f
+pub ended_prepared : (wrap : Wrap) (text first more : List ℕ) (start : Restart) (g : Forming) (place : Finished) (f : Formed) → cut text ≡ behind first (cut more) → IsBegun wrap (strip_carriage_return first) start g → IsFormOfLines wrap g more place f
     → place.lines ≡ start.finished.lines + 1 → place.rows ≡ (start.finished.rows + start.rows) + length g.rows.items → place.bytes ≡ ((start.finished.bytes + start.bytes) + length first) + 1 → place.longest ≡ max start.finished.longest g.longest
-    → IsPrepared cols text start f
-ended_prepared cols text first more start g place f e h k pl pr pb pw =
+    → IsPrepared wrap text start f
+ended_prepared wrap text first more start g place f e h k pl pr pb pw =
     let at : ℕ = start.finished.bytes + start.bytes in
     let next : place.bytes ≡ at + bytes_of first = omega (arith, pb) in
     record {
-      its_rows = k.its_rows ∙ ap (λ rs. rs ++ stored_from cols place.bytes (cut more)) h.its_rows ∙ ap (λ n. line_stored cols at (strip_carriage_return first) ++ stored_from cols n (cut more)) next
-          ∙ sym (stored_behind cols at first (cut more)) ∙ ap (stored_from cols at) (sym e);
+      its_rows = k.its_rows ∙ ap (λ rs. rs ++ stored_from wrap place.bytes (cut more)) h.its_rows ∙ ap (λ n. line_stored wrap at (strip_carriage_return first) ++ stored_from wrap n (cut more)) next
+          ∙ sym (stored_behind wrap at first (cut more)) ∙ ap (stored_from wrap at) (sym e);
       its_form = λ line piece r u t. formed line piece r u t;
     }
   where
-    formed : (line piece : List ℕ) → IsRestart cols line start → IsUtf8 (line ++ piece) → text ≡ drop start.bytes line ++ piece → IsFormOf cols line piece start f
+    formed : (line piece : List ℕ) → IsRestart wrap line start → IsUtf8 (line ++ piece) → text ≡ drop start.bytes line ++ piece → IsFormOf wrap line piece start f
     formed line piece r u t =
         let at : ℕ = start.finished.bytes + start.bytes in
         let all : List ℕ = line ++ piece in
@@ -350,35 +351,35 @@ ended_prepared cols text first more start g place f e h k pl pr pb pw =
         let split : all ≡ (line ++ p) ++ 10 ∷ joined (cut more).closed (cut more).open_line = ap (λ xs. line ++ xs) piece_is ∙ sym (append_assoc line p (10 ∷ joined (cut more).closed (cut more).open_line)) in
         let v : IsUtf8 (line ++ p) = (sides (line ++ p) (joined (cut more).closed (cut more).open_line) (rw split at u)).0 in
         let its_lines : lines all ≡ strip_carriage_return (line ++ p) ∷ lines more = lines_behind all (line ++ p) more is in
-        let few : start.rows ≤ length (open_rows cols line) = r.goes_on.few in
+        let few : start.rows ≤ length (open_rows wrap line) = r.goes_on.few in
         let within : start.bytes ≤ length line = r.goes_on.boundary.0 in
         let size : length first ≡ (length line - start.bytes) + length p = ap length first_is ∙ length-append (drop start.bytes line) p ∙ ap (λ n. n + length p) (length-drop start.bytes line) in
         let next : place.bytes ≡ start.finished.bytes + bytes_of (line ++ p) = omega (arith, pb, size, within, length-append line p) in
-        let kept : length (take start.rows (open_rows cols line)) ≡ start.rows = length-take-le start.rows (open_rows cols line) few in
-        let rows : line_rows cols (strip_carriage_return (line ++ p)) ≡ take start.rows (open_rows cols line) ++ line_rows cols (strip_carriage_return first) =
-        r.goes_on.ended_go_on p v ∙ ap (λ x. take start.rows (open_rows cols line) ++ line_rows cols (strip_carriage_return x)) (sym first_is) in
-        let count : length (line_rows cols (strip_carriage_return (line ++ p))) ≡ start.rows + length g.rows.items =
-        ap length rows ∙ length-append (take start.rows (open_rows cols line)) (line_rows cols (strip_carriage_return first)) ∙ omega (arith, kept, h.its_count) in
+        let kept : length (take start.rows (open_rows wrap line)) ≡ start.rows = length-take-le start.rows (open_rows wrap line) few in
+        let rows : own_rows wrap (strip_carriage_return (line ++ p)) ≡ take start.rows (open_rows wrap line) ++ own_rows wrap (strip_carriage_return first) =
+        r.goes_on.ended_go_on p v ∙ ap (λ x. take start.rows (open_rows wrap line) ++ own_rows wrap (strip_carriage_return x)) (sym first_is) in
+        let count : length (own_rows wrap (strip_carriage_return (line ++ p))) ≡ start.rows + length g.rows.items =
+        ap length rows ∙ length-append (take start.rows (open_rows wrap line)) (own_rows wrap (strip_carriage_return first)) ∙ omega (arith, kept, h.its_count) in
         let rest : drop (start.border.bytes - start.bytes) (strip_carriage_return first) ≡ strip_carriage_return (drop start.border.bytes line ++ p) =
         strip_drop (start.border.bytes - start.bytes) first ∙ ap (λ x. strip_carriage_return (drop (start.border.bytes - start.bytes) x)) first_is ∙ ap strip_carriage_return (left_twice line p start.bytes start.border.bytes r.behind r.measured.within) in
         let wide : columns (strip_carriage_return (line ++ p)) ≡ g.longest = columns_ended line p start.border r.text v r.measured ∙ ap (λ x. start.border.columns + columns x) (sym rest) ∙ sym h.its_longest in
-        let placed : Reaches cols start.finished ((line ++ p) ∷ []) place = record {
+        let placed : Reaches wrap start.finished ((line ++ p) ∷ []) place = record {
           by_lines = omega (arith, pl);
-          by_rows = omega (arith, pr, count, ap length (append-nil (line_rows cols (strip_carriage_return (line ++ p)))));
+          by_rows = omega (arith, pr, count, ap length (append-nil (own_rows wrap (strip_carriage_return (line ++ p)))));
           by_bytes = omega (arith, next, sum_by-cons bytes_of (line ++ p) []);
           longest_line = omega (arith, pw, wide);
         } in
         let open_text : IsUtf8 (unfinished_line all) = open_utf8 all u in
         record {
-          its_rows = ap (stored_from cols start.finished.bytes) is ∙ stored_behind cols start.finished.bytes (line ++ p) (cut more)
-              ∙ ap (λ rs. rs ++ stored_from cols (start.finished.bytes + bytes_of (line ++ p)) (cut more)) (r.goes_on.ended_places start.finished.bytes p v ∙ ap (λ x. take start.rows (open_stored cols start.finished.bytes line) ++ line_stored cols at (strip_carriage_return x)) (sym first_is))
-              ∙ append_assoc (take start.rows (open_stored cols start.finished.bytes line)) (line_stored cols at (strip_carriage_return first)) (stored_from cols (start.finished.bytes + bytes_of (line ++ p)) (cut more))
-              ∙ ap (λ n. take start.rows (open_stored cols start.finished.bytes line) ++ (line_stored cols at (strip_carriage_return first) ++ stored_from cols n (cut more))) (sym next)
-              ∙ ap (λ rs. take start.rows (open_stored cols start.finished.bytes line) ++ rs) (ap (λ rs. rs ++ stored_from cols place.bytes (cut more)) (sym h.its_rows) ∙ sym k.its_rows);
-          its_count = ap (λ ls. length (rows_of_lines cols ls)) its_lines ∙ length-append (line_rows cols (strip_carriage_return (line ++ p))) (rows_of_lines cols (lines more)) ∙ omega (arith, count, k.its_count);
-          its_map = k.its_map ∙ ap (λ ns. ns ++ first_rows cols place.rows (lines more)) h.its_map
-              ∙ ap (λ n. start.finished.rows ∷ first_rows cols n (lines more)) (let z : place.rows ≡ start.finished.rows + length (line_rows cols (strip_carriage_return (line ++ p))) = omega (arith, pr, count) in z) ∙ ap (first_rows cols start.finished.rows) (sym its_lines);
-          its_finish = rw (ap (λ (c : Cut). c.closed) is) (Reaches-trans cols start.finished place f.finished ((line ++ p) ∷ []) (cut more).closed placed k.its_finish);
+          its_rows = ap (stored_from wrap start.finished.bytes) is ∙ stored_behind wrap start.finished.bytes (line ++ p) (cut more)
+              ∙ ap (λ rs. rs ++ stored_from wrap (start.finished.bytes + bytes_of (line ++ p)) (cut more)) (r.goes_on.ended_places start.finished.bytes p v ∙ ap (λ x. take start.rows (open_stored wrap start.finished.bytes line) ++ line_stored wrap at (strip_carriage_return x)) (sym first_is))
+              ∙ append_assoc (take start.rows (open_stored wrap start.finished.bytes line)) (line_stored wrap at (strip_carriage_return first)) (stored_from wrap (start.finished.bytes + bytes_of (line ++ p)) (cut more))
+              ∙ ap (λ n. take start.rows (open_stored wrap start.finished.bytes line) ++ (line_stored wrap at (strip_carriage_return first) ++ stored_from wrap n (cut more))) (sym next)
+              ∙ ap (λ rs. take start.rows (open_stored wrap start.finished.bytes line) ++ rs) (ap (λ rs. rs ++ stored_from wrap place.bytes (cut more)) (sym h.its_rows) ∙ sym k.its_rows);
+          its_count = ap (λ ls. length (rows_of_lines wrap ls)) its_lines ∙ length-append (own_rows wrap (strip_carriage_return (line ++ p))) (rows_of_lines wrap (lines more)) ∙ omega (arith, count, k.its_count);
+          its_map = k.its_map ∙ ap (λ ns. ns ++ first_rows wrap place.rows (lines more)) h.its_map
+              ∙ ap (λ n. start.finished.rows ∷ first_rows wrap n (lines more)) (let z : place.rows ≡ start.finished.rows + length (own_rows wrap (strip_carriage_return (line ++ p))) = omega (arith, pr, count) in z) ∙ ap (first_rows wrap start.finished.rows) (sym its_lines);
+          its_finish = rw (ap (λ (c : Cut). c.closed) is) (Reaches-trans wrap start.finished place f.finished ((line ++ p) ∷ []) (cut more).closed placed k.its_finish);
           its_longest = k.its_longest ∙ (let z : max g.longest (longest_of (lines more)) ≡ longest_of (strip_carriage_return (line ++ p) ∷ lines more) = omega (arith, wide) in z) ∙ ap longest_of (sym its_lines);
           its_border = rw k.its_border (no_border (unfinished_line all) open_text);
         }

@@ -10,8 +10,12 @@ use Rattle.minus_text.specs.declared.wrap.Span.{Span}
 use Rattle.minus_text.specs.Pieces.{Piece, pieces, piece_text, is_space}
 use Rattle.minus_text.specs.RowRuns.{fits_row}
 use Rattle.minus_text.specs.RunsLaws.{two_fronts}
+use Rattle.minus_text.specs.declared.layout.Wrap.{Wrap}
+use Rattle.minus_text.specs.declared.layout.Wrap.TheVariants.{At, Off}
+use Rattle.minus_text.specs.Layouts.{own_rows}
 use Rattle.minus_text.specs.Rows.{the_rows, run_text, line_runs, line_rows, line_places, places}
-use Rattle.minus_text.specs.Kept.{moved, line_stored, open_stored, open_rows, GoesOn}
+use Rattle.minus_text.specs.Document.{open_rows}
+use Rattle.minus_text.specs.Kept.{moved, line_stored, open_stored, GoesOn}
 use Rattle.minus_text.specs.Seams.{WordBeginsAt, RowsGoOn}
 use Rattle.minus_text.proofs.StretchesLaws.{one_space}
 use Rattle.minus_text.proofs.PiecesLaws.{pieces_join_lem}
@@ -116,25 +120,25 @@ strip_begins ys u none =
     begins_word (strip_carriage_return ys) w.3 (λ some e. none (omega (arith, some, ap length w.1, length-append (strip_carriage_return ys) w.0))
     (ap (λ zs. get_or zs 0 0) w.1 ∙ get_or_append_left (strip_carriage_return ys) w.0 0 0 some ∙ e))
 
-some_open : (cols n : ℕ) (line : List ℕ) → 0 < length line → (open_rows cols line ≡ line_rows cols line) × (open_stored cols n line ≡ line_stored cols n line)
-some_open cols n line some = let other : eqb (length line) 0 ≡ false = ne_eqb (length line) 0 (λ z. omega arith) in (rw other refl, rw other refl)
+some_open : (wrap : Wrap) (n : ℕ) (line : List ℕ) → 0 < length line → (open_rows wrap line ≡ own_rows wrap line) × (open_stored wrap n line ≡ line_stored wrap n line)
+some_open wrap n line some = let other : eqb (length line) 0 ≡ false = ne_eqb (length line) 0 (λ z. omega arith) in (rw other refl, rw other refl)
 
 -- ---- the seam
 
 -- forming can always begin at the line's start
-pub start_goes_on : (cols : ℕ) (line : List ℕ) → IsUtf8 line → GoesOn cols line 0 0
-start_goes_on cols line u = record {
+pub start_goes_on : (wrap : Wrap) (line : List ℕ) → IsUtf8 line → GoesOn wrap line 0 0
+start_goes_on wrap line u = record {
   boundary = IsCharBoundary-start line u;
   few = omega arith;
   some_left = λ some. some;
   open_go_on = λ more v. refl;
   ended_go_on = λ more v. refl;
-  open_places = λ n more v. let e : n ≡ n + 0 = omega arith in ap (λ m. open_stored cols m (line ++ more)) e;
-  ended_places = λ n more v. let e : n ≡ n + 0 = omega arith in ap (λ m. line_stored cols m (strip_carriage_return (line ++ more))) e;
+  open_places = λ n more v. let e : n ≡ n + 0 = omega arith in ap (λ m. open_stored wrap m (line ++ more)) e;
+  ended_places = λ n more v. let e : n ≡ n + 0 = omega arith in ap (λ m. line_stored wrap m (strip_carriage_return (line ++ more))) e;
 }
 
 -- and at the row where a word begins, if a later word of the line begins before its end
-pub seam_goes_on : (cols : ℕ) (line : List ℕ) (at later i : ℕ) (d : Span) → IsUtf8 line → WordBeginsAt line at → WordBeginsAt line later → at < later → i < length (line_places cols line) → (get_or (line_places cols line) i d).start ≡ at → GoesOn cols line i at
+pub seam_goes_on : (cols : ℕ) (line : List ℕ) (at later i : ℕ) (d : Span) → IsUtf8 line → WordBeginsAt line at → WordBeginsAt line later → at < later → i < length (line_places cols line) → (get_or (line_places cols line) i d).start ≡ at → GoesOn (At cols) line i at
 seam_goes_on cols line at later i d u w v lt l e =
     let xs : List ℕ = take at line in
     let us : List ℕ = take (later - at) (drop at line) in
@@ -188,37 +192,47 @@ seam_goes_on cols line at later i d u w v lt l e =
     let places_on : (ws : List ℕ) → BeginsWord (chars ws) → line_places cols (xs ++ (us ++ ws)) ≡ take i (line_places cols line) ++ map (moved at) (line_places cols (us ++ ws)) = λ ws bw.
     line_places_go_on cols xs us vs ws before after seam bv bw divided texts ∙ ap (λ n. take n (line_places cols (xs ++ (us ++ vs))) ++ map (moved (length xs)) (line_places cols (us ++ ws))) count
     ∙ ap (λ ys. take i (line_places cols ys) ++ map (moved (length xs)) (line_places cols (us ++ ws))) whole_line ∙ ap (λ n. take i (line_places cols line) ++ map (moved n) (line_places cols (us ++ ws))) xs_long in
-    let stored_on : (n : ℕ) (ws : List ℕ) → BeginsWord (chars ws) → line_stored cols n (xs ++ (us ++ ws)) ≡ take i (line_stored cols n line) ++ line_stored cols (n + at) (us ++ ws) = λ n ws bw.
+    let stored_on : (n : ℕ) (ws : List ℕ) → BeginsWord (chars ws) → line_stored (At cols) n (xs ++ (us ++ ws)) ≡ take i (line_stored (At cols) n line) ++ line_stored (At cols) (n + at) (us ++ ws) = λ n ws bw.
     ap (map (moved n)) (places_on ws bw) ∙ map-append (moved n) (take i (line_places cols line)) (map (moved at) (line_places cols (us ++ ws)))
     ∙ ap (λ rs. rs ++ map (moved n) (map (moved at) (line_places cols (us ++ ws)))) (sym (take-map (moved n) i (line_places cols line)))
-    ∙ ap (λ rs. take i (line_stored cols n line) ++ rs) (moved_twice n at (line_places cols (us ++ ws))) in
+    ∙ ap (λ rs. take i (line_stored (At cols) n line) ++ rs) (moved_twice n at (line_places cols (us ++ ws))) in
     let more_some : (more : List ℕ) → 0 < length (line ++ more) = λ more. omega (arith, length-append line more) in
     let rest_some : (more : List ℕ) → 0 < length (drop at line ++ more) = λ more. omega (arith, length-append (drop at line) more) in
     record {
       boundary = b;
-      few = rw (some_open cols 0 line some).0 (omega (arith, l, length-places line (line_places cols line) (line_rows cols line) (line_places-are cols line u)));
+      few = rw (some_open (At cols) 0 line some).0 (omega (arith, l, length-places line (line_places cols line) (line_rows cols line) (line_places-are cols line u)));
       some_left = λ m. within;
-      open_go_on = λ more k. (some_open cols 0 (line ++ more) (more_some more)).0 ∙ ap (line_rows cols) (sym (open_text more)) ∙ rows_on (vs ++ more) (open_begins more k)
-          ∙ ap (λ rs. take i rs ++ line_rows cols (us ++ (vs ++ more))) (sym (some_open cols 0 line some).0) ∙ ap (λ ys. take i (open_rows cols line) ++ line_rows cols ys) (open_rest more)
-          ∙ ap (λ rs. take i (open_rows cols line) ++ rs) (sym (some_open cols 0 (drop at line ++ more) (rest_some more)).0);
+      open_go_on = λ more k. (some_open (At cols) 0 (line ++ more) (more_some more)).0 ∙ ap (line_rows cols) (sym (open_text more)) ∙ rows_on (vs ++ more) (open_begins more k)
+          ∙ ap (λ rs. take i rs ++ line_rows cols (us ++ (vs ++ more))) (sym (some_open (At cols) 0 line some).0) ∙ ap (λ ys. take i (open_rows (At cols) line) ++ line_rows cols ys) (open_rest more)
+          ∙ ap (λ rs. take i (open_rows (At cols) line) ++ rs) (sym (some_open (At cols) 0 (drop at line ++ more) (rest_some more)).0);
       ended_go_on = λ more k. ap (line_rows cols) (sym (ended_text more)) ∙ rows_on (strip_carriage_return (vs ++ more)) (ended_begins more k)
-          ∙ ap (λ rs. take i rs ++ line_rows cols (us ++ strip_carriage_return (vs ++ more))) (sym (some_open cols 0 line some).0) ∙ ap (λ ys. take i (open_rows cols line) ++ line_rows cols ys) (ended_rest more);
-      open_places = λ n more k. (some_open cols n (line ++ more) (more_some more)).1 ∙ ap (line_stored cols n) (sym (open_text more)) ∙ stored_on n (vs ++ more) (open_begins more k)
-          ∙ ap (λ rs. take i rs ++ line_stored cols (n + at) (us ++ (vs ++ more))) (sym (some_open cols n line some).1) ∙ ap (λ ys. take i (open_stored cols n line) ++ line_stored cols (n + at) ys) (open_rest more)
-          ∙ ap (λ rs. take i (open_stored cols n line) ++ rs) (sym (some_open cols (n + at) (drop at line ++ more) (rest_some more)).1);
-      ended_places = λ n more k. ap (line_stored cols n) (sym (ended_text more)) ∙ stored_on n (strip_carriage_return (vs ++ more)) (ended_begins more k)
-          ∙ ap (λ rs. take i rs ++ line_stored cols (n + at) (us ++ strip_carriage_return (vs ++ more))) (sym (some_open cols n line some).1) ∙ ap (λ ys. take i (open_stored cols n line) ++ line_stored cols (n + at) ys) (ended_rest more);
+          ∙ ap (λ rs. take i rs ++ line_rows cols (us ++ strip_carriage_return (vs ++ more))) (sym (some_open (At cols) 0 line some).0) ∙ ap (λ ys. take i (open_rows (At cols) line) ++ line_rows cols ys) (ended_rest more);
+      open_places = λ n more k. (some_open (At cols) n (line ++ more) (more_some more)).1 ∙ ap (line_stored (At cols) n) (sym (open_text more)) ∙ stored_on n (vs ++ more) (open_begins more k)
+          ∙ ap (λ rs. take i rs ++ line_stored (At cols) (n + at) (us ++ (vs ++ more))) (sym (some_open (At cols) n line some).1) ∙ ap (λ ys. take i (open_stored (At cols) n line) ++ line_stored (At cols) (n + at) ys) (open_rest more)
+          ∙ ap (λ rs. take i (open_stored (At cols) n line) ++ rs) (sym (some_open (At cols) (n + at) (drop at line ++ more) (rest_some more)).1);
+      ended_places = λ n more k. ap (line_stored (At cols) n) (sym (ended_text more)) ∙ stored_on n (strip_carriage_return (vs ++ more)) (ended_begins more k)
+          ∙ ap (λ rs. take i rs ++ line_stored (At cols) (n + at) (us ++ strip_carriage_return (vs ++ more))) (sym (some_open (At cols) n line some).1) ∙ ap (λ ys. take i (open_stored (At cols) n line) ++ line_stored (At cols) (n + at) ys) (ended_rest more);
     }
 
--- the same for rows that are stored
-pub stored_seam : (cols base : ℕ) (line : List ℕ) (rows : List Span) (at later i : ℕ) (d : Span) → IsUtf8 line → rows ≡ open_stored cols base line → WordBeginsAt line at → WordBeginsAt line later → at < later → i < length rows → at ≡ (get_or rows i d).start - base → GoesOn cols line i at
-stored_seam cols base line rows at later i d u e w v lt l is =
+-- the same for rows that are stored; a line that is not wrapped has none behind its first
+pub stored_seam : (wrap : Wrap) (base : ℕ) (line : List ℕ) (rows : List Span) (at later i : ℕ) (d : Span) → IsUtf8 line → rows ≡ open_stored wrap base line → WordBeginsAt line at → WordBeginsAt line later → at < later → i < length rows → at ≡ (get_or rows i d).start - base → GoesOn wrap line i at
+stored_seam (At cols) base line rows at later i d u e w v lt l is =
     let within : at < length line = w.within in
-    let stored : rows ≡ map (moved base) (line_places cols line) = e ∙ (some_open cols base line (omega arith)).1 in
+    let stored : rows ≡ map (moved base) (line_places cols line) = e ∙ (some_open (At cols) base line (omega arith)).1 in
     let many : length rows ≡ length (line_places cols line) = ap length stored ∙ length-map (line_places cols line) (moved base) in
     let one : get_or rows i d ≡ moved base (get_or (line_places cols line) i d) = ap (λ rs. get_or rs i d) stored ∙ get_or-map (moved base) (line_places cols line) i d d (omega arith) in
     let start : (get_or rows i d).start ≡ base + (get_or (line_places cols line) i d).start = ap (λ (s : Span). s.start) one in
     seam_goes_on cols line at later i d u w v lt (omega arith) (omega (arith, start, is))
+stored_seam Off base line rows at later zero d u e w v lt l is =
+    let within : at < length line = w.within in
+    let behind : 0 < at = w.behind in
+    let stored : rows ≡ record { start = base + 0; end = base + length line } ∷ [] = e ∙ (some_open Off base line (omega arith)).1 in
+    let start : (get_or rows 0 d).start ≡ base + 0 = ap (λ rs. (get_or rs 0 d).start) stored in
+    absurd (omega (arith, start, is, behind))
+stored_seam Off base line rows at later (suc i) d u e w v lt l is =
+    let within : at < length line = w.within in
+    let stored : rows ≡ record { start = base + 0; end = base + length line } ∷ [] = e ∙ (some_open Off base line (omega arith)).1 in
+    absurd (omega (arith, ap length stored, l))
 
 -- the law, over the texts of lines
 pub rows_go_on : RowsGoOn

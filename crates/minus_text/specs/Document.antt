@@ -1,42 +1,58 @@
--- A document: a text and the columns of its rows, and what follows from them.
-use Rattle.std.specs.Prelude.{◌≡◌, ℕ, ◌+◌, ◌==◌, Bool, List, [], ◌∷◌, ◌++◌, length, max, if◌then◌else◌}
+-- A document: a text and the layout of its rows, and what follows from them.
+use Rattle.std.specs.Prelude.{◌≡◌, ℕ, ◌+◌, ◌==◌, ◌&&◌, Bool, List, [], ◌∷◌, ◌++◌, length, max, if◌then◌else◌}
 use Rattle.std.specs.List.{flat_map}
 use Rattle.std.specs.List.Sorted.{IsStrictlyIncreasing}
 use Rattle.std.specs.Str.Lines.{lines}
-use Rattle.minus_text.specs.Rows.{line_rows}
+use Rattle.minus_text.specs.declared.layout.Wrap.{Wrap}
+use Rattle.minus_text.specs.declared.layout.Layout.{Layout}
+use Rattle.minus_text.specs.declared.formed.Plan.{Plan}
+use Rattle.minus_text.specs.declared.line_numbers.LineNumbers.{LineNumbers}
+use Rattle.minus_text.specs.Layouts.{own_rows, margin, wrap_of, relaid}
 use Rattle.minus_text.specs.Units.{columns}
 use Rattle.minus_text.specs.Lines.{unfinished_line}
 
--- a text, and the columns that its rows are formed for
+-- a text, and the layout that its rows are formed for
 pub record Document : Type 0 where
   pub text : List ℕ
-  pub cols : ℕ
+  pub layout : Layout
 
 -- the texts of the rows of lines, one line after another
-abbrev pub rows_of_lines : ℕ → List (List ℕ) → List (List ℕ)
-rows_of_lines cols ls = flat_map (line_rows cols) ls
+abbrev pub rows_of_lines : Wrap → List (List ℕ) → List (List ℕ)
+rows_of_lines wrap ls = flat_map (own_rows wrap) ls
 
 -- the number of the first row of each line, where the first line's is n
-abbrev pub first_rows : ℕ → ℕ → List (List ℕ) → List ℕ
-first_rows cols n [] = []
-first_rows cols n (line ∷ more) = n ∷ first_rows cols (n + length (line_rows cols line)) more
+abbrev pub first_rows : Wrap → ℕ → List (List ℕ) → List ℕ
+first_rows wrap n [] = []
+first_rows wrap n (line ∷ more) = n ∷ first_rows wrap (n + length (own_rows wrap line)) more
+
+-- the rows of what follows the last newline, none where nothing follows it
+abbrev pub open_rows : Wrap → List ℕ → List (List ℕ)
+open_rows wrap text = if length text == 0 then [] else own_rows wrap text
 
 -- the greatest number of columns of a line, 0 with no line
 abbrev pub longest_of : List (List ℕ) → ℕ
 longest_of [] = 0
 longest_of (line ∷ more) = max (columns line) (longest_of more)
 
--- the texts of the rows of a document, in order
-unfoldable pub rows_of : Document → List (List ℕ)
-rows_of d = rows_of_lines d.cols (lines d.text)
-
--- for each line the number of rows of the lines before it
-unfoldable pub line_map : Document → List ℕ
-line_map d = first_rows d.cols 0 (lines d.text)
-
 -- how many lines a document has
 abbrev pub line_count : Document → ℕ
 line_count d = length (lines d.text)
+
+-- how its lines fill rows
+abbrev pub wrap_in : Document → Wrap
+wrap_in d = wrap_of d.layout (line_count d)
+
+-- the columns that its numbers take
+abbrev pub margin_in : Document → ℕ
+margin_in d = margin d.layout.numbers (line_count d)
+
+-- the texts of the rows of a document, in order, each without what stands before it
+unfoldable pub rows_of : Document → List (List ℕ)
+rows_of d = rows_of_lines (wrap_in d) (lines d.text)
+
+-- for each line the number of rows of the lines before it
+unfoldable pub line_map : Document → List ℕ
+line_map d = first_rows (wrap_in d) 0 (lines d.text)
 
 -- the greatest number of columns of a line of a document, 0 with no line
 unfoldable pub longest : Document → ℕ
@@ -44,15 +60,19 @@ longest d = longest_of (lines d.text)
 
 -- how many rows the last line has where no newline ends it, and 0 where there is no such line
 unfoldable pub unfinished_rows : Document → ℕ
-unfinished_rows d = if length (unfinished_line d.text) == 0 then 0 else length (line_rows d.cols (unfinished_line d.text))
+unfinished_rows d = length (open_rows (wrap_in d) (unfinished_line d.text))
 
--- the document that a push of a piece leaves
-abbrev pub pushed : Document → List ℕ → ℕ → Document
-pushed d piece cols = record { text = d.text ++ piece; cols = cols }
+-- the document that a push of a piece leaves, with numbers and columns of its own
+abbrev pub pushed : Document → List ℕ → LineNumbers → ℕ → Document
+pushed d piece numbers cols = record { text = d.text ++ piece; layout = relaid d.layout numbers cols }
 
--- whether a push under these columns keeps the rows of the finished lines; else all rows are formed anew
-abbrev pub keeps_rows : Document → ℕ → Bool
-keeps_rows d cols = cols == d.cols
+-- whether a push keeps the rows of the finished lines: the columns stay, and so do those that numbers take; else all rows are formed anew
+abbrev pub keeps_rows : Document → List ℕ → LineNumbers → ℕ → Bool
+keeps_rows d piece numbers cols = (cols == d.layout.cols) && (margin_in (pushed d piece numbers cols) == margin_in d)
+
+-- how a push forms
+abbrev pub plan_of : Document → List ℕ → LineNumbers → ℕ → Plan
+plan_of d piece numbers cols = record { keeps = keeps_rows d piece numbers cols; wrap = wrap_in (pushed d piece numbers cols) }
 
 -- two documents look the same: their rows, the first row of each line, their number of lines and their longest line
 pub record LooksTheSame (d e : Document) : Type 0 where
@@ -63,7 +83,8 @@ pub record LooksTheSame (d e : Document) : Type 0 where
 
 -- two calls that push one piece and then another leave what one call leaves that pushes both joined
 abbrev pub PushesJoin : Type 0
-PushesJoin = (d one two whole : Document) (a b : List ℕ) (cols : ℕ) → one ≡ pushed d a cols → two ≡ pushed one b cols → whole ≡ pushed d (a ++ b) cols → LooksTheSame two whole
+PushesJoin = (d one two whole : Document) (a b : List ℕ) (numbers : LineNumbers) (cols : ℕ)
+    → one ≡ pushed d a numbers cols → two ≡ pushed one b numbers cols → whole ≡ pushed d (a ++ b) numbers cols → LooksTheSame two whole
 
 -- each line begins at a later row than the line before it
 abbrev pub LineMapAscends : Type 0

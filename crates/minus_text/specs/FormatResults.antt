@@ -2,30 +2,37 @@
 use Rattle.std.specs.Prelude.{◌≡◌, ℕ, ◌-◌, ◌==◌, Bool, true, List, ◌++◌, length, if◌then◌else◌}
 use Rattle.std.specs.Str.Lines.{lines}
 use Rattle.minus_text.specs.declared.screen.FormatResult.{FormatResult}
+use Rattle.minus_text.specs.declared.formed.Plan.{Plan}
+use Rattle.minus_text.specs.declared.line_numbers.LineNumbers.{LineNumbers}
 use Rattle.minus_text.specs.Lines.{unfinished_line}
-use Rattle.minus_text.specs.Document.{Document, keeps_rows, rows_of, first_rows, line_count, longest, unfinished_rows}
+use Rattle.minus_text.specs.Document.{Document, rows_of, first_rows, open_rows, longest_of, unfinished_rows, plan_of}
+use Rattle.minus_text.specs.Fragments.{Fragment, rows_in}
 
--- a result tells of a document formed: its counts of lines and rows, its unfinished rows, the first row of each line where the document's first row has a number, its longest line, and whether nothing was attached
-pub record Tells (result : FormatResult) (formed : Document) (first_row : ℕ) (clean : Bool) : Type 0 where
-  pub lines_told : result.lines_formatted ≡ line_count formed
-  pub rows_told : result.rows_formatted ≡ length (rows_of formed)
-  pub unfinished_told : result.num_unterminated ≡ unfinished_rows formed
-  pub map_told : result.lines_to_row_map ≡ first_rows formed.cols first_row (lines formed.text)
-  pub longest_told : result.max_line_length ≡ longest formed
+-- a result tells of a fragment formed: its counts of lines and rows, its unfinished rows, the first row of each line where its first row has a number, its longest line, and whether nothing was attached
+pub record Tells (result : FormatResult) (formed : Fragment) (first_row : ℕ) (clean : Bool) : Type 0 where
+  pub lines_told : result.lines_formatted ≡ length (lines formed.text)
+  pub rows_told : result.rows_formatted ≡ length (rows_in formed)
+  pub unfinished_told : result.num_unterminated ≡ length (open_rows formed.wrap (unfinished_line formed.text))
+  pub map_told : result.lines_to_row_map ≡ first_rows formed.wrap first_row (lines formed.text)
+  pub longest_told : result.max_line_length ≡ longest_of (lines formed.text)
   pub clean_told : result.clean_append ≡ clean
 
--- what a push forms: the unfinished line and the piece, or the whole text and the piece where the columns change
-abbrev pub formed_by : Document → List ℕ → ℕ → Document
-formed_by d piece cols = record { text = (if keeps_rows d cols then unfinished_line d.text else d.text) ++ piece; cols = cols }
+-- what a push forms: the unfinished line and the piece, or the whole text and the piece where all is formed anew
+abbrev pub formed_by : List ℕ → List ℕ → Plan → Fragment
+formed_by text piece plan = record { text = (if plan.keeps then unfinished_line text else text) ++ piece; wrap = plan.wrap }
 
--- the number of the first row that a push forms: the number of rows of the finished lines, or 0 where the columns change
-abbrev pub first_formed : Document → ℕ → ℕ
-first_formed d cols = if keeps_rows d cols then length (rows_of d) - unfinished_rows d else 0
+-- the number of the first row that a push forms: the number of rows of the finished lines, or 0 where all is formed anew
+abbrev pub first_formed : Document → Plan → ℕ
+first_formed d plan = if plan.keeps then length (rows_of d) - unfinished_rows d else 0
 
--- whether a push attaches nothing to the piece: there is no unfinished line, or the columns change and the whole is formed anew
-abbrev pub is_clean : Document → ℕ → Bool
-is_clean d cols = if keeps_rows d cols then length (unfinished_line d.text) == 0 else true
+-- whether a push attaches nothing to the piece: there is no unfinished line, or the whole is formed anew
+abbrev pub is_clean : List ℕ → Plan → Bool
+is_clean text plan = if plan.keeps then length (unfinished_line text) == 0 else true
+
+-- a result tells of a push that forms by a plan
+abbrev pub TellsPlan : FormatResult → Document → List ℕ → Plan → Type 0
+TellsPlan result d piece plan = Tells result (formed_by d.text piece plan) (first_formed d plan) (is_clean d.text plan)
 
 -- a result tells of a push
-abbrev pub TellsPush : FormatResult → Document → List ℕ → ℕ → Type 0
-TellsPush result d piece cols = Tells result (formed_by d piece cols) (first_formed d cols) (is_clean d cols)
+abbrev pub TellsPush : FormatResult → Document → List ℕ → LineNumbers → ℕ → Type 0
+TellsPush result d piece numbers cols = TellsPlan result d piece (plan_of d piece numbers cols)

@@ -12,11 +12,16 @@ pub mod RowRuns
 pub mod Rows
 pub mod Measures
 pub mod Lines
+pub mod Prefixes
+pub mod TextUnits
+pub mod Crop
 pub mod Matches
 pub mod Escapes
 pub mod FixedPatterns
 pub mod Highlight
+pub mod Layouts
 pub mod Document
+pub mod Fragments
 pub mod LineMaps
 pub mod Kept
 pub mod Seams

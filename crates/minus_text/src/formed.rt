@@ -1,12 +1,13 @@
 //! Rows formed of a text, beside what is kept.
-ghost use Rattle.std.specs.Prelude.{◌≡◌, ℕ, List, ◌+◌, ◌-◌, ◌^◌, ◌<◌, ◌≤◌, ◌∷◌, [], ◌++◌, length, drop, max, IsTrue, IfOk, OnOk};
+ghost use Rattle.std.specs.Prelude.{◌≡◌, ℕ, List, ◌+◌, ◌-◌, ◌^◌, ◌<◌, ◌≤◌, ◌∷◌, [], ◌++◌, length, drop, max, IsTrue, IfOk, OnOk, MatchOption};
 ghost use Rattle.std.specs.Str.{IsUtf8, IsCharBoundary};
 ghost use Rattle.minus_text.specs.Lines.{cut, whole};
-ghost use Rattle.minus_text.specs.Rows.{line_rows};
+ghost use Rattle.minus_text.specs.Layouts.{own_rows, own_places};
 ghost use Rattle.minus_text.specs.Units.{columns};
 ghost use Rattle.minus_text.specs.Kept.{line_stored, IsPrepared, GoesOnInSome, IsBorderOfEach};
 ghost use Rattle.minus_text.specs.Forms.{IsBegun, IsFormOfLines};
 
+use crate::layout::Wrap;
 use crate::lines::{split_line, without_return};
 use crate::lines_row_map::LinesRowMap;
 use crate::wrap::{Span, columns, is_one_row, is_unescaped, settled, wrap_line};
@@ -69,6 +70,14 @@ pub(crate) struct Restart {
 }
 
 impl Restart {
+    // Before all lines.
+    pub(crate) const START: Restart = Restart {
+        finished: Finished::START,
+        rows: 0,
+        bytes: 0,
+        border: Border::START,
+    };
+
     // Whether another is the same place.
     pub(crate) fn is_same(self, other: Restart) -> bool
         ensures { IsTrue result → self ≡ other }
@@ -79,6 +88,13 @@ impl Restart {
             && self.border.bytes == other.border.bytes
             && self.border.columns == other.border.columns
     }
+}
+
+// How a push forms: whether the rows of the finished lines stay, and how lines fill rows then.
+#[derive(Clone, Copy)]
+pub(crate) struct Plan {
+    pub(crate) keeps: bool,
+    pub(crate) wrap: Wrap,
 }
 
 // What is formed of a text: the places of its rows, the first row of each line, how far its
@@ -109,25 +125,40 @@ struct Forming {
     longest: usize,
 }
 
+// The columns that a line is to be wrapped to; none where it is one row, all of it.
+fn wrapped_to(line: &str, wrap: Wrap) -> Option<usize>
+    ensures { MatchOption result (own_places wrap line.now ≡ record { start = 0; end = length line.now } ∷ []) (λ cols. wrap ≡ Wrap.At cols) }
+{
+    match wrap {
+        Wrap::At(cols) => {
+            if is_one_row(line, cols) {
+                return None;
+            }
+            Some(cols)
+        }
+        Wrap::Off => None,
+    }
+}
+
 // Adds the rows of a line that begins at a place of the text.
 fn push_rows(
     alloc: Global,
     rows: &mut Vec<Span>,
     at: usize,
     line: &str,
-    cols: usize,
+    wrap: Wrap,
 ) -> Result<(), AllocError>
     requires { at + length line.now < 2 ^ 64 }
-    ensures items { OnOk result (rows.new.items ≡ rows.old.items ++ line_stored cols at line.now) }
-    ensures len { OnOk result (length rows.new.items ≡ length rows.old.items + length (line_rows cols line.now)) }
+    ensures items { OnOk result (rows.new.items ≡ rows.old.items ++ line_stored wrap at line.now) }
+    ensures len { OnOk result (length rows.new.items ≡ length rows.old.items + length (own_rows wrap line.now)) }
 {
-    if is_one_row(line, cols) {
+    let Some(cols) = wrapped_to(line, wrap) else {
         rows.push(Span {
             start: at,
             end: at + line.len(),
         })?;
         return Ok(());
-    }
+    };
     let places = wrap_line(alloc, line, cols)?;
     for part in &places {
         rows.push(Span {
@@ -144,15 +175,15 @@ fn add_line(
     forming: &mut Forming,
     place: Finished,
     line: &str,
-    cols: usize,
+    wrap: Wrap,
 ) -> Result<(), AllocError>
     requires { place.bytes + length line.now < 2 ^ 64 }
-    ensures rows { OnOk result (forming.new.rows.items ≡ forming.old.rows.items ++ line_stored cols place.bytes line.now) }
-    ensures count { OnOk result (length forming.new.rows.items ≡ length forming.old.rows.items + length (line_rows cols line.now)) }
+    ensures rows { OnOk result (forming.new.rows.items ≡ forming.old.rows.items ++ line_stored wrap place.bytes line.now) }
+    ensures count { OnOk result (length forming.new.rows.items ≡ length forming.old.rows.items + length (own_rows wrap line.now)) }
     ensures first_row { OnOk result (forming.new.first_rows.items ≡ forming.old.first_rows.items ++ place.rows ∷ []) }
     ensures longest { OnOk result (forming.new.longest ≡ max forming.old.longest (columns line.now)) }
 {
-    push_rows(alloc, &mut forming.rows, place.bytes, line, cols)?;
+    push_rows(alloc, &mut forming.rows, place.bytes, line, wrap)?;
     forming.first_rows.push(place.rows)?;
     if line.len() > forming.longest {
         forming.longest = forming.longest.max(columns(line));
@@ -167,7 +198,7 @@ fn form_lines(
     kept: usize,
     text: &str,
     from: Finished,
-    cols: usize,
+    wrap: Wrap,
 ) -> Result<Formed, AllocError>
     requires bytes { from.bytes + length text.now < 2 ^ 64 }
     requires lines { from.lines + length text.now < 2 ^ 64 }
@@ -175,12 +206,12 @@ fn form_lines(
     requires rows { from.rows ≡ kept + length forming.rows.items }
     requires longest { forming.longest ≤ from.longest }
     requires first_row { (row : ℕ) × (forming.first_rows.items ≡ row ∷ []) × (row < from.rows) }
-    ensures { IfOk result (λ f. IsFormOfLines cols forming text.now from f) }
+    ensures { IfOk result (λ f. IsFormOfLines wrap forming text.now from f) }
 {
     let mut place = from;
     let mut rest = text;
     while let Some((first, more)) = split_line(rest) {
-        add_line(alloc, &mut forming, place, without_return(first), cols)?;
+        add_line(alloc, &mut forming, place, without_return(first), wrap)?;
         place.lines += 1;
         place.rows = kept + forming.rows.len();
         place.bytes += first.len() + 1;
@@ -188,7 +219,7 @@ fn form_lines(
     }
     place.longest = from.longest.max(forming.longest);
     if !rest.is_empty() {
-        add_line(alloc, &mut forming, place, rest, cols)?;
+        add_line(alloc, &mut forming, place, rest, wrap)?;
     }
     Ok(Formed {
         rows: forming.rows,
@@ -200,12 +231,12 @@ fn form_lines(
 }
 
 // What is formed of the line that a text goes on in, whose rows begin at a place.
-fn begin_line(alloc: Global, start: Restart, line: &str, cols: usize) -> Result<Forming, AllocError>
+fn begin_line(alloc: Global, start: Restart, line: &str, wrap: Wrap) -> Result<Forming, AllocError>
     requires bytes { (start.finished.bytes + start.bytes) + length line.now < 2 ^ 64 }
     requires behind { start.bytes ≤ start.border.bytes }
     requires boundary { IsCharBoundary line.now (start.border.bytes - start.bytes) }
     requires columns { start.border.columns + (length line.now - (start.border.bytes - start.bytes)) < 2 ^ 64 }
-    ensures { IfOk result (λ f. IsBegun cols line.now start f) }
+    ensures { IfOk result (λ f. IsBegun wrap line.now start f) }
 {
     let unmeasured = &line[start.border.bytes - start.bytes..];
     let mut forming = Forming {
@@ -215,7 +246,7 @@ fn begin_line(alloc: Global, start: Restart, line: &str, cols: usize) -> Result<
     };
     forming.first_rows.push(start.finished.rows)?;
     let at = start.finished.bytes + start.bytes;
-    push_rows(alloc, &mut forming.rows, at, line, cols)?;
+    push_rows(alloc, &mut forming.rows, at, line, wrap)?;
     Ok(forming)
 }
 
@@ -247,12 +278,12 @@ fn form_unfinished(
     alloc: Global,
     text: &str,
     start: Restart,
-    cols: usize,
+    wrap: Wrap,
 ) -> Result<Formed, AllocError>
     requires bytes { (start.finished.bytes + start.bytes) + length text.now < 2 ^ 64 }
     requires whole { cut text.now ≡ whole text.now }
-    requires start { GoesOnInSome cols text.now start }
-    ensures { IfOk result (λ f. IsPrepared cols text.now start f) }
+    requires start { GoesOnInSome wrap text.now start }
+    ensures { IfOk result (λ f. IsPrepared wrap text.now start f) }
 {
     if text.is_empty() {
         return Ok(Formed {
@@ -263,7 +294,7 @@ fn form_unfinished(
             longest: 0,
         });
     }
-    let forming = begin_line(alloc, start, text, cols)?;
+    let forming = begin_line(alloc, start, text, wrap)?;
     Ok(Formed {
         rows: forming.rows,
         first_rows: LinesRowMap::from_first_rows(forming.first_rows),
@@ -278,18 +309,18 @@ pub(crate) fn form(
     alloc: Global,
     text: &str,
     start: Restart,
-    cols: usize,
+    wrap: Wrap,
 ) -> Result<Formed, AllocError>
     requires bytes { (start.finished.bytes + start.bytes) + length text.now < 2 ^ 64 }
     requires lines { start.finished.lines + length text.now < 2 ^ 64 }
     requires rows { start.finished.rows + start.rows < 2 ^ 63 }
-    requires start { GoesOnInSome cols text.now start }
-    ensures { IfOk result (λ f. IsPrepared cols text.now start f) }
+    requires start { GoesOnInSome wrap text.now start }
+    ensures { IfOk result (λ f. IsPrepared wrap text.now start f) }
 {
     let Some((first, more)) = split_line(text) else {
-        return form_unfinished(alloc, text, start, cols);
+        return form_unfinished(alloc, text, start, wrap);
     };
-    let forming = begin_line(alloc, start, without_return(first), cols)?;
+    let forming = begin_line(alloc, start, without_return(first), wrap)?;
     let kept = start.finished.rows + start.rows;
     let place = Finished {
         lines: start.finished.lines + 1,
@@ -297,6 +328,6 @@ pub(crate) fn form(
         bytes: start.finished.bytes + start.bytes + first.len() + 1,
         longest: start.finished.longest.max(forming.longest),
     };
-    let formed = form_lines(alloc, forming, kept, more, place, cols)?;
+    let formed = form_lines(alloc, forming, kept, more, place, wrap)?;
     Ok(formed)
 }

@@ -1,7 +1,9 @@
 //! The text of a pager: lines, rows and what is kept of them.
 #![tactic(auto)]
 
+pub mod crop;
 mod formed;
+pub mod layout;
 pub mod line_numbers;
 pub mod lines;
 pub mod lines_row_map;
@@ -9,14 +11,20 @@ pub mod pending;
 pub mod screen;
 mod seams;
 pub mod search;
+pub mod spaces;
+pub mod units;
 pub mod wrap;
 
-pub use line_numbers::digits;
+pub use crop::{Window, crop_columns, cropped_texts_fit, fitted_texts_fill, push_fitted};
+pub use layout::Layout;
+pub use line_numbers::{LineNumbers, digits, numbers_toggle_twice, prefix_columns, push_prefix};
 pub use lines_row_map::LinesRowMap;
 pub use pending::PendingPush;
 pub use screen::{FormatResult, Line, OwnedTextBlock, Row, Rows, Screen, TextBlock};
 pub use seams::rows_go_on;
 pub use search::{Patterns, highlight_line_matches, next_nth_match, strip_escapes};
+pub use spaces::push_spaces;
+pub use units::{Unit, Units};
 pub use wrap::{
     Span, columns, format_line, pieces_join, rows_are_determined, rows_fit,
     words_are_cut_at_joints, wrap_line,

@@ -1,10 +1,53 @@
-//! The numbers of lines.
-ghost use Rattle.std.specs.Prelude.{◌≡◌, length};
+//! The numbers of lines, and what stands before the rows of a text that has them.
+ghost use Rattle.std.specs.Prelude.{◌≡◌, ◌≤◌, ◌++◌, length, OnOk, string_bytes};
 ghost use Rattle.std.specs.Fmt.{decimal};
+ghost use Rattle.minus_text.specs.Prefixes.{is_on, toggled, padding, number_prefix, prefix, prefix_columns, NumbersToggleTwice};
 
-/// How many decimal digits a number has: 1 for 0.
+use crate::spaces::push_spaces;
+use std::alloc::AllocError;
+use std::ops::Not;
+
+/// Whether rows begin with the numbers of their lines. `!` exchanges `Enabled` and `Disabled`; the
+/// other two stay.
+#[derive(Clone, Copy, Debug, PartialEq, Eq)]
+pub enum LineNumbers {
+    AlwaysOn,
+    Enabled,
+    Disabled,
+    AlwaysOff,
+}
+
+impl LineNumbers {
+    /// Whether rows begin with numbers.
+    pub fn is_on(self) -> bool
+        ensures { result ≡ is_on self }
+    {
+        matches!(self, LineNumbers::AlwaysOn | LineNumbers::Enabled)
+    }
+}
+
+impl Not for LineNumbers {
+    type Output = LineNumbers;
+
+    ghost use Rattle.std.specs.Prelude.{◌≡◌};
+    ghost use Rattle.minus_text.specs.Prefixes.{toggled};
+
+    ghost not_gives = { λ numbers r. r ≡ toggled numbers };
+
+    fn not(self) -> LineNumbers {
+        match self {
+            LineNumbers::AlwaysOn => LineNumbers::AlwaysOn,
+            LineNumbers::Enabled => LineNumbers::Disabled,
+            LineNumbers::Disabled => LineNumbers::Enabled,
+            LineNumbers::AlwaysOff => LineNumbers::AlwaysOff,
+        }
+    }
+}
+
+/// How many decimal digits a number has: 1 for 0, and 20 at most.
 pub fn digits(number: usize) -> usize
-    ensures { result ≡ length (decimal number) }
+    ensures value { result ≡ length (decimal number) }
+    ensures few { result ≤ 20 }
 {
     let mut count = 1;
     let mut rest = number;
@@ -14,3 +57,60 @@ pub fn digits(number: usize) -> usize
     }
     count
 }
+
+// The columns of a number with its stop, where the text has so many lines.
+fn padding(line_count: usize) -> usize
+    ensures value { result ≡ padding line_count }
+    ensures few { result ≤ 26 }
+{
+    digits(line_count) + 6
+}
+
+// Adds the number of a line, counted from 1, at the right of the padding.
+fn push_number(out: &mut String, line_count: usize, line: usize) -> Result<(), AllocError>
+    ensures { OnOk result (string_bytes out.new ≡ string_bytes out.old ++ number_prefix line_count line) }
+{
+    push_spaces(out, padding(line_count).saturating_sub(digits(line) + 1))?;
+    write!(out, "\x1b[1m{line}.\x1b[0m ")?;
+    Ok(())
+}
+
+/// Adds what stands before a row: nothing where numbers are off. Where they are on, it is the number of
+/// the row's line in bold, counted from 1, before the first row of the line, and blanks before its other
+/// rows. A number stands at the right of as many columns as `line_count`, the lines of the text, has
+/// digits, and six more; behind it stands a space. Fails for want of memory alone.
+pub fn push_prefix(
+    out: &mut String,
+    numbers: bool,
+    line_count: usize,
+    line: usize,
+    is_first: bool,
+) -> Result<(), AllocError>
+    ensures { OnOk result (string_bytes out.new ≡ string_bytes out.old ++ prefix numbers line_count line is_first) }
+{
+    if !numbers {
+        return Ok(());
+    }
+    if is_first {
+        push_number(out, line_count, line)?;
+        return Ok(());
+    }
+    push_spaces(out, padding(line_count) + 1)?;
+    Ok(())
+}
+
+/// The columns before the text of a row, where numbers are on or not and the text has so many lines.
+pub fn prefix_columns(numbers: bool, line_count: usize) -> usize
+    ensures value { result ≡ prefix_columns numbers line_count }
+    ensures few { result ≤ 27 }
+{
+    if !numbers {
+        return 0;
+    }
+    padding(line_count) + 1
+}
+
+/// Line numbers exchanged twice are as they were, and those that are always on or always off stay.
+pub fn numbers_toggle_twice()
+    ensures { NumbersToggleTwice }
+{}

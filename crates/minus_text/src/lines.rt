@@ -1,5 +1,5 @@
 //! Lines of a text, one at a time.
-ghost use Rattle.std.specs.Prelude.{◌≡◌, ◌+◌, length, IfSome, MatchOption};
+ghost use Rattle.std.specs.Prelude.{◌≡◌, ◌+◌, ◌<◌, ◌≤◌, ◌^◌, length, IfSome, MatchOption};
 ghost use Rattle.std.specs.Str.Lines.{strip_carriage_return};
 ghost use Rattle.minus_text.specs.Lines.{cut, whole, behind, LinesAreCut};
 
@@ -14,6 +14,19 @@ pub(crate) fn without_return(line: &str) -> &str
     } else {
         line
     }
+}
+
+// How many newlines a text has: a byte that is 10 is one wherever it stands.
+pub(crate) fn newlines(text: &str) -> usize
+    ensures value { result ≡ length (cut text.now).closed }
+    ensures few { result ≤ length text.now }
+    ensures small { result < 2 ^ 63 }
+{
+    let mut count = 0;
+    for &b in text.as_bytes() {
+        count += usize::from(b == b'\n');
+    }
+    count
 }
 
 // The first line that a newline ends, and what follows the newline.

@@ -1,8 +1,10 @@
 //! A push before it is made.
 ghost use Rattle.std.specs.Prelude.{◌≡◌, ℕ, ◌^◌, ◌<◌, slice_get, option_map, length};
-ghost use Rattle.minus_text.specs.Document.{rows_of};
+ghost use Rattle.minus_text.specs.Fragments.{rows_in};
 
 use crate::formed::{Formed, Restart};
+use crate::layout::Wrap;
+use crate::line_numbers::LineNumbers;
 use std::marker::Model;
 
 /// What a push would form, beside the rows that would stay: `Screen::prepare_push` makes it.
@@ -12,6 +14,9 @@ pub struct PendingPush {
     pub(crate) tail: String,
     pub(crate) start: Restart,
     pub(crate) formed: Formed,
+    pub(crate) wrap: Wrap,
+    // The numbers and columns of the push.
+    pub(crate) numbers: LineNumbers,
     pub(crate) cols: usize,
 }
 
@@ -22,9 +27,9 @@ impl Model for PendingPush {
 
     ghost Value = { Pending };
 
-    ghost view = { λ p. record { kept_rows = p.start.finished.rows + p.start.rows; tail = record { text = string_bytes p.tail; cols = p.cols } } };
+    ghost view = { λ p. record { kept_rows = p.start.finished.rows + p.start.rows; tail = record { text = string_bytes p.tail; wrap = p.wrap }; numbers = p.numbers; cols = p.cols } };
 
-    ghost invariant = { λ p. IsPreparedPush p.cols (string_bytes p.tail) p.start p.formed };
+    ghost invariant = { λ p. IsPreparedPush p.wrap (string_bytes p.tail) p.start p.formed };
 }
 
 impl PendingPush {
@@ -37,7 +42,7 @@ impl PendingPush {
 
     // How many rows are formed.
     pub(crate) fn formed_rows(&self) -> usize
-        ensures value { result ≡ length (rows_of self.now.tail) }
+        ensures value { result ≡ length (rows_in self.now.tail) }
         ensures few { result < 2 ^ 63 }
     {
         self.formed.rows.len()
@@ -45,7 +50,7 @@ impl PendingPush {
 
     // The text of a row that is formed, counted from 0.
     pub(crate) fn row_text(&self, i: usize) -> Option<&str>
-        ensures { option_map (λ r. r.now) result ≡ slice_get (rows_of self.now.tail) i }
+        ensures { option_map (λ r. r.now) result ≡ slice_get (rows_in self.now.tail) i }
     {
         let at = self.start.finished.bytes + self.start.bytes;
         let text = self.tail.as_str();

@@ -1,14 +1,20 @@
 //! A text and its rows.
-ghost use Rattle.std.specs.Prelude.{◌≡◌, ℕ, List, ◌+◌, ◌-◌, ◌^◌, ◌<◌, ◌≤◌, [], ◌++◌, length, take, drop, true, ◌==◌, if◌then◌else◌, IsTrue, IfOk, IfErr, OnOk, OnErr, slice_get, option_map, string_bytes, vec_len, vec_capacity};
+ghost use Rattle.std.specs.Prelude.{◌≡◌, ℕ, List, ◌+◌, ◌-◌, ◌^◌, ◌<◌, ◌≤◌, [], ◌++◌, length, take, drop, true, ◌==◌, ◌&&◌, if◌then◌else◌, IsTrue, IfOk, IfErr, OnOk, OnErr, false, slice_get, option_map, string_bytes, vec_len, vec_capacity};
 ghost use Rattle.std.specs.List.Sorted.{IsStrictlyIncreasing};
 ghost use Rattle.std.specs.Str.{IsUtf8, IsCharBoundary};
+ghost use Rattle.std.specs.Str.Lines.{lines};
 ghost use Rattle.std.specs.String.{string_len, string_capacity};
-ghost use Rattle.minus_text.specs.Document.{rows_of, line_map, line_count, longest, unfinished_rows, pushed, PushesJoin, LineMapAscends};
+ghost use Rattle.minus_text.specs.Layouts.{margin, plain, wrap_of};
+ghost use Rattle.minus_text.specs.Document.{rows_of, line_map, line_count, longest, unfinished_rows, pushed, wrap_in, plan_of, PushesJoin, LineMapAscends};
+ghost use Rattle.minus_text.specs.Fragments.{rows_in};
 ghost use Rattle.minus_text.specs.Kept.{IsFormOf, IsPrepared, IsRestartOf, GoesOnInSome, AscendsBehind, line_going_on, piece_behind};
 ghost use Rattle.minus_text.specs.Pending.{IsPending, RowIsPending};
-ghost use Rattle.minus_text.specs.FormatResults.{Tells, TellsPush};
+ghost use Rattle.minus_text.specs.FormatResults.{Tells, TellsPlan, TellsPush};
 
-use crate::formed::{Border, Finished, Formed, Restart, form};
+use crate::formed::{Border, Finished, Formed, Plan, Restart, form};
+use crate::layout::{Layout, Wrap};
+use crate::line_numbers::{LineNumbers, prefix_columns};
+use crate::lines::newlines;
 use crate::lines_row_map::LinesRowMap;
 use crate::pending::PendingPush;
 use crate::seams::last_seam;
@@ -50,11 +56,11 @@ pub struct FormatResult {
     pub clean_append: bool,
 }
 
-/// A text that grows, with its rows for a number of columns.
+/// A text that grows, with its rows in a layout.
 #[derive(Debug, Drop)]
 pub struct Screen {
     text: String,
-    cols: usize,
+    layout: Layout,
     rows: Vec<Span>,
     first_rows: LinesRowMap,
     // How far the lines go that a newline ends, the columns of the longest line of all, and how
@@ -65,22 +71,31 @@ pub struct Screen {
 }
 
 impl Model for Screen {
-    ghost use Rattle.std.specs.Prelude.{string_bytes};
+    ghost use Rattle.std.specs.Prelude.{length, string_bytes};
+    ghost use Rattle.std.specs.Str.Lines.{lines};
+    ghost use Rattle.minus_text.specs.Layouts.{wrap_of};
     ghost use Rattle.minus_text.specs.Document.{Document};
     ghost use Rattle.minus_text.specs.Kept.{IsFormed};
 
     ghost Value = { Document };
 
-    ghost view = { λ s. record { text = string_bytes s.text; cols = s.cols } };
+    ghost view = { λ s. record { text = string_bytes s.text; layout = s.layout } };
 
-    ghost invariant = { λ s. IsFormed (string_bytes s.text) s.cols s.rows.items s.first_rows s.finished s.longest s.border };
+    ghost invariant = { λ s. IsFormed (string_bytes s.text) (wrap_of s.layout (length (lines (string_bytes s.text)))) s.rows.items s.first_rows s.finished s.longest s.border };
+}
+
+// Whether columns stay, and what numbers take of them.
+fn stay(cols: usize, old_cols: usize, margin: usize, old_margin: usize) -> bool
+    ensures { result ≡ ((cols == old_cols) && (margin == old_margin)) }
+{
+    cols == old_cols && margin == old_margin
 }
 
 // Whether the finished lines take all of the text, or the whole is formed anew.
-fn attaches_nothing(finished: Finished, len: usize, old_cols: usize, cols: usize) -> bool
-    ensures { result ≡ (if cols == old_cols then finished.bytes == len else true) }
+fn attaches_nothing(finished: Finished, len: usize, plan: Plan) -> bool
+    ensures { result ≡ (if plan.keeps then finished.bytes == len else true) }
 {
-    cols != old_cols || finished.bytes == len
+    !plan.keeps || finished.bytes == len
 }
 
 // Puts rows at the end, for which there is room.
@@ -134,21 +149,21 @@ fn form_end(
     rows: &mut Vec<Span>,
     first_rows: &mut LinesRowMap,
     start: Restart,
-    cols: usize,
+    wrap: Wrap,
 ) -> Result<Formed, AllocError>
     requires place { IsCharBoundary text.now (start.finished.bytes + start.bytes) }
     requires lines { start.finished.lines ≤ length text.now }
     requires rows { start.finished.rows + start.rows < 2 ^ 63 }
-    requires start { GoesOnInSome cols (drop (start.finished.bytes + start.bytes) text.now) start }
-    requires ascends { AscendsBehind cols (drop (start.finished.bytes + start.bytes) text.now) start first_rows.old }
-    ensures formed { IfOk result (λ f. IsPrepared cols (drop (start.finished.bytes + start.bytes) text.now) start f) }
+    requires start { GoesOnInSome wrap (drop (start.finished.bytes + start.bytes) text.now) start }
+    requires ascends { AscendsBehind wrap (drop (start.finished.bytes + start.bytes) text.now) start first_rows.old }
+    ensures formed { IfOk result (λ f. IsPrepared wrap (drop (start.finished.bytes + start.bytes) text.now) start f) }
     ensures rows { IfOk result (λ f. rows.new.items ≡ take (start.finished.rows + start.rows) rows.old.items ++ f.rows.items) }
     ensures first_rows { IfOk result (λ f. first_rows.new ≡ take start.finished.lines first_rows.old ++ f.first_rows) }
     ensures rows_stay { OnErr result (rows.new.items ≡ rows.old.items) }
     ensures first_rows_stay { OnErr result (first_rows.new ≡ first_rows.old) }
 {
     let end = &text[start.finished.bytes + start.bytes..];
-    let formed = form(alloc, end, start, cols)?;
+    let formed = form(alloc, end, start, wrap)?;
     replace_rows(rows, first_rows, start, &formed)?;
     Ok(formed)
 }
@@ -176,13 +191,13 @@ fn told(start: Restart, formed: Formed, clean: bool) -> FormatResult
 }
 
 impl Screen {
-    /// A screen of no text, for no columns.
+    /// A screen of no text, for no columns, with wrapping on and numbers off.
     pub fn new(alloc: Global) -> Self
-        ensures { result ≡ record { text = []; cols = 0 } }
+        ensures { result ≡ record { text = []; layout = plain 0 } }
     {
         Screen {
             text: String::new(alloc),
-            cols: 0,
+            layout: Layout::plain(0),
             rows: Vec::new(alloc),
             first_rows: LinesRowMap::new(alloc),
             finished: Finished::START,
@@ -220,11 +235,11 @@ impl Screen {
         self.rows.len() - self.finished.rows
     }
 
-    /// The columns that the rows were formed for.
-    pub fn cols(&self) -> usize
-        ensures { result ≡ self.now.cols }
+    /// The layout that the rows were formed for.
+    pub fn layout(&self) -> Layout
+        ensures { result ≡ self.now.layout }
     {
-        self.cols
+        self.layout
     }
 
     /// The text as it was given.
@@ -267,24 +282,63 @@ impl Screen {
         }
     }
 
-    // Where a push under these columns begins to form.
-    fn restart(&self, cols: usize) -> Restart
-        ensures start { IsRestartOf self.now cols result }
+    // How many lines there are with a piece behind the text.
+    fn lines_after(&self, piece: &str) -> usize
+        ensures { result ≡ length (lines (self.now.text ++ piece.now)) }
+    {
+        if piece.is_empty() {
+            return self.first_rows.len();
+        }
+        self.finished.lines + newlines(piece) + usize::from(!piece.ends_with('\n'))
+    }
+
+    // The columns that numbers take with a piece behind the text.
+    fn margin_after(&self, piece: &str, numbers: LineNumbers) -> usize
+        ensures value { result ≡ margin numbers (length (lines (self.now.text ++ piece.now))) }
+    {
+        if !numbers.is_on() {
+            return 0;
+        }
+        prefix_columns(true, self.lines_after(piece)) + 1
+    }
+
+    // How a push forms.
+    fn plan(&self, piece: &str, numbers: LineNumbers, cols: usize) -> Plan
+        ensures { result ≡ plan_of self.now piece.now numbers cols }
+    {
+        let margin = self.margin_after(piece, numbers);
+        let old_margin = self.margin_after("", self.layout.numbers);
+        Plan {
+            keeps: stay(cols, self.layout.cols, margin, old_margin),
+            wrap: Wrap::of(self.layout.wrapping, cols.saturating_sub(margin)),
+        }
+    }
+
+    // How all is formed anew in a layout, with a piece behind the text.
+    fn plan_anew(&self, piece: &str, layout: Layout) -> Plan
+        ensures { result ≡ record { keeps = false; wrap = wrap_of layout (length (lines (self.now.text ++ piece.now))) } }
+    {
+        let margin = self.margin_after(piece, layout.numbers);
+        Plan {
+            keeps: false,
+            wrap: Wrap::of(layout.wrapping, layout.cols.saturating_sub(margin)),
+        }
+    }
+
+    // Where a push begins to form.
+    fn restart(&self, plan: Plan) -> Restart
+        requires { plan.keeps ≡ true → plan.wrap ≡ wrap_in self.now }
+        ensures start { IsRestartOf self.now.text plan result }
         ensures text { IsUtf8 self.now.text }
         ensures small { length self.now.text < 2 ^ 63 }
         ensures place { IsCharBoundary self.now.text (result.finished.bytes + result.bytes) }
         ensures lines { result.finished.lines ≤ length self.now.text }
         ensures rows { result.finished.rows + result.rows < 2 ^ 63 }
     {
-        if cols != self.cols {
-            return Restart {
-                finished: Finished::START,
-                rows: 0,
-                bytes: 0,
-                border: Border::START,
-            };
-        }
         let finished = self.finished;
+        if !plan.keeps {
+            return Restart::START;
+        }
         let line = &self.text[finished.bytes..];
         let seam = last_seam(
             line,
@@ -313,19 +367,22 @@ impl Screen {
 
     // Puts a piece behind the text, and forms what it goes on beside what is kept. An `Err` changes
     // nothing.
-    fn push_piece(
+    fn push_by(
         &mut self,
         alloc: Global,
         piece: &str,
-        cols: usize,
+        layout: Layout,
+        plan: Plan,
     ) -> Result<FormatResult, AllocError>
-        ensures ok { OnOk result (self.new ≡ pushed self.old piece.now cols) }
-        ensures told { IfOk result (λ r. TellsPush r self.old piece.now cols) }
+        requires wrap { plan.wrap ≡ wrap_of layout (length (lines (self.old.text ++ piece.now))) }
+        requires keeps { plan.keeps ≡ true → plan.wrap ≡ wrap_in self.old }
+        ensures ok { OnOk result (self.new ≡ record { text = self.old.text ++ piece.now; layout = layout }) }
+        ensures told { IfOk result (λ r. TellsPlan r self.old piece.now plan) }
         ensures err { OnErr result (self.new ≡ self.old) }
     {
-        let start = self.restart(cols);
+        let start = self.restart(plan);
         let len = self.text.len();
-        let clean = attaches_nothing(self.finished, len, self.cols, cols);
+        let clean = attaches_nothing(self.finished, len, plan);
         self.text.push_str(piece)?;
         let formed = match form_end(
             alloc,
@@ -333,7 +390,7 @@ impl Screen {
             &mut self.rows,
             &mut self.first_rows,
             start,
-            cols,
+            plan.wrap,
         ) {
             Ok(formed) => formed,
             Err(error) => {
@@ -341,7 +398,7 @@ impl Screen {
                 return Err(error);
             }
         };
-        self.cols = cols;
+        self.layout = layout;
         self.finished = formed.finished;
         self.longest = formed.longest_behind(start);
         self.border = formed.border;
@@ -355,33 +412,41 @@ impl Screen {
         piece: &str,
         start: Restart,
         formed: Formed,
-        cols: usize,
+        layout: Layout,
+        plan: Plan,
     ) -> Result<FormatResult, AllocError>
-        requires start { IsRestartOf self.old cols start }
-        requires formed { IsFormOf cols (line_going_on self.old cols) (piece_behind self.old cols piece.now) start formed }
-        ensures ok { OnOk result (self.new ≡ pushed self.old piece.now cols) }
-        ensures told { IfOk result (λ r. TellsPush r self.old piece.now cols) }
+        requires wrap { plan.wrap ≡ wrap_of layout (length (lines (self.old.text ++ piece.now))) }
+        requires keeps { plan.keeps ≡ true → plan.wrap ≡ wrap_in self.old }
+        requires start { IsRestartOf self.old.text plan start }
+        requires formed { IsFormOf plan.wrap (line_going_on self.old.text plan) (piece_behind self.old.text plan piece.now) start formed }
+        ensures ok { OnOk result (self.new ≡ record { text = self.old.text ++ piece.now; layout = layout }) }
+        ensures told { IfOk result (λ r. TellsPlan r self.old piece.now plan) }
         ensures err { OnErr result (self.new ≡ self.old) }
     {
-        let clean = attaches_nothing(self.finished, self.text.len(), self.cols, cols);
+        let clean = attaches_nothing(self.finished, self.text.len(), plan);
         self.text.reserve(piece.len())?;
         replace_rows(&mut self.rows, &mut self.first_rows, start, &formed)?;
         push_str_reserved(&mut self.text, piece);
-        self.cols = cols;
+        self.layout = layout;
         self.finished = formed.finished;
         self.longest = formed.longest_behind(start);
         self.border = formed.border;
         Ok(told(start, formed, clean))
     }
 
-    // Whether a push of this piece begins there, and forms this text.
-    fn forms(&self, start: Restart, tail: &str, piece: &str, cols: usize) -> bool
+    // Whether a push of this piece begins there, and forms this text so.
+    fn forms(&self, start: Restart, tail: &str, wrap: Wrap, piece: &str, plan: Plan) -> bool
+        requires { plan.keeps ≡ true → plan.wrap ≡ wrap_in self.now }
         ensures text { IsUtf8 self.now.text }
-        ensures start { IsTrue result → IsRestartOf self.now cols start }
+        ensures start { IsTrue result → IsRestartOf self.now.text plan start }
+        ensures wrap { IsTrue result → wrap ≡ plan.wrap }
         ensures tail { IsTrue result → tail.now ≡ drop (start.finished.bytes + start.bytes) self.now.text ++ piece.now }
     {
-        let own = self.restart(cols);
+        let own = self.restart(plan);
         if !start.is_same(own) {
+            return false;
+        }
+        if !wrap.is_same(plan.wrap) {
             return false;
         }
         match tail.strip_prefix(&self.text[own.finished.bytes + own.bytes..]) {
@@ -390,8 +455,9 @@ impl Screen {
         }
     }
 
-    /// Puts a text at the end. Where the columns differ from those that the rows were last formed
-    /// for, all rows are formed anew, and otherwise those of the unfinished line and the text.
+    /// Puts a text at the end, with numbers and columns for all. Where the columns differ from those
+    /// that the rows were last formed for, or those that numbers take do, all rows are formed anew, and
+    /// otherwise those of the unfinished line and the text. Wrapping stays as it is.
     ///
     /// # Errors
     ///
@@ -400,14 +466,17 @@ impl Screen {
         &mut self,
         alloc: Global,
         text: TextBlock<'_>,
+        numbers: LineNumbers,
         cols: usize,
     ) -> Result<FormatResult, MinusError>
-        ensures ok { OnOk result (self.new ≡ pushed self.old text.now cols) }
-        ensures told { IfOk result (λ r. TellsPush r self.old text.now cols) }
+        ensures ok { OnOk result (self.new ≡ pushed self.old text.now numbers cols) }
+        ensures told { IfOk result (λ r. TellsPush r self.old text.now numbers cols) }
         ensures err { OnErr result (self.new ≡ self.old) }
         ensures memory { IfErr result (λ e. e ≡ MinusError.Memory) }
     {
-        Ok(self.push_piece(alloc, text, cols)?)
+        let plan = self.plan(text, numbers, cols);
+        let layout = self.layout.relaid(numbers, cols);
+        Ok(self.push_by(alloc, text, layout, plan)?)
     }
 
     /// Forms what a push of this text would form, beside the rows that would stay. The screen stays
@@ -420,31 +489,35 @@ impl Screen {
         &self,
         alloc: Global,
         text: TextBlock<'_>,
+        numbers: LineNumbers,
         cols: usize,
     ) -> Result<PendingPush, MinusError>
-        ensures ok { IfOk result (λ p. IsPending self.now text.now cols p) }
+        ensures ok { IfOk result (λ p. IsPending self.now text.now numbers cols p) }
         ensures memory { IfErr result (λ e. e ≡ MinusError.Memory) }
     {
-        let start = self.restart(cols);
+        let plan = self.plan(text, numbers, cols);
+        let start = self.restart(plan);
         let tail = self.tail(alloc, start.finished.bytes + start.bytes, text)?;
-        let formed = form(alloc, &tail, start, cols)?;
+        let formed = form(alloc, &tail, start, plan.wrap)?;
         Ok(PendingPush {
             tail,
             start,
             formed,
+            wrap: plan.wrap,
+            numbers,
             cols,
         })
     }
 
     /// How many rows there would be after the push. It takes no memory.
     pub fn rows_after(&self, pending: &PendingPush) -> usize
-        ensures { (piece : List ℕ) (cols : ℕ) → IsPending self.now piece cols pending.now → result ≡ length (rows_of (pushed self.now piece cols)) }
+        ensures { (piece : List ℕ) (numbers : LineNumbers) (cols : ℕ) → IsPending self.now piece numbers cols pending.now → result ≡ length (rows_of (pushed self.now piece numbers cols)) }
     {
         let staying = pending.kept_rows().min(self.formatted_lines_count());
         staying + pending.formed_rows()
     }
 
-    /// The text of a row, counted from 0, as it would be after the push. It takes no memory.
+    /// The own text of a row, counted from 0, as it would be after the push. It takes no memory.
     pub fn row_after<'a>(&'a self, pending: &'a PendingPush, i: usize) -> Option<&'a str>
         ensures { RowIsPending self.now pending.now i (option_map (λ r. r.now) result) }
     {
@@ -456,8 +529,8 @@ impl Screen {
         }
     }
 
-    /// Pushes a text for the columns of a push that was prepared. What was formed then is put in
-    /// place as it is; where it is not what this push forms, the push is formed anew.
+    /// Pushes a text for the numbers and columns of a push that was prepared. What was formed then is
+    /// put in place as it is; where it is not what this push forms, the push is formed anew.
     ///
     /// # Errors
     ///
@@ -468,8 +541,8 @@ impl Screen {
         text: TextBlock<'_>,
         pending: PendingPush,
     ) -> Result<FormatResult, MinusError>
-        ensures ok { OnOk result (self.new ≡ pushed self.old text.now pending.tail.cols) }
-        ensures told { IfOk result (λ r. TellsPush r self.old text.now pending.tail.cols) }
+        ensures ok { OnOk result (self.new ≡ pushed self.old text.now pending.numbers pending.cols) }
+        ensures told { IfOk result (λ r. TellsPush r self.old text.now pending.numbers pending.cols) }
         ensures err { OnErr result (self.new ≡ self.old) }
         ensures memory { IfErr result (λ e. e ≡ MinusError.Memory) }
     {
@@ -477,17 +550,36 @@ impl Screen {
             tail,
             start,
             formed,
+            wrap,
+            numbers,
             cols,
         } = pending;
-        let is_formed = self.forms(start, &tail, text, cols);
+        let plan = self.plan(text, numbers, cols);
+        let layout = self.layout.relaid(numbers, cols);
+        let is_formed = self.forms(start, &tail, wrap, text, plan);
         drop(tail);
         if !is_formed {
-            return Ok(self.push_piece(alloc, text, cols)?);
+            return Ok(self.push_by(alloc, text, layout, plan)?);
         }
-        Ok(self.place_formed(text, start, formed, cols)?)
+        Ok(self.place_formed(text, start, formed, layout, plan)?)
     }
 
-    /// Puts a text in the place of all that there is.
+    /// Forms all rows anew in a layout.
+    ///
+    /// # Errors
+    ///
+    /// [`MinusError::Memory`] where there is no memory for it. Nothing has changed then.
+    pub fn reform(&mut self, alloc: Global, layout: Layout) -> Result<FormatResult, MinusError>
+        ensures ok { OnOk result (self.new ≡ record self.old { layout = layout }) }
+        ensures told { IfOk result (λ r. Tells r (record { text = self.old.text; wrap = wrap_of layout (line_count self.old) }) 0 true) }
+        ensures err { OnErr result (self.new ≡ self.old) }
+        ensures memory { IfErr result (λ e. e ≡ MinusError.Memory) }
+    {
+        let plan = self.plan_anew("", layout);
+        Ok(self.push_by(alloc, "", layout, plan)?)
+    }
+
+    /// Puts a text in the place of all that there is, in a layout.
     ///
     /// # Errors
     ///
@@ -496,15 +588,16 @@ impl Screen {
         &mut self,
         alloc: Global,
         text: TextBlock<'_>,
-        cols: usize,
+        layout: Layout,
     ) -> Result<FormatResult, MinusError>
-        ensures ok { OnOk result (self.new ≡ record { text = text.now; cols = cols }) }
-        ensures told { IfOk result (λ r. Tells r (record { text = text.now; cols = cols }) 0 true) }
+        ensures ok { OnOk result (self.new ≡ record { text = text.now; layout = layout }) }
+        ensures told { IfOk result (λ r. Tells r (record { text = text.now; wrap = wrap_of layout (length (lines text.now)) }) 0 true) }
         ensures err { OnErr result (self.new ≡ self.old) }
         ensures memory { IfErr result (λ e. e ≡ MinusError.Memory) }
     {
         let mut fresh = Screen::new(alloc);
-        let told = fresh.push_piece(alloc, text, cols)?;
+        let plan = fresh.plan_anew(text, layout);
+        let told = fresh.push_by(alloc, text, layout, plan)?;
         *self = fresh;
         Ok(told)
     }

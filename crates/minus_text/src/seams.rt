@@ -5,6 +5,7 @@ ghost use Rattle.std.specs.Str.{IsUtf8};
 ghost use Rattle.minus_text.specs.Kept.{GoesOn, open_stored};
 ghost use Rattle.minus_text.specs.Seams.{WordBeginsAt, RowsGoOn};
 
+use crate::layout::Wrap;
 use crate::wrap::Span;
 
 // A place in a line, in bytes, and how many rows stand before it.
@@ -28,7 +29,7 @@ fn begins_word(line: &str, at: usize) -> bool
 pub(crate) fn last_seam(line: &str, rows: &[Span], first: usize, base: usize, border: usize) -> Seam
     requires rows { first ≤ length rows.now }
     requires behind { All (λ r. base ≤ r.start) (drop first rows.now) }
-    ensures goes_on { (cols : ℕ) → IsUtf8 line.now → drop first rows.now ≡ open_stored cols base line.now → GoesOn cols line.now result.rows result.bytes }
+    ensures goes_on { (wrap : Wrap) → IsUtf8 line.now → drop first rows.now ≡ open_stored wrap base line.now → GoesOn wrap line.now result.rows result.bytes }
     ensures border { result.bytes ≤ border }
 {
     let mut later = 0;

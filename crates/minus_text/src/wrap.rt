@@ -148,7 +148,7 @@ fn past_sequence(text: &str) -> &str
 }
 
 // What follows `ESC[`, where a text begins with it.
-fn strip_escape(text: &str) -> Option<&str>
+pub(crate) fn strip_escape(text: &str) -> Option<&str>
     ensures inside { MatchOption result (begins_sequence (chars text.now) ≡ false) (λ x. chars text.now ≡ 27 ∷ 91 ∷ chars x.now) }
     ensures less { IfSome result (λ x. length x.now < length text.now) }
 {
@@ -162,7 +162,7 @@ fn strip_escape(text: &str) -> Option<&str>
 }
 
 // The columns of the first unit of a text, and what follows it.
-fn split_unit(text: &str) -> Option<(usize, &str)>
+pub(crate) fn split_unit(text: &str) -> Option<(usize, &str)>
     ensures unit { MatchOption result (chars text.now ≡ []) (λ x. SplitsUnit (chars text.now) x.0 (chars x.1.now)) }
     ensures room { IfSome result (λ x. x.0 + 2 * length x.1.now ≤ 2 * length text.now) }
     ensures less { IfSome result (λ x. length x.1.now < length text.now) }
@@ -280,7 +280,7 @@ fn push_part(
 }
 
 // What stands before the rest of a text.
-fn front<'a>(text: &'a str, rest: &str) -> &'a str
+pub(crate) fn front<'a>(text: &'a str, rest: &str) -> &'a str
     requires { (f : List ℕ) × (text.now ≡ f ++ rest.now) }
     ensures { text.now ≡ result.now ++ rest.now }
 {
@@ -505,7 +505,7 @@ pub fn format_line(alloc: Global, line: Line<'_>, cols: usize) -> Result<Rows, A
 }
 
 // A text without the spaces that end it.
-fn without_spaces(text: &str) -> &str
+pub(crate) fn without_spaces(text: &str) -> &str
     ensures body { chars result.now ≡ body_of (chars text.now) }
     ensures spaces { length text.now + length (chars result.now) ≡ length (chars text.now) + length result.now }
     ensures room { length result.now ≤ length text.now }

@@ -1,7 +1,7 @@
 //! What a screen, a push and a map of lines tell.
 use crate::screens::{has_rows, screen_of};
 use minus_term::error::MinusError;
-use minus_text::{FormatResult, LinesRowMap, Screen};
+use minus_text::{FormatResult, Layout, LineNumbers, LinesRowMap, Screen};
 use std::alloc::Global;
 use std::test::Fail;
 
@@ -16,7 +16,7 @@ fn unfinished_told(alloc: Global, pieces: &str) -> Result<usize, MinusError> {
     let mut screen = Screen::new(alloc);
     let mut rows = 0;
     for piece in pieces.split('|') {
-        rows = screen.push_screen_buf(alloc, piece, 20)?.num_unterminated;
+        rows = screen.push_screen_buf(alloc, piece, LineNumbers::Disabled, 20)?.num_unterminated;
     }
     Ok(rows)
 }
@@ -81,8 +81,8 @@ fn unfinished_rows_are_told(rt: HostRuntime) -> Result<(), Fail> {
 #[test]
 fn a_result_tells_of_the_text_formed(rt: HostRuntime) -> Result<(), Fail> {
     let mut screen = Screen::new(rt.alloc());
-    let set = screen.set_text(rt.alloc(), "ab\r\ncd", 80)?;
-    let pushed = screen.push_screen_buf(rt.alloc(), "e\nfg\n", 80)?;
+    let set = screen.set_text(rt.alloc(), "ab\r\ncd", Layout::plain(80))?;
+    let pushed = screen.push_screen_buf(rt.alloc(), "e\nfg\n", LineNumbers::Disabled, 80)?;
     let set_told = told(&set) == (2, 2, 1, 2, true);
     let pushed_told = told(&pushed) == (2, 2, 0, 3, false);
     assert!(rt; set_told && pushed_told && pushed.lines_to_row_map.get(1) == Some(2));
@@ -107,7 +107,7 @@ fn a_push_of_nothing_keeps_the_text(rt: HostRuntime) -> Result<(), Fail> {
 #[test]
 fn a_push_is_seen_before_it_is_made(rt: HostRuntime) -> Result<(), Fail> {
     let mut screen = screen_of(rt.alloc(), "one\ntwo thr", 5)?;
-    let pending = screen.prepare_push(rt.alloc(), "ee\nfour", 5)?;
+    let pending = screen.prepare_push(rt.alloc(), "ee\nfour", LineNumbers::Disabled, 5)?;
     let seen = screen.rows_after(&pending) == 4
         && screen.row_after(&pending, 0) == Some("one")
         && screen.row_after(&pending, 2) == Some("three")

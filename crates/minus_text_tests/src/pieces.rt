@@ -1,6 +1,6 @@
 //! An unfinished line that comes in pieces has the rows of the whole.
 use minus_term::error::MinusError;
-use minus_text::Screen;
+use minus_text::{LineNumbers, Screen};
 use std::alloc::Global;
 use std::test::Fail;
 
@@ -32,7 +32,7 @@ fn same(a: &Screen, b: &Screen) -> bool {
 // A screen of a text that is pushed whole.
 fn whole(alloc: Global, text: &str, cols: usize) -> Result<Screen, MinusError> {
     let mut screen = Screen::new(alloc);
-    let _ = screen.push_screen_buf(alloc, text, cols)?;
+    let _ = screen.push_screen_buf(alloc, text, LineNumbers::Disabled, cols)?;
     Ok(screen)
 }
 
@@ -44,7 +44,7 @@ fn push_part(
     cols: usize,
 ) -> Result<(), MinusError> {
     if let Some(piece) = part {
-        let _ = screen.push_screen_buf(alloc, piece, cols)?;
+        let _ = screen.push_screen_buf(alloc, piece, LineNumbers::Disabled, cols)?;
     }
     Ok(())
 }
@@ -101,7 +101,7 @@ fn same_prepared(alloc: Global, text: &str, i: usize, cols: usize) -> Result<boo
     };
     let mut screen = whole(alloc, first, cols)?;
     let all = whole(alloc, text, cols)?;
-    let pending = screen.prepare_push(alloc, piece, cols)?;
+    let pending = screen.prepare_push(alloc, piece, LineNumbers::Disabled, cols)?;
     let mut alike = screen.rows_after(&pending) == all.formatted_lines_count();
     for row in 0..all.formatted_lines_count() {
         alike &= screen.row_after(&pending, row) == all.row_text(row);
@@ -162,7 +162,7 @@ fn a_prepared_push_has_the_rows_of_the_whole(rt: HostRuntime) -> Result<(), Fail
 // A screen of a text, after a push of another text than was prepared.
 fn after_another_push(alloc: Global, text: &str) -> Result<Screen, MinusError> {
     let mut screen = whole(alloc, "one two th", 5)?;
-    let pending = screen.prepare_push(alloc, "ree", 5)?;
+    let pending = screen.prepare_push(alloc, "ree", LineNumbers::Disabled, 5)?;
     let _ = screen.place_push(alloc, text, pending)?;
     Ok(screen)
 }

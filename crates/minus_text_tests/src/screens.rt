@@ -1,13 +1,13 @@
 //! Screens for tests. Pieces, and rows, stand in one text with a bar between them.
 use minus_term::error::MinusError;
-use minus_text::Screen;
+use minus_text::{LineNumbers, Screen};
 use std::alloc::Global;
 
 // A screen of these pieces, pushed one after another.
 pub(crate) fn screen_of(alloc: Global, pieces: &str, cols: usize) -> Result<Screen, MinusError> {
     let mut screen = Screen::new(alloc);
     for piece in pieces.split('|') {
-        let _ = screen.push_screen_buf(alloc, piece, cols)?;
+        let _ = screen.push_screen_buf(alloc, piece, LineNumbers::Disabled, cols)?;
     }
     Ok(screen)
 }

@@ -11,9 +11,9 @@ use Rattle.minus_text.proofs.formed.form_lines.Given as goal
 abbrev pub invariant-loop-first : goal.invariant-loop-first
 invariant-loop-first l = record {
   utf8 : shadow (Utf8 l.rest);
-  rows : l.forming.rows.items ++ closed_stored l.cols l.place.bytes (cut l.rest).closed ≡ l.fn.forming.rows.items ++ closed_stored l.cols l.from.bytes (cut l.text).closed;
-  count : length l.forming.rows.items + length (rows_of_lines l.cols (finished_lines l.rest)) ≡ length l.fn.forming.rows.items + length (rows_of_lines l.cols (finished_lines l.text));
-  first_row : l.forming.first_rows.items ++ first_rows l.cols l.place.rows (finished_lines l.rest) ≡ l.fn.forming.first_rows.items ++ first_rows l.cols l.from.rows (finished_lines l.text);
+  rows : l.forming.rows.items ++ closed_stored l.wrap l.place.bytes (cut l.rest).closed ≡ l.fn.forming.rows.items ++ closed_stored l.wrap l.from.bytes (cut l.text).closed;
+  count : length l.forming.rows.items + length (rows_of_lines l.wrap (finished_lines l.rest)) ≡ length l.fn.forming.rows.items + length (rows_of_lines l.wrap (finished_lines l.text));
+  first_row : l.forming.first_rows.items ++ first_rows l.wrap l.place.rows (finished_lines l.rest) ≡ l.fn.forming.first_rows.items ++ first_rows l.wrap l.from.rows (finished_lines l.text);
   reached : l.place.rows ≡ l.kept + length l.forming.rows.items;
   longest : max l.forming.longest (longest_of (finished_lines l.rest)) ≡ max l.fn.forming.longest (longest_of (finished_lines l.text));
   line : l.place.lines + length (cut l.rest).closed ≡ l.from.lines + length (cut l.text).closed;

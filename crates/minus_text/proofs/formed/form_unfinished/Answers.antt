@@ -6,18 +6,18 @@ use Rattle.minus_text.proofs.formed.form_unfinished.Goals as goal
 
 pub returns-then-is_empty : goal.returns-then-is_empty
 returns-then-is_empty c =
-    nothing_prepared c.args.cols c.args.text.now c.args.start _ (eqb-true (length c.args.text.now) 0 (sym c.is_empty.ensures ∙ c.if-is_empty.true)) c.new.ensures.items c.new-then-is_empty.ensures refl refl refl
+    nothing_prepared c.args.wrap c.args.text.now c.args.start _ (eqb-true (length c.args.text.now) 0 (sym c.is_empty.ensures ∙ c.if-is_empty.true)) c.new.ensures.items c.new-then-is_empty.ensures refl refl refl
 
 pub begin_line-requires-clause-boundary : goal.begin_line-requires-clause-boundary
-begin_line-requires-clause-boundary c = let h = c.requires.start in rest_boundary c.args.cols c.args.text.now c.args.start h.0 h.1 h.2 h.3 h.4
+begin_line-requires-clause-boundary c = let h = c.requires.start in rest_boundary c.args.wrap c.args.text.now c.args.start h.0 h.1 h.2 h.3 h.4
 
 pub begin_line-requires-clause-columns : goal.begin_line-requires-clause-columns
-begin_line-requires-clause-columns c = let h = c.requires.start in omega (arith, rest_few c.args.cols c.args.text.now c.args.start h.0 h.1 h.2 h.3 h.4, c.requires.bytes)
+begin_line-requires-clause-columns c = let h = c.requires.start in omega (arith, rest_few c.args.wrap c.args.text.now c.args.start h.0 h.1 h.2 h.3 h.4, c.requires.bytes)
 
 pub returns : goal.returns
 returns c =
     let some : length c.args.text.now ≢ 0 = eqb-false (length c.args.text.now) 0 (sym c.is_empty.ensures ∙ c.if-is_empty.false) in
-    unfinished_prepared c.args.cols c.args.text.now c.args.start c.in_ok-forming.forming _ c.requires.whole (omega (arith, some)) c.in_ok-forming.ensures refl c.from_first_rows.ensures refl (c.grown_border.ensures c.args.cols) refl
+    unfinished_prepared c.args.wrap c.args.text.now c.args.start c.in_ok-forming.forming _ c.requires.whole (omega (arith, some)) c.in_ok-forming.ensures refl c.from_first_rows.ensures refl (c.grown_border.ensures c.args.wrap) refl
 
 pub grown_border-requires-clause-boundary : goal.grown_border-requires-clause-boundary
-grown_border-requires-clause-boundary c = let h = c.requires.start in rest_boundary c.args.cols c.args.text.now c.args.start h.0 h.1 h.2 h.3 h.4
+grown_border-requires-clause-boundary c = let h = c.requires.start in rest_boundary c.args.wrap c.args.text.now c.args.start h.0 h.1 h.2 h.3 h.4

@@ -8,7 +8,7 @@ use Rattle.minus_text.proofs.BorderLaws.{whole_border, border_behind, border_lea
 use Rattle.minus_text.proofs.formed.grown_border.Goals as goal
 
 pub returns-then-not-ends_with : goal.returns-then-not-ends_with
-returns-then-not-ends_with c = λ cols line piece r u t.
+returns-then-not-ends_with c = λ wrap line piece r u t.
     let a = c.args.start.bytes in
     let b = c.args.start.border.bytes in
     let rest : drop (b - a) c.args.text.now ≡ drop b line ++ piece = ap (drop (b - a)) t ∙ left_twice line piece a b r.behind r.measured.within in
@@ -27,7 +27,7 @@ overflow_add-result-3 c =
     omega (arith, least, c.requires.columns, ap columns c.range_from-unmeasured.ensures.value, c.ranges.width.fits)
 
 pub returns : goal.returns
-returns c = λ cols line piece r u t.
+returns c = λ wrap line piece r u t.
     let a = c.args.start.bytes in
     let b = c.args.start.border.bytes in
     let rest : drop (b - a) c.args.text.now ≡ drop b line ++ piece = ap (drop (b - a)) t ∙ left_twice line piece a b r.behind r.measured.within in

@@ -8,5 +8,11 @@ overflow_add-count c = let few = length-decimal_small c.args.number (omega arith
 pub loop-rest-preserved : goal.loop-rest-preserved
 loop-rest-preserved c = let step = length-decimal_step c.loop-rest.rest (omega arith) (omega arith) in omega (arith, c.loop-rest.invariant)
 
-pub returns : goal.returns
-returns c = let last = length-decimal_digit c.loop-rest.rest (omega arith) in omega (arith, c.loop-rest.invariant)
+pub returns-clause-value : goal.returns-clause-value
+returns-clause-value c = let last = length-decimal_digit c.loop-rest.rest (omega arith) in omega (arith, c.loop-rest.invariant)
+
+pub returns-clause-few : goal.returns-clause-few
+returns-clause-few c =
+    let last = length-decimal_digit c.loop-rest.rest (omega arith) in
+    let few = length-decimal_small c.args.number (omega arith) in
+    omega (arith, c.loop-rest.invariant)

@@ -4,8 +4,11 @@ use Rattle.std.specs.String.{string_bytes}
 use Rattle.std.proofs.lemmas.List.{length-append, length-drop}
 use Rattle.minus_text.specs.Kept.{line_going_on, piece_behind}
 use Rattle.minus_text.proofs.ScreenLaws.{push_start}
-use Rattle.minus_text.proofs.PendingLaws.{prepared_pending}
+use Rattle.minus_text.proofs.PendingLaws.{prepared_pending, plan_keeps}
 use Rattle.minus_text.proofs.screen.Screen.prepare_push.Goals as goal
+
+pub restart-start-requires : goal.restart-start-requires
+restart-start-requires c = plan_keeps c.args.self.now c.args.text.now c.args.numbers c.args.cols c.plan-plan.result c.plan-plan.ensures
 
 pub form-requires-clause-bytes : goal.form-requires-clause-bytes
 form-requires-clause-bytes c =
@@ -21,11 +24,11 @@ form-requires-clause-lines c =
 pub form-requires-clause-start : goal.form-requires-clause-start
 form-requires-clause-start c =
     let r = c.restart-start.ensures in
-    let h = push_start c.args.self.now c.args.cols c.restart-start.result c.args.text.now r.text c.utf8.text r.start in
-    (line_going_on c.args.self.now c.args.cols, piece_behind c.args.self.now c.args.cols c.args.text.now, r.start.restarts, h.0, c.deref.ensures ∙ c.in_ok-tail.ensures ∙ h.1)
+    let h = push_start c.args.self.now.text c.plan-plan.result c.restart-start.result c.args.text.now r.text c.utf8.text r.start in
+    (line_going_on c.args.self.now.text c.plan-plan.result, piece_behind c.args.self.now.text c.plan-plan.result c.args.text.now, r.start.restarts, h.0, c.deref.ensures ∙ c.in_ok-tail.ensures ∙ h.1)
 
 pub returns-clause-ok : goal.returns-clause-ok
 returns-clause-ok c =
     let r = c.restart-start.ensures in
-    let h = push_start c.args.self.now c.args.cols c.restart-start.result c.args.text.now r.text c.utf8.text r.start in
-    prepared_pending c.args.self.now.text c.args.text.now (string_bytes c.in_ok-tail.tail) c.args.self.now.cols c.args.cols c.restart-start.result c.args.self.now refl r.start h.0 (c.in_ok-tail.ensures ∙ h.1)
+    let h = push_start c.args.self.now.text c.plan-plan.result c.restart-start.result c.args.text.now r.text c.utf8.text r.start in
+    prepared_pending c.args.self.now c.args.text.now (string_bytes c.in_ok-tail.tail) c.args.numbers c.args.cols c.restart-start.result c.plan-plan.result c.plan-plan.ensures r.start h.0 (c.in_ok-tail.ensures ∙ h.1)

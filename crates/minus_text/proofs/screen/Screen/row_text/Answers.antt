@@ -11,7 +11,7 @@ range-requires-clause-start_le_end c =
     let u : IsUtf8 (string_bytes c.self.inside.text) = rw c.as_str-text.ensures.value at c.as_str-text.utf8 in
     let within = c.in-Some.ensures.lookup.3.0 in
     let found : slice_get c.self.inside.rows.items c.args.i ≡ Some c.in-Some.row.now = rw c.deref.ensures.value at (slice_get_read c.deref.result.now (length c.deref.result.now) c.args.i c.in-Some.row.now refl within c.in-Some.ensures.lookup.1) in
-    let h = row_here (string_bytes c.self.inside.text) c.self.inside.cols c.self.inside.rows.items c.self.inside.first_rows c.self.inside.finished c.self.inside.longest c.self.inside.border c.args.self.now c.args.i c.in-Some.row.now c.self.view_is c.self.invariant u found in
+    let h = row_here (string_bytes c.self.inside.text) c.self.inside.layout c.self.inside.rows.items c.self.inside.first_rows c.self.inside.finished c.self.inside.longest c.self.inside.border c.args.self.now c.args.i c.in-Some.row.now c.self.view_is c.self.invariant u found in
     h.ordered
 
 pub range-requires-clause-start_boundary : goal.range-requires-clause-start_boundary
@@ -19,7 +19,7 @@ range-requires-clause-start_boundary c =
     let u : IsUtf8 (string_bytes c.self.inside.text) = rw c.as_str-text.ensures.value at c.as_str-text.utf8 in
     let within = c.in-Some.ensures.lookup.3.0 in
     let found : slice_get c.self.inside.rows.items c.args.i ≡ Some c.in-Some.row.now = rw c.deref.ensures.value at (slice_get_read c.deref.result.now (length c.deref.result.now) c.args.i c.in-Some.row.now refl within c.in-Some.ensures.lookup.1) in
-    let h = row_here (string_bytes c.self.inside.text) c.self.inside.cols c.self.inside.rows.items c.self.inside.first_rows c.self.inside.finished c.self.inside.longest c.self.inside.border c.args.self.now c.args.i c.in-Some.row.now c.self.view_is c.self.invariant u found in
+    let h = row_here (string_bytes c.self.inside.text) c.self.inside.layout c.self.inside.rows.items c.self.inside.first_rows c.self.inside.finished c.self.inside.longest c.self.inside.border c.args.self.now c.args.i c.in-Some.row.now c.self.view_is c.self.invariant u found in
     λ _. rw c.as_str-text.ensures.value h.start
 
 pub range-requires-clause-end_boundary : goal.range-requires-clause-end_boundary
@@ -27,7 +27,7 @@ range-requires-clause-end_boundary c =
     let u : IsUtf8 (string_bytes c.self.inside.text) = rw c.as_str-text.ensures.value at c.as_str-text.utf8 in
     let within = c.in-Some.ensures.lookup.3.0 in
     let found : slice_get c.self.inside.rows.items c.args.i ≡ Some c.in-Some.row.now = rw c.deref.ensures.value at (slice_get_read c.deref.result.now (length c.deref.result.now) c.args.i c.in-Some.row.now refl within c.in-Some.ensures.lookup.1) in
-    let h = row_here (string_bytes c.self.inside.text) c.self.inside.cols c.self.inside.rows.items c.self.inside.first_rows c.self.inside.finished c.self.inside.longest c.self.inside.border c.args.self.now c.args.i c.in-Some.row.now c.self.view_is c.self.invariant u found in
+    let h = row_here (string_bytes c.self.inside.text) c.self.inside.layout c.self.inside.rows.items c.self.inside.first_rows c.self.inside.finished c.self.inside.longest c.self.inside.border c.args.self.now c.args.i c.in-Some.row.now c.self.view_is c.self.invariant u found in
     rw c.as_str-text.ensures.value h.end
 
 pub returns-in-Some : goal.returns-in-Some
@@ -35,7 +35,7 @@ returns-in-Some c =
     let u : IsUtf8 (string_bytes c.self.inside.text) = rw c.as_str-text.ensures.value at c.as_str-text.utf8 in
     let within = c.in-Some.ensures.lookup.3.0 in
     let found : slice_get c.self.inside.rows.items c.args.i ≡ Some c.in-Some.row.now = rw c.deref.ensures.value at (slice_get_read c.deref.result.now (length c.deref.result.now) c.args.i c.in-Some.row.now refl within c.in-Some.ensures.lookup.1) in
-    let h = row_here (string_bytes c.self.inside.text) c.self.inside.cols c.self.inside.rows.items c.self.inside.first_rows c.self.inside.finished c.self.inside.longest c.self.inside.border c.args.self.now c.args.i c.in-Some.row.now c.self.view_is c.self.invariant u found in
+    let h = row_here (string_bytes c.self.inside.text) c.self.inside.layout c.self.inside.rows.items c.self.inside.first_rows c.self.inside.finished c.self.inside.longest c.self.inside.border c.args.self.now c.args.i c.in-Some.row.now c.self.view_is c.self.invariant u found in
     rw (c.range.ensures.value, c.as_str-text.ensures.value) (sym h.value)
 
 pub returns-in-None : goal.returns-in-None
@@ -43,4 +43,4 @@ returns-in-None c =
     let u : IsUtf8 (string_bytes c.self.inside.text) = rw c.as_str-text.ensures.value at c.as_str-text.utf8 in
     let past = c.in-None.ensures.lookup.3 in
     let none : slice_get c.self.inside.rows.items c.args.i ≡ None = rw c.deref.ensures.value at (slice_get_past c.deref.result.now c.args.i past) in
-    sym (no_row (string_bytes c.self.inside.text) c.self.inside.cols c.self.inside.rows.items c.self.inside.first_rows c.self.inside.finished c.self.inside.longest c.self.inside.border c.args.self.now c.args.i c.self.view_is c.self.invariant u none)
+    sym (no_row (string_bytes c.self.inside.text) c.self.inside.layout c.self.inside.rows.items c.self.inside.first_rows c.self.inside.finished c.self.inside.longest c.self.inside.border c.args.self.now c.args.i c.self.view_is c.self.invariant u none)

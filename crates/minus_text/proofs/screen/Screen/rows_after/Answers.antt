@@ -4,8 +4,8 @@ use Rattle.minus_text.proofs.PendingLaws.{count_after}
 use Rattle.minus_text.proofs.screen.Screen.rows_after.Goals as goal
 
 pub returns : goal.returns
-returns c = λ piece cols h.
-    let count = count_after c.args.self.now piece cols c.args.pending.now h in
+returns c = λ piece numbers cols h.
+    let count = count_after c.args.self.now piece numbers cols c.args.pending.now h in
     let within = h.few in
     let kept = c.kept_rows.ensures in
     let here = c.formatted_lines_count.ensures.value in

@@ -1,0 +1,139 @@
+//! Texts cut to some columns.
+ghost use Rattle.std.specs.Prelude.{◌≡◌, ◌==◌, ◌++◌, ℕ, List, chars, string_bytes, if◌then◌else◌, IfOk, OnOk};
+ghost use Rattle.std.specs.List.{concat};
+ghost use Rattle.std.specs.Str.{encode_utf8_all};
+ghost use Rattle.minus_text.specs.Units.{unit_columns, begins_sequence};
+ghost use Rattle.minus_text.specs.Crop.{is_inside, columns_inside, is_shown_behind, is_shown, shown_unit, cropped, fitted, CroppedFits, FittedFills};
+
+use crate::screen::Row;
+use crate::spaces::push_spaces;
+use crate::units::{Unit, Units};
+use std::alloc::{AllocError, Global};
+
+/// Columns of a text that are shown: how many, from the column `left` on, counted from 0.
+#[derive(Clone, Copy)]
+pub struct Window {
+    pub left: usize,
+    pub width: usize,
+}
+
+impl Window {
+    /// Whether so many columns from the column `at` on are all shown.
+    pub fn is_inside(self, at: usize, columns: usize) -> bool
+        ensures { result ≡ is_inside self.left self.width at columns }
+    {
+        self.left <= at && at - self.left <= self.width && columns <= self.width - (at - self.left)
+    }
+
+    // How many of them are shown.
+    fn columns_inside(self, at: usize, columns: usize) -> usize
+        ensures { result ≡ columns_inside self.left self.width at columns }
+    {
+        let behind = columns.saturating_sub(self.left.saturating_sub(at));
+        behind.min(self.width.saturating_sub(at.saturating_sub(self.left)))
+    }
+
+    // Whether a character without columns is shown.
+    fn is_shown_behind(self, at: usize, last: usize) -> bool
+        ensures { result ≡ is_shown_behind self.left self.width at last }
+    {
+        if last == 0 {
+            self.left == 0
+        } else {
+            self.is_inside(at.saturating_sub(last), last)
+        }
+    }
+
+    // Whether a unit is shown as it is.
+    fn is_shown(self, at: usize, last: usize, unit: Unit<'_>) -> bool
+        requires columns { unit.columns ≡ unit_columns (chars unit.text.now) }
+        requires sequence { unit.is_sequence ≡ begins_sequence (chars unit.text.now) }
+        ensures { result ≡ is_shown self.left self.width at last (chars unit.entry.text.now) }
+    {
+        if unit.is_sequence {
+            return true;
+        }
+        if unit.columns == 0 {
+            return self.is_shown_behind(at, last);
+        }
+        self.is_inside(at, unit.columns)
+    }
+
+    // Adds what is shown of a unit.
+    fn push_unit(
+        self,
+        row: &mut String,
+        at: usize,
+        last: usize,
+        unit: Unit<'_>,
+    ) -> Result<(), AllocError>
+        requires columns { unit.columns ≡ unit_columns (chars unit.text.now) }
+        requires sequence { unit.is_sequence ≡ begins_sequence (chars unit.text.now) }
+        ensures { OnOk result (string_bytes row.new ≡ string_bytes row.old ++ encode_utf8_all (concat (shown_unit self.left self.width at last (chars unit.entry.text.now)))) }
+    {
+        if self.is_shown(at, last, unit) {
+            row.push_str(unit.text)?;
+            return Ok(());
+        }
+        push_spaces(row, self.columns_inside(at, unit.columns))?;
+        Ok(())
+    }
+}
+
+// The columns of the last unit that has columns, where one more follows.
+fn last_columns(last: usize, columns: usize) -> usize
+    ensures { result ≡ (if columns == 0 then last else columns) }
+{
+    if columns == 0 { last } else { columns }
+}
+
+/// What is shown of a text, taken as one piece, in so many columns from the column `left` on, counted from
+/// 0. A unit with columns is shown if they are all among these, and else as a space for each of its columns
+/// that is; each `ESC[` sequence is shown; any other character without columns is shown with the last unit
+/// with columns before it, and with none before it where `left` is 0. Fails for want of memory alone.
+pub fn crop_columns(alloc: Global, text: &str, left: usize, width: usize) -> Result<Row, AllocError>
+    ensures { IfOk result (λ row. string_bytes row ≡ cropped left width text.now) }
+{
+    let window = Window { left, width };
+    let mut row = String::new(alloc);
+    let mut at = 0;
+    let mut last = 0;
+    let mut rest = Units::new(text);
+    while let Some((unit, more)) = rest.split_first() {
+        window.push_unit(&mut row, at, last, unit)?;
+        last = last_columns(last, unit.columns);
+        at += unit.columns;
+        rest = more;
+    }
+    Ok(row)
+}
+
+/// Adds a text, taken as one piece, cut to its longest front of whole units that takes at most so many
+/// columns, and filled with spaces to as many. Fails for want of memory alone.
+pub fn push_fitted(row: &mut String, text: &str, cols: usize) -> Result<(), AllocError>
+    ensures { OnOk result (string_bytes row.new ≡ string_bytes row.old ++ fitted cols text.now) }
+{
+    let mut left = cols;
+    let mut rest = Units::new(text);
+    while let Some((unit, more)) = rest.split_first() {
+        if unit.columns > left {
+            push_spaces(row, left)?;
+            return Ok(());
+        }
+        row.push_str(unit.text)?;
+        left -= unit.columns;
+        rest = more;
+    }
+    push_spaces(row, left)?;
+    Ok(())
+}
+
+/// What is shown of a text takes at most the columns that there are.
+pub fn cropped_texts_fit()
+    ensures { CroppedFits }
+{}
+
+/// A text cut or filled to some columns has the longest front of units that fits, and takes just as many.
+pub fn fitted_texts_fill()
+    ensures { (cols : ℕ) (us : List (List ℕ)) → FittedFills cols us }
+{}
