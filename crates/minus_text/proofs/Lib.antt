@@ -29,6 +29,7 @@ pub mod DigitsLaws
 pub mod SpacesLaws
 pub mod TextUnitsLaws
 pub mod CropLaws
+pub mod ShownColumnsLaws
 pub mod LineMapLaws
 pub mod LinesLaws
 pub mod LayoutLaws
