@@ -1,7 +1,7 @@
 //! What a screen, a push and a map of lines tell.
 use crate::screens::{has_rows, screen_of};
 use minus_term::error::MinusError;
-use minus_text::{FormatResult, Layout, LineNumbers, LinesRowMap, Screen};
+use minus_text::{FormatResult, Layout, LineNumbers, LinesRowMap, PendingPush, Screen};
 use std::alloc::Global;
 use std::test::Fail;
 
@@ -106,20 +106,29 @@ fn a_push_of_nothing_keeps_the_text(rt: HostRuntime) -> Result<(), Fail> {
     Ok(())
 }
 
+// Whether a push of `ee`, a newline and `four` that is not made yet is seen.
+fn is_seen_before(screen: &Screen, pending: &PendingPush) -> bool {
+    screen.rows_after(pending) == 4
+        && screen.row_after(pending, 0) == Some("one")
+        && screen.row_after(pending, 2) == Some("three")
+        && has_rows(screen, "one|two|thr")
+}
+
+// Whether its result and the screen tell that it was made.
+fn is_seen_made(screen: &Screen, answer: &FormatResult) -> bool {
+    answer.rows_formatted == 3
+        && answer.lines_to_row_map.get(1) == Some(3)
+        && has_rows(screen, "one|two|three|four")
+        && screen.lines_to_row_map().row_to_line(3) == Some(2)
+}
+
 #[test]
 fn a_push_is_seen_before_it_is_made(rt: HostRuntime) -> Result<(), Fail> {
     let mut screen = screen_of(rt.alloc(), "one\ntwo thr", 5)?;
     let pending = screen.prepare_push(rt.alloc(), "ee\nfour", LineNumbers::Disabled, 5)?;
-    let seen = screen.rows_after(&pending) == 4
-        && screen.row_after(&pending, 0) == Some("one")
-        && screen.row_after(&pending, 2) == Some("three")
-        && has_rows(&screen, "one|two|thr");
+    let seen = is_seen_before(&screen, &pending);
     let result = screen.place_push(rt.alloc(), "ee\nfour", pending)?;
-    let made = result.rows_formatted == 3
-        && result.lines_to_row_map.get(1) == Some(3)
-        && has_rows(&screen, "one|two|three|four")
-        && screen.lines_to_row_map().row_to_line(3) == Some(2);
-    assert!(rt; seen && made);
+    assert!(rt; seen && is_seen_made(&screen, &result));
     Ok(())
 }
 

@@ -57,7 +57,15 @@ fn an_escape_stands_before_a_match(rt: HostRuntime) -> Result<(), Fail> {
 #[test]
 fn a_match_takes_the_blanks_beside_a_word(rt: HostRuntime) -> Result<(), Fail> {
     let shown = "nisl.\x1b[7m placerat \x1b[27mnon";
-    assert!(rt; shows(rt.alloc(), "nisl. placerat non", "\\W\\w+t\\W", shown, shown)?);
+    assert!(rt;
+        shows(
+            rt.alloc(),
+            "nisl. placerat non",
+            "\\W\\w+t\\W",
+            shown,
+            shown
+        )?
+    );
     Ok(())
 }
 

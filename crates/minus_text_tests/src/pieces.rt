@@ -1,7 +1,7 @@
 //! An unfinished line that comes in pieces has the rows of the whole.
 use crate::screens::fill;
 use minus_term::error::MinusError;
-use minus_text::{LineNumbers, Screen};
+use minus_text::{LineNumbers, PendingPush, Screen};
 use std::alloc::Global;
 use std::test::Fail;
 
@@ -100,20 +100,36 @@ fn same_by_characters(alloc: Global, text: &str, cols: usize) -> Result<bool, Mi
     Ok(same(&screen, &all))
 }
 
+// Whether a push that is not made yet shows what a screen does.
+fn shows_before(screen: &Screen, pending: &PendingPush, all: &Screen) -> bool {
+    let mut alike = screen.rows_after(pending) == all.formatted_lines_count();
+    for row in 0..all.formatted_lines_count() {
+        alike &= screen.row_after(pending, row) == all.row_text(row);
+    }
+    alike
+}
+
+// Whether the push of a piece shows what a screen does before it is made, and when it is.
+fn pushed_as(
+    alloc: Global,
+    mut screen: Screen,
+    piece: &str,
+    cols: usize,
+    all: &Screen,
+) -> Result<bool, MinusError> {
+    let pending = screen.prepare_push(alloc, piece, LineNumbers::Disabled, cols)?;
+    let before = shows_before(&screen, &pending, all);
+    let _ = screen.place_push(alloc, piece, pending)?;
+    Ok(before && same(&screen, all))
+}
+
 // Whether a push shows the same before it is made, and when it is.
 fn same_prepared(alloc: Global, text: &str, i: usize, cols: usize) -> Result<bool, MinusError> {
     let (Some(first), Some(piece)) = (text.get(..i), text.get(i..)) else {
         return Ok(true);
     };
-    let mut screen = whole(alloc, first, cols)?;
     let all = whole(alloc, text, cols)?;
-    let pending = screen.prepare_push(alloc, piece, LineNumbers::Disabled, cols)?;
-    let mut alike = screen.rows_after(&pending) == all.formatted_lines_count();
-    for row in 0..all.formatted_lines_count() {
-        alike &= screen.row_after(&pending, row) == all.row_text(row);
-    }
-    let _ = screen.place_push(alloc, piece, pending)?;
-    Ok(alike && same(&screen, &all))
+    pushed_as(alloc, whole(alloc, first, cols)?, piece, cols, &all)
 }
 
 // Whether a push that is prepared at any place shows the same.

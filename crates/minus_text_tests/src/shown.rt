@@ -31,7 +31,10 @@ fn a_text_is_cropped_by_columns(rt: HostRuntime) -> Result<(), Fail> {
         ("\u{301}e\u{301}a", 1, 1, "a"),
     ];
     for (text, left, width, shown) in table {
-        assert!(rt; shows(rt.alloc(), text, left, width, shown)?, "at {text} from {left}");
+        assert!(rt;
+            shows(rt.alloc(), text, left, width, shown)?,
+            "at {text} from {left}"
+        );
     }
     Ok(())
 }
@@ -65,8 +68,8 @@ fn rows_begin_with_numbers(rt: HostRuntime) -> Result<(), Fail> {
 
 #[test]
 fn numbers_are_exchanged(rt: HostRuntime) -> Result<(), Fail> {
-    let exchanged =
-        !LineNumbers::Enabled == LineNumbers::Disabled && (!LineNumbers::Disabled).is_on();
+    let exchanged = !LineNumbers::Enabled == LineNumbers::Disabled
+        && (!LineNumbers::Disabled).is_on();
     assert!(rt; exchanged && !LineNumbers::AlwaysOff == LineNumbers::AlwaysOff);
     Ok(())
 }
