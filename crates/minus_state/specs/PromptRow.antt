@@ -1,10 +1,9 @@
 -- The prompt row: what stands in it, and its columns.
 use Rattle.std.specs.Prelude.{◌≡◌, ℕ, ◌+◌, ◌-◌, ◌^◌, ◌==◌, Bool, min, max, Option, is_some, unwrap_or, option_map, List, [], ◌∷◌, ◌++◌, length, chars, codes, if◌then◌else◌}
 use Rattle.std.specs.Fmt.{decimal}
-use Rattle.std.specs.List.{concat}
-use Rattle.minus_text.specs.Units.{text_columns, columns}
+use Rattle.minus_text.specs.Units.{columns}
 use Rattle.minus_text.specs.TextUnits.{text_units}
-use Rattle.minus_text.specs.Crop.{fitted, fitted_units}
+use Rattle.minus_text.specs.Crop.{fitted, fitted_units, columns_of}
 use Rattle.minus_state.specs.declared.prompt.PromptRow as code
 
 -- what the prompt row is formed of: whether it is shown, the prompt, the message if there is one, the prefix that was typed,
@@ -81,4 +80,5 @@ FillsItsRow p = columns (fitted (columns_left p) (said p)) + indicator_columns p
 
 -- the same for the characters of what the row says, of any prompt row
 abbrev pub PromptFillsItsRow : Type 0
-PromptFillsItsRow = (p : PromptRow) → text_columns (concat (fitted_units (columns_left p) (text_units (chars (said p))))) + indicator_columns p ≡ max p.cols (indicator_columns p)
+PromptFillsItsRow =
+    (p : PromptRow) → columns_of (fitted_units (columns_left p) (text_units (chars (said p)))) + indicator_columns p ≡ max p.cols (indicator_columns p)

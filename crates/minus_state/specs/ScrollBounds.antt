@@ -27,11 +27,16 @@ joined None later = later
 joined (Some first) None = Some first
 joined (Some first) (Some later) = Some (first.0, later.1)
 
+-- where such a unit begins and ends, in bytes, behind the units before it
+abbrev pub seen_part : ℕ → ℕ → List (List ℕ) → List ℕ → Option (ℕ × ℕ)
+seen_part left width before unit =
+    if is_seen left width before unit then Some (length (text_of before), length (text_of (before ++ unit ∷ []))) else None
+
 -- from where the first such unit of a text begins to where the last one ends, in bytes, if there is one
 abbrev pub seen_range : ℕ → ℕ → List (List ℕ) → List (List ℕ) → Option (ℕ × ℕ)
 seen_range left width before [] = None
 seen_range left width before (u ∷ us) =
-    joined (if is_seen left width before u then Some (length (text_of before), length (text_of (before ++ u ∷ []))) else None) (seen_range left width (before ++ u ∷ []) us)
+    joined (seen_part left width before u) (seen_range left width (before ++ u ∷ []) us)
 
 -- the range behind a prefix, or twice the end of the line
 abbrev pub range_behind : ℕ → ℕ → Option (ℕ × ℕ) → ℕ × ℕ

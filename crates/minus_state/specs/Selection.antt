@@ -33,4 +33,6 @@ visible_at prefix cut column = min (prefix + (column - cut)) greatest
 -- the visible characters of a row that are marked, from the first up to but without the other
 abbrev pub marked_range : Selection → Selection → ℕ → ℕ → ℕ → Option (ℕ × Option ℕ)
 marked_range first last row prefix cut =
-    if is_between first last row then Some (visible_at prefix cut (first_column first row), option_map (visible_at prefix cut) (column_behind last row)) else None
+    if is_between first last row then
+    Some (visible_at prefix cut (first_column first row), option_map (visible_at prefix cut) (column_behind last row))
+    else None

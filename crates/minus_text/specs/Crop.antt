@@ -55,15 +55,20 @@ fitted_units cols us = longest_front cols us ++ replicate (cols - sum_by unit_co
 unfoldable pub fitted : ℕ → List ℕ → List ℕ
 fitted cols text = encode_utf8_all (concat (fitted_units cols (text_units (chars text))))
 
--- what is shown of a text, taken as one piece, takes no more columns than there are
-abbrev pub CroppedFits : Type 0
-CroppedFits = (left width : ℕ) (text : List ℕ) → text_columns (concat (shown_units left width [] (text_units (chars text)))) ≤ width
+-- the columns of units one after another, taken as one piece
+abbrev pub columns_of : List (List ℕ) → ℕ
+columns_of us = text_columns (concat us)
 
--- the front of a text's units is the longest that takes at most so many columns; filled, and taken as one piece, it takes just as many
+-- what is shown of a text takes no more columns than there are
+abbrev pub CroppedFits : Type 0
+CroppedFits = (left width : ℕ) (text : List ℕ) → columns_of (shown_units left width [] (text_units (chars text))) ≤ width
+
+-- the front of a text's units is the longest that takes at most so many columns; filled with spaces, it takes just as many
 pub record FittedFills (cols : ℕ) (us : List (List ℕ)) : Type 0 where
   pub front : (rest : List (List ℕ)) × (us ≡ longest_front cols us ++ rest)
-  pub longest : (before after : List (List ℕ)) → us ≡ before ++ after → sum_by unit_columns before ≤ cols → (rest : List (List ℕ)) × (longest_front cols us ≡ before ++ rest)
+  pub longest : (before after : List (List ℕ)) → us ≡ before ++ after → sum_by unit_columns before ≤ cols
+      → (rest : List (List ℕ)) × (longest_front cols us ≡ before ++ rest)
   pub fills : sum_by unit_columns (fitted_units cols us) ≡ cols
 
 abbrev pub FittedTextsFill : Type 0
-FittedTextsFill = (cols : ℕ) (text : List ℕ) → FittedFills cols (text_units (chars text)) × (text_columns (concat (fitted_units cols (text_units (chars text)))) ≡ cols)
+FittedTextsFill = (cols : ℕ) (text : List ℕ) → FittedFills cols (text_units (chars text)) × (columns_of (fitted_units cols (text_units (chars text))) ≡ cols)
