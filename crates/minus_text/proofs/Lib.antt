@@ -12,8 +12,12 @@ pub mod PlainLaws
 pub mod PiecesSomeLaws
 pub mod RestartLaws
 pub mod MatchPlacesLaws
+pub mod FindPlacesLaws
 pub mod PartedLaws
 pub mod HighlightLaws
+pub mod EscapePatternLaws
+pub mod MarkersLaws
+pub mod FoundLaws
 pub mod StandLaws
 pub mod GoesOnLaws
 pub mod FewColumnsLaws
@@ -38,3 +42,4 @@ pub mod FormatResultLaws
 pub mod PushedLaws
 pub mod PendingLaws
 pub mod LineCountLaws
+pub mod StoredLaws

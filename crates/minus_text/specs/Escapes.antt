@@ -1,11 +1,7 @@
 -- The escape sequences of a text, and the text without them. Places count bytes from 0.
 use Rattle.std.specs.Prelude.{ℕ, ◌+◌, ◌-◌, ◌≤◌, List, [], ◌∷◌, ◌++◌, map, drop, slice_range, IsCharBoundary}
-use Rattle.regex.specs.Patterns.{Re, find_all_str, span}
+use Rattle.minus_text.specs.FixedPatterns.{escape_sequence, match_places}
 use Rattle.minus_text.specs.declared.search.escapes.Insert.{Insert}
-
--- where a pattern's matches begin and end in a text
-abbrev pub match_places : Re → List ℕ → List (ℕ × ℕ)
-match_places pattern text = map span (find_all_str pattern text)
 
 -- what stands in a text from a place on, less what stands between these places
 abbrev pub outside : List ℕ → ℕ → List (ℕ × ℕ) → List ℕ
@@ -19,13 +15,17 @@ inside text at before (p ∷ ps) =
     let place = before + (p.0 - at) in
     (place, slice_range text p.0 p.1) ∷ inside text p.1 place ps
 
+-- where a line's escape sequences begin and end
+abbrev pub escape_places : List ℕ → List (ℕ × ℕ)
+escape_places line = match_places escape_sequence line
+
 -- a line without its escape sequences
-abbrev pub stripped : Re → List ℕ → List ℕ
-stripped escape line = outside line 0 (match_places escape line)
+unfoldable pub stripped : List ℕ → List ℕ
+stripped line = outside line 0 (escape_places line)
 
 -- the escape sequences of a line, each with its place in the stripped line
-abbrev pub escapes : Re → List ℕ → List (ℕ × List ℕ)
-escapes escape line = inside line 0 0 (match_places escape line)
+unfoldable pub escapes : List ℕ → List (ℕ × List ℕ)
+escapes line = inside line 0 0 (escape_places line)
 
 -- the places lie in order in a text from a place on, each between two characters
 abbrev pub CutsText : List ℕ → ℕ → List (ℕ × ℕ) → Type 0

@@ -1,11 +1,14 @@
 -- The two patterns that a pager searches with beside its user's.
-use Rattle.std.specs.Prelude.{◌≡◌, ◌⊎◌, List, ℕ, codes}
-use Rattle.regex.specs.Patterns.{Re, default_config}
-use Rattle.regex.specs.Strings.{regex_source, regex_config, regex_pattern, IsReadFromSource}
+use Rattle.std.specs.Prelude.{◌≡◌, ◌≢◌, ◌⊎◌, ◌<◌, List, [], ◌∷◌, ℕ, Some, None, true, codes, map, slice_index}
+use Rattle.regex.specs.Patterns.{Re, literal, char_in, cat, default_config, optional, repeat, find_all_str, span}
+use Rattle.regex.specs.Strings.{regex_source, regex_config, IsReadFromSource}
+use Rattle.regex.specs.Sources.{IsRefusal}
+use Rattle.regex.specs.Failures.{IsRightKind}
 use Rattle.regex.specs.declared.string.regex.Regex.{Regex}
-use Rattle.minus_term.specs.Refusals.{number_of}
+use Rattle.regex.specs.declared.error.Error.{Error}
+use Rattle.regex.specs.declared.error.Error.TheVariants.{CompiledTooBig, Internal, OutOfMemory}
 use Rattle.minus_term.specs.declared.error.MinusError.{MinusError}
-use Rattle.minus_text.specs.declared.search.patterns.Patterns.{Patterns}
+use Rattle.minus_term.specs.declared.error.MinusError.TheVariants.{Memory, SearchExpError}
 
 -- the text of the pattern of escape sequences
 abbrev pub escape_source : List ℕ
@@ -15,24 +18,52 @@ escape_source = codes "[\\u001b\\u009b]\\[[()#;?]*(?:[0-9]{1,4}(?:;[0-9]{0,4})*)
 abbrev pub word_source : List ℕ
 word_source = codes "([\\w_]+)|([-?~@#!$%^&*()-+={}\\[\\]:;\\\\|'/?<>.,\"]+)|\\W"
 
+-- a digit
+abbrev pub digit : Re
+digit = char_in ((48, 57) ∷ [])
+
+-- ESC or U+009B
+abbrev pub introducer : Re
+introducer = char_in ((27, 27) ∷ (155, 155) ∷ [])
+
+-- any number of `(`, `)`, `#`, `;` and `?`
+abbrev pub marks : Re
+marks = repeat 0 None true (char_in ((40, 40) ∷ (41, 41) ∷ (35, 35) ∷ (59, 59) ∷ (63, 63) ∷ []))
+
+-- up to four digits behind a `;`
+abbrev pub later_number : Re
+later_number = cat (literal (codes ";")) (repeat 0 (Some 4) true digit)
+
+-- one to four digits, and any number of later numbers
+abbrev pub numbers : Re
+numbers = cat (repeat 1 (Some 4) true digit) (repeat 0 None true later_number)
+
+-- a digit, a capital up to `O`, a letter from `f` to `n`, or one of `RZcqry=><`
+abbrev pub final : Re
+final = char_in ((48, 57) ∷ (65, 79) ∷ (82, 82) ∷ (90, 90) ∷ (99, 99) ∷ (102, 110) ∷ (113, 113) ∷ (114, 114) ∷ (121, 121) ∷ (61, 61) ∷ (62, 62) ∷ (60, 60) ∷ [])
+
+-- An escape sequence: what the grammar of patterns reads in the text above.
+unfoldable pub escape_sequence : Re
+escape_sequence = cat introducer (cat (literal (codes "[")) (cat marks (cat (optional true numbers) final)))
+
 -- a pattern is what the grammar reads in a text
 pub record IsBuiltOf (source : List ℕ) (built : Regex) : Type 0 where
   pub source_is : regex_source built ≡ source
   pub options : regex_config built ≡ default_config
   pub read : IsReadFromSource built
 
--- what the two patterns mean
-abbrev pub escape_pattern : Patterns → Re
-escape_pattern p = regex_pattern p.escape
+-- where a pattern's matches begin and end in a text
+abbrev pub match_places : Re → List ℕ → List (ℕ × ℕ)
+match_places pattern text = map span (find_all_str pattern text)
 
-abbrev pub word_pattern : Patterns → Re
-word_pattern p = regex_pattern p.word
+-- a pattern's matches are those of another one in each text of bytes
+abbrev pub MatchesAs : Re → Re → Type 0
+MatchesAs pattern other = (text : List ℕ) → ((k : ℕ) → slice_index text k < 256) → match_places pattern text ≡ match_places other text
 
--- both patterns are built of their texts
-pub record AreBuilt (p : Patterns) : Type 0 where
-  pub escape : IsBuiltOf escape_source p.escape
-  pub word : IsBuiltOf word_source p.word
+-- a text that is a pattern: it is refused for want of memory or for its size alone
+abbrev pub IsPatternText : List ℕ → Type 0
+IsPatternText source = (e : Error) → IsRefusal default_config source e → IsRightKind default_config source e → e ≢ Internal → (e ≡ OutOfMemory) ⊎ (e ≡ CompiledTooBig)
 
--- memory ran out, or the pattern was not built
+-- what the call answers then
 abbrev pub IsPatternRefusal : MinusError → Type 0
-IsPatternRefusal e = (number_of e ≡ 1) ⊎ (number_of e ≡ 15)
+IsPatternRefusal e = (e ≡ Memory) ⊎ (e ≡ SearchExpError (record { 0 = CompiledTooBig }))

@@ -1,8 +1,10 @@
 -- A line with the matches of a pattern shown in reverse: the stripped line, with markers and escape sequences put in at places.
-use Rattle.std.specs.Prelude.{ℕ, Bool, List, [], ◌∷◌, ◌++◌, map, drop, take, slice_range, codes, is_some, if◌then◌else◌, nat_le, IsCharBoundary, ◌≤◌}
+use Rattle.std.specs.Prelude.{◌≡◌, ℕ, Bool, true, false, List, [], ◌∷◌, ◌++◌, map, drop, take, slice_range, codes, is_some, if◌then◌else◌, nat_le, IsCharBoundary, ◌≤◌}
 use Rattle.std.specs.List.{position_or_len}
+use Rattle.std.specs.Coded.{le_prop}
 use Rattle.regex.specs.Patterns.{Re, find_str}
-use Rattle.minus_text.specs.Escapes.{stripped, escapes, match_places}
+use Rattle.minus_text.specs.Escapes.{stripped, escapes}
+use Rattle.minus_text.specs.FixedPatterns.{match_places}
 
 -- what stands at the start and at the end of each match
 abbrev pub reverse_on : List ℕ
@@ -45,17 +47,53 @@ abbrev pub put_in : List ℕ → ℕ → List (ℕ × List ℕ) → List ℕ
 put_in text at [] = drop at text
 put_in text at (i ∷ is) = slice_range text at i.0 ++ (i.1 ++ put_in text i.0 is)
 
--- a line highlighted for a pattern, where the escape sequences are those of another
-abbrev pub highlighted : Re → Re → Bool → List ℕ → List ℕ
-highlighted escape pattern accurate line =
-    let text = stripped escape line in
-    put_in text 0 (ordered accurate (match_places pattern text) (escapes escape line))
+-- where the matches of a pattern in a line begin and end: those in its text without escape sequences
+abbrev pub line_match_places : Re → List ℕ → List (ℕ × ℕ)
+line_match_places pattern line = match_places pattern (stripped line)
+
+-- what is put into a line without its escape sequences
+abbrev pub put_into_line : Re → Bool → List ℕ → List (ℕ × List ℕ)
+put_into_line pattern accurate line = ordered accurate (line_match_places pattern line) (escapes line)
+
+-- a line highlighted for a pattern
+unfoldable pub highlighted : Re → Bool → List ℕ → List ℕ
+highlighted pattern accurate line = put_in (stripped line) 0 (put_into_line pattern accurate line)
 
 -- whether a line matches a pattern: its text without escape sequences does
-abbrev pub line_matches : Re → Re → List ℕ → Bool
-line_matches escape pattern line = is_some (find_str pattern (stripped escape line) 0)
+unfoldable pub line_matches : Re → List ℕ → Bool
+line_matches pattern line = is_some (find_str pattern (stripped line) 0)
 
 -- the places lie in order in a text from a place on, each between two characters
 abbrev pub StandIn : List ℕ → ℕ → List (ℕ × List ℕ) → Type 0
 StandIn text at [] = IsCharBoundary text at
 StandIn text at (i ∷ is) = IsCharBoundary text at × (at ≤ i.0) × StandIn text i.0 is
+
+pub StandIn-prop : (text : List ℕ) (at : ℕ) (is : List (ℕ × List ℕ)) → IsProp (StandIn text at is)
+StandIn-prop text at [] = hlevel le_prop
+StandIn-prop text at (i ∷ is) = hlevel (le_prop, StandIn-prop text i.0 is)
+
+-- the markers of matches, each with its place
+abbrev pub markers : List (ℕ × ℕ) → List (ℕ × List ℕ)
+markers [] = []
+markers (m ∷ ms) = (m.0, reverse_on) ∷ (m.1, reverse_off) ∷ markers ms
+
+-- the third list is made of the two others, each in its order
+pub data AreMerged {A : Type 0} : List A → List A → List A → Type 0 where
+  nothing : AreMerged [] [] []
+  of_first : (x : A) (xs ys zs : List A) → AreMerged xs ys zs → AreMerged (x ∷ xs) ys (x ∷ zs)
+  of_second : (y : A) (xs ys zs : List A) → AreMerged xs ys zs → AreMerged xs (y ∷ ys) (y ∷ zs)
+
+-- What is put into a line is the markers of its matches and its escape sequences: these keep their order and their texts.
+-- In the accurate form they keep their places, so that without the markers the line stands there as it was.
+pub record AddsMarkersAlone (pattern : Re) (accurate : Bool) (line : List ℕ) : Type 0 where
+  pub kept : List (ℕ × List ℕ)
+  pub merged : AreMerged (markers (line_match_places pattern line)) kept (put_into_line pattern accurate line)
+  pub same_texts : map (λ e. e.1) kept ≡ map (λ e. e.1) (escapes line)
+  pub same_line : accurate ≡ true → put_in (stripped line) 0 kept ≡ line
+
+abbrev pub HighlightsAddMarkersAlone : Type 0
+HighlightsAddMarkersAlone = (pattern : Re) (accurate : Bool) (line : List ℕ) → AddsMarkersAlone pattern accurate line
+
+-- a line that does not match is highlighted as it stands
+abbrev pub OnlyMatchesAreHighlighted : Type 0
+OnlyMatchesAreHighlighted = (pattern : Re) (accurate : Bool) (line : List ℕ) → line_matches pattern line ≡ false → highlighted pattern accurate line ≡ line

@@ -16,9 +16,12 @@ pub mod Prefixes
 pub mod TextUnits
 pub mod Crop
 pub mod Matches
-pub mod Escapes
 pub mod FixedPatterns
+pub mod Escapes
 pub mod Highlight
+pub mod Shown
+pub mod Found
+pub mod FoundRows
 pub mod Layouts
 pub mod Document
 pub mod Fragments

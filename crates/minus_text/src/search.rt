@@ -1,10 +1,14 @@
 //! Search in texts.
 pub mod escapes;
+mod found;
 pub mod highlight;
 pub mod matches;
 pub mod patterns;
 
 pub use escapes::strip_escapes;
-pub use highlight::highlight_line_matches;
+pub use highlight::{
+    HighlightMatchesArgs, highlight_line_matches, highlights_add_markers_alone,
+    only_matches_are_highlighted,
+};
 pub use matches::next_nth_match;
 pub use patterns::Patterns;

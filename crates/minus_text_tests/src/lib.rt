@@ -4,6 +4,10 @@
 #[cfg(test)]
 mod counts;
 #[cfg(test)]
+mod highlights;
+#[cfg(test)]
+mod layouts;
+#[cfg(test)]
 mod pieces;
 #[cfg(test)]
 mod rows;
@@ -11,3 +15,5 @@ mod rows;
 mod screens;
 #[cfg(test)]
 mod search;
+#[cfg(test)]
+mod shown;

@@ -1,7 +1,6 @@
-//! Searches: which match a jump goes to.
-use minus_term::error::{MinusError, RegexError};
-use minus_text::{Patterns, highlight_line_matches, next_nth_match, strip_escapes};
-use regex::Regex;
+//! Searches: which match a jump goes to, and which sequences are no text.
+use minus_term::error::MinusError;
+use minus_text::{Patterns, next_nth_match, strip_escapes};
 use std::alloc::{AllocError, Global};
 use std::collections::BTreeSet;
 use std::test::Fail;
@@ -71,73 +70,5 @@ fn escape_sequences_are_stripped(rt: HostRuntime) -> Result<(), Fail> {
     ];
     let told = stripped(rt.alloc(), &texts)?;
     assert!(rt; told.as_str() == "this is a test||red|ab|\x1b[ m|");
-    Ok(())
-}
-
-// A line with the matches of a pattern shown in reverse, and whether it matches.
-fn shown(
-    alloc: Global,
-    line: &str,
-    pattern: &str,
-    accurate: bool,
-) -> Result<(String, bool), MinusError> {
-    let patterns = Patterns::new(alloc)?;
-    match Regex::new(alloc, pattern) {
-        Ok(query) => Ok(highlight_line_matches(alloc, &patterns, line, &query, accurate)?),
-        Err(cause) => Err(MinusError::SearchExpError(RegexError(cause))),
-    }
-}
-
-#[test]
-fn matches_are_shown_in_reverse(rt: HostRuntime) -> Result<(), Fail> {
-    let cut = "this \x1b[34mis a te\x1b[0mst";
-    let inner = "this is a t\x1b[34mes\x1b[0mt again";
-    let table = [
-        (
-            cut,
-            "test",
-            true,
-            "this \x1b[34mis a \x1b[7mte\x1b[0mst\x1b[27m",
-        ),
-        (
-            cut,
-            "test",
-            false,
-            "this \x1b[34mis a \x1b[7mtest\x1b[27m\x1b[0m",
-        ),
-        (
-            inner,
-            "test",
-            true,
-            "this is a \x1b[7mt\x1b[34mes\x1b[0mt\x1b[27m again",
-        ),
-        (
-            inner,
-            "test",
-            false,
-            "this is a \x1b[7mtest\x1b[27m\x1b[34m\x1b[0m again",
-        ),
-        ("\x1b[34mtest", "test", true, "\x1b[7m\x1b[34mtest\x1b[27m"),
-        (
-            "nisl. placerat non",
-            "\\W\\w+t\\W",
-            false,
-            "nisl.\x1b[7m placerat \x1b[27mnon",
-        ),
-        ("ab", "$", true, "ab\x1b[7m\x1b[27m"),
-        ("\u{9b}[31mred", "red", true, "\x1b[7m\u{9b}[31mred\x1b[27m"),
-        ("\x1b[31ab", "ab", true, "\x1b[7m\x1b[31ab\x1b[27m"),
-    ];
-    for (line, pattern, accurate, expected) in table {
-        let (told, matches) = shown(rt.alloc(), line, pattern, accurate)?;
-        assert!(rt; matches && told.as_str() == expected, "at {line}");
-    }
-    Ok(())
-}
-
-#[test]
-fn a_line_without_a_match_stays(rt: HostRuntime) -> Result<(), Fail> {
-    let (told, matches) = shown(rt.alloc(), "a \x1b[1mline\x1b[0m", "test", false)?;
-    assert!(rt; !matches && told.as_str() == "a \x1b[1mline\x1b[0m");
     Ok(())
 }

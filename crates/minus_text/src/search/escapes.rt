@@ -1,13 +1,33 @@
 //! The escape sequences of a text, and the text without them.
-ghost use Rattle.std.specs.Prelude.{◌≡◌, map, IfOk, string_bytes, slice_range};
-ghost use Rattle.regex.specs.Strings.{regex_pattern, matcher_pattern};
-ghost use Rattle.minus_text.specs.Escapes.{match_places, outside, inside, stripped, escapes, insert_of, CutsText};
-ghost use Rattle.minus_text.specs.FixedPatterns.{escape_pattern};
+ghost use Rattle.std.specs.Prelude.{◌≡◌, ◌≤◌, map, length, option_map, IfOk, IfSome, string_bytes, slice_range};
+ghost use Rattle.regex_hir.specs.Find.{find_after};
+ghost use Rattle.regex.specs.Patterns.{find_str, span};
+ghost use Rattle.regex.specs.Strings.{matcher_pattern, match_span, match_haystack};
+ghost use Rattle.minus_text.specs.Escapes.{escape_places, outside, inside, stripped, escapes, insert_of, CutsText};
+ghost use Rattle.minus_text.specs.FixedPatterns.{match_places};
 ghost use Rattle.minus_text.specs.Highlight.{StandIn};
 
 use crate::search::patterns::Patterns;
-use regex::Matcher;
+use regex::{Match, Matcher};
 use std::alloc::{AllocError, Global};
+
+// The match that follows one that ends at a place. An empty one right there is passed over.
+fn following<'h>(matcher: &mut Matcher<'_>, text: &'h str, end: usize) -> Option<Match<'h>>
+    requires { end ≤ length text.now }
+    ensures found { option_map match_span result ≡ option_map span (find_after (find_str (matcher_pattern matcher.old) text.now) end) }
+    ensures within { IfSome result (λ m. match_haystack m ≡ text.now) }
+    ensures same { matcher_pattern matcher.new ≡ matcher_pattern matcher.old }
+{
+    match matcher.find_at(text, end) {
+        Some(found) => {
+            if found.end() == end {
+                return matcher.find_at(text, end + 1);
+            }
+            Some(found)
+        }
+        None => None,
+    }
+}
 
 // Where a pattern's matches begin and end in a text.
 pub(crate) fn match_places(
@@ -17,10 +37,13 @@ pub(crate) fn match_places(
 ) -> Result<Vec<(usize, usize)>, AllocError>
     ensures found { IfOk result (λ places. places.items ≡ match_places (matcher_pattern matcher.old) text.now) }
     ensures cuts { IfOk result (λ places. CutsText text.now 0 places.items) }
+    ensures same { matcher_pattern matcher.new ≡ matcher_pattern matcher.old }
 {
     let mut places = Vec::new(alloc);
-    for found in matcher.find_iter(text) {
+    let mut next = matcher.find_at(text, 0);
+    while let Some(found) = next {
         places.push((found.start(), found.end()))?;
+        next = following(matcher, text, found.end());
     }
     Ok(places)
 }
@@ -65,24 +88,38 @@ pub(crate) fn part<'l>(
     Ok(Parted { text, escapes })
 }
 
+// Where a line's escape sequences begin and end.
+fn escape_places(
+    alloc: Global,
+    patterns: &Patterns,
+    line: &str,
+) -> Result<Vec<(usize, usize)>, AllocError>
+    ensures found { IfOk result (λ places. places.items ≡ escape_places line.now) }
+    ensures cuts { IfOk result (λ places. CutsText line.now 0 places.items) }
+{
+    let mut matcher = patterns.escape.matcher(alloc)?;
+    let places = match_places(alloc, &mut matcher, line)?;
+    Ok(places)
+}
+
 // A line's escape sequences, and the line without them.
 pub(crate) fn part_line<'l>(
     alloc: Global,
     patterns: &Patterns,
     line: &'l str,
 ) -> Result<Parted<'l>, AllocError>
-    ensures text { IfOk result (λ p. string_bytes p.text ≡ stripped (escape_pattern patterns.now) line.now) }
+    ensures text { IfOk result (λ p. string_bytes p.text ≡ stripped line.now) }
     ensures stand { IfOk result (λ p. StandIn (string_bytes p.text) 0 (map insert_of p.escapes.items)) }
-    ensures escapes { IfOk result (λ p. map insert_of p.escapes.items ≡ escapes (escape_pattern patterns.now) line.now) }
+    ensures escapes { IfOk result (λ p. map insert_of p.escapes.items ≡ escapes line.now) }
 {
-    let mut matcher = patterns.escape.matcher(alloc)?;
-    let places = match_places(alloc, &mut matcher, line)?;
-    part(alloc, line, &places)
+    let places = escape_places(alloc, patterns, line)?;
+    let parted = part(alloc, line, &places)?;
+    Ok(parted)
 }
 
 /// A text without its escape sequences, which the fixed pattern of `Patterns` finds.
 pub fn strip_escapes(alloc: Global, patterns: &Patterns, text: &str) -> Result<String, AllocError>
-    ensures { IfOk result (λ s. string_bytes s ≡ stripped (escape_pattern patterns.now) text.now) }
+    ensures { IfOk result (λ s. string_bytes s ≡ stripped text.now) }
 {
     Ok(part_line(alloc, patterns, text)?.text)
 }

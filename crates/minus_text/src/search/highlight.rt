@@ -1,14 +1,14 @@
 //! Lines with the matches of a pattern shown in reverse.
 ghost use Rattle.std.specs.Prelude.{◌≡◌, ◌++◌, ◌≤◌, map, length, drop, IfOk, OnOk, string_bytes};
 ghost use Rattle.minus_text.specs.Escapes.{insert_of, CutsText};
-ghost use Rattle.minus_text.specs.Highlight.{count_before, before, behind, moved, closed, of_match, ordered, put_in, highlighted, line_matches, StandIn};
-ghost use Rattle.minus_text.specs.FixedPatterns.{escape_pattern};
+ghost use Rattle.minus_text.specs.Highlight.{count_before, before, behind, moved, closed, of_match, ordered, highlighted, line_matches, StandIn, StandIn-prop, HighlightsAddMarkersAlone, OnlyMatchesAreHighlighted};
 ghost use Rattle.regex.specs.Strings.{regex_pattern};
 
-use crate::search::escapes::{Insert, match_places, part_line};
+use crate::search::escapes::{Insert, Parted, match_places, part_line};
 use crate::search::patterns::Patterns;
 use regex::Regex;
 use std::alloc::{AllocError, Global};
+use std::fmt;
 
 const REVERSE_ON: &str = "\x1b[7m";
 
@@ -103,20 +103,67 @@ fn ordered<'l>(
     Ok(puts)
 }
 
-// A text with these put in at their places.
-fn put_in(alloc: Global, text: &str, puts: &[Insert<'_>]) -> Result<String, AllocError>
-    requires { StandIn text.now 0 (map insert_of puts.now) }
-    ensures { IfOk result (λ s. string_bytes s ≡ put_in text.now 0 (map insert_of puts.now)) }
-{
-    let mut out = String::new(alloc);
-    let mut at = 0;
-    for put in puts {
-        out.push_str(&text[at..put.place])?;
-        out.push_str(put.text)?;
-        at = put.place;
+/// A line with the matches of a pattern in it. It prints with each of them shown in reverse.
+#[derive(Drop)]
+pub struct HighlightMatchesArgs<'l> {
+    // The line without its escape sequences, and what stands in it beside.
+    text: String,
+    puts: Vec<Insert<'l>>,
+    is_match: bool,
+    ghost stand: { StandIn (string_bytes text) 0 (map insert_of puts.items) } by { StandIn-prop (string_bytes text) 0 (map insert_of puts.items) },
+}
+
+impl<'l> HighlightMatchesArgs<'l> {
+    ghost use Rattle.minus_text.specs.Shown.{shown_line};
+
+    /// Finds the matches of a pattern in a line, which are those of the line without its escape
+    /// sequences. These stay where they stand if the highlight is to be accurate; else those inside
+    /// a match come right behind it.
+    pub fn new(
+        alloc: Global,
+        patterns: &Patterns,
+        line: &'l str,
+        query: &Regex,
+        accurate: bool,
+    ) -> Result<Self, AllocError>
+        ensures line { IfOk result (λ h. shown_line h ≡ highlighted (regex_pattern query.now) accurate line.now) }
+        ensures matches { IfOk result (λ h. h.is_match ≡ line_matches (regex_pattern query.now) line.now) }
+    {
+        let Parted { text, escapes } = part_line(alloc, patterns, line)?;
+        let mut matcher = query.matcher(alloc)?;
+        let matches = match_places(alloc, &mut matcher, &text)?;
+        let puts = ordered(alloc, &matches, &escapes, accurate)?;
+        Ok(HighlightMatchesArgs {
+            text,
+            puts,
+            is_match: !matches.is_empty(),
+        })
     }
-    out.push_str(&text[at..])?;
-    Ok(out)
+
+    /// Whether the pattern matches.
+    pub fn is_match(&self) -> bool
+        ensures { result ≡ self.now.is_match }
+    {
+        self.is_match
+    }
+}
+
+impl fmt::Display for HighlightMatchesArgs<'_> {
+    ghost use Rattle.std.specs.Prelude.{Some};
+    ghost use Rattle.minus_text.specs.Shown.{shown_line};
+
+    ghost output = { λ h. Some (shown_line h) };
+
+    fn fmt<W: fmt::Write>(&self, f: &mut fmt::Formatter<W>) -> fmt::Result {
+        let text = self.text.as_str();
+        let mut at = 0;
+        for put in &self.puts {
+            f.write_str(&text[at..put.place])?;
+            f.write_str(put.text)?;
+            at = put.place;
+        }
+        f.write_str(&text[at..])
+    }
 }
 
 /// A line with each match of a pattern shown in reverse, and whether it matches. Matches are those
@@ -129,13 +176,20 @@ pub fn highlight_line_matches(
     query: &Regex,
     accurate: bool,
 ) -> Result<(String, bool), AllocError>
-    ensures line { IfOk result (λ r. string_bytes r.0 ≡ highlighted (escape_pattern patterns.now) (regex_pattern query.now) accurate line.now) }
-    ensures matches { IfOk result (λ r. r.1 ≡ line_matches (escape_pattern patterns.now) (regex_pattern query.now) line.now) }
+    ensures line { IfOk result (λ r. string_bytes r.0 ≡ highlighted (regex_pattern query.now) accurate line.now) }
+    ensures matches { IfOk result (λ r. r.1 ≡ line_matches (regex_pattern query.now) line.now) }
 {
-    let parted = part_line(alloc, patterns, line)?;
-    let mut matcher = query.matcher(alloc)?;
-    let is_match = matcher.is_match(&parted.text);
-    let matches = match_places(alloc, &mut matcher, &parted.text)?;
-    let puts = ordered(alloc, &matches, &parted.escapes, accurate)?;
-    Ok((put_in(alloc, &parted.text, &puts)?, is_match))
+    let highlight = HighlightMatchesArgs::new(alloc, patterns, line, query, accurate)?;
+    Ok((highlight.to_string(alloc)?, highlight.is_match))
 }
+
+/// A highlight adds markers alone: without them the escape sequences stand in their order, and in
+/// the accurate form the line stands as it was.
+pub fn highlights_add_markers_alone()
+    ensures { HighlightsAddMarkersAlone }
+{}
+
+/// A line that does not match is highlighted as it stands.
+pub fn only_matches_are_highlighted()
+    ensures { OnlyMatchesAreHighlighted }
+{}

@@ -1,6 +1,7 @@
 //! The patterns that a pager searches with beside its user's.
 ghost use Rattle.std.specs.Prelude.{◌≡◌, IfOk, IfErr};
-ghost use Rattle.minus_text.specs.FixedPatterns.{escape_source, word_source, escape_pattern, word_pattern, IsBuiltOf, AreBuilt, IsPatternRefusal};
+ghost use Rattle.regex.specs.Strings.{regex_pattern};
+ghost use Rattle.minus_text.specs.FixedPatterns.{escape_sequence, word_source, MatchesAs, IsBuiltOf, IsPatternText, IsPatternRefusal};
 
 use minus_term::error::{MinusError, RegexError};
 use regex::{Error, Regex};
@@ -16,10 +17,13 @@ const WORD: &str = "([\\w_]+)|([-?~@#!$%^&*()-+={}\\[\\]:;\\\\|'/?<>.,\"]+)|\\W"
 pub struct Patterns {
     pub(crate) escape: Regex,
     pub(crate) word: Regex,
+    ghost escape_matches: { MatchesAs (regex_pattern escape) escape_sequence },
+    ghost word_built: { ∥ IsBuiltOf word_source word ∥₁ },
 }
 
-// A pattern built of its text. It is refused for memory, or by the error 15.
+// A pattern built of its text.
 fn built(alloc: Global, source: &str) -> Result<Regex, MinusError>
+    requires { IsPatternText source.now }
     ensures built { IfOk result (IsBuiltOf source.now) }
     ensures refused { IfErr result IsPatternRefusal }
 {
@@ -31,10 +35,14 @@ fn built(alloc: Global, source: &str) -> Result<Regex, MinusError>
 }
 
 impl Patterns {
-    /// Builds both patterns. It is refused for memory, or by 15 where one of them is not built.
+    /// Builds both patterns.
+    ///
+    /// # Errors
+    ///
+    /// [`MinusError::Memory`] where there is no memory for them, and
+    /// [`MinusError::SearchExpError`] where a built pattern would pass `regex`' limit of size.
     pub fn new(alloc: Global) -> Result<Patterns, MinusError>
-        ensures built { IfOk result AreBuilt }
-        ensures refused { IfErr result IsPatternRefusal }
+        ensures { IfErr result IsPatternRefusal }
     {
         let escape = built(alloc, ESCAPE)?;
         let word = built(alloc, WORD)?;

@@ -1,46 +1,42 @@
-use Rattle.std.proofs.Common.{rules, ◌≡◌, map, [], ◌∷◌, ◌++◌, sym, ap, ◌∙◌, subst, IsCharBoundary}
+use Rattle.std.proofs.Common.{rules, ◌≡◌, [], ◌∷◌, ◌++◌, IfSome, option_map, sym, ap, ◌∙◌, subst, IsCharBoundary}
 use Rattle.std.proofs.lemmas.Str.{IsCharBoundary-start}
-use Rattle.regex.specs.Strings.{matcher_pattern, match_span, placed_span, placed_spans_left}
-use Rattle.minus_text.specs.Escapes.{match_places}
-use Rattle.minus_text.proofs.MatchPlacesLaws.{placed, Ascend, places_ascend, one_more_cuts, cuts_text, begun, same_text, one_more_found, all_found}
+use Rattle.regex_hir.specs.Find.{find_after}
+use Rattle.regex.specs.Patterns.{find_str, span}
+use Rattle.regex.specs.Strings.{matcher_pattern, match_span, match_haystack}
+use Rattle.minus_text.proofs.MatchPlacesLaws.{Ascend, EachCuts, places_ascend, one_more_cuts, cuts_text}
+use Rattle.minus_text.proofs.FindPlacesLaws.{IsLeft, more_left, none_left}
 use Rattle.minus_text.proofs.search.escapes.match_places.Goals as goal
 
--- src/search/escapes.rt:20:5
-pub loop-found-init : goal.loop-found-init
-loop-found-init c =
+pub loop-next-preserved : goal.loop-next-preserved
+loop-next-preserved c =
     let text = c.args.text.now in
-    let all = match_places (matcher_pattern c.args.matcher.now) text in
-    let found = c.find_iter-found-items.ensures in (
-      subst (λ it. map (placed text) c.new-places.result.items ++ placed_spans_left it ≡ map (placed text) all) (sym c.into_iter-found-iterator.ensures.into_iter_gives)
-          (begun text _ _ _ all c.new-places.ensures.items found.within found.found),
-      rw c.new-places.ensures.items tt,
-    )
-
--- src/search/escapes.rt:20:5
-pub loop-found-preserved : goal.loop-found-preserved
-loop-found-preserved c =
-    let text = c.args.text.now in
-    let all = match_places (matcher_pattern c.args.matcher.now) text in
+    let re = matcher_pattern c.args.matcher.now in
+    let items = c.loop-next.places.items in
     let m = c.in-Some.found in
-    let inv = c.loop-found.invariant in
-    let next = c.in-Some.ensures.steps in
+    let inv = c.loop-next.invariant in
     let pair : (c.start.result, c.end.result) ≡ match_span m = search (rules, c.start.ensures, c.end.ensures) in
-    let grown = c.in_ok-push.ensures.items ∙ ap (λ p. c.loop-found.places.items ++ p ∷ []) pair in
-    let same = same_text text c.loop-found.places.items c.push.new.self.items all (placed_span m) _ _ inv.0 next in (
-      one_more_found text c.loop-found.places.items c.push.new.self.items all (placed_span m) _ _ inv.0 next grown,
-      rw grown (one_more_cuts text c.loop-found.places.items (match_span m) inv.1 m.ordered
-          (subst (λ t. IsCharBoundary t m.start) same m.starts_cleanly) (subst (λ t. IsCharBoundary t m.end) same m.ends_cleanly)),
-    )
+    let grown = c.in_ok-push.ensures.items ∙ ap (λ p. items ++ p ∷ []) pair in
+    let next : option_map match_span c.following-next.result ≡ option_map span (find_after (find_str re text) m.end) =
+    rw (inv.same, c.end-in-Some.ensures) at c.following-next.ensures.found in
+    let left = subst (λ o. IsLeft re text items (option_map match_span o)) c.in-Some.is inv.left in
+    let same = subst (λ o. IfSome o (λ x. match_haystack x ≡ text)) c.in-Some.is inv.within in
+    record {
+      same = c.following-next.ensures.same ∙ inv.same;
+      left = subst (λ l. IsLeft re text l (option_map match_span c.following-next.result)) (sym grown) (more_left re text items (match_span m) left _ next);
+      within = c.following-next.ensures.within;
+      cuts = subst (EachCuts text) (sym grown) (one_more_cuts text items (match_span m) inv.cuts m.ordered
+          (subst (λ t. IsCharBoundary t m.start) same m.starts_cleanly) (subst (λ t. IsCharBoundary t m.end) same m.ends_cleanly));
+    }
 
--- src/search/escapes.rt:11:1
 pub returns-clause-found : goal.returns-clause-found
 returns-clause-found c =
-    all_found c.args.text.now c.loop-found.places.items _ _ c.loop-found.invariant.0 c.in-None.ensures.steps.0
+    let text = c.args.text.now in
+    let re = matcher_pattern c.args.matcher.now in
+    none_left re text c.loop-next.places.items (subst (λ o. IsLeft re text c.loop-next.places.items (option_map match_span o)) c.in_default.is c.loop-next.invariant.left)
 
--- src/search/escapes.rt:11:1
 pub returns-clause-cuts : goal.returns-clause-cuts
 returns-clause-cuts c =
     let text = c.args.text.now in
-    let pattern = matcher_pattern c.args.matcher.now in
-    cuts_text text 0 c.loop-found.places.items (IsCharBoundary-start text c.utf8.text)
-    (subst (Ascend 0) (sym (returns-clause-found c)) (places_ascend pattern text)) c.loop-found.invariant.1
+    let re = matcher_pattern c.args.matcher.now in
+    cuts_text text 0 c.loop-next.places.items (IsCharBoundary-start text c.utf8.text)
+    (subst (Ascend 0) (sym (returns-clause-found c)) (places_ascend re text)) c.loop-next.invariant.cuts

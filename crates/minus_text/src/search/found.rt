@@ -1,0 +1,99 @@
+//! What a term finds in rows.
+ghost use Rattle.std.specs.Prelude.{◌≡◌, ◌++◌, map, IfOk, OnOk};
+ghost use Rattle.regex.specs.Strings.{regex_pattern, matcher_pattern};
+ghost use Rattle.minus_text.specs.Escapes.{escape_places, outside, CutsText};
+ghost use Rattle.minus_text.specs.FixedPatterns.{escape_sequence, match_places, MatchesAs};
+ghost use Rattle.minus_text.specs.Highlight.{line_match_places};
+
+use crate::search::escapes::{match_places, part};
+use crate::search::patterns::Patterns;
+use regex::{Matcher, Regex};
+use std::alloc::{AllocError, Global};
+
+// A row, the places of its escape sequences, and those of matches in the row without these.
+#[derive(Debug, Drop)]
+pub(crate) struct FoundRow {
+    pub(crate) row: usize,
+    pub(crate) escapes: Vec<(usize, usize)>,
+    pub(crate) matches: Vec<(usize, usize)>,
+}
+
+// What searches rows for a term: made once for all of them.
+#[derive(Drop)]
+pub(crate) struct Finder<'p> {
+    escapes: Matcher<'p>,
+    term: Matcher<'p>,
+    ghost escape_matches: { MatchesAs (matcher_pattern escapes) escape_sequence },
+}
+
+// Where a matcher's pattern matches in what is outside of these places of a row.
+fn outside_matches(
+    alloc: Global,
+    matcher: &mut Matcher<'_>,
+    row: &str,
+    places: &[(usize, usize)],
+) -> Result<Vec<(usize, usize)>, AllocError>
+    requires { CutsText row.now 0 places.now }
+    ensures found { IfOk result (λ found. found.items ≡ match_places (matcher_pattern matcher.old) (outside row.now 0 places.now)) }
+    ensures same { matcher_pattern matcher.new ≡ matcher_pattern matcher.old }
+{
+    if places.is_empty() {
+        return match_places(alloc, matcher, row);
+    }
+    let parted = part(alloc, row, places)?;
+    let found = match_places(alloc, matcher, &parted.text)?;
+    Ok(found)
+}
+
+impl<'p> Finder<'p> {
+    ghost use Rattle.minus_text.specs.FoundRows.{finder_pattern, matches_of};
+    ghost use Rattle.minus_text.specs.Found.{found_in_row};
+
+    pub(crate) fn new(
+        alloc: Global,
+        patterns: &'p Patterns,
+        term: &'p Regex,
+    ) -> Result<Self, AllocError>
+        ensures { IfOk result (λ f. finder_pattern f ≡ regex_pattern term.now) }
+    {
+        Ok(Finder {
+            escapes: patterns.escape.matcher(alloc)?,
+            term: term.matcher(alloc)?,
+        })
+    }
+
+    // What it finds in a row with a number.
+    fn find(&mut self, alloc: Global, n: usize, row: &str) -> Result<FoundRow, AllocError>
+        ensures row { IfOk result (λ f. f.row ≡ n) }
+        ensures escapes { IfOk result (λ f. f.escapes.items ≡ escape_places row.now) }
+        ensures matches { IfOk result (λ f. f.matches.items ≡ line_match_places (finder_pattern self.old) row.now) }
+        ensures same { finder_pattern self.new ≡ finder_pattern self.old }
+    {
+        let escapes = match_places(alloc, &mut self.escapes, row)?;
+        let matches = outside_matches(alloc, &mut self.term, row, &escapes)?;
+        Ok(FoundRow {
+            row: n,
+            escapes,
+            matches,
+        })
+    }
+
+    // Adds a row with a number if it matches.
+    pub(crate) fn note(
+        &mut self,
+        alloc: Global,
+        found: &mut Vec<FoundRow>,
+        n: usize,
+        row: &str,
+    ) -> Result<(), AllocError>
+        ensures found { OnOk result (map matches_of found.new.items ≡ map matches_of found.old.items ++ found_in_row (finder_pattern self.old) n row.now) }
+        ensures same { finder_pattern self.new ≡ finder_pattern self.old }
+    {
+        let here = self.find(alloc, n, row)?;
+        if here.matches.is_empty() {
+            return Ok(());
+        }
+        found.push(here)?;
+        Ok(())
+    }
+}
