@@ -1,22 +1,28 @@
 -- A page to which a text was appended.
-use Rattle.std.proofs.Common.{◌≡◌, ℕ, ◌+◌, ◌-◌, ◌≤◌, ◌==◌, min, leb, Bool, true, false, cond, List, [], ◌∷◌, ◌++◌, length, take, drop, refl, sym, ap, ◌∙◌, arith, inl, inr}
+use Rattle.std.proofs.Common.{◌≡◌, ℕ, zero, suc, ◌+◌, ◌-◌, ◌≤◌, ◌==◌, min, leb, Bool, true, false, cond, List, [], ◌∷◌, ◌++◌, length, take, drop, refl, sym, ap, subst, ◌∙◌, arith, inl, inr}
 use Rattle.std.proofs.lemmas.Bool.{cases_Bool, leb-true, leb-false}
 use Rattle.std.proofs.lemmas.List.{length-take, length-take-le, length-drop, take-take, take_at, drop-take}
-use Rattle.minus_term.specs.Append.{append_ops}
-use Rattle.minus_term.specs.PlayedScreen.{screen_of}
-use Rattle.minus_term.proofs.AppendLaws.{append_shows_lem, append_puts_lem, IsClean-changed}
+use Rattle.minus_term.specs.Append.{append_ops, rows_anew}
+use Rattle.minus_term.specs.FullRedraw.{page_of}
+use Rattle.minus_term.specs.Operations.{Op, GoTo, ClearRow, Put}
+use Rattle.minus_term.specs.PlayedScreen.{PlayedScreen, ShownPage, Shows, play_all, screen_of}
+use Rattle.minus_term.specs.Puts.{puts}
+use Rattle.minus_term.proofs.AppendLaws.{append_shows_lem, IsClean-changed}
+use Rattle.minus_term.proofs.PlayLaws.{play_all-append, draws_from, length-play_all}
+use Rattle.minus_term.proofs.ScrollLaws.{one_put}
+use Rattle.minus_term.proofs.WrittenLaws.{IsClean-append}
 use Rattle.minus_text.specs.declared.line_numbers.LineNumbers.TheVariants.{Disabled}
 use Rattle.minus_text.specs.Document.{Document, rows_of, unfinished_rows, wrap_in, keeps_rows}
 use Rattle.minus_text.specs.Fragments.{rows_in}
 use Rattle.minus_text.specs.Lines.{unfinished_line}
 use Rattle.minus_text.proofs.PushedLaws.{rows_kept}
-use Rattle.minus.specs.declared.commands.Drawing.TheVariants.{Append}
-use Rattle.minus.specs.Control.{Control, document_of, text_rows, first_changed}
+use Rattle.minus.specs.declared.commands.Drawing.TheVariants.{Nothing, Append}
+use Rattle.minus.specs.Control.{Control, Settings, document_of, text_rows, first_changed}
+use Rattle.minus.specs.Drawings.{ops_of_step, changed_prompt}
 use Rattle.minus.specs.Drawn.{IsDrawing}
 use Rattle.minus.specs.Page.{shown, page}
 use Rattle.minus.specs.PromptRow.{prompt_row}
-use Rattle.minus.specs.Works.{Work}
-use Rattle.minus.proofs.DrawnLaws.{shown_fits}
+use Rattle.minus.proofs.DrawnLaws.{shown_fits, page_size, next_prompt_shows, next_prompt_puts, next_prompt_clean, prompt_there, work_drawn}
 
 -- rows that agree up to one agree up to where it stands on the page
 agree_shown : {X : Type 0} (xs ys : List X) (k m n f : ℕ) → take k xs ≡ take k ys → f ≤ k - m → f ≤ n → take f (take n (drop m xs)) ≡ take f (take n (drop m ys))
@@ -42,27 +48,35 @@ rows_stay c text =
     let count : length (take (first_changed c) (text_rows c)) ≡ first_changed c = length-take-le (first_changed c) (text_rows c) (omega arith) in
     sym (ap (take (first_changed c)) is ∙ take_at (take (first_changed c) (text_rows c)) more (first_changed c) count)
 
-same_prompt : (a b : Control) → a.cols ≡ b.cols → prompt_row a ≡ prompt_row b
-unfolding prompt_row
-same_prompt a b e = rw e refl
+-- rows made blank put no more texts than they get, whatever is played after them
+puts_anew : (i : ℕ) (texts : List (List ℕ)) (blanks : ℕ) (rest : List Op) (s : PlayedScreen) → puts (rows_anew i texts blanks ++ rest) s ≤ length texts + puts rest (play_all (rows_anew i texts blanks) s)
+puts_anew i [] zero rest s = omega arith
+puts_anew i [] (suc b) rest s = let more = puts_anew (i + 1) [] b rest (play_all (GoTo 0 i ∷ ClearRow ∷ []) s) in omega (arith, more)
+puts_anew i (t ∷ ts) b rest s =
+    let one = one_put t (rows_anew (i + 1) ts b ++ rest) (play_all (GoTo 0 i ∷ ClearRow ∷ []) s) in
+    let more = puts_anew (i + 1) ts b rest (play_all (GoTo 0 i ∷ ClearRow ∷ Put t ∷ []) s) in
+    omega (arith, one, more)
 
--- a work that appends
-abbrev pub append_work : Control → Work
-append_work c = record { drawing = Append; left = c }
-
--- the rows that an append has changed are its drawing
-pub append_draws : (c : Control) (text : List ℕ) → 1 ≤ c.rows → (let new : Control = record c { text = c.text ++ text } in IsDrawing (append_ops (min (first_changed c - c.mark) (length (shown new))) (length (shown c)) (shown new)) c (append_work new ∷ []) new)
-append_draws c text some =
-    let new : Control = record c { text = c.text ++ text } in
+-- the rows that an append has changed, and a prompt row that is another one than before, are its drawing
+pub append_draws : (c : Control) (text : List ℕ) (s : Settings) → 1 ≤ c.rows → (let new : Control = record c { text = c.text ++ text; settings = s } in IsDrawing (ops_of_step Append c new) c (work_drawn Append new ∷ []) new)
+append_draws c text s some =
+    let new : Control = record c { text = c.text ++ text; settings = s } in
     let n : ℕ = c.rows - 1 in
     let first : ℕ = min (first_changed c - c.mark) (length (shown new)) in
     let count : length (shown new) ≡ min n (length (text_rows new) - c.mark) = omega (arith, length-take n (drop c.mark (text_rows new)), length-drop c.mark (text_rows new)) in
     let same : take first (shown c) ≡ take first (shown new) = agree_shown (text_rows c) (text_rows new) (first_changed c) c.mark n first (rows_stay c text) (omega arith) (omega (arith, count)) in
-    let prompt : prompt_row new ≡ prompt_row c = same_prompt new c refl in
-    let puts = append_puts_lem first (length (shown c)) (shown new) (screen_of (page c)) in
+    let rows : List Op = append_ops first (length (shown c)) (shown new) in
+    let prompt : List Op = changed_prompt c new in
+    let screen : PlayedScreen = screen_of (page c) in
+    let pages : List ShownPage = page c ∷ page new ∷ [] in
+    let drawn = append_shows_lem c.rows first (shown c) (shown new) (prompt_row c) (shown_fits c some) (shown_fits new some) (omega arith) same in
+    let then_prompt = next_prompt_shows c.rows (shown new) (prompt_row c) (prompt_row new) (shown_fits new some) in
+    let all : Shows (play_all prompt (play_all rows screen)) (page new) = draws_from prompt (page_of c.rows (shown new) (prompt_row c)) (page new) (play_all rows screen) then_prompt drawn in
+    let none = next_prompt_puts c.rows (prompt_row c) (prompt_row new) (play_all rows screen) (length-play_all rows screen ∙ page_size c some) some in
+    let few = puts_anew first (drop first (shown new)) (length (shown c) - length (shown new)) prompt screen in
     record {
-      shows = rw prompt (append_shows_lem c.rows first (shown c) (shown new) (prompt_row c) (shown_fits c some) (shown_fits new some) (omega arith) same);
-      clean = IsClean-changed (page c ∷ page new ∷ []) c.rows first (length (shown c)) (shown new) (prompt_row new) (1, omega arith, refl);
-      few = omega (arith, puts, count);
-      none = λ e. absurd (let drawn : true ≡ false = e in cc);
+      shows = subst (λ (s : PlayedScreen). Shows s (page new)) (sym (play_all-append rows prompt screen)) all;
+      clean = IsClean-append pages rows prompt (IsClean-changed pages c.rows first (length (shown c)) (shown new) (prompt_row new) (1, omega arith, refl)) (next_prompt_clean pages c.rows (prompt_row c) (prompt_row new) (prompt_there c new));
+      few = omega (arith, few, none, count, length-drop first (shown new));
+      none = λ q. absurd (let drawn : Append ≡ Nothing = q.0 in cc);
     }

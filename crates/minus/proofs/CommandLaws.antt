@@ -1,39 +1,73 @@
 -- Commands are drawn as their works say.
-use Rattle.std.proofs.Common.{◌≡◌, ℕ, ◌≤◌, ◌==◌, min, true, List, [], ◌∷◌, ◌++◌, Option, refl, subst, arith, inl, inr}
+use Rattle.std.proofs.Common.{◌≡◌, ℕ, ◌<◌, ◌≤◌, ◌==◌, min, Bool, List, [], ◌∷◌, ◌++◌, length, Option, refl, sym, ap, subst, ◌∙◌, arith, inl, inr}
 use Rattle.std.specs.Io.KnownBytes.{Appends}
 use Rattle.std.proofs.lemmas.Bool.{cases_Bool, eqb-true}
+use Rattle.minus_term.specs.Operations.{Op}
 use Rattle.minus_term.specs.Counts.{AppendsFront}
 use Rattle.minus_term.specs.Written.{written_all}
-use Rattle.minus.specs.Control.{Control, IsClamped, top, clamp}
-use Rattle.minus.specs.Works.{work_of, is_drawn}
-use Rattle.minus.specs.Drawings.{ops_between}
-use Rattle.minus.specs.Table.{Wanted, sets_data, appends_data, moves_mark, resizes, exits, ignores, sets_classifier, effect, changed_by, drawing_of}
+use Rattle.minus_term.proofs.WrittenLaws.{written_all-nil}
+use Rattle.minus.specs.declared.commands.Drawing.{Drawing}
+use Rattle.minus.specs.declared.commands.Drawing.TheVariants.{Nothing, Append, Prompt}
+use Rattle.minus.specs.declared.commands.Redraw.TheVariants.{Moved, Appended}
+use Rattle.minus.specs.Control.{Control, Settings, IsClamped, top, cleared}
+use Rattle.minus.specs.Works.{work_of, IsQuiet}
+use Rattle.minus.specs.Drawings.{ops_of_step}
+use Rattle.minus.specs.Table.{Wanted, sets_data, appends_data, moves_mark, resizes, exits, ignores, sets_prompt, sends_message, shows_prompt, follows, types, restores_prompt, redraws_prompt, redraws_page, sets_classifier, effect, changed_by, drawing_by, drawing_of}
 use Rattle.minus.specs.Drawn.{IsDrawing, Drawn, BrokenOff}
 use Rattle.minus.proofs.AppendLaws.{append_draws}
-use Rattle.minus.proofs.DrawnLaws.{whole_draws, quiet_draws, scroll_draws}
+use Rattle.minus.proofs.DrawnLaws.{work_drawn, whole_draws, quiet_draws, prompt_draws, scroll_draws}
+
+-- the list of a kind is the drawing of a work of that kind, on the way from one control to another
+abbrev IsDrawnSo : Drawing → Control → Control → Type 0
+IsDrawnSo drawing c new = IsDrawing (ops_of_step drawing c new) c (work_drawn drawing new ∷ []) new
+
+-- where the mark stays
+at_mark : (drawing : Drawing) (c : Control) (s : Settings) (mark : ℕ) → mark ≡ c.mark → IsDrawnSo drawing c (record c { settings = s }) → IsDrawnSo drawing c (record c { mark = mark; settings = s })
+at_mark drawing c s mark is h = subst (λ (m : ℕ). IsDrawnSo drawing c (record c { mark = m; settings = s })) (sym is) h
+
+set_draws : (c : Control) (s : Settings) (mark : ℕ) → 1 ≤ c.rows → mark ≡ c.mark → IsDrawnSo Nothing c (record c { mark = mark; settings = s })
+set_draws c s mark some is = at_mark Nothing c s mark is (quiet_draws c s some)
+
+move_draws : (c : Control) (s : Settings) (mark : ℕ) → 1 ≤ c.rows → IsDrawnSo (drawing_by Moved c.mark mark) c (record c { mark = mark; settings = s })
+move_draws c s mark some = elim (cases_Bool (mark == c.mark)) [
+  | inl e ↦ rw e (set_draws c s mark some (eqb-true mark c.mark e))
+  | inr e ↦ rw e (scroll_draws c s mark some)
+]
+
+appended_draws : (c : Control) (text : List ℕ) (s : Settings) (mark : ℕ) → 1 ≤ c.rows → IsDrawnSo (drawing_by Appended c.mark mark) c (record c { text = c.text ++ text; mark = mark; settings = s })
+appended_draws c text s mark some = elim (cases_Bool (mark == c.mark)) [
+  | inl e ↦ (let is : mark ≡ c.mark = eqb-true mark c.mark e in rw e (subst (λ (m : ℕ). IsDrawnSo Append c (record c { text = c.text ++ text; mark = m; settings = s })) (sym is) (append_draws c text s some)))
+  | inr e ↦ rw e (whole_draws c (record c { text = c.text ++ text; mark = mark; settings = s }) some)
+]
 
 -- each command is drawn as its work says
-pub command_draws : {K : Type 0} (c : Control) (w : Wanted K) → IsClamped c → 1 ≤ c.rows → 1 ≤ (changed_by (effect c w)).rows → IsDrawing (ops_between (drawing_of c w) c (changed_by (effect c w))) c (work_of c w ∷ []) (changed_by (effect c w))
-command_draws c (sets_data text) h some new_some = whole_draws c (clamp (record c { text = text })) new_some
-command_draws c (appends_data text) h some new_some =
-    let new : Control = record c { text = c.text ++ text } in
-    elim (cases_Bool (min c.mark (top new) == c.mark)) [
-      | inl e ↦ (let still : min c.mark (top new) ≡ c.mark = eqb-true (min c.mark (top new)) c.mark e in rw (e, still) (append_draws c text some))
-      | inr e ↦ rw e (whole_draws c (clamp new) new_some)
-    ]
-command_draws c (moves_mark mark) h some new_some = elim (cases_Bool (min mark (top c) == c.mark)) [
-  | inl e ↦ (let still : min mark (top c) ≡ c.mark = eqb-true (min mark (top c)) c.mark e in rw (e, still) (quiet_draws c))
-  | inr e ↦ rw e (scroll_draws c (min mark (top c)) some)
-]
-command_draws c (resizes cols rows) h some new_some = whole_draws c (clamp (record c { cols = cols; rows = rows })) new_some
-command_draws c exits h some new_some = let still : min c.mark (top c) ≡ c.mark = omega (arith, h) in rw still (quiet_draws c)
-command_draws c ignores h some new_some = let still : min c.mark (top c) ≡ c.mark = omega (arith, h) in rw still (quiet_draws c)
-command_draws c (sets_classifier k) h some new_some = let still : min c.mark (top c) ≡ c.mark = omega (arith, h) in rw still (quiet_draws c)
+pub command_draws : {K : Type 0} (c : Control) (clears : Bool) (w : Wanted K) → IsClamped c → 1 ≤ c.rows → 1 ≤ (changed_by (effect (cleared clears c) w)).rows → IsDrawnSo (drawing_of (cleared clears c) w) c (changed_by (effect (cleared clears c) w))
+command_draws c clears (sets_data text) h some new_some = whole_draws c _ new_some
+command_draws c clears (appends_data text) h some new_some = appended_draws c text (cleared clears c).settings _ some
+command_draws c clears (moves_mark mark) h some new_some = move_draws c (cleared clears c).settings (min mark (top c)) some
+command_draws c clears (resizes cols rows) h some new_some = whole_draws c _ new_some
+command_draws c clears exits h some new_some = set_draws c _ (min c.mark (top c)) some (omega (arith, h))
+command_draws c clears ignores h some new_some = set_draws c _ (min c.mark (top c)) some (omega (arith, h))
+command_draws c clears (sets_prompt text) h some new_some = set_draws c _ (min c.mark (top c)) some (omega (arith, h))
+command_draws c clears (sends_message text) h some new_some = set_draws c _ (min c.mark (top c)) some (omega (arith, h))
+command_draws c clears (shows_prompt is_shown) h some new_some = set_draws c _ (min c.mark (top c)) some (omega (arith, h))
+command_draws c clears (follows follow) h some new_some = move_draws c _ (min (top c) (top c)) some
+command_draws c clears (types character) h some new_some = set_draws c _ (min c.mark (top c)) some (omega (arith, h))
+command_draws c clears restores_prompt h some new_some = set_draws c _ (min c.mark (top c)) some (omega (arith, h))
+command_draws c clears redraws_prompt h some new_some = at_mark Prompt c _ (min c.mark (top c)) (omega (arith, h)) (prompt_draws c _ some)
+command_draws c clears redraws_page h some new_some = whole_draws c _ new_some
+command_draws c clears (sets_classifier k) h some new_some = set_draws c _ (min c.mark (top c)) some (omega (arith, h))
 
 -- a step's drawing, whole or broken off
-pub step_drawn : {K : Type 0} (a b c : Option (List ℕ)) (bytes : List ℕ) (old : Control) (w : Wanted K) → IsClamped old → 1 ≤ old.rows → 1 ≤ (changed_by (effect old w)).rows → bytes ≡ written_all (ops_between (drawing_of old w) old (changed_by (effect old w))) → b ≡ a → Appends b c bytes → Drawn a c old (work_of old w ∷ []) (changed_by (effect old w))
-step_drawn a b c bytes old w clamped some new_some is s h = (ops_between (drawing_of old w) old (changed_by (effect old w)), rw (← is) (subst (λ (x : Option (List ℕ)). Appends x c bytes) s h), command_draws old w clamped some new_some)
+pub step_drawn : {K : Type 0} (a b c : Option (List ℕ)) (bytes : List ℕ) (old : Control) (clears : Bool) (w : Wanted K) → IsClamped old → 1 ≤ old.rows → 1 ≤ (changed_by (effect (cleared clears old) w)).rows → bytes ≡ written_all (ops_of_step (drawing_of (cleared clears old) w) old (changed_by (effect (cleared clears old) w))) → b ≡ a → Appends b c bytes
+    → Drawn a c old (work_of (cleared clears old) w ∷ []) (changed_by (effect (cleared clears old) w))
+step_drawn a b c bytes old clears w clamped some new_some is s h =
+    let ops : List Op = ops_of_step (drawing_of (cleared clears old) w) old (changed_by (effect (cleared clears old) w)) in
+    (ops, subst (λ (x : List ℕ). Appends a c x) is (subst (λ (x : Option (List ℕ)). Appends x c bytes) s h), command_draws old clears w clamped some new_some)
 
-pub step_broken : {K : Type 0} (a b c : Option (List ℕ)) (bytes : List ℕ) (old : Control) (w : Wanted K) → IsClamped old → 1 ≤ old.rows → 1 ≤ (changed_by (effect old w)).rows → is_drawn (drawing_of old w) ≡ true → bytes ≡ written_all (ops_between (drawing_of old w) old (changed_by (effect old w))) → b ≡ a → AppendsFront b c bytes → BrokenOff a c old (work_of old w ∷ []) (changed_by (effect old w))
-step_broken a b c bytes old w clamped some new_some drawn is s h =
-    (ops_between (drawing_of old w) old (changed_by (effect old w)), subst (λ (x : List ℕ). AppendsFront a c x) is (subst (λ (x : Option (List ℕ)). AppendsFront x c bytes) s h), command_draws old w clamped some new_some, rw drawn refl)
+pub step_broken : {K : Type 0} (a b c : Option (List ℕ)) (bytes : List ℕ) (old : Control) (clears : Bool) (w : Wanted K) → IsClamped old → 1 ≤ old.rows → 1 ≤ (changed_by (effect (cleared clears old) w)).rows → 0 < length bytes → bytes ≡ written_all (ops_of_step (drawing_of (cleared clears old) w) old (changed_by (effect (cleared clears old) w))) → b ≡ a → AppendsFront b c bytes
+    → BrokenOff a c old (work_of (cleared clears old) w ∷ []) (changed_by (effect (cleared clears old) w))
+step_broken a b c bytes old clears w clamped some new_some drawn is s h =
+    let ops : List Op = ops_of_step (drawing_of (cleared clears old) w) old (changed_by (effect (cleared clears old) w)) in
+    let draws = command_draws old clears w clamped some new_some in
+    (ops, subst (λ (x : List ℕ). AppendsFront a c x) is (subst (λ (x : Option (List ℕ)). AppendsFront x c bytes) s h), draws, λ q. (let none : length bytes ≡ 0 = ap length (is ∙ ap written_all (draws.none q) ∙ written_all-nil) in absurd (omega (arith, drawn, none))))

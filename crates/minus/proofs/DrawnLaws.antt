@@ -1,22 +1,29 @@
 -- What is drawn in a step, and at the start.
-use Rattle.std.proofs.Common.{◌≡◌, ℕ, ◌-◌, ◌<◌, ◌≤◌, true, false, List, [], ◌∷◌, ◌++◌, length, drop, replicate, Option, Some, None, refl, sym, subst, ◌∙◌, arith, append_assoc}
+use Rattle.std.proofs.Common.{◌≡◌, ℕ, ◌+◌, ◌-◌, ◌<◌, ◌≤◌, true, false, List, [], ◌∷◌, ◌++◌, length, map, drop, replicate, cond, Option, Some, None, refl, sym, subst, ◌∙◌, arith, append_assoc, inl, inr}
+use Rattle.std.specs.Prelude.{bytes_eq, if◌then◌else◌}
 use Rattle.std.specs.Io.KnownBytes.{Appends}
-use Rattle.std.proofs.lemmas.List.{length-append, length-map, length-replicate, length-take}
+use Rattle.std.proofs.lemmas.Bool.{cases_Bool}
+use Rattle.std.proofs.lemmas.List.{length-append, length-map, length-replicate, length-take, map-append}
+use Rattle.std.proofs.lemmas.List.Elements.{Contains-push}
+use Rattle.std.proofs.lemmas.Slice.Eq.{bytes_eq-Decides}
 use Rattle.std.proofs.KnownBytes.{Appends-nil}
-use Rattle.minus_term.specs.PlayedScreen.{unknown_screen, screen_of}
-use Rattle.minus_term.specs.Scroll.{scroll_ops}
+use Rattle.minus_term.specs.Operations.{Op}
+use Rattle.minus_term.specs.PlayedScreen.{PlayedScreen, ShownPage, Draws, unknown_screen, screen_of}
+use Rattle.minus_term.specs.Puts.{puts}
 use Rattle.minus_term.specs.Terminal.{setup_bytes}
-use Rattle.minus_term.specs.Written.{written_all}
-use Rattle.minus_term.specs.FullRedraw.{page_of}
+use Rattle.minus_term.specs.Written.{written_all, IsClean, IsRowOf}
+use Rattle.minus_term.specs.FullRedraw.{page_of, prompt_ops}
 use Rattle.minus_term.proofs.WrittenLaws.{written_all-nil}
+use Rattle.minus_term.proofs.PutsLaws.{puts-prompt}
 use Rattle.minus_term.proofs.ScrollLaws.{scroll_shows_lem, scroll_puts_lem, IsClean-scroll}
-use Rattle.minus_term.proofs.FullRedrawLaws.{full_redraw_lem, IsClean-full}
-use Rattle.minus.specs.Control.{Control, text_rows}
+use Rattle.minus_term.proofs.FullRedrawLaws.{full_redraw_lem, IsClean-full, IsClean-prompt, play_prompt}
+use Rattle.minus.specs.Control.{Control, Settings, text_rows}
 use Rattle.minus.specs.Page.{shown, page}
 use Rattle.minus.specs.PromptRow.{prompt_row}
-use Rattle.minus.specs.declared.commands.Drawing.TheVariants.{Nothing, Full, Scroll}
+use Rattle.minus.specs.declared.commands.Drawing.{Drawing}
+use Rattle.minus.specs.declared.commands.Drawing.TheVariants.{Nothing, Full, Scroll, Prompt}
 use Rattle.minus.specs.Works.{Work}
-use Rattle.minus.specs.Drawings.{whole_page}
+use Rattle.minus.specs.Drawings.{whole_page, whole_prompt, changed_prompt, ops_between}
 use Rattle.minus.specs.Drawn.{IsDrawing, Drawn, IsWholeDrawing, Leaves, Begins}
 
 pub length_page : (rows : ℕ) (texts : List (List ℕ)) (prompt : List ℕ) → length texts < rows → length (page_of rows texts prompt).texts ≡ rows
@@ -26,50 +33,106 @@ length_page rows texts prompt l =
 pub shown_fits : (c : Control) → 1 ≤ c.rows → length (shown c) < c.rows
 shown_fits c h = omega (arith, length-take (c.rows - 1) (drop c.mark (text_rows c)))
 
--- a work that is drawn in full, and one that is not drawn
-abbrev pub full_work : Control → Work
-full_work c = record { drawing = Full; left = c }
+-- ---- a page whose rows of text stay
 
-abbrev pub quiet_work : Control → Work
-quiet_work c = record { drawing = Nothing; left = c }
+-- the prompt row is drawn over the one before
+prompt_shows : (rows : ℕ) (texts : List (List ℕ)) (old new : List ℕ) → length texts < rows → Draws (prompt_ops rows new) (page_of rows texts old) (page_of rows texts new)
+prompt_shows rows texts old new l =
+    let xs : List (List ℕ) = texts ++ replicate (rows - 1 - length texts) [] in
+    let count : length (map Some xs) + 1 ≡ rows = omega (arith, length-map xs Some, length-append texts (replicate (rows - 1 - length texts) []), length-replicate {A = List ℕ} (rows - 1 - length texts) []) in
+    record {
+      texts = play_prompt rows new (screen_of (page_of rows texts old)) (map Some xs) (Some old) (map-append Some xs (old ∷ [])) count ∙ sym (map-append Some xs (new ∷ []));
+      cursor = tt;
+    }
+
+-- a prompt row that is another one than before is drawn
+abbrev pub next_prompt : ℕ → List ℕ → List ℕ → List Op
+next_prompt rows old new = if bytes_eq new old then [] else prompt_ops rows new
+
+pub next_prompt_shows : (rows : ℕ) (texts : List (List ℕ)) (old new : List ℕ) → length texts < rows → Draws (next_prompt rows old new) (page_of rows texts old) (page_of rows texts new)
+next_prompt_shows rows texts old new l = elim (cases_Bool (bytes_eq new old)) [
+  | inl e ↦ (let same : new ≡ old = (bytes_eq-Decides new old).0 e in rw e (subst (λ (p : List ℕ). Draws [] (page_of rows texts old) (page_of rows texts p)) (sym same) (record { texts = refl; cursor = tt })))
+  | inr e ↦ rw e (prompt_shows rows texts old new l)
+]
+
+pub next_prompt_puts : (rows : ℕ) (old new : List ℕ) (s : PlayedScreen) → length s.texts ≡ rows → 0 < rows → puts (next_prompt rows old new) s ≡ 0
+next_prompt_puts rows old new s e l = elim (cases_Bool (bytes_eq new old)) [
+  | inl f ↦ rw f refl
+  | inr f ↦ rw f (puts-prompt rows new s e l)
+]
+
+pub next_prompt_clean : (pages : List ShownPage) (rows : ℕ) (old new : List ℕ) → IsRowOf pages new → IsClean pages (next_prompt rows old new)
+next_prompt_clean pages rows old new h = elim (cases_Bool (bytes_eq new old)) [
+  | inl f ↦ rw f tt
+  | inr f ↦ rw f (IsClean-prompt pages rows new h)
+]
+
+-- the prompt row is a row of the page
+pub prompt_there : (c new : Control) → IsRowOf (page c ∷ page new ∷ []) (prompt_row new)
+prompt_there c new = (page new, (1, omega arith, refl), Contains-push (shown new ++ replicate (new.rows - 1 - length (shown new)) []) (prompt_row new))
+
+pub page_size : (c : Control) → 1 ≤ c.rows → length (screen_of (page c)).texts ≡ c.rows
+page_size c some = length-map (page c).texts Some ∙ length_page c.rows (shown c) (prompt_row c) (shown_fits c some)
+
+-- ---- a work, by how it is drawn
+
+abbrev pub work_drawn : Drawing → Control → Work
+work_drawn drawing c = record { drawing = drawing; left = c }
 
 -- a page drawn whole is the drawing of a work that is drawn in full
-pub whole_draws : (old new : Control) → 1 ≤ new.rows → IsDrawing (whole_page new) old (full_work new ∷ []) new
+pub whole_draws : (old new : Control) → 1 ≤ new.rows → IsDrawing (whole_page new) old (work_drawn Full new ∷ []) new
 whole_draws old new some = record {
   shows = full_redraw_lem new.rows (shown new) (prompt_row new) (unknown_screen new.rows) (length-replicate {A = Option (List ℕ)} new.rows None) (shown_fits new some);
   clean = IsClean-full (page old ∷ page new ∷ []) new.rows (shown new) (prompt_row new) (1, omega arith, refl);
   few = tt;
-  none = λ e. absurd (let drawn : true ≡ false = e in cc);
+  none = λ q. absurd (let drawn : Full ≡ Nothing = q.0 in cc);
 }
 
--- no operation is the drawing of a work that is not drawn
-pub quiet_draws : (c : Control) → IsDrawing [] c (quiet_work c ∷ []) c
-quiet_draws c = record {
-  shows = record { texts = refl; cursor = tt };
-  clean = tt;
-  few = omega arith;
-  none = λ e. refl;
-}
+-- a prompt row that is another one than before is the drawing of a work that is not drawn
+pub quiet_draws : (c : Control) (s : Settings) → 1 ≤ c.rows → (let new : Control = record c { settings = s } in IsDrawing (changed_prompt c new) c (work_drawn Nothing new ∷ []) new)
+quiet_draws c s some =
+    let new : Control = record c { settings = s } in
+    record {
+      shows = next_prompt_shows c.rows (shown c) (prompt_row c) (prompt_row new) (shown_fits c some);
+      clean = next_prompt_clean (page c ∷ page new ∷ []) c.rows (prompt_row c) (prompt_row new) (prompt_there c new);
+      few = omega (arith, next_prompt_puts c.rows (prompt_row c) (prompt_row new) (screen_of (page c)) (page_size c some) some);
+      none = λ q. (let same : bytes_eq (prompt_row new) (prompt_row c) ≡ true = (bytes_eq-Decides (prompt_row new) (prompt_row c)).1 q.1 in rw same refl);
+    }
 
--- a work that moves the mark
-abbrev pub scroll_work : Control → Work
-scroll_work c = record { drawing = Scroll; left = c }
+-- the prompt row is the drawing of a work that draws it
+pub prompt_draws : (c : Control) (s : Settings) → 1 ≤ c.rows → (let new : Control = record c { settings = s } in IsDrawing (whole_prompt new) c (work_drawn Prompt new ∷ []) new)
+prompt_draws c s some =
+    let new : Control = record c { settings = s } in
+    record {
+      shows = prompt_shows c.rows (shown c) (prompt_row c) (prompt_row new) (shown_fits c some);
+      clean = IsClean-prompt (page c ∷ page new ∷ []) c.rows (prompt_row new) (prompt_there c new);
+      few = omega (arith, puts-prompt c.rows (prompt_row new) (screen_of (page c)) (page_size c some) some);
+      none = λ q. absurd (let drawn : Prompt ≡ Nothing = q.0 in cc);
+    }
 
 -- the way from one mark to another is the drawing of a work that moves it
-pub scroll_draws : (c : Control) (mark : ℕ) → 1 ≤ c.rows → IsDrawing (scroll_ops c.rows c.mark mark (shown (record c { mark = mark })) (prompt_row (record c { mark = mark }))) c (scroll_work (record c { mark = mark }) ∷ []) (record c { mark = mark })
-scroll_draws c mark some =
-    let new : Control = record c { mark = mark } in
-    let size : length (screen_of (page c)).texts ≡ c.rows = length-map (page c).texts Some ∙ length_page c.rows (shown c) (prompt_row c) (shown_fits c some) in
+pub scroll_draws : (c : Control) (s : Settings) (mark : ℕ) → 1 ≤ c.rows → (let new : Control = record c { mark = mark; settings = s } in IsDrawing (ops_between Scroll c new) c (work_drawn Scroll new ∷ []) new)
+scroll_draws c s mark some =
+    let new : Control = record c { mark = mark; settings = s } in
     record {
       shows = scroll_shows_lem c.rows c.mark mark (text_rows c) (prompt_row c) (prompt_row new) some;
       clean = IsClean-scroll (page c ∷ page new ∷ []) c.rows c.mark mark (shown new) (prompt_row new) (1, omega arith, refl);
-      few = scroll_puts_lem c.rows c.mark mark (text_rows c) (prompt_row new) (screen_of (page c)) some size;
-      none = λ e. absurd (let drawn : true ≡ false = e in cc);
+      few = scroll_puts_lem c.rows c.mark mark (text_rows c) (prompt_row new) (screen_of (page c)) some (page_size c some);
+      none = λ q. absurd (let drawn : Scroll ≡ Nothing = q.0 in cc);
     }
 
+-- no operation is the drawing of no work
+no_work : (c : Control) → IsDrawing [] c [] c
+no_work c = record {
+  shows = record { texts = refl; cursor = tt };
+  clean = tt;
+  few = omega arith;
+  none = λ q. refl;
+}
+
 -- nothing drawn
-pub nothing_drawn : (a : Option (List ℕ)) (c : Control) → Drawn a a c (quiet_work c ∷ []) c
-nothing_drawn a c = ([], subst (λ (bytes : List ℕ). Appends a a bytes) (sym written_all-nil) (Appends-nil a), quiet_draws c)
+pub nothing_drawn : (a : Option (List ℕ)) (c : Control) → Drawn a a c [] c
+nothing_drawn a c = ([], subst (λ (bytes : List ℕ). Appends a a bytes) (sym written_all-nil) (Appends-nil a), no_work c)
 
 -- a page drawn whole is drawn from every screen of its size
 pub whole_shows : (c : Control) → 1 ≤ c.rows → IsWholeDrawing (whole_page c) (c ∷ []) c

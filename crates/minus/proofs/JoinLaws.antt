@@ -1,5 +1,5 @@
 -- The drawings of some works after those of others are the drawings of them all.
-use Rattle.std.proofs.Common.{◌≡◌, ℕ, ◌+◌, ◌≤◌, ◌||◌, Bool, true, false, List, [], ◌∷◌, ◌++◌, length, map, Option, None, Some, refl, sym, subst, ◌∙◌, arith, inl, inr}
+use Rattle.std.proofs.Common.{◌≡◌, ℕ, ◌+◌, ◌≤◌, ◌||◌, Bool, true, false, List, [], ◌∷◌, ◌++◌, length, map, Option, None, Some, refl, sym, ap, subst, ◌∙◌, arith, inl, inr}
 use Rattle.std.specs.List.{Contains}
 use Rattle.std.proofs.lemmas.Bool.{cases_Bool}
 use Rattle.std.proofs.lemmas.List.{append-nil, map-append, length-replicate}
@@ -11,21 +11,17 @@ use Rattle.minus_term.proofs.JoinLaws.{puts_join, puts_below}
 use Rattle.minus_term.proofs.PlayLaws.{play_all-append, draws_from, shows_below, screen_of_below, unknown_below, length-play_all, play_is_monotone_lem}
 use Rattle.minus.specs.Control.{Control}
 use Rattle.minus.specs.Page.{page}
-use Rattle.minus.specs.Works.{Work, WorkedOff, all, one, up_to, is_full, is_drawn, some_full, some_drawn, passed_in}
+use Rattle.minus.specs.PromptRow.{prompt_row}
+use Rattle.minus.specs.Works.{Work, WorkedOff, all, one, up_to, is_full, some_full, IsQuiet, passed_in, reached}
 use Rattle.minus.specs.Seen.{Seen}
 use Rattle.minus.specs.Table.{Wanted, Exit}
-use Rattle.minus.specs.declared.commands.Drawing.TheVariants.{Nothing, Full, Scroll, Append}
+use Rattle.minus.specs.declared.commands.Drawing.TheVariants.{Nothing, Full, Scroll, Append, Prompt}
 use Rattle.minus.proofs.TableLaws.{unresized}
 use Rattle.minus.proofs.LeavesLaws.{last_passed, pages_before, pages_after}
 use Rattle.minus_term.specs.Written.{IsClean}
 use Rattle.minus_term.proofs.WrittenLaws.{IsClean-append, IsClean-more}
 use Rattle.minus.specs.Drawn.{screen_before, most_of, most_puts, then_most, IsWithin, IsDrawing, DrawingsJoin}
 use Rattle.minus.specs.declared.commands.Drawing.{Drawing}
-
--- the control that works reach
-abbrev pub reached : Control → List Work → Control
-reached c [] = c
-reached c (w ∷ works) = reached w.left works
 
 within_sum : (m n : ℕ) (o p : Option ℕ) → IsWithin m o → IsWithin n p → IsWithin (m + 1 + n) (then_most o p)
 within_sum m n None p h k = tt
@@ -72,6 +68,7 @@ no_bound c (w ∷ []) e = alone w.drawing e
     alone Full f = refl
     alone Scroll f = absurd (cc)
     alone Append f = absurd (cc)
+    alone Prompt f = absurd (cc)
 no_bound c (w ∷ v ∷ works) e = first (no_bound w.left (v ∷ works)) w.drawing e
   where
     first : (some_full (v ∷ works) ≡ true → most_puts w.left (v ∷ works) ≡ None) → (d : Drawing) → (is_full d || some_full (v ∷ works)) ≡ true → then_most (most_of d c w.left) (most_puts w.left (v ∷ works)) ≡ None
@@ -79,6 +76,7 @@ no_bound c (w ∷ v ∷ works) e = first (no_bound w.left (v ∷ works)) w.drawi
     first more Nothing f = let none : most_puts w.left (v ∷ works) ≡ None = more f in rw none refl
     first more Scroll f = let none : most_puts w.left (v ∷ works) ≡ None = more f in rw none refl
     first more Append f = let none : most_puts w.left (v ∷ works) ≡ None = more f in rw none refl
+    first more Prompt f = let none : most_puts w.left (v ∷ works) ≡ None = more f in rw none refl
 
 -- the drawing of works, after which the drawing of others, is the drawing of them all, without one in full among them
 pub partial_drawings : (a b c : Control) (w v : Work) (ws vs : List Work) (xs ys : List Op) → some_full (w ∷ ws) ≡ false → some_full (v ∷ vs) ≡ false → b ≡ reached a (w ∷ ws)
@@ -137,9 +135,19 @@ full_then_partial a b c ws vs xs ys fw fv rows h k =
     first_true true y f = refl
     first_true false y f = absurd (cc)
 
-neither : (x y : Bool) → (x || y) ≡ false → (x ≡ false) × (y ≡ false)
-neither false y e = (refl, e)
-neither true y e = absurd (cc)
+-- works that draw nothing and leave the prompt row, in two parts
+quiet_parts : (c : Control) (ws vs : List Work) → IsQuiet c (ws ++ vs) → IsQuiet c ws × IsQuiet c vs
+quiet_parts c [] vs q = (tt, q)
+quiet_parts c (w ∷ ws) vs q = let more = quiet_parts c ws vs q.2 in ((q.0, q.1, more.0), more.1)
+
+-- they reach a control with that prompt row
+quiet_reached : (c d : Control) (ws : List Work) → prompt_row d ≡ prompt_row c → IsQuiet c ws → prompt_row (reached d ws) ≡ prompt_row c
+quiet_reached c d [] same q = same
+quiet_reached c d (w ∷ ws) same q = quiet_reached c w.left ws q.1 q.2
+
+quiet_from : (c d : Control) (ws : List Work) → prompt_row d ≡ prompt_row c → IsQuiet c ws → IsQuiet d ws
+quiet_from c d [] same q = tt
+quiet_from c d (w ∷ ws) same q = (q.0, q.1 ∙ sym same, quiet_from c d ws same q.2)
 
 -- the drawings of works after others are the drawings of them all
 some_join : (a b c : Control) (w v : Work) (ws vs : List Work) (xs ys : List Op) → (some_full (v ∷ vs) ≡ false → b.rows ≡ c.rows) → b ≡ reached a (w ∷ ws) → Contains (a ∷ passed_in (w ∷ ws)) b → IsDrawing xs a (w ∷ ws) b → IsDrawing ys b (v ∷ vs) c → IsDrawing (xs ++ ys) a ((w ∷ ws) ++ v ∷ vs) c
@@ -148,10 +156,11 @@ some_join a b c w v ws vs xs ys rows is there h k =
       shows = by_full.0;
       clean = joined_clean;
       few = by_full.1;
-      none = λ e. (
-          let both = neither (some_drawn (w ∷ ws)) (some_drawn (v ∷ vs)) (sym (list_any-append (λ (x : Work). is_drawn x.drawing) (w ∷ ws) (v ∷ vs)) ∙ e) in
+      none = λ q. (
+          let both = quiet_parts a (w ∷ ws) (v ∷ vs) q in
+          let same : prompt_row b ≡ prompt_row a = ap prompt_row is ∙ quiet_reached a a (w ∷ ws) refl both.0 in
           let x : xs ≡ [] = h.none both.0 in
-          let y : ys ≡ [] = k.none both.1 in
+          let y : ys ≡ [] = k.none (quiet_from a b (v ∷ vs) same both.1) in
           rw (x, y) refl
           );
     }
@@ -188,10 +197,10 @@ nothing_done all = refl
 pub drawings_join_lem : {K : Type 0} → DrawingsJoin K
 drawings_join_lem a b c ws vs [] more exit text copied xs ys h k p q =
     let same : b.control ≡ a.control = nothing_done h in
-    let none : xs ≡ [] = p.none refl in
+    let none : xs ≡ [] = p.none tt in
     rw none (subst (λ (x : Control). IsDrawing ys x more c.control) same q)
 drawings_join_lem a b c ws vs (w ∷ works) [] exit text copied xs ys h k p q =
     let same : c.control ≡ b.control = nothing_done k in
-    let none : ys ≡ [] = q.none refl in
+    let none : ys ≡ [] = q.none tt in
     rw (none, append-nil xs, append-nil (w ∷ works)) (subst (λ (x : Control). IsDrawing xs a.control (w ∷ works) x) (sym same) p)
 drawings_join_lem a b c ws vs (w ∷ works) (v ∷ more) exit text copied xs ys h k p q = some_join a.control b.control c.control w v works more xs ys (unresized k) (is_reached h) (last_passed h) p q

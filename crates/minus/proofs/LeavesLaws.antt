@@ -31,6 +31,11 @@ last_passed (all {s = s}) = head_there s.control []
 last_passed (one {s = s} {t = t} {w = w} {works = works} possible on more) = tail_there s.control (passed_in (work_of s.control w ∷ works)) t.control (last_passed more)
 last_passed (up_to {s = s} {w = w} possible is) = let left : Control = (after s w).control in tail_there s.control (left ∷ []) left (head_there left [])
 
+-- where there were items, it is among those that they pass
+pub last_left : {K : Type 0} {s t : Seen K} {w : Wanted K} {ws : List (Wanted K)} {works : List Work} {exit : Option Exit} {text : Option (List ℕ)} → WorkedOff s (w ∷ ws) works exit text t → Contains (passed_in works) t.control
+last_left (one possible on more) = last_passed more
+last_left (up_to {s = s} {w = w} possible is) = head_there (after s w).control []
+
 -- what is among a first one and some is among those and any that contain the first
 pub after_first : {X : Type 0} (before ps : List X) (x y : X) → Contains before x → Contains (x ∷ ps) y → Contains (before ++ ps) y
 after_first before ps x y here h = at_place h.0 h.1 h.2
@@ -94,8 +99,9 @@ leaves_more (Some x) (Some y) old new works before rows reached d h = elim (case
   | inr e ↦ goes_on x y old new works before e (rows e) reached d h
 ]
 
--- what works leave of it, as long as the session goes on
-pub leaves_after : {K : Type 0} (old new : Seen K) (items : List (Wanted K)) (works : List Work) (exit : Option Exit) (text : Option (List ℕ)) (a b : Option (List ℕ)) (before : List Control) → Works old items works exit text (status_after exit) new → Writes exit old.control works new.control a b → Leaves a before old.control → new.status ≡ status.Running
-    → Leaves b (before ++ passed_in works) new.control
-leaves_after old new items works None text a b before h writes k running = leaves_more a b old.control new.control works before (unresized h.worked) (last_passed h.worked) writes k
-leaves_after old new items works (Some exit) text a b before h writes k running = let both : status.Running ≡ status.Ended = sym running ∙ h.stands in cc
+-- what works leave of it, as long as the session goes on, once an input was taken
+pub leaves_after : {K : Type 0} (old taken new : Seen K) (w : Wanted K) (ws : List (Wanted K)) (works : List Work) (exit : Option Exit) (text : Option (List ℕ)) (a b : Option (List ℕ)) (before : List Control) → taken.control.rows ≡ old.control.rows → Works taken (w ∷ ws) works exit text (status_after exit) new → Writes exit old.control works new.control a b → Leaves a before old.control
+    → new.status ≡ status.Running → Leaves b (before ++ passed_in works) new.control
+leaves_after old taken new w ws works None text a b before same h writes k running =
+    leaves_more a b old.control new.control works before (λ partial. sym same ∙ unresized h.worked partial) (tail_there old.control (passed_in works) new.control (last_left h.worked)) writes k
+leaves_after old taken new w ws works (Some exit) text a b before same h writes k running = let both : status.Running ≡ status.Ended = sym running ∙ h.stands in cc

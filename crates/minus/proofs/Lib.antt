@@ -3,6 +3,7 @@ pub mod ShownLaws
 pub mod ChangeLaws
 pub mod TableLaws
 pub mod DrawnLaws
+pub mod PromptLaws
 pub mod AppendLaws
 pub mod CommandLaws
 pub mod LeavesLaws

@@ -3,7 +3,7 @@ use Rattle.std.proofs.Common.{◌≡◌, ℕ, ◌+◌, true, false, List, [], �
 use Rattle.std.specs.List.{last_or}
 use Rattle.std.proofs.lemmas.List.{append-nil, reverse-append, length_push, map_push}
 use Rattle.minus_term.specs.declared.error.MinusError.{MinusError}
-use Rattle.minus_term.specs.Refusals.{Refusal, refusal_of, for_memory, for_size, for_mode, after_failure, after_exit, at_setup, at_cleanup, at_drawing, of_no_call}
+use Rattle.minus_term.specs.Refusals.{Refusal, refusal_of, for_memory, for_newline, for_size, for_mode, after_failure, after_exit, at_setup, at_cleanup, at_drawing, of_no_call}
 use Rattle.minus.specs.declared.session.Answer.{Answer}
 use Rattle.minus.specs.declared.status.Status.TheVariants as status
 use Rattle.minus.specs.Answers.{ends_run}
@@ -68,6 +68,7 @@ stays_running reached new e r = ap (λ (x : Seen _). x.status) (sym e) ∙ r
 -- what a refused step leaves of the page
 leaves_refused : {K : Type 0} (allows : Allows K) (refusal : Refusal) (a b : Option (List ℕ)) (reached new : Seen K) (told : Told K) (passed : List Control) → Refuses allows refusal reached told new a b → (reached.status ≡ status.Running → Leaves a passed reached.control) → new.status ≡ status.Running → Leaves b passed new.control
 leaves_refused allows for_memory a b reached new told passed h k r = let stays = h.1 in let same = h.2 in let on = stays_running reached new stays r in rw (same, stays) (k on)
+leaves_refused allows for_newline a b reached new told passed h k r = let stays = h.0.stays in let same = h.1 in let on = stays_running reached new stays r in rw (same, stays) (k on)
 leaves_refused allows (for_size c d) a b reached new told passed h k r = let stays = h.0.stays in let same = h.1 in let on = stays_running reached new stays r in rw (same, stays) (k on)
 leaves_refused allows after_failure a b reached new told passed h k r = let stays = h.1 in let same = h.2 in let on = stays_running reached new stays r in rw (same, stays) (k on)
 leaves_refused allows after_exit a b reached new told passed h k r = let stays = h.1 in let same = h.2 in let on = stays_running reached new stays r in rw (same, stays) (k on)

@@ -4,7 +4,7 @@ use Rattle.std.specs.Io.KnownBytes.{Appends}
 use Rattle.minus_term.specs.declared.error.CleanupError.{CleanupError}
 use Rattle.minus_term.specs.Counts.{AppendsFront, Stays, Rises}
 use Rattle.minus_term.specs.Terminal.{cleanup_bytes}
-use Rattle.minus_term.specs.Refusals.{Refusal, for_memory, for_size, for_mode, after_failure, after_exit, at_setup, at_cleanup, at_drawing, of_no_call}
+use Rattle.minus_term.specs.Refusals.{Refusal, for_memory, for_newline, for_size, for_mode, after_failure, after_exit, at_setup, at_cleanup, at_drawing, of_no_call}
 use Rattle.minus_term.specs.Written.{written_all}
 use Rattle.minus.specs.Control.{Control}
 use Rattle.minus.specs.declared.state.RunMode.{RunMode}
@@ -18,6 +18,7 @@ pub start_broken : (refusal : Refusal) (a b : Option (List ℕ)) (m n : Option �
 start_broken (at_setup cause) a b m n bytes drawing terminal c some e g r h = h
 start_broken at_drawing a b m n bytes drawing terminal c some e g r h = (whole_page c, subst (λ (x : List ℕ). DrawingBreaksOff a b m n x) (e ∙ g) h, whole_shows c some)
 start_broken for_memory a b m n bytes drawing terminal c some e g r h = absurd h
+start_broken for_newline a b m n bytes drawing terminal c some e g r h = absurd h
 start_broken (for_size cols rows) a b m n bytes drawing terminal c some e g r h = absurd h
 start_broken for_mode a b m n bytes drawing terminal c some e g r h = absurd h
 start_broken after_failure a b m n bytes drawing terminal c some e g r h = absurd h
@@ -30,6 +31,7 @@ pub shown_at_start : (refusal : Refusal) (mode : RunMode) (cols rows : ℕ) (ter
 shown_at_start (at_setup cause) mode cols rows terminal can h = ((can, h), λ early. early)
 shown_at_start at_drawing mode cols rows terminal can h = ((can, h), λ early. early)
 shown_at_start for_memory mode cols rows terminal can h = absurd h
+shown_at_start for_newline mode cols rows terminal can h = absurd h
 shown_at_start (for_size c r) mode cols rows terminal can h = absurd h
 shown_at_start for_mode mode cols rows terminal can h = absurd h
 shown_at_start after_failure mode cols rows terminal can h = absurd h
@@ -41,6 +43,7 @@ shown_at_start of_no_call mode cols rows terminal can h = absurd h
 pub unformed_at_start : (refusal : Refusal) (mode : RunMode) (cols rows : ℕ) (terminal : Bool) → (mode ≡ Uninitialized → ⊥) → IsUnformedState refusal cols rows → IsStartRefused refusal mode cols rows terminal
 unformed_at_start for_memory mode cols rows terminal runs h = record { runs = runs; size = h }
 unformed_at_start (for_size c r) mode cols rows terminal runs h = (runs, h.0, h.1, h.2)
+unformed_at_start for_newline mode cols rows terminal runs h = absurd h
 unformed_at_start for_mode mode cols rows terminal runs h = absurd h
 unformed_at_start after_failure mode cols rows terminal runs h = absurd h
 unformed_at_start after_exit mode cols rows terminal runs h = absurd h

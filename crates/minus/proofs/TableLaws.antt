@@ -1,13 +1,10 @@
 -- What commands leave, by how they are drawn.
 use Rattle.std.proofs.Common.{◌≡◌, ℕ, ◌+◌, ◌<◌, List, [], ◌∷◌, ◌++◌, length, get_or, map, take, ap, ◌∙◌, sym, refl, arith, min, ◌==◌, ◌||◌, Bool, true, false, inl, inr, Option, Some, None}
 use Rattle.std.proofs.lemmas.List.{map_more}
-use Rattle.std.proofs.lemmas.Bool.{cases_Bool, eqb-true}
-use Rattle.minus.specs.declared.commands.Drawing.{Drawing}
-use Rattle.minus.specs.declared.commands.Drawing.TheVariants.{Nothing, Full, Scroll, Append}
-use Rattle.minus.specs.Control.{Control, clamp, top, IsClamped, SameSize}
+use Rattle.minus.specs.Control.{Control, clamp, top, cleared, IsClamped, SameSize}
 use Rattle.minus.specs.Seen.{Seen}
-use Rattle.minus.specs.Table.{Wanted, sets_data, appends_data, moves_mark, resizes, exits, ignores, sets_classifier, Exit, Effect, effect, changed_by, kept_after, drawing_of, IsPossible}
-use Rattle.minus.specs.Works.{Work, WorkedOff, all, one, up_to, is_drawn, is_full, some_full, ResizesAreFull}
+use Rattle.minus.specs.Table.{Wanted, sets_data, appends_data, moves_mark, resizes, exits, ignores, sets_prompt, sends_message, shows_prompt, follows, types, restores_prompt, redraws_prompt, redraws_page, sets_classifier, Exit, Effect, effect, changed_by, kept_after, drawing_of, IsPossible}
+use Rattle.minus.specs.Works.{Work, WorkedOff, all, one, up_to, is_full, some_full, ResizesAreFull}
 use Rattle.minus.specs.Starts.{taken, taken_all, at_start, first_control}
 
 -- what the clamp leaves
@@ -18,34 +15,23 @@ clamp_still c h = let m : min c.mark (top c) ≡ c.mark = omega (arith, h) in ap
 pub changed_is_clamped : (e : Effect) → IsClamped (changed_by e)
 changed_is_clamped e = omega arith
 
--- what is not drawn leaves the control as it is
-pub undrawn : {K : Type 0} (c : Control) (w : Wanted K) → IsClamped c → drawing_of c w ≡ Nothing → changed_by (effect c w) ≡ c
-undrawn c (sets_data text) h e = cc
-undrawn {K = K} c (appends_data text) h e =
-    let new : Control = record c { text = c.text ++ text } in
-    let w : Wanted K = appends_data text in
-    elim (cases_Bool (min c.mark (top new) == c.mark)) [
-      | inl s ↦ absurd (let d : drawing_of c w ≡ Append = rw s refl in let both : Append ≡ Nothing = sym d ∙ e in cc)
-      | inr s ↦ absurd (let d : drawing_of c w ≡ Full = rw s refl in let both : Full ≡ Nothing = sym d ∙ e in cc)
-    ]
-undrawn {K = K} c (moves_mark mark) h e = let w : Wanted K = moves_mark mark in elim (cases_Bool (min mark (top c) == c.mark)) [
-  | inl s ↦ (let m : min mark (top c) ≡ c.mark = eqb-true (min mark (top c)) c.mark s in ap (λ (n : ℕ). let k : Control = record c { mark = n } in k) m)
-  | inr s ↦ absurd (let d : drawing_of c w ≡ Scroll = rw s refl in let both : Scroll ≡ Nothing = sym d ∙ e in cc)
-]
-undrawn c (resizes cols rows) h e = cc
-undrawn c exits h e = clamp_still c h
-undrawn c ignores h e = clamp_still c h
-undrawn c (sets_classifier k) h e = clamp_still c h
-
--- an exit can be done, and is not drawn
-pub exit_quiet : {K : Type 0} (c : Control) (w : Wanted K) (x : Exit) → (effect c w).exits_by ≡ Some x → IsPossible w × (drawing_of c w ≡ Nothing)
-exit_quiet c (sets_data text) x e = cc
-exit_quiet c (appends_data text) x e = cc
-exit_quiet c (moves_mark mark) x e = cc
-exit_quiet c (resizes cols rows) x e = cc
-exit_quiet c exits x e = (tt, refl)
-exit_quiet c ignores x e = cc
-exit_quiet c (sets_classifier k) x e = cc
+-- an exit can be done, and leaves the control as it is
+pub exit_still : {K : Type 0} (c : Control) (w : Wanted K) (x : Exit) → IsClamped c → (effect c w).exits_by ≡ Some x → IsPossible w × (changed_by (effect c w) ≡ c)
+exit_still c (sets_data text) x h e = cc
+exit_still c (appends_data text) x h e = cc
+exit_still c (moves_mark mark) x h e = cc
+exit_still c (resizes cols rows) x h e = cc
+exit_still c exits x h e = (tt, clamp_still c h)
+exit_still c ignores x h e = cc
+exit_still c (sets_prompt text) x h e = cc
+exit_still c (sends_message text) x h e = cc
+exit_still c (shows_prompt is_shown) x h e = cc
+exit_still c (follows follow) x h e = cc
+exit_still c (types character) x h e = cc
+exit_still c restores_prompt x h e = cc
+exit_still c redraws_prompt x h e = cc
+exit_still c redraws_page x h e = cc
+exit_still c (sets_classifier k) x h e = cc
 
 -- nor does it hand a classifier over
 pub none_handed : {K : Type 0} (s : Seen K) (w : Wanted K) (x : Exit) → (effect s.control w).exits_by ≡ Some x → kept_after s.classifier w ≡ s.classifier
@@ -55,7 +41,39 @@ none_handed s (moves_mark mark) x e = refl
 none_handed s (resizes cols rows) x e = refl
 none_handed s exits x e = refl
 none_handed s ignores x e = refl
+none_handed s (sets_prompt text) x e = refl
+none_handed s (sends_message text) x e = refl
+none_handed s (shows_prompt is_shown) x e = refl
+none_handed s (follows follow) x e = refl
+none_handed s (types character) x e = refl
+none_handed s restores_prompt x e = refl
+none_handed s redraws_prompt x e = refl
+none_handed s redraws_page x e = refl
 none_handed s (sets_classifier k) x e = cc
+
+-- whether a command is an exit does not hang on the prefix
+same_exit : {K : Type 0} (c : Control) (clears : Bool) (w : Wanted K) → (effect (cleared clears c) w).exits_by ≡ (effect c w).exits_by
+same_exit c clears (sets_data text) = refl
+same_exit c clears (appends_data text) = refl
+same_exit c clears (moves_mark mark) = refl
+same_exit c clears (resizes cols rows) = refl
+same_exit c clears exits = refl
+same_exit c clears ignores = refl
+same_exit c clears (sets_prompt text) = refl
+same_exit c clears (sends_message text) = refl
+same_exit c clears (shows_prompt is_shown) = refl
+same_exit c clears (follows follow) = refl
+same_exit c clears (types character) = refl
+same_exit c clears restores_prompt = refl
+same_exit c clears redraws_prompt = refl
+same_exit c clears redraws_page = refl
+same_exit c clears (sets_classifier k) = refl
+
+pub still_on : {K : Type 0} (c : Control) (clears : Bool) (w : Wanted K) → (effect c w).exits_by ≡ None → (effect (cleared clears c) w).exits_by ≡ None
+still_on c clears w e = same_exit c clears w ∙ e
+
+pub still_exits : {K : Type 0} (c : Control) (clears : Bool) (w : Wanted K) (x : Exit) → (effect c w).exits_by ≡ Some x → (effect (cleared clears c) w).exits_by ≡ Some x
+still_exits c clears w x e = same_exit c clears w ∙ e
 
 -- no command copies a text
 pub none_copied : {K : Type 0} (c : Control) (w : Wanted K) → (effect c w).copies ≡ None
@@ -65,14 +83,15 @@ none_copied c (moves_mark mark) = refl
 none_copied c (resizes cols rows) = refl
 none_copied c exits = refl
 none_copied c ignores = refl
+none_copied c (sets_prompt text) = refl
+none_copied c (sends_message text) = refl
+none_copied c (shows_prompt is_shown) = refl
+none_copied c (follows follow) = refl
+none_copied c (types character) = refl
+none_copied c restores_prompt = refl
+none_copied c redraws_prompt = refl
+none_copied c redraws_page = refl
 none_copied c (sets_classifier k) = refl
-
--- what is not Nothing is drawn
-pub drawn_kind : (d : Drawing) → (d ≡ Nothing → ⊥) → is_drawn d ≡ true
-drawn_kind Nothing h = absurd (h refl)
-drawn_kind Full h = refl
-drawn_kind Scroll h = refl
-drawn_kind Append h = refl
 
 -- what is not drawn in full keeps the size
 pub resizes_full_lem : {K : Type 0} → ResizesAreFull K
@@ -82,6 +101,14 @@ resizes_full_lem c (moves_mark mark) e = record { same_cols = refl; same_rows = 
 resizes_full_lem c (resizes cols rows) e = absurd (let both : true ≡ false = e in cc)
 resizes_full_lem c exits e = record { same_cols = refl; same_rows = refl }
 resizes_full_lem c ignores e = record { same_cols = refl; same_rows = refl }
+resizes_full_lem c (sets_prompt text) e = record { same_cols = refl; same_rows = refl }
+resizes_full_lem c (sends_message text) e = record { same_cols = refl; same_rows = refl }
+resizes_full_lem c (shows_prompt is_shown) e = record { same_cols = refl; same_rows = refl }
+resizes_full_lem c (follows follow) e = record { same_cols = refl; same_rows = refl }
+resizes_full_lem c (types character) e = record { same_cols = refl; same_rows = refl }
+resizes_full_lem c restores_prompt e = record { same_cols = refl; same_rows = refl }
+resizes_full_lem c redraws_prompt e = record { same_cols = refl; same_rows = refl }
+resizes_full_lem c redraws_page e = record { same_cols = refl; same_rows = refl }
 resizes_full_lem c (sets_classifier k) e = record { same_cols = refl; same_rows = refl }
 
 neither : (x y : Bool) → (x || y) ≡ false → (x ≡ false) × (y ≡ false)

@@ -1,12 +1,46 @@
 -- What a command leaves, formed beside the state.
-use Rattle.std.specs.Prelude.{◌≡◌, ℕ, ◌-◌, List, take, drop}
+use Rattle.std.specs.Prelude.{◌≡◌, ℕ, ◌-◌, List, [], take, drop, Bool, Option, string_bytes, if◌then◌else◌}
+use Rattle.std.specs.Option.{option_map}
 use Rattle.minus_text.specs.Document.{Document, rows_of}
 use Rattle.minus.specs.declared.change.Change.{Change}
+use Rattle.minus.specs.declared.change.Setting.{Setting}
+use Rattle.minus.specs.declared.change.Setting.TheVariants.{Prompt, Message, Prefix, Shown, Follow}
 use Rattle.minus.specs.NextTexts.{next_document, IsNext}
-use Rattle.minus.specs.Control.{Control, document_of}
+use Rattle.minus.specs.Control.{Control, Settings, document_of}
 use Rattle.minus.specs.Sizes.{IsSize}
-use Rattle.minus.specs.Table.{Wanted, resizes}
-use Rattle.minus_term.specs.Refusals.{Refusal, for_memory, for_size}
+use Rattle.minus.specs.Table.{Wanted, resizes, HasNewline}
+use Rattle.minus_term.specs.Refusals.{Refusal, for_memory, for_newline, for_size}
+
+-- one thing that is set beside the text, and all others as they are
+abbrev pub prompt_set : Setting → List ℕ → List ℕ
+prompt_set (Prompt text) prompt = string_bytes text
+prompt_set setting prompt = prompt
+
+abbrev pub message_set : Setting → Option (List ℕ) → Option (List ℕ)
+message_set (Message text) message = option_map string_bytes text
+message_set setting message = message
+
+abbrev pub prefix_set : Setting → List ℕ → List ℕ
+prefix_set (Prefix text) prefix = string_bytes text
+prefix_set setting prefix = prefix
+
+abbrev pub shown_set : Setting → Bool → Bool
+shown_set (Shown next) is_shown = next
+shown_set setting is_shown = is_shown
+
+abbrev pub follow_set : Setting → Bool → Bool
+follow_set (Follow next) follow = next
+follow_set setting follow = follow
+
+-- what there will be beside the text, where the typed prefix goes first, or stays
+abbrev pub settings_after : Settings → Bool → Setting → Settings
+settings_after s clears setting = record {
+  prompt = prompt_set setting s.prompt;
+  message = message_set setting s.message;
+  prefix = prefix_set setting (if clears then [] else s.prefix);
+  is_shown = shown_set setting s.is_shown;
+  follow = follow_set setting s.follow;
+}
 
 -- the change leads from one control to the other
 pub record IsChange (old : Control) (change : Change) (new : Control) : Type 0 where
@@ -15,14 +49,16 @@ pub record IsChange (old : Control) (change : Change) (new : Control) : Type 0 w
   pub mark_is : change.mark ≡ new.mark
   pub cols_are : change.cols ≡ new.cols
   pub rows_are : change.rows ≡ new.rows
+  pub settings_are : settings_after old.settings change.clears change.setting ≡ new.settings
 
 -- the rows of text on the page that a change of a document leads to
 abbrev pub shown_by : Document → Change → List (List ℕ)
 shown_by d change = take (change.rows - 1) (drop change.mark (rows_of (next_document d change.text)))
 
--- why a command was not formed: for want of memory, or for a size that is none of a terminal
+-- why a command was not formed: for want of memory, for a newline, or for a size that is none of a terminal
 abbrev pub IsUnformed : {K : Type 0} → Refusal → Wanted K → Type 0
 IsUnformed for_memory w = Unit {0}
+IsUnformed for_newline w = HasNewline w
 IsUnformed (for_size cols rows) w = (w ≡ resizes cols rows) × (IsSize cols rows → ⊥)
 IsUnformed refusal w = ⊥
 

@@ -1,15 +1,29 @@
 -- What the classifier of a session answers to which none is given.
-use Rattle.std.specs.Prelude.{◌≡◌, Option, Some}
+use Rattle.std.specs.Prelude.{◌≡◌, ◌==◌, ◌&&◌, Option, Some, if◌then◌else◌}
+use Rattle.std.specs.Char.{is_ascii_digit}
 use Rattle.minus_term.specs.declared.event.Event.{Event}
-use Rattle.minus_term.specs.declared.event.Event.TheVariants.{Resize}
+use Rattle.minus_term.specs.declared.event.Event.TheVariants.{Resize, Key}
+use Rattle.minus_term.specs.declared.event.KeyCode.{KeyCode}
+use Rattle.minus_term.specs.declared.event.KeyCode.TheVariants.{Char}
+use Rattle.minus_term.specs.declared.event.KeyEvent.{KeyEvent}
+use Rattle.minus_term.specs.declared.event.KeyModifiers.{KeyModifiers}
 use Rattle.minus.specs.declared.input.InputEvent.{InputEvent}
-use Rattle.minus.specs.declared.input.InputEvent.TheVariants.{UpdateTermArea, Ignore}
+use Rattle.minus.specs.declared.input.InputEvent.TheVariants.{UpdateTermArea, Number, Ignore}
 use Rattle.minus.specs.declared.stand_in.StandIn.{StandIn}
 use Rattle.minus.specs.declared.state.PagerState.{PagerState}
 
--- a resize asks for the terminal's new size, any other event for nothing
+-- a digit without modifiers is typed to the prefix; any other key asks for nothing
+abbrev pub code_answer : KeyCode → KeyModifiers → InputEvent
+code_answer (Char c) modifiers = if is_ascii_digit c && (modifiers.0 == 0) then Number c else Ignore
+code_answer code modifiers = Ignore
+
+abbrev pub key_answer : KeyEvent → InputEvent
+key_answer key = code_answer key.code key.modifiers
+
+-- a resize asks for the terminal's new size, and an event of no key for nothing
 abbrev pub stand_in_answer : Event → Option InputEvent
 stand_in_answer (Resize cols rows) = Some (UpdateTermArea cols rows)
+stand_in_answer (Key key) = Some (key_answer key)
 stand_in_answer event = Some Ignore
 
 -- in every state it may answer that alone

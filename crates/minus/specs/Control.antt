@@ -1,13 +1,23 @@
--- What the commands define: the text on show, the size and the mark.
-use Rattle.std.specs.Prelude.{◌≡◌, ℕ, ◌-◌, ◌≤◌, min, List, length}
+-- What the commands define: the text on show, the size, the mark, and what is set beside them.
+use Rattle.std.specs.Prelude.{◌≡◌, ℕ, ◌-◌, ◌≤◌, min, List, [], length, Option, Bool, if◌then◌else◌}
 use Rattle.minus_text.specs.Layouts.{plain}
 use Rattle.minus_text.specs.Document.{Document, rows_of, unfinished_rows}
+
+-- what is set beside the text: the prompt, a message in its place, the prefix that is typed, whether the prompt row is shown,
+-- and whether the page goes on with what is appended
+pub record Settings : Type 0 where
+  pub prompt : List ℕ
+  pub message : Option (List ℕ)
+  pub prefix : List ℕ
+  pub is_shown : Bool
+  pub follow : Bool
 
 pub record Control : Type 0 where
   pub text : List ℕ
   pub cols : ℕ
   pub rows : ℕ
   pub mark : ℕ
+  pub settings : Settings
 
 -- the document of the text on show
 abbrev pub document_of : Control → Document
@@ -32,6 +42,16 @@ clamp c = record c { mark = min c.mark (top c) }
 -- a control whose mark the clamp leaves
 abbrev pub IsClamped : Control → Type 0
 IsClamped c = c.mark ≤ top c
+
+-- the typed prefix goes, or stays
+abbrev pub cleared : Bool → Control → Control
+cleared clears c = record c { settings = record c.settings { prefix = if clears then [] else c.settings.prefix } }
+
+-- both show the same text
+pub record SameText (a b : Control) : Type 0 where
+  pub same_text : a.text ≡ b.text
+  pub same_cols : a.cols ≡ b.cols
+  pub same_rows : a.rows ≡ b.rows
 
 -- both have the size of the same terminal
 pub record SameSize (a b : Control) : Type 0 where

@@ -1,11 +1,11 @@
 -- How the page is drawn.
-use Rattle.std.specs.Prelude.{ℕ, ◌-◌, nat_le, min, List, [], length, take, drop, if◌then◌else◌}
+use Rattle.std.specs.Prelude.{ℕ, ◌-◌, ◌++◌, nat_le, min, List, [], length, take, drop, bytes_eq, if◌then◌else◌}
 use Rattle.minus_term.specs.Operations.{Op}
-use Rattle.minus_term.specs.FullRedraw.{full_ops}
+use Rattle.minus_term.specs.FullRedraw.{full_ops, prompt_ops}
 use Rattle.minus_term.specs.Scroll.{scroll_ops}
 use Rattle.minus_term.specs.Append.{append_ops}
 use Rattle.minus.specs.declared.commands.Drawing.{Drawing}
-use Rattle.minus.specs.declared.commands.Drawing.TheVariants.{Nothing, Full, Scroll, Append}
+use Rattle.minus.specs.declared.commands.Drawing.TheVariants.{Nothing, Full, Scroll, Append, Prompt}
 use Rattle.minus.specs.Control.{Control, first_changed}
 use Rattle.minus.specs.declared.commands.Redraw.TheVariants.{Moved}
 use Rattle.minus.specs.Table.{drawing_by, moved_to}
@@ -28,12 +28,27 @@ append_from c first were = rows_after (first - c.mark) (min (were - c.mark) (c.r
 abbrev pub rows_newly : ℕ → ℕ → ℕ → List (List ℕ) → List (List ℕ)
 rows_newly rows from to shown = if nat_le from to then drop (rows - 1 - min (to - from) (rows - 1)) shown else take (min (from - to) (rows - 1)) shown
 
--- the list that the page is drawn by, on the way from one control to another
+-- the list that draws the prompt row
+abbrev pub whole_prompt : Control → List Op
+whole_prompt c = prompt_ops c.rows (prompt_row c)
+
+-- the list that what comes of a command is drawn by, on the way from one control to another
 abbrev pub ops_between : Drawing → Control → Control → List Op
 ops_between Nothing old new = []
 ops_between Full old new = whole_page new
 ops_between Scroll old new = scroll_ops new.rows old.mark new.mark (shown new) (prompt_row new)
 ops_between Append old new = rows_after (first_changed old - old.mark) (length (shown old)) (shown new)
+ops_between Prompt old new = whole_prompt new
+
+-- the list that draws a prompt row which is another one than before
+abbrev pub changed_prompt : Control → Control → List Op
+changed_prompt old new = if bytes_eq (prompt_row new) (prompt_row old) then [] else whole_prompt new
+
+-- the list of a step: what does not draw the prompt row is followed by it where it is another one than before
+abbrev pub ops_of_step : Drawing → Control → Control → List Op
+ops_of_step Nothing old new = changed_prompt old new
+ops_of_step Append old new = ops_between Append old new ++ changed_prompt old new
+ops_of_step kind old new = ops_between kind old new
 
 -- the list that a move of the mark is drawn by
 abbrev pub scroll_to : Control → ℕ → List Op

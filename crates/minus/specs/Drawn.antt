@@ -1,5 +1,5 @@
 -- What the bytes of a sink say of the page.
-use Rattle.std.specs.Prelude.{◌≡◌, ℕ, ◌+◌, ◌-◌, ◌≤◌, min, false, true, List, [], ◌∷◌, ◌++◌, length, map, Option, None, Some, if◌then◌else◌}
+use Rattle.std.specs.Prelude.{◌≡◌, ℕ, ◌+◌, ◌-◌, ◌≤◌, min, List, [], ◌∷◌, ◌++◌, length, map, Option, None, Some, if◌then◌else◌}
 use Rattle.std.specs.List.{Contains}
 use Rattle.std.specs.Io.KnownBytes.{Appends}
 use Rattle.minus_term.specs.Operations.{Op}
@@ -13,9 +13,9 @@ use Rattle.minus.specs.Control.{Control, text_rows, first_changed}
 use Rattle.minus.specs.Page.{page}
 use Rattle.minus.specs.Seen.{Seen}
 use Rattle.minus.specs.Table.{Wanted, Exit}
-use Rattle.minus.specs.Works.{Work, WorkedOff, passed_in, some_full, some_drawn}
+use Rattle.minus.specs.Works.{Work, WorkedOff, passed_in, some_full, IsQuiet}
 use Rattle.minus.specs.declared.commands.Drawing.{Drawing}
-use Rattle.minus.specs.declared.commands.Drawing.TheVariants.{Nothing, Full, Scroll, Append}
+use Rattle.minus.specs.declared.commands.Drawing.TheVariants.{Nothing, Full, Scroll, Append, Prompt}
 
 -- what is known of the terminal's screen before works are drawn: nothing where one of them is drawn in full, as each change
 -- of size is; otherwise it shows the page of the old control
@@ -28,6 +28,7 @@ most_of Nothing old new = Some 0
 most_of Full old new = None
 most_of Scroll old new = Some (min (distance old.mark new.mark) (new.rows - 1))
 most_of Append old new = Some (length (text_rows new) - first_changed old)
+most_of Prompt old new = Some 0
 
 -- one drawing after another: the last text of the first, which is not counted where it is the last of all, is one more
 abbrev pub then_most : Option ℕ → Option ℕ → Option ℕ
@@ -46,12 +47,12 @@ IsWithin n None = Unit {0}
 IsWithin n (Some most) = n ≤ most
 
 -- the operations are the drawings of works: they lead to the page of the new control, put rows of the pages of the controls
--- passed alone, as few as the works allow, and are none where none is drawn
+-- passed alone, as few as the works allow, and are none where none is drawn and the prompt row stays
 pub record IsDrawing (ops : List Op) (old : Control) (works : List Work) (new : Control) : Type 0 where
   pub shows : Shows (play_all ops (screen_before old works new)) (page new)
   pub clean : IsClean (map page (old ∷ passed_in works)) ops
   pub few : IsWithin (puts ops (screen_before old works new)) (most_puts old works)
-  pub none : some_drawn works ≡ false → ops ≡ []
+  pub none : IsQuiet old works → ops ≡ []
 
 -- the drawings of some works, and after them those of others, are the drawings of them all
 abbrev pub DrawingsJoin : Type 0 → Type 0
@@ -65,7 +66,7 @@ Drawn old_bytes new_bytes old works new = (ops : List Op) × Appends old_bytes n
 
 -- the sink grew by a beginning of the written form of one such list
 abbrev pub BrokenOff : Option (List ℕ) → Option (List ℕ) → Control → List Work → Control → Type 0
-BrokenOff old_bytes new_bytes old works new = (ops : List Op) × AppendsFront old_bytes new_bytes (written_all ops) × IsDrawing ops old works new × (some_drawn works ≡ true)
+BrokenOff old_bytes new_bytes old works new = (ops : List Op) × AppendsFront old_bytes new_bytes (written_all ops) × IsDrawing ops old works new × (IsQuiet old works → ⊥)
 
 -- the operations take every screen of the control's size to its page, and put rows of the pages of the controls passed
 -- alone, of which it is one

@@ -1,15 +1,23 @@
 -- The prompt row of a control.
-use Rattle.std.specs.Prelude.{ℕ, ◌-◌, List, ◌∷◌, ◌++◌, length, take, replicate, codes}
-use Rattle.minus.specs.Control.{Control}
+use Rattle.std.specs.Prelude.{ℕ, List}
+use Rattle.minus_state.specs.PromptRow.{PromptRow, prompt_row as row_text}
+use Rattle.minus.specs.Control.{Control, Settings}
 
--- the prompt
-abbrev pub prompt : List ℕ
-prompt = codes "minus"
+-- what the prompt row of so many columns is formed of
+abbrev pub shown_in : ℕ → Settings → PromptRow
+shown_in cols s = record {
+  is_shown = s.is_shown;
+  prompt = s.prompt;
+  message = s.message;
+  prefix = s.prefix;
+  search_mark = 0;
+  match_count = 0;
+  follow = s.follow;
+  cols = cols;
+}
 
--- a text of characters of one column each, cut or filled with spaces to so many columns
-abbrev pub fitted : ℕ → List ℕ → List ℕ
-fitted cols text = take cols text ++ replicate (cols - length text) 32
+abbrev pub prompt_row_of : ℕ → Settings → List ℕ
+prompt_row_of cols s = row_text (shown_in cols s)
 
--- the prompt row: the prompt in its style, `ESC[2;40;37m`, and the style's end, `ESC[0m`
-unfoldable pub prompt_row : Control → List ℕ
-prompt_row c = (27 ∷ codes "[2;40;37m") ++ fitted c.cols prompt ++ (27 ∷ codes "[0m")
+abbrev pub prompt_row : Control → List ℕ
+prompt_row c = prompt_row_of c.cols c.settings

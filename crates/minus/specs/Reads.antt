@@ -1,19 +1,26 @@
 -- What contracts read of the state, of commands and inputs.
-use Rattle.std.specs.Prelude.{◌≡◌, string_bytes, Option, None, Some}
+use Rattle.std.specs.Prelude.{◌≡◌, string_bytes, Bool, true, false, Option, None, Some}
+use Rattle.std.specs.Option.{option_map}
 use Rattle.minus_term.specs.declared.event.Event.{Event}
 use Rattle.minus.specs.declared.state.PagerState.{PagerState}
 use Rattle.minus.specs.declared.commands.CommandOf.{CommandOf}
-use Rattle.minus.specs.declared.commands.CommandOf.TheVariants.{SetData, AppendData, UserInput, SetInputClassifier}
+use Rattle.minus.specs.declared.commands.CommandOf.TheVariants.{SetData, AppendData, SetPrompt, SendMessage, ShowPrompt, FollowOutput, UserInput, Io, SetInputClassifier}
+use Rattle.minus.specs.declared.commands.IoCommand.{IoCommand}
+use Rattle.minus.specs.declared.commands.IoCommand.TheVariants.{RedrawPrompt, RedrawDisplay, SetUpperMark}
 use Rattle.minus.specs.declared.commands.InputOf.{InputOf}
 use Rattle.minus.specs.declared.commands.InputOf.TheVariants as input
 use Rattle.minus.specs.declared.input.InputEvent.{InputEvent}
-use Rattle.minus.specs.declared.input.InputEvent.TheVariants.{UpdateUpperMark, UpdateTermArea, Exit, Ignore}
-use Rattle.minus.specs.Control.{Control, document_of}
-use Rattle.minus.specs.Table.{Wanted, sets_data, appends_data, moves_mark, resizes, exits, ignores, sets_classifier}
+use Rattle.minus.specs.declared.input.InputEvent.TheVariants as events
+use Rattle.minus.specs.Control.{Control, Settings, document_of}
+use Rattle.minus.specs.Table.{Wanted, sets_data, appends_data, moves_mark, resizes, exits, ignores, sets_prompt, sends_message, shows_prompt, follows, types, restores_prompt, redraws_prompt, redraws_page, sets_classifier}
+
+-- what is set in a state beside its text
+abbrev pub settings_of : PagerState → Settings
+settings_of s = record { prompt = string_bytes s.prompt; message = option_map string_bytes s.message; prefix = string_bytes s.prefix_num; is_shown = s.prompt_shown; follow = s.follow }
 
 -- the control that a state holds
 abbrev pub control_of : PagerState → Control
-control_of s = record { text = s.screen.text; cols = s.cols; rows = s.rows; mark = s.upper_mark }
+control_of s = record { text = s.screen.text; cols = s.cols; rows = s.rows; mark = s.upper_mark; settings = settings_of s }
 
 -- the stored rows are those of the control's document
 pub record IsFormed (s : PagerState) : Type 0 where
@@ -21,10 +28,24 @@ pub record IsFormed (s : PagerState) : Type 0 where
 
 -- what an event of the pager asks for
 abbrev pub event_wanted : {K : Type 0} → InputEvent → Wanted K
-event_wanted (UpdateUpperMark mark) = moves_mark mark
-event_wanted (UpdateTermArea cols rows) = resizes cols rows
-event_wanted Exit = exits
-event_wanted Ignore = ignores
+event_wanted (events.UpdateUpperMark mark) = moves_mark mark
+event_wanted (events.UpdateTermArea cols rows) = resizes cols rows
+event_wanted (events.FollowOutput follow) = follows follow
+event_wanted events.RestorePrompt = restores_prompt
+event_wanted (events.Number character) = types character
+event_wanted events.Exit = exits
+event_wanted events.Ignore = ignores
+
+-- the typed prefix goes with an event that types nothing
+abbrev pub event_clears : InputEvent → Bool
+event_clears (events.Number character) = false
+event_clears event = true
+
+-- what a command that asks for a drawing asks for
+abbrev pub io_wanted : {K : Type 0} → IoCommand → Wanted K
+io_wanted RedrawPrompt = redraws_prompt
+io_wanted RedrawDisplay = redraws_page
+io_wanted (SetUpperMark mark) = moves_mark mark
 
 -- what a classifier's answer asks for: no answer, nothing
 abbrev pub answer_wanted : {K : Type 0} → Option InputEvent → Wanted K
@@ -35,7 +56,12 @@ answer_wanted (Some event) = event_wanted event
 abbrev pub wanted_of : {P K : Type 0} → CommandOf P K → Wanted K
 wanted_of (SetData text) = sets_data (string_bytes text)
 wanted_of (AppendData text) = appends_data (string_bytes text)
+wanted_of (SetPrompt text) = sets_prompt (string_bytes text)
+wanted_of (SendMessage text) = sends_message (string_bytes text)
+wanted_of (ShowPrompt is_shown) = shows_prompt is_shown
+wanted_of (FollowOutput follow) = follows follow
 wanted_of (UserInput event) = event_wanted event
+wanted_of (Io command) = io_wanted command
 wanted_of (SetInputClassifier classifier) = sets_classifier classifier
 
 -- what a session is told: a command, or an event of the terminal

@@ -4,8 +4,8 @@ use Rattle.minus_term.specs.Written.{written_all}
 use Rattle.minus.specs.declared.commands.Drawing.{Drawing}
 use Rattle.minus.specs.declared.session.Core.{Core}
 use Rattle.minus.specs.Control.{Control}
-use Rattle.minus.specs.Drawings.{ops_between}
+use Rattle.minus.specs.Drawings.{ops_of_step}
 
 -- the buffer holds the list that a page is drawn by, on the way from one control to another
 abbrev pub DrawsBetween : {S P K : Type 0} → Core S P K → Drawing → Control → Control → Type 0
-DrawsBetween core kind old new = core.drawing.items ≡ written_all (ops_between kind old new)
+DrawsBetween core kind old new = core.drawing.items ≡ written_all (ops_of_step kind old new)

@@ -1,5 +1,5 @@
 -- The start of a session.
-use Rattle.std.specs.Prelude.{◌≡◌, ℕ, List, [], ◌∷◌, Bool, true, false, Option, ◌⊎◌}
+use Rattle.std.specs.Prelude.{◌≡◌, ℕ, List, [], ◌∷◌, Bool, true, false, Option, None, codes, ◌⊎◌}
 use Rattle.std.specs.Io.KnownBytes.{Appends}
 use Rattle.minus_term.specs.Refusals.{Refusal, for_memory, for_size, for_mode, at_setup, at_drawing}
 use Rattle.minus_term.specs.declared.error.SetupError.{SetupError}
@@ -12,14 +12,18 @@ use Rattle.minus.specs.declared.state.RunMode.{RunMode}
 use Rattle.minus.specs.declared.state.RunMode.TheVariants.{Uninitialized}
 use Rattle.minus.specs.declared.status.Status.TheVariants as status
 use Rattle.minus.specs.Sizes.{IsSize}
-use Rattle.minus.specs.Control.{Control}
+use Rattle.minus.specs.Control.{Control, Settings}
 use Rattle.minus.specs.Drawn.{Begins, IsWholeDrawing}
 use Rattle.minus.specs.Seen.{Seen}
 use Rattle.minus.specs.Table.{Wanted, effect}
 
+-- the prompt, no message and no prefix; the prompt row is shown, and the page stays where it is at an append
+abbrev pub first_settings : Settings
+first_settings = record { prompt = codes "minus"; message = None; prefix = []; is_shown = true; follow = false }
+
 -- no text, and the mark at the first row
 abbrev pub at_start : ℕ → ℕ → Control
-at_start cols rows = record { text = []; cols = cols; rows = rows; mark = 0 }
+at_start cols rows = record { text = []; cols = cols; rows = rows; mark = 0; settings = first_settings }
 
 -- what a command that waits for the start changes: the text on show; nothing moves
 abbrev pub taken : {K : Type 0} → Control → Wanted K → Control

@@ -1,7 +1,7 @@
 -- Steps, and what a refusal leaves.
-use Rattle.std.specs.Prelude.{◌≡◌, ℕ, List, [], ◌∷◌, ◌++◌, Option, None, Some}
+use Rattle.std.specs.Prelude.{◌≡◌, ℕ, List, [], ◌∷◌, ◌++◌, Bool, true, false, Option, None, Some}
 use Rattle.std.specs.Io.KnownBytes.{Appends}
-use Rattle.minus_term.specs.Refusals.{Refusal, for_memory, for_size, after_failure, after_exit, at_cleanup, at_drawing}
+use Rattle.minus_term.specs.Refusals.{Refusal, for_memory, for_newline, for_size, after_failure, after_exit, at_cleanup, at_drawing}
 use Rattle.minus_term.specs.declared.event.Event.{Event}
 use Rattle.minus_term.specs.Terminal.{cleanup_bytes, CleanupBreaksOff}
 use Rattle.minus_term.specs.declared.error.CleanupError.{CleanupError}
@@ -13,12 +13,12 @@ use Rattle.minus.specs.declared.session.Answer.{Answer}
 use Rattle.minus.specs.declared.status.Status.{Status}
 use Rattle.minus.specs.declared.status.Status.TheVariants as status
 use Rattle.minus.specs.Answers.{IsAnswer}
-use Rattle.minus.specs.Control.{Control}
+use Rattle.minus.specs.Control.{Control, cleared}
 use Rattle.minus.specs.Reads.{control_of, IsFormed, answer_wanted, Told, a_command, an_event}
 use Rattle.minus.specs.Seen.{Seen}
 use Rattle.minus.specs.Sizes.{IsSize}
-use Rattle.minus.specs.Table.{Wanted, Exit, resizes}
-use Rattle.minus.specs.Works.{Work, WorkedOff, passed_in, items_of}
+use Rattle.minus.specs.Table.{Wanted, Exit, resizes, types, HasNewline}
+use Rattle.minus.specs.Works.{Work, WorkedOff, passed_in, items_of, reached, before_last}
 use Rattle.minus.specs.Drawn.{Drawn, BrokenOff, Leaves}
 
 -- what a classifier may answer to an event in a state
@@ -32,6 +32,16 @@ Asks allows seen (a_command w) wanted = wanted ≡ w
 Asks allows seen (an_event event) wanted =
     (state : PagerState) × (answer : Option InputEvent) × IsFormed state × (control_of state ≡ seen.control) × allows seen.classifier event state answer × (wanted ≡ answer_wanted answer)
 
+-- the typed prefix goes with an event that types nothing; a command leaves it
+abbrev pub clears_prefix : {K : Type 0} → Told K → Wanted K → Bool
+clears_prefix (a_command w) wanted = false
+clears_prefix (an_event event) (types character) = false
+clears_prefix (an_event event) wanted = true
+
+-- what a session is seen as once an input that asks for this was taken: the typed prefix is gone, or stays
+abbrev pub taken_by : {K : Type 0} → Bool → Seen K → Seen K
+taken_by clears seen = record seen { control = cleared clears seen.control }
+
 -- how a session stands after its works: it goes on, but for an exit
 abbrev pub status_after : Option Exit → Status
 status_after None = status.Running
@@ -43,12 +53,14 @@ pub record Works {K : Type 0} (old : Seen K) (items : List (Wanted K)) (works : 
   pub worked : WorkedOff old items works exit text (record new { status = old.status })
   pub stands : new.status ≡ now
 
--- what is written: one list of operations that draws the works, and after an exit what cleans the terminal up
+-- what is written: one list of operations that draws the works; at an exit one that draws those before it, and then what
+-- cleans the terminal up
 abbrev pub Writes : Option Exit → Control → List Work → Control → Option (List ℕ) → Option (List ℕ) → Type 0
 Writes None old works new old_bytes new_bytes = Drawn old_bytes new_bytes old works new
-Writes (Some exit) old works new old_bytes new_bytes = (drawn : Option (List ℕ)) × Drawn old_bytes drawn old works new × Appends drawn new_bytes cleanup_bytes
+Writes (Some exit) old works new old_bytes new_bytes =
+    (drawn : Option (List ℕ)) × Drawn old_bytes drawn old (before_last works) (reached old (before_last works)) × Appends drawn new_bytes cleanup_bytes
 
--- a step that ends well: what was asked for, the works that were done for it, its answer and what it writes; and that the
+-- a step that ends well: what was asked for, the works that were done for it once it was taken, its answer and what it writes; and that the
 -- page which the sink's bytes left is left by them still, as long as the session runs
 pub record IsStep {K : Type 0} (allows : Allows K) (old : Seen K) (told : Told K) (new : Seen K) (answer : Answer) (old_bytes new_bytes : Option (List ℕ)) : Type 0 where
   pub wanted : Wanted K
@@ -56,7 +68,7 @@ pub record IsStep {K : Type 0} (allows : Allows K) (old : Seen K) (told : Told K
   pub exit : Option Exit
   pub text : Option (List ℕ)
   pub asked : Asks allows old told wanted
-  pub worked : Works old (items_of old.control wanted) works exit text (status_after exit) new
+  pub worked : Works (taken_by (clears_prefix told wanted) old) (items_of old.control wanted) works exit text (status_after exit) new
   pub answers : IsAnswer exit text answer
   pub writes : Writes exit old.control works new.control old_bytes new_bytes
   pub leaves : (before : List Control) → Leaves old_bytes before old.control → new.status ≡ status.Running → Leaves new_bytes (before ++ passed_in works) new.control
@@ -74,7 +86,7 @@ pub record IsBroken {K : Type 0} (allows : Allows K) (old : Seen K) (told : Told
   pub text : Option (List ℕ)
   pub asked : Asks allows old told wanted
   pub all : items_of old.control wanted ≡ items ++ rest
-  pub worked : Works old items works exit text status.Failed new
+  pub worked : Works (taken_by (clears_prefix told wanted) old) items works exit text status.Failed new
 
 -- a drawing was refused, of which a beginning was written
 abbrev pub IsBrokenStep : {K : Type 0} → Allows K → Seen K → Told K → Seen K → Option (List ℕ) → Option (List ℕ) → Type 0
@@ -83,7 +95,15 @@ IsBrokenStep allows old told new old_bytes new_bytes = (works : List Work) × Is
 -- the cleanup of an exit was refused, of which a beginning was written
 abbrev pub IsBrokenExit : {K : Type 0} → Allows K → CleanupError → Seen K → Told K → Seen K → Option (List ℕ) → Option (List ℕ) → Type 0
 IsBrokenExit allows cause old told new old_bytes new_bytes =
-    (works : List Work) × (exit : Exit) × (drawn : Option (List ℕ)) × IsBroken allows old told works (Some exit) new × Drawn old_bytes drawn old.control works new.control × CleanupBreaksOff cause drawn new_bytes
+    (works : List Work) × (exit : Exit) × (drawn : Option (List ℕ)) × IsBroken allows old told works (Some exit) new × Drawn old_bytes drawn old.control (before_last works) (reached old.control (before_last works)) × CleanupBreaksOff cause drawn new_bytes
+
+-- a prompt or a message with a newline was asked for, and nothing has changed
+pub record IsBadPrompt {K : Type 0} (allows : Allows K) (old : Seen K) (told : Told K) (new : Seen K) : Type 0 where
+  pub wanted : Wanted K
+  pub asked : Asks allows old told wanted
+  pub running : old.status ≡ status.Running
+  pub bad : HasNewline wanted
+  pub stays : new ≡ old
 
 -- a size that is none of a terminal was asked for, and nothing has changed
 pub record IsBadSize {K : Type 0} (allows : Allows K) (old : Seen K) (told : Told K) (new : Seen K) (cols rows : ℕ) : Type 0 where
@@ -92,10 +112,11 @@ pub record IsBadSize {K : Type 0} (allows : Allows K) (old : Seen K) (told : Tol
   pub bad : IsSize cols rows → ⊥
   pub stays : new ≡ old
 
--- what a refused step leaves: all as it was, where memory was wanted, the size is none, or the session had exited or failed
+-- what a refused step leaves: all as it was, where memory was wanted, a prompt has a newline, the size is none, or the session had exited or failed
 -- before; where the sink refused, a session that has failed
 abbrev pub Refuses : {K : Type 0} → Allows K → Refusal → Seen K → Told K → Seen K → Option (List ℕ) → Option (List ℕ) → Type 0
 Refuses allows for_memory old told new old_bytes new_bytes = (old.status ≡ status.Running) × (new ≡ old) × (new_bytes ≡ old_bytes)
+Refuses allows for_newline old told new old_bytes new_bytes = IsBadPrompt allows old told new × (new_bytes ≡ old_bytes)
 Refuses allows (for_size cols rows) old told new old_bytes new_bytes = IsBadSize allows old told new cols rows × (new_bytes ≡ old_bytes)
 Refuses allows after_failure old told new old_bytes new_bytes = (old.status ≡ status.Failed) × (new ≡ old) × (new_bytes ≡ old_bytes)
 Refuses allows after_exit old told new old_bytes new_bytes = (old.status ≡ status.Ended) × (new ≡ old) × (new_bytes ≡ old_bytes)

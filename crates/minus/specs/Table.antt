@@ -1,14 +1,15 @@
 -- The table of commands and events.
-use Rattle.std.specs.Prelude.{ℕ, min, ◌==◌, List, ◌++◌, Option, None, Some, if◌then◌else◌}
+use Rattle.std.specs.Prelude.{◌≡◌, ℕ, ◌==◌, List, ◌++◌, Bool, true, false, Option, None, Some, encode_utf8, if◌then◌else◌}
+use Rattle.std.specs.List.{list_any}
 use Rattle.std.specs.Option.{unwrap_or}
 use Rattle.minus.specs.declared.commands.Drawing.{Drawing}
-use Rattle.minus.specs.declared.commands.Drawing.TheVariants.{Nothing, Full, Scroll, Append}
+use Rattle.minus.specs.declared.commands.Drawing.TheVariants.{Nothing, Full, Scroll, Append, Prompt}
 use Rattle.minus.specs.declared.commands.Redraw.{Redraw}
-use Rattle.minus.specs.declared.commands.Redraw.TheVariants.{Stays, Whole, Moved, Appended}
+use Rattle.minus.specs.declared.commands.Redraw.TheVariants.{Stays, Whole, Moved, Appended, PromptRow}
 use Rattle.minus.specs.declared.state.ExitStrategy.{ExitStrategy}
 use Rattle.minus.specs.declared.state.ExitStrategy.TheVariants.{ProcessQuit}
 use Rattle.minus.specs.Sizes.{IsSize}
-use Rattle.minus.specs.Control.{Control, clamp}
+use Rattle.minus.specs.Control.{Control, Settings, clamp, top}
 
 -- a command, as values alone; a classifier is a value of the kind that the session keeps
 pub data Wanted (K : Type 0) : Type 0 where
@@ -18,6 +19,14 @@ pub data Wanted (K : Type 0) : Type 0 where
   resizes : (cols rows : ℕ) → Wanted K
   exits : Wanted K
   ignores : Wanted K
+  sets_prompt : List ℕ → Wanted K
+  sends_message : List ℕ → Wanted K
+  shows_prompt : Bool → Wanted K
+  follows : Bool → Wanted K
+  types : ℕ → Wanted K
+  restores_prompt : Wanted K
+  redraws_prompt : Wanted K
+  redraws_page : Wanted K
   sets_classifier : K → Wanted K
 
 -- an exit: how the program is to go on, and the code that it ends with if it is to end
@@ -37,13 +46,32 @@ pub record Effect : Type 0 where
 abbrev pub changes : Control → Redraw → Effect
 changes c redraw = record { changed = c; moves_to = None; redraw = redraw; exits_by = None; copies = None }
 
+-- what only sets something beside the text: of the page only the prompt row may change
+abbrev pub sets : Control → Settings → Effect
+sets c settings = changes (record c { settings = settings }) Stays
+
+-- where an append leaves the mark: at the last page, where the page goes on with what is appended
+abbrev pub followed : Control → Control → ℕ
+followed old new = if old.settings.follow then top new else old.mark
+
+abbrev pub appends : Control → List ℕ → Effect
+appends c text = let new : Control = record c { text = c.text ++ text } in record (changes new Appended) { moves_to = Some (followed c new) }
+
 abbrev pub effect : {K : Type 0} → Control → Wanted K → Effect
 effect c (sets_data text) = changes (record c { text = text }) Whole
-effect c (appends_data text) = changes (record c { text = c.text ++ text }) Appended
+effect c (appends_data text) = appends c text
 effect c (moves_mark mark) = record (changes c Moved) { moves_to = Some mark }
 effect c (resizes cols rows) = changes (record c { cols = cols; rows = rows }) Whole
 effect c exits = record (changes c Stays) { exits_by = Some (ProcessQuit, 0) }
 effect c ignores = changes c Stays
+effect c (sets_prompt text) = sets c (record c.settings { prompt = text })
+effect c (sends_message text) = sets c (record c.settings { message = Some text })
+effect c (shows_prompt is_shown) = sets c (record c.settings { is_shown = is_shown })
+effect c (follows follow) = record (changes (record c { settings = record c.settings { follow = follow } }) Moved) { moves_to = Some (top c) }
+effect c (types character) = sets c (record c.settings { prefix = c.settings.prefix ++ encode_utf8 character })
+effect c restores_prompt = sets c (record c.settings { message = None })
+effect c redraws_prompt = changes c PromptRow
+effect c redraws_page = changes c Whole
 effect c (sets_classifier k) = changes c Stays
 
 -- the classifier that a command hands over to be kept, if it does
@@ -55,10 +83,22 @@ handed w = None
 abbrev pub kept_after : {K : Type 0} → K → Wanted K → K
 kept_after k w = unwrap_or (handed w) k
 
--- it can be done: a size is one of a terminal
+-- whether a text has a newline
+abbrev pub has_newline : List ℕ → Bool
+has_newline text = list_any (λ b. b == 10) text
+
+-- it can be done: a size is one of a terminal, and a prompt or a message has no newline
 abbrev pub IsPossible : {K : Type 0} → Wanted K → Type 0
 IsPossible (resizes cols rows) = IsSize cols rows
+IsPossible (sets_prompt text) = has_newline text ≡ false
+IsPossible (sends_message text) = has_newline text ≡ false
 IsPossible w = Unit {0}
+
+-- a prompt or a message that has a newline
+abbrev pub HasNewline : {K : Type 0} → Wanted K → Type 0
+HasNewline (sets_prompt text) = has_newline text ≡ true
+HasNewline (sends_message text) = has_newline text ≡ true
+HasNewline w = ⊥
 
 -- the mark after a move
 abbrev pub moved : Control → Option ℕ → Control
@@ -84,6 +124,7 @@ drawing_by Stays from to = Nothing
 drawing_by Whole from to = Full
 drawing_by Moved from to = if to == from then Nothing else Scroll
 drawing_by Appended from to = if to == from then Append else Full
+drawing_by PromptRow from to = Prompt
 
 -- how what comes of a command is drawn
 abbrev pub drawing_of : {K : Type 0} → Control → Wanted K → Drawing

@@ -3,6 +3,7 @@ use Rattle.std.specs.Prelude.{◌≡◌, ℕ, List, [], ◌∷◌, map, Option, 
 use Rattle.std.specs.List.{list_any}
 use Rattle.minus.specs.declared.commands.Drawing.{Drawing}
 use Rattle.minus.specs.declared.commands.Drawing.TheVariants.{Nothing, Full}
+use Rattle.minus.specs.PromptRow.{prompt_row}
 use Rattle.minus.specs.Control.{Control, SameSize}
 use Rattle.minus.specs.Seen.{Seen}
 use Rattle.minus.specs.Table.{Wanted, Exit, effect, kept_after, changed_by, drawing_of, IsPossible}
@@ -18,6 +19,17 @@ work_of c w = record { drawing = drawing_of c w; left = changed_by (effect c w) 
 -- the controls that works pass
 abbrev pub passed_in : List Work → List Control
 passed_in works = map (λ (w : Work). w.left) works
+
+-- the control that works reach
+abbrev pub reached : Control → List Work → Control
+reached c [] = c
+reached c (w ∷ works) = reached w.left works
+
+-- the works before the last
+abbrev pub before_last : List Work → List Work
+before_last [] = []
+before_last (w ∷ []) = []
+before_last (w ∷ v ∷ works) = w ∷ before_last (v ∷ works)
 
 -- what a session is seen as after a command
 abbrev pub after : {K : Type 0} → Seen K → Wanted K → Seen K
@@ -43,17 +55,14 @@ abbrev pub is_full : Drawing → Bool
 is_full Full = true
 is_full kind = false
 
-abbrev pub is_drawn : Drawing → Bool
-is_drawn Nothing = false
-is_drawn kind = true
-
 -- whether one of the works is drawn in full
 abbrev pub some_full : List Work → Bool
 some_full works = list_any (λ (w : Work). is_full w.drawing) works
 
--- whether one of the works is drawn
-abbrev pub some_drawn : List Work → Bool
-some_drawn works = list_any (λ (w : Work). is_drawn w.drawing) works
+-- none of the works is drawn, and each leaves the prompt row as it was
+abbrev pub IsQuiet : Control → List Work → Type 0
+IsQuiet old [] = Unit {0}
+IsQuiet old (w ∷ works) = (w.drawing ≡ Nothing) × (prompt_row w.left ≡ prompt_row old) × IsQuiet old works
 
 -- what is not drawn in full keeps the size
 abbrev pub ResizesAreFull : Type 0 → Type 0

@@ -43,13 +43,84 @@ impl NextText {
     }
 }
 
-// What a command leaves: the text, the mark and the size; and what of it is asked to be drawn.
+// What there will be beside the text: all as it is, or one thing set anew.
+#[derive(Debug, Drop)]
+pub(crate) enum Setting {
+    Same,
+    Prompt(String),
+    Message(Option<String>),
+    Prefix(String),
+    Shown(bool),
+    Follow(bool),
+}
+
+impl Setting {
+    ghost use Rattle.std.specs.Prelude.{◌≡◌};
+    ghost use Rattle.std.specs.Option.{option_map};
+    ghost use Rattle.minus.specs.Changes.{prompt_set, message_set, prefix_set, shown_set, follow_set};
+
+    // The prompt that there will be.
+    pub(crate) fn prompt<'a>(&'a self, prompt: &'a str) -> &'a str
+        ensures { result.now ≡ prompt_set self.now prompt.now }
+    {
+        match self {
+            Setting::Prompt(next) => next.as_str(),
+            _ => prompt,
+        }
+    }
+
+    // The message.
+    pub(crate) fn message<'a>(&'a self, message: Option<&'a str>) -> Option<&'a str>
+        ensures { option_map (λ m. m.now) result ≡ message_set self.now (option_map (λ m. m.now) message.entry) }
+    {
+        match self {
+            Setting::Message(Some(next)) => Some(next.as_str()),
+            Setting::Message(None) => None,
+            _ => message,
+        }
+    }
+
+    // The typed prefix.
+    pub(crate) fn prefix<'a>(&'a self, prefix: &'a str) -> &'a str
+        ensures { result.now ≡ prefix_set self.now prefix.now }
+    {
+        match self {
+            Setting::Prefix(next) => next.as_str(),
+            _ => prefix,
+        }
+    }
+
+    // Whether the prompt row will be shown.
+    pub(crate) fn is_shown(&self, is_shown: bool) -> bool
+        ensures { result ≡ shown_set self.now is_shown }
+    {
+        match self {
+            Setting::Shown(next) => *next,
+            _ => is_shown,
+        }
+    }
+
+    // Whether the page will go on with what is appended.
+    pub(crate) fn follow(&self, follow: bool) -> bool
+        ensures { result ≡ follow_set self.now follow }
+    {
+        match self {
+            Setting::Follow(next) => *next,
+            _ => follow,
+        }
+    }
+}
+
+// What a command leaves: the text, the mark, the size and what is set beside them; whether the typed prefix went before it;
+// and what of it is asked to be drawn.
 #[derive(Debug, Drop)]
 pub(crate) struct Change {
     pub(crate) text: NextText,
     pub(crate) mark: usize,
     pub(crate) cols: usize,
     pub(crate) rows: usize,
+    pub(crate) clears: bool,
+    pub(crate) setting: Setting,
     pub(crate) redraw: Redraw,
     pub(crate) ghost sized: { IsSize cols rows },
 }
@@ -69,6 +140,7 @@ impl Change {
             Redraw::Moved => Drawing::Scroll,
             Redraw::Appended if self.mark == from => Drawing::Append,
             Redraw::Appended => Drawing::Full,
+            Redraw::PromptRow => Drawing::Prompt,
         }
     }
 }

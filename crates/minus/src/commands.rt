@@ -4,6 +4,17 @@ use crate::parts::Parts;
 use crate::stand_in::StandIns;
 use minus_term::Event;
 
+/// A command that asks for a drawing.
+#[derive(Clone, Copy, Debug, PartialEq, Eq)]
+pub enum IoCommand {
+    /// Draw the prompt row.
+    RedrawPrompt,
+    /// Draw the whole page.
+    RedrawDisplay,
+    /// Move the mark, the first row of text on the page, to this row, counted from 0.
+    SetUpperMark(usize),
+}
+
 /// A command, over the kinds of what a session keeps. Two that hand over a classifier are equal, whatever it is.
 #[derive(Drop)]
 #[derive_where(Debug, PartialEq, Eq)]
@@ -12,8 +23,18 @@ pub enum CommandOf<P: Parts> {
     SetData(String),
     /// Add this text at the end of the text on show.
     AppendData(String),
+    /// Let the prompt row say this. A text with a newline is refused.
+    SetPrompt(String),
+    /// Let the prompt row say this in the prompt's place. A text with a newline is refused.
+    SendMessage(String),
+    /// Show the prompt row, or hide it.
+    ShowPrompt(bool),
+    /// Move to the last page, and go on with what is appended from now on, or no longer.
+    FollowOutput(bool),
     /// Do what an event would ask for.
     UserInput(InputEvent),
+    /// Draw.
+    Io(IoCommand),
     /// Keep this classifier: it decides about the events after it.
     SetInputClassifier(#[derive_where(skip)] P::Classifier),
 }
@@ -45,9 +66,11 @@ pub(crate) enum Redraw {
     Moved,
     /// What an append changes.
     Appended,
+    /// The prompt row.
+    PromptRow,
 }
 
-/// How what comes of a command is drawn.
+/// How what comes of a command is drawn. What does not draw the prompt row is followed by it where it has changed.
 #[derive(Clone, Copy, Debug)]
 pub(crate) enum Drawing {
     /// Not at all: the page stays as it is.
@@ -58,4 +81,6 @@ pub(crate) enum Drawing {
     Scroll,
     /// The rows of the page that an append has changed or added.
     Append,
+    /// The prompt row.
+    Prompt,
 }

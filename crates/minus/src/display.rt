@@ -1,27 +1,15 @@
 //! Drawings, as bytes in a buffer.
-ghost use Rattle.std.specs.Prelude.{◌≡◌, ◌==◌, ℕ, List, [], ◌∷◌, ◌++◌, ◌+◌, ◌-◌, ◌^◌, ◌<◌, ◌≤◌, length, take, drop, replicate, if◌then◌else◌, map, OnOk, IfOk, string_bytes};
+ghost use Rattle.std.specs.Prelude.{◌≡◌, ◌==◌, ℕ, List, [], ◌∷◌, ◌++◌, ◌+◌, ◌-◌, ◌^◌, ◌<◌, ◌≤◌, length, take, drop, if◌then◌else◌, bytes_eq, map, OnOk};
 ghost use Rattle.std.specs.List.{flat_map};
 ghost use Rattle.minus_term.specs.Append.{rows_anew};
 ghost use Rattle.minus_term.specs.Operations.{GoTo, ClearRow, Put};
 ghost use Rattle.minus_term.specs.Written.{written_all};
 ghost use Rattle.minus_term.specs.FullRedraw.{full_ops, prompt_ops, row_ops};
 ghost use Rattle.minus_term.specs.Scroll.{down_ops, up_ops, scroll_ops};
-ghost use Rattle.minus.specs.Control.{Control};
 ghost use Rattle.minus.specs.Drawings.{rows_newly};
-ghost use Rattle.minus.specs.PromptRow.{prompt_row, prompt, fitted};
 
 use minus_term::{DrawOp, write_op};
 use std::alloc::{AllocError, Global};
-
-// What the prompt says.
-const PROMPT: &str = "minus";
-
-// Spaces for a row of the most usual width.
-const SPACES: &str =
-    "                                                                                ";
-
-// How many bytes its style has, with the style's end.
-const STYLED: usize = 14;
 
 // Adds a row of text, and goes to the next.
 fn write_row(alloc: Global, out: &mut Vec<u8>, row: &str) -> Result<(), AllocError>
@@ -67,6 +55,23 @@ pub(crate) fn write_prompt(
     write_op(alloc, out, &DrawOp::Return)?;
     write_op(alloc, out, &DrawOp::ClearRow)?;
     write_some(alloc, out, prompt)?;
+    Ok(())
+}
+
+/// Adds the bytes that draw the prompt row in the last of so many rows, unless it is the same as before.
+pub(crate) fn write_changed_prompt(
+    alloc: Global,
+    out: &mut Vec<u8>,
+    rows: u16,
+    prompt: &str,
+    before: &str,
+) -> Result<(), AllocError>
+    ensures { OnOk result (out.new.items ≡ out.old.items ++ written_all (if bytes_eq prompt.now before.now then [] else prompt_ops rows prompt.now)) }
+{
+    if prompt == before {
+        return Ok(());
+    }
+    write_prompt(alloc, out, rows, prompt)?;
     Ok(())
 }
 
@@ -214,37 +219,4 @@ pub(crate) fn draw_append_text(
     write_texts_anew(alloc, out, first as u16, texts)?;
     write_blanks(alloc, out, (first + texts.len()) as u16, blanks as u16)?;
     Ok(())
-}
-
-// Adds so many spaces.
-fn push_spaces(row: &mut String, count: usize) -> Result<(), AllocError>
-    ensures { OnOk result (string_bytes row.new ≡ string_bytes row.old ++ replicate count 32) }
-{
-    let mut left = count;
-    while left > 0 {
-        let piece = left.min(SPACES.len());
-        row.push_str(&SPACES[..piece])?;
-        left -= piece;
-    }
-    Ok(())
-}
-
-// Adds the prompt, cut or filled with spaces to so many columns.
-fn push_fitted(row: &mut String, cols: usize) -> Result<(), AllocError>
-    ensures { OnOk result (string_bytes row.new ≡ string_bytes row.old ++ fitted cols prompt) }
-{
-    row.push_str(&PROMPT[..cols.min(PROMPT.len())])?;
-    push_spaces(row, cols.saturating_sub(PROMPT.len()))?;
-    Ok(())
-}
-
-/// The prompt row of a page of so many columns, in its style.
-pub(crate) fn format_prompt(alloc: Global, cols: usize) -> Result<String, AllocError>
-    ensures { IfOk result (λ row. (c : Control) → c.cols ≡ cols → string_bytes row ≡ prompt_row c) }
-{
-    let mut row = String::with_capacity(alloc, cols.saturating_add(STYLED))?;
-    row.push_str("\x1b[2;40;37m")?;
-    push_fitted(&mut row, cols)?;
-    row.push_str("\x1b[0m")?;
-    Ok(row)
 }

@@ -57,8 +57,9 @@ fn draw_change<W: OutputSink>(
     ensures err { IfErr result (λ e. (new : Control) → IsChange (control_of state.now) change.now new →
         WriteRefuses W.contents W.refused e out.old out.new (written_all (ops_between drawing (control_of state.now) new))) }
 {
+    let prompt = state.prompt_row_after(alloc, change)?;
     let mut bytes = Vec::new(alloc);
-    state.draw_after(alloc, &mut bytes, drawing, change)?;
+    state.draw_after(alloc, &mut bytes, drawing, change, &prompt)?;
     draw_bytes(out, &bytes)?;
     Ok(())
 }
@@ -83,7 +84,9 @@ pub fn draw_full<W: OutputSink>(
     ensures kept { OnErr result (state.new ≡ state.old) }
 {
     let change = state.moved_to(state.upper_mark);
-    draw_change(alloc, out, state, Drawing::Full, &change)?;
+    if let Err(cause) = draw_change(alloc, out, state, Drawing::Full, &change) {
+        return Err(cause);
+    }
     state.upper_mark = change.mark;
     Ok(())
 }

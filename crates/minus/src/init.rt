@@ -1,5 +1,5 @@
 //! The start of a session.
-ghost use Rattle.std.specs.Prelude.{◌≡◌, ◌++◌, true, map, OnOk, IfOk, IfErr};
+ghost use Rattle.std.specs.Prelude.{◌≡◌, ◌++◌, true, map, string_bytes, OnOk, IfOk, IfErr};
 ghost use Rattle.std.specs.Io.KnownBytes.{Appends};
 ghost use Rattle.minus_term.specs.Counts.{Stays, Rises};
 ghost use Rattle.minus_term.specs.Refusals.{refusal_of};
@@ -9,7 +9,8 @@ ghost use Rattle.minus.specs.Changes.{IsUnformedState};
 ghost use Rattle.minus.specs.Control.{IsClamped};
 ghost use Rattle.minus.specs.Drawings.{whole_page};
 ghost use Rattle.minus.specs.Drawn.{StartLeavesItsPage};
-ghost use Rattle.minus.specs.Reads.{IsFormed, control_of, wanted_of};
+ghost use Rattle.minus.specs.PromptRow.{prompt_row_of};
+ghost use Rattle.minus.specs.Reads.{IsFormed, control_of, settings_of, wanted_of};
 ghost use Rattle.minus.specs.SessionStarts.{IsStart, IsRefusedStart};
 ghost use Rattle.minus.specs.Sizes.{IsSize};
 ghost use Rattle.minus.specs.Starts.{taken_all, first_control, IsShowRefused, ShowBreaksOff, IsStartFault};
@@ -61,9 +62,11 @@ fn take_waiting<P: Parts>(
 #[derive(Drop)]
 struct First {
     state: PagerState,
+    prompt_row: String,
     drawing: Vec<u8>,
     ghost formed: { IsFormed state },
     ghost clamped: { IsClamped (control_of state) },
+    ghost prompted: { string_bytes prompt_row ≡ prompt_row_of state.cols (settings_of state) },
     ghost drawn: { drawing.items ≡ written_all (whole_page (control_of state)) },
 }
 
@@ -76,10 +79,15 @@ fn first_page<P: Parts>(pager: &PagerOf<P>, cols: usize, rows: usize) -> Result<
     let alloc = pager.alloc;
     let mut state = PagerState::new(alloc, cols, rows)?;
     take_waiting(alloc, &mut state, &pager.queue)?;
-    let change = state.change_to(NextText::Same, Redraw::Whole);
+    let change = state.change_to(NextText::Same, Redraw::Whole, false);
+    let prompt_row = state.prompt_row(alloc)?;
     let mut drawing = Vec::new(alloc);
-    state.draw_after(alloc, &mut drawing, Drawing::Full, &change)?;
-    Ok(First { state, drawing })
+    state.draw_after(alloc, &mut drawing, Drawing::Full, &change, &prompt_row)?;
+    Ok(First {
+        state,
+        prompt_row,
+        drawing,
+    })
 }
 
 // Sets the terminal up and draws on it. Where it is not drawn on, it is cleaned up as far as the sink takes it.
@@ -122,12 +130,17 @@ fn begin<S: OutputSink + Drop, P: Parts>(
             cause,
         });
     }
-    let First { state, drawing } = first;
+    let First {
+        state,
+        prompt_row,
+        drawing,
+    } = first;
     Ok(Core {
         alloc: pager.alloc,
         sink,
         state,
         classifier,
+        prompt_row,
         drawing,
         mode,
         status: Status::Running,
@@ -173,7 +186,7 @@ pub fn init_core_with<S: OutputSink + Drop, P: Parts>(
 }
 
 /// Starts a pager over a sink: [`init_core_with`], whose errors it has, with the classifier for which a resize asks for
-/// the terminal's new size, and any other event for nothing.
+/// the terminal's new size, a digit without modifiers is typed to the prefix, and no other event asks for anything.
 pub fn init_core<S: OutputSink + Drop>(
     pager: Pager,
     mode: RunMode,

@@ -13,10 +13,31 @@ pub enum InputEvent {
     UpdateUpperMark(usize),
     /// The terminal has so many columns and rows now, each from 1 to 65,535.
     UpdateTermArea(usize, usize),
+    /// Move to the last page, and go on with what is appended from now on, or no longer.
+    FollowOutput(bool),
+    /// Drop the message, so that the prompt is shown again.
+    RestorePrompt,
+    /// Add this character to the typed prefix.
+    Number(char),
     /// End the session.
     Exit,
     /// Nothing.
     Ignore,
+}
+
+impl InputEvent {
+    ghost use Rattle.std.specs.Prelude.{◌≡◌};
+    ghost use Rattle.minus.specs.Reads.{event_clears};
+
+    // Whether the typed prefix goes with it: it does unless it is typed to.
+    pub(crate) fn clears_prefix(&self) -> bool
+        ensures { result ≡ event_clears self.now }
+    {
+        match self {
+            InputEvent::Number(_) => false,
+            _ => true,
+        }
+    }
 }
 
 /// What decides about the events of a terminal.

@@ -25,44 +25,113 @@ mod stand_in;
 pub mod state;
 mod status;
 
-pub use commands::{Command, CommandOf, Input, InputOf};
-pub use draw::{draw_append_text, draw_for_change, draw_full, write_prompt};
-pub use error::{CleanupError, DescriptionError, MinusError, RegexError, SetupError, TermError};
-pub use help::{format_help_table_from_entries, format_key};
+pub use commands::Command;
+pub use commands::CommandOf;
+pub use commands::Input;
+pub use commands::InputOf;
+pub use commands::IoCommand;
+pub use draw::draw_append_text;
+pub use draw::draw_for_change;
+pub use draw::draw_full;
+pub use draw::write_prompt;
+pub use error::CleanupError;
+pub use error::DescriptionError;
+pub use error::MinusError;
+pub use error::RegexError;
+pub use error::SetupError;
+pub use error::TermError;
+pub use help::format_help_table_from_entries;
+pub use help::format_key;
 pub use hooks::Hook;
-pub use init::{
-    StartError, StartErrorOf, a_start_leaves_its_page, dynamic_paging, init_core, init_core_with,
-};
-pub use input::crossterm_event::{
-    Event, KeyCode, KeyEvent, KeyEventKind, KeyEventState, KeyModifiers, MouseButton, MouseEvent,
-    MouseEventKind,
-};
-pub use input::{
-    InputClassifier, InputEvent, each_text_has_one_meaning, modifier_of, parse_key_event,
-    parse_mouse_event,
-};
-pub use laws::{drawings_join, resizes_are_full};
+pub use init::StartError;
+pub use init::StartErrorOf;
+pub use init::a_start_leaves_its_page;
+pub use init::dynamic_paging;
+pub use init::init_core;
+pub use init::init_core_with;
+pub use input::InputClassifier;
+pub use input::InputEvent;
+pub use input::crossterm_event::Event;
+pub use input::crossterm_event::KeyCode;
+pub use input::crossterm_event::KeyEvent;
+pub use input::crossterm_event::KeyEventKind;
+pub use input::crossterm_event::KeyEventState;
+pub use input::crossterm_event::KeyModifiers;
+pub use input::crossterm_event::MouseButton;
+pub use input::crossterm_event::MouseEvent;
+pub use input::crossterm_event::MouseEventKind;
+pub use input::each_text_has_one_meaning;
+pub use input::modifier_of;
+pub use input::parse_key_event;
+pub use input::parse_mouse_event;
+pub use laws::drawings_join;
+pub use laws::resizes_are_full;
 pub use minus_input::KeySeq;
-pub use minus_term::event::equality::{
-    NormalKey, equal_keys_hash_equally, keys_of_one_normal_form_are_equal,
-    letters_with_shift_are_capitals,
-};
-pub use minus_term::{
-    DrawOp, append_puts_few, append_shows_its_page, full_redraw_shows_its_page, play_is_monotone,
-    scroll_puts_few, scroll_shows_its_page, the_unknown_screen_stands_for_all, write_op,
-};
-pub use minus_text::{
-    Layout, LineNumbers, LinesRowMap, PendingPush, Span, columns, digits, format_line, pieces_join,
-    rows_are_determined, rows_fit, wrap_line,
-};
+pub use minus_state::PromptRow;
+pub use minus_state::format_prompt;
+pub use minus_state::get_horizontal_scroll_bounds;
+pub use minus_state::highlight_visible_range;
+pub use minus_state::marked_range;
+pub use minus_state::markers_alone_are_added;
+pub use minus_state::place_after_visible;
+pub use minus_state::place_of_visible;
+pub use minus_state::prompt_fills_its_row;
+pub use minus_term::DrawOp;
+pub use minus_term::append_puts_few;
+pub use minus_term::append_shows_its_page;
+pub use minus_term::event::equality::NormalKey;
+pub use minus_term::event::equality::equal_keys_hash_equally;
+pub use minus_term::event::equality::keys_of_one_normal_form_are_equal;
+pub use minus_term::event::equality::letters_with_shift_are_capitals;
+pub use minus_term::full_redraw_shows_its_page;
+pub use minus_term::play_is_monotone;
+pub use minus_term::scroll_puts_few;
+pub use minus_term::scroll_shows_its_page;
+pub use minus_term::the_unknown_screen_stands_for_all;
+pub use minus_term::write_op;
+pub use minus_text::Layout;
+pub use minus_text::LineNumbers;
+pub use minus_text::LinesRowMap;
+pub use minus_text::PendingPush;
+pub use minus_text::Span;
+pub use minus_text::columns;
+pub use minus_text::digits;
+pub use minus_text::format_line;
+pub use minus_text::pieces_join;
+pub use minus_text::rows_are_determined;
+pub use minus_text::rows_fit;
+pub use minus_text::wrap_line;
 pub use page::Page;
-pub use pager::{Pager, PagerOf};
-pub use parts::{Calls, Kinds, Parts};
-pub use screen::{FormatResult, Line, OwnedTextBlock, Row, Rows, Screen, TextBlock};
-pub use search::{Patterns, highlight_line_matches, next_nth_match, strip_escapes};
-pub use session::{Answer, Core, Ran, RanOf, Session};
-pub use sink::{
-    OutputSink, WithTty, cleanup, clear_entire_screen, draw_bytes, move_cursor, setup, write_bytes,
-    write_raw_lines,
-};
-pub use state::{ExitStrategy, PagerState, RunMode};
+pub use pager::Pager;
+pub use pager::PagerOf;
+pub use parts::Calls;
+pub use parts::Kinds;
+pub use parts::Parts;
+pub use screen::FormatResult;
+pub use screen::Line;
+pub use screen::OwnedTextBlock;
+pub use screen::Row;
+pub use screen::Rows;
+pub use screen::Screen;
+pub use screen::TextBlock;
+pub use search::Patterns;
+pub use search::highlight_line_matches;
+pub use search::next_nth_match;
+pub use search::strip_escapes;
+pub use session::Answer;
+pub use session::Core;
+pub use session::Ran;
+pub use session::RanOf;
+pub use session::Session;
+pub use sink::OutputSink;
+pub use sink::WithTty;
+pub use sink::cleanup;
+pub use sink::clear_entire_screen;
+pub use sink::draw_bytes;
+pub use sink::move_cursor;
+pub use sink::setup;
+pub use sink::write_bytes;
+pub use sink::write_raw_lines;
+pub use state::ExitStrategy;
+pub use state::PagerState;
+pub use state::RunMode;

@@ -3,7 +3,6 @@ ghost use Rattle.std.specs.Prelude.{◌≡◌, ◌<◌, ◌++◌, [], length, re
 ghost use Rattle.minus.specs.Page.{page_with};
 ghost use Rattle.minus.specs.Reads.{control_of};
 
-use crate::display::format_prompt;
 use crate::state::PagerState;
 use minus_term::MinusError;
 use std::alloc::{AllocError, Global};
@@ -36,7 +35,7 @@ fn page_rows(alloc: Global, state: &PagerState, shown: &[&str]) -> Result<Vec<St
     let mut page = Vec::new(alloc);
     push_copies(alloc, &mut page, shown)?;
     push_blanks(alloc, &mut page, state.rows - 1 - shown.len())?;
-    page.push(format_prompt(alloc, state.cols)?)?;
+    page.push(state.prompt_row(alloc)?)?;
     Ok(page)
 }
 

@@ -1,8 +1,10 @@
 //! A session: a pager over a sink.
-ghost use Rattle.std.specs.Prelude.{◌≡◌};
+ghost use Rattle.std.specs.Prelude.{◌≡◌, string_bytes};
 ghost use Rattle.std.specs.Option.{unwrap_or};
 ghost use Rattle.minus.specs.Control.{IsClamped};
-ghost use Rattle.minus.specs.Reads.{control_of, IsFormed};
+ghost use Rattle.minus.specs.PromptRow.{prompt_row_of};
+ghost use Rattle.minus.specs.Reads.{control_of, settings_of, IsFormed};
+ghost use Rattle.minus.specs.declared.status.Status.TheVariants as stands;
 
 use crate::change::{Change, NextText};
 use crate::commands::{CommandOf, Drawing, InputOf, Redraw};
@@ -22,11 +24,13 @@ pub struct Core<S, P: Parts> {
     pub(crate) sink: S,
     pub(crate) state: PagerState,
     pub(crate) classifier: P::Classifier,
+    pub(crate) prompt_row: String,
     pub(crate) drawing: Vec<u8>,
     pub(crate) mode: RunMode,
     pub(crate) status: Status,
     ghost formed: { IsFormed state },
     ghost clamped: { IsClamped (control_of state) },
+    ghost prompted: { status ≡ stands.Running → string_bytes prompt_row ≡ prompt_row_of state.cols (settings_of state) },
 }
 
 /// A pager over a sink, to which no classifier was given.
@@ -103,8 +107,9 @@ fn keep<T: Drop>(kept: &mut T, new: Option<T>)
 impl<S, P: Parts> Core<S, P> {
     ghost use Rattle.std.specs.Prelude.{◌≡◌, map, None, OnOk, OnErr, IfOk, IfErr, string_bytes};
     ghost use Rattle.minus_term.specs.Refusals.{refusal_of};
-    ghost use Rattle.minus.specs.Control.{Control};
+    ghost use Rattle.minus.specs.Control.{Control, cleared};
     ghost use Rattle.minus.specs.Page.{page};
+    ghost use Rattle.minus.specs.PromptRow.{prompt_row};
     ghost use Rattle.minus.specs.SessionDrawings.{DrawsBetween};
     ghost use Rattle.minus.specs.Reads.{control_of, wanted_of};
     ghost use Rattle.minus.specs.NextTexts.{IsNext};
@@ -112,7 +117,7 @@ impl<S, P: Parts> Core<S, P> {
     ghost use Rattle.minus.specs.Sizes.{IsSize};
     ghost use Rattle.minus.specs.Table.{drawing_of, IsPossible};
     ghost use Rattle.minus.specs.Works.{after};
-    ghost use Rattle.minus.specs.Steps.{mode_told};
+    ghost use Rattle.minus.specs.Steps.{mode_told, taken_by};
     ghost use Rattle.minus.specs.Core.{seen_of};
 
     /// The state: what its screen answers is the document of the text on show.
@@ -143,16 +148,22 @@ impl<S, P: Parts> Core<S, P> {
         ensures cursor { IfOk result (λ p. p.cursor ≡ (page (seen_of self.now).control).cursor) }
         ensures memory { IfErr result (λ e. e ≡ MinusError.Memory) }
     {
-        let change = self.state.change_to(NextText::Same, Redraw::Stays);
+        let change = self.state.change_to(NextText::Same, Redraw::Stays, false);
         let shown = self.state.shown_after(self.alloc, &change, 0)?;
         let page = Page::form(self.alloc, &self.state, &shown)?;
         Ok(page)
     }
 
-    // Draws the page that a change leads to into the buffer of drawings.
-    fn draw_change(&mut self, drawing: Drawing, change: &Change) -> Result<(), MinusError>
-        requires { IsNext self.old.state.screen change.now.text }
-        ensures drawn { OnOk result ((new : Control) → IsChange (control_of self.old.state) change.now new →
+    // Draws the page that a change leads to, whose prompt row this is, into the buffer of drawings.
+    fn draw_change(
+        &mut self,
+        drawing: Drawing,
+        change: &Change,
+        prompt: &str,
+    ) -> Result<(), MinusError>
+        requires belongs { IsNext self.old.state.screen change.now.text }
+        requires running { self.old.status ≡ Status.Running }
+        ensures drawn { OnOk result ((new : Control) → IsChange (control_of self.old.state) change.now new → prompt.now ≡ prompt_row new →
             DrawsBetween self.new drawing (control_of self.old.state) new) }
         ensures state { self.new.state ≡ self.old.state }
         ensures seen { seen_of self.new ≡ seen_of self.old }
@@ -160,25 +171,36 @@ impl<S, P: Parts> Core<S, P> {
         ensures memory { IfErr result (λ e. e ≡ MinusError.Memory) }
     {
         self.drawing.clear();
-        self.state
-            .draw_after(self.alloc, &mut self.drawing, drawing, change)?;
+        self.state.draw_step(
+            self.alloc,
+            &mut self.drawing,
+            drawing,
+            change,
+            prompt,
+            &self.prompt_row,
+        )?;
         Ok(())
     }
 
-    // Forms what comes of a command, draws it into the buffer and puts it in its place. An `Err` changes nothing.
-    fn take(&mut self, command: CommandOf<P>) -> Result<(), MinusError>
-        ensures done { OnOk result (seen_of self.new ≡ after (seen_of self.old) (wanted_of command)) }
+    // Forms what comes of a command, draws it into the buffer and puts it in its place; the typed prefix goes before it, or
+    // stays. An `Err` changes nothing.
+    fn take(&mut self, command: CommandOf<P>, clears: bool) -> Result<(), MinusError>
+        requires { (seen_of self.old).status ≡ Status.Running }
+        ensures done { OnOk result (seen_of self.new ≡ after (taken_by clears (seen_of self.old)) (wanted_of command)) }
         ensures possible { OnOk result (IsPossible (wanted_of command)) }
-        ensures drawn { OnOk result (DrawsBetween self.new (drawing_of (control_of self.old.state) (wanted_of command)) (control_of self.old.state) (control_of self.new.state)) }
+        ensures drawn { OnOk result (DrawsBetween self.new (drawing_of (cleared clears (control_of self.old.state)) (wanted_of command))
+            (control_of self.old.state) (control_of self.new.state)) }
         ensures size { OnOk result (IsSize self.new.state.cols self.new.state.rows) }
         ensures sink { self.new.sink ≡ self.old.sink }
         ensures err { OnErr result (seen_of self.new ≡ seen_of self.old) }
         ensures unformed { IfErr result (λ e. IsUnformed (refusal_of e) (wanted_of command)) }
     {
-        let prepared = self.state.prepare(self.alloc, command)?;
+        let prepared = self.state.prepare(self.alloc, command, clears)?;
+        let row = self.state.prompt_row_after(self.alloc, &prepared.change)?;
         let drawing = prepared.change.drawing(self.state.upper_mark);
-        self.draw_change(drawing, &prepared.change)?;
+        self.draw_change(drawing, &prepared.change, &row)?;
         self.state.place(self.alloc, prepared.change)?;
+        self.prompt_row = row;
         keep(&mut self.classifier, prepared.classifier);
         Ok(())
     }
@@ -189,22 +211,21 @@ impl<S: OutputSink + Drop, P: Calls> Core<S, P> {
     ghost use Rattle.std.specs.Io.KnownBytes.{Appends};
     ghost use Rattle.minus_term.specs.Counts.{Stays, Rises};
     ghost use Rattle.minus_term.specs.Terminal.{CleanupBreaksOff};
-    ghost use Rattle.minus.specs.Reads.{wanted_of, told_of, a_command};
+    ghost use Rattle.minus.specs.Reads.{Told, wanted_of, told_of};
     ghost use Rattle.minus.specs.Table.{effect};
-    ghost use Rattle.minus.specs.Steps.{Asks, cleanup_after};
-    ghost use Rattle.minus.specs.SessionSteps.{IsStepOf, StepsOf, IsRefusedStepOf, IsRunOf};
+    ghost use Rattle.minus.specs.Steps.{cleanup_after};
+    ghost use Rattle.minus.specs.SessionSteps.{IsAsked, IsStepOf, StepsOf, IsRefusedStepOf, RefusesStepOf, IsRunOf};
     ghost use Rattle.minus.specs.Answers.{IsAnswer};
     ghost use Rattle.minus.specs.Core.{seen_of};
-    ghost use Rattle.minus.specs.declared.status.Status.TheVariants as status;
 
     // Does what a command asks for that is no exit, and draws it. A refusal of the sink fails the session.
-    fn change(&mut self, command: CommandOf<P>) -> Result<(), MinusError>
+    fn change(&mut self, command: CommandOf<P>, clears: bool) -> Result<(), MinusError>
         requires on { (effect (seen_of self.old).control (wanted_of command)).exits_by ≡ None }
-        requires running { (seen_of self.old).status ≡ status.Running }
-        ensures step { OnOk result (StepsOf S.contents S.refused P.Classifier.allows self.old (a_command (wanted_of command)) self.new None None) }
-        ensures refused { IfErr result (λ e. IsRefusedStepOf S.contents S.refused P.Classifier.allows self.old (a_command (wanted_of command)) self.new e) }
+        requires running { (seen_of self.old).status ≡ stands.Running }
+        ensures step { OnOk result (StepsOf S.contents S.refused P.Classifier.allows self.old (wanted_of command) clears self.new None None) }
+        ensures refused { IfErr result (λ e. RefusesStepOf S.contents S.refused P.Classifier.allows self.old (wanted_of command) clears self.new e) }
     {
-        self.take(command)?;
+        self.take(command, clears)?;
         if self.drawing.is_empty() {
             return Ok(());
         }
@@ -220,70 +241,78 @@ impl<S: OutputSink + Drop, P: Calls> Core<S, P> {
         &mut self,
         command: &CommandOf<P>,
         exit: (ExitStrategy, u8),
+        clears: bool,
     ) -> Result<Answer, MinusError>
         requires exits { (effect (seen_of self.old).control (wanted_of command.now)).exits_by ≡ Some exit }
-        requires running { (seen_of self.old).status ≡ status.Running }
-        ensures step { IfOk result (λ a. IsStepOf S.contents S.refused P.Classifier.allows self.old (a_command (wanted_of command.now)) self.new a) }
-        ensures refused { IfErr result (λ e. IsRefusedStepOf S.contents S.refused P.Classifier.allows self.old (a_command (wanted_of command.now)) self.new e) }
+        requires running { (seen_of self.old).status ≡ stands.Running }
+        ensures step { IfOk result (λ a. (told : Told P.Classifier) → IsAsked P.Classifier.allows self.old told (wanted_of command.now) clears →
+            IsStepOf S.contents S.refused P.Classifier.allows self.old told self.new a) }
+        ensures refused { IfErr result (λ e. RefusesStepOf S.contents S.refused P.Classifier.allows self.old (wanted_of command.now) clears self.new e) }
     {
         if let Err(cause) = cleanup(&mut self.sink, true) {
             self.status = Status::Failed;
+            self.state.clear_prefix(clears);
             return Err(MinusError::Cleanup(cause));
         }
         self.status = Status::Ended;
+        self.state.clear_prefix(clears);
         Ok(Answer::of_exit(self.alloc, Some(exit)))
     }
 
     // Does what a command asks for, and draws it.
-    fn work_off(&mut self, command: CommandOf<P>) -> Result<Answer, MinusError>
-        requires { (seen_of self.old).status ≡ status.Running }
-        ensures step { IfOk result (λ a. IsStepOf S.contents S.refused P.Classifier.allows self.old (a_command (wanted_of command)) self.new a) }
-        ensures refused { IfErr result (λ e. IsRefusedStepOf S.contents S.refused P.Classifier.allows self.old (a_command (wanted_of command)) self.new e) }
+    fn work_off(&mut self, command: CommandOf<P>, clears: bool) -> Result<Answer, MinusError>
+        requires { (seen_of self.old).status ≡ stands.Running }
+        ensures step { IfOk result (λ a. (told : Told P.Classifier) → IsAsked P.Classifier.allows self.old told (wanted_of command) clears →
+            IsStepOf S.contents S.refused P.Classifier.allows self.old told self.new a) }
+        ensures refused { IfErr result (λ e. RefusesStepOf S.contents S.refused P.Classifier.allows self.old (wanted_of command) clears self.new e) }
     {
         if let Some(exit) = self.state.exit_of(&command) {
-            return self.exit(&command, exit);
+            return self.exit(&command, exit, clears);
         }
-        self.change(command)?;
+        self.change(command, clears)?;
         Ok(Answer::of_exit(self.alloc, None))
     }
 
-    // The command that an input is: for an event, what the classifier answers.
-    fn command_of(&self, input: InputOf<P>) -> CommandOf<P>
-        ensures { Asks P.Classifier.allows (seen_of self.now) (told_of input) (wanted_of result) }
+    // The command that an input is: for an event, what the classifier answers. And whether the typed prefix goes with it.
+    fn command_of(&self, input: InputOf<P>) -> (CommandOf<P>, bool)
+        ensures { IsAsked P.Classifier.allows self.now (told_of input) (wanted_of result.0) result.1 }
     {
         match input {
-            InputOf::Command(command) => command,
+            InputOf::Command(command) => (command, false),
             InputOf::Event(event) => {
                 let answer = self.classifier.classify_input(event, &self.state);
-                CommandOf::UserInput(answer.unwrap_or(InputEvent::Ignore))
+                let answer = answer.unwrap_or(InputEvent::Ignore);
+                (CommandOf::UserInput(answer), answer.clears_prefix())
             }
         }
     }
 
-    /// Works an input off, and draws what has changed.
+    /// Works an input off, and draws what has changed. An event that types nothing lets the typed prefix go first; a
+    /// command leaves it. A prompt row that is another one than before is drawn after what the command asks for.
     ///
     /// # Errors
     ///
     /// [`MinusError::Failed`] where the sink refused before, and [`MinusError::Ended`] where the session has exited.
-    /// [`MinusError::BadSize`] where a size is asked for whose columns or rows are not from 1 to 65,535, and
-    /// [`MinusError::Memory`] where there is no memory: nothing has changed then, and nothing was written.
-    /// [`MinusError::Draw`] and, at an exit, [`MinusError::Cleanup`] where the sink refuses a write or the flush, or
-    /// takes nothing: a beginning of the bytes was written, and the session has failed.
+    /// [`MinusError::NewlineInPrompt`] where a prompt or a message has a newline, [`MinusError::BadSize`] where a size is
+    /// asked for whose columns or rows are not from 1 to 65,535, and [`MinusError::Memory`] where there is no memory:
+    /// nothing has changed then, and nothing was written. [`MinusError::Draw`] and, at an exit, [`MinusError::Cleanup`]
+    /// where the sink refuses a write or the flush, or takes nothing: a beginning of the bytes was written, and the
+    /// session has failed.
     pub fn step(&mut self, input: InputOf<P>) -> Result<Answer, MinusError>
         ensures step { IfOk result (λ a. IsStepOf S.contents S.refused P.Classifier.allows self.old (told_of input) self.new a) }
 
         // A refusal: what it leaves, and when it comes.
         ensures refused { IfErr result (λ e. IsRefusedStepOf S.contents S.refused P.Classifier.allows self.old (told_of input) self.new e) }
-        ensures failed { IsErrOf result MinusError.Failed ↔ ((seen_of self.old).status ≡ status.Failed) }
-        ensures ended { IsErrOf result MinusError.Ended ↔ ((seen_of self.old).status ≡ status.Ended) }
+        ensures failed { IsErrOf result MinusError.Failed ↔ ((seen_of self.old).status ≡ stands.Failed) }
+        ensures ended { IsErrOf result MinusError.Ended ↔ ((seen_of self.old).status ≡ stands.Ended) }
     {
         match self.status {
             Status::Running => {}
             Status::Ended => return Err(MinusError::Ended),
             Status::Failed => return Err(MinusError::Failed),
         }
-        let command = self.command_of(input);
-        let answer = self.work_off(command)?;
+        let (command, clears) = self.command_of(input);
+        let answer = self.work_off(command, clears)?;
         Ok(answer)
     }
 
@@ -347,7 +376,7 @@ impl<S: OutputSink + Drop, P: Calls> Core<S, P> {
     ///
     /// The part of the cleanup that the sink refused: a beginning of the cleanup was written.
     pub fn finish(self) -> (S, Result<(), CleanupError>)
-        ensures ended { (seen_of self).status ≡ status.Ended → (result.0 ≡ self.sink) × IsOk result.1 }
+        ensures ended { (seen_of self).status ≡ stands.Ended → (result.0 ≡ self.sink) × IsOk result.1 }
         ensures ok { OnOk result.1 (Appends (S.contents self.sink) (S.contents result.0) (cleanup_after (seen_of self).status)) }
         ensures stays { OnOk result.1 (Stays (S.refused self.sink) (S.refused result.0)) }
         ensures broken { IfErr result.1 (λ e. CleanupBreaksOff e (S.contents self.sink) (S.contents result.0)) }

@@ -1,16 +1,32 @@
 //! The classifier of sessions to which none is given.
+ghost use Rattle.std.specs.Prelude.{◌≡◌};
+ghost use Rattle.minus.specs.Classified.{key_answer};
+
 use crate::input::{InputClassifier, InputEvent};
 use crate::parts::Kinds;
 use crate::state::PagerState;
-use minus_term::Event;
+use minus_term::{Event, KeyCode, KeyEvent, KeyModifiers};
 
 /// The kinds of a session to which no classifier is given.
 pub type StandIns = Kinds<StandIn>;
 
-/// The classifier of a session to which none is given: a resize asks for the terminal's new size, and no other event
-/// for anything.
+/// The classifier of a session to which none is given: a resize asks for the terminal's new size, a digit without
+/// modifiers is typed to the prefix, and no other event asks for anything.
 #[derive(Clone, Copy, Debug, Drop, PartialEq, Eq)]
 pub struct StandIn;
+
+// What a key asks for.
+fn answer_key(key: &KeyEvent) -> InputEvent
+    ensures { result ≡ key_answer key.now }
+{
+    match key.code {
+        KeyCode::Char(character)
+            if character.is_ascii_digit() && key.modifiers == KeyModifiers::NONE => {
+            InputEvent::Number(character)
+        }
+        _ => InputEvent::Ignore,
+    }
+}
 
 impl InputClassifier for StandIn {
     ghost use Rattle.minus.specs.Classified.{stand_in};
@@ -23,6 +39,7 @@ impl InputClassifier for StandIn {
                 usize::from(cols),
                 usize::from(rows),
             )),
+            Event::Key(key) => Some(answer_key(&key)),
             _ => Some(InputEvent::Ignore),
         }
     }

@@ -4,7 +4,7 @@ use Rattle.std.specs.Prelude.{◌||◌, is_some, nat_lt}
 use Rattle.std.specs.Io.KnownBytes.{Appends}
 use Rattle.std.proofs.lemmas.List.{map-append}
 use Rattle.minus_term.specs.declared.error.MinusError.{MinusError}
-use Rattle.minus_term.specs.declared.error.MinusError.TheVariants.{Memory, BadSize, BadMode, Failed, Ended, Setup, Cleanup, Draw, HandleEvent, Cursor, FmtWriteError, Conversion, SearchExpError}
+use Rattle.minus_term.specs.declared.error.MinusError.TheVariants.{Memory, NewlineInPrompt, BadSize, BadMode, Failed, Ended, Setup, Cleanup, Draw, HandleEvent, Cursor, FmtWriteError, Conversion, SearchExpError}
 use Rattle.minus_term.specs.Refusals.{number_of, refusal_of}
 use Rattle.minus.specs.declared.stand_in.StandIn.{StandIn}
 use Rattle.minus.specs.declared.session.Answer.{Answer}
@@ -125,7 +125,8 @@ still_runs allows old new ts cs answers x y e rest (more {b = b} {c = c} {t = t}
 -- a start that is refused
 pub start_refused : (e : MinusError) (cols rows : ℕ) (told : List (Told StandIn)) → IsStartRefused (refusal_of e) Dynamic cols rows true → IsRefusal (number_of e) cols rows told
 start_refused Memory cols rows told h = inl (inl refl)
-start_refused (BadSize c r) cols rows told h = inr (refl, inl h.3)
+start_refused NewlineInPrompt cols rows told h = absurd h
+start_refused (BadSize c r) cols rows told h = inr (inl (refl, inl h.3))
 start_refused BadMode cols rows told h = absurd (let both : Dynamic ≡ Uninitialized = h in cc)
 start_refused Failed cols rows told h = absurd h
 start_refused Ended cols rows told h = absurd h
@@ -141,8 +142,10 @@ start_refused (SearchExpError cause) cols rows told h = absurd h
 -- a step that is refused while the session runs
 step_refused : (e : MinusError) (cols rows : ℕ) (told rest : List (Told StandIn)) (t : Told StandIn) (answers : List Answer) (reached new : Seen StandIn) (a b : Option (List ℕ)) → IsTaken cols rows told answers reached a (t ∷ rest) → reached.status ≡ status.Running → Refuses stand_in (refusal_of e) reached t new a b → IsRefusal (number_of e) cols rows told
 step_refused Memory cols rows told rest t answers reached new a b taken runs h = inl (inl refl)
+step_refused NewlineInPrompt cols rows told rest t answers reached new a b taken runs h =
+    inr (inr (refl, record { answers = answers; reached = reached; bytes = a; refused = t; rest = rest; wanted = h.0.wanted; taken = taken; asked = h.0.asked; bad = h.0.bad }))
 step_refused (BadSize c r) cols rows told rest t answers reached new a b taken runs h =
-    inr (refl, inr (record { answers = answers; reached = reached; bytes = a; refused = t; rest = rest; columns = c; lines = r; taken = taken; asked = h.0.asked; bad = h.0.bad }))
+    inr (inl (refl, inr (record { answers = answers; reached = reached; bytes = a; refused = t; rest = rest; columns = c; lines = r; taken = taken; asked = h.0.asked; bad = h.0.bad })))
 step_refused BadMode cols rows told rest t answers reached new a b taken runs h = absurd h
 step_refused Failed cols rows told rest t answers reached new a b taken runs h = absurd (let both : status.Running ≡ status.Failed = sym runs ∙ h.0 in cc)
 step_refused Ended cols rows told rest t answers reached new a b taken runs h = absurd (let both : status.Running ≡ status.Ended = sym runs ∙ h.0 in cc)

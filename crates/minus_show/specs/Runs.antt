@@ -16,7 +16,7 @@ use Rattle.minus.specs.Sizes.{IsSize}
 use Rattle.minus.specs.Starts.{IsStarted}
 use Rattle.minus.specs.Seen.{Seen}
 use Rattle.minus.specs.Steps.{Asks, Steps, cleanup_after}
-use Rattle.minus.specs.Table.{resizes}
+use Rattle.minus.specs.Table.{Wanted, resizes, HasNewline}
 use Rattle.minus_show.specs.Script.{script_lines, script_told}
 use Rattle.minus_show.specs.Printed.{printed_all}
 use Rattle.minus_show.specs.Reading.{ConsumesSome}
@@ -97,9 +97,22 @@ pub record IsSizeAsked (cols rows : ℕ) (told : List (Told StandIn)) : Type 0 w
   pub asked : Asks stand_in reached refused (resizes columns lines)
   pub bad : IsSize columns lines → ⊥
 
--- memory ran out, or the size of the start, or one that was asked for later, is none of a terminal
+-- after a part of what it was told, the pager was asked for a prompt or a message with a newline
+pub record IsPromptAsked (cols rows : ℕ) (told : List (Told StandIn)) : Type 0 where
+  pub answers : List Answer
+  pub reached : Seen StandIn
+  pub bytes : Option (List ℕ)
+  pub refused : Told StandIn
+  pub rest : List (Told StandIn)
+  pub wanted : Wanted StandIn
+  pub taken : IsTaken cols rows told answers reached bytes (refused ∷ rest)
+  pub asked : Asks stand_in reached refused wanted
+  pub bad : HasNewline wanted
+
+-- memory ran out; the size of the start, or one that was asked for later, is none of a terminal; or a prompt has a newline
 abbrev pub IsRefusal : ℕ → ℕ → ℕ → List (Told StandIn) → Type 0
-IsRefusal number cols rows told = IsWantOfMemory number ⊎ ((number ≡ 5) × ((IsSize cols rows → ⊥) ⊎ IsSizeAsked cols rows told))
+IsRefusal number cols rows told =
+    IsWantOfMemory number ⊎ (((number ≡ 5) × ((IsSize cols rows → ⊥) ⊎ IsSizeAsked cols rows told)) ⊎ ((number ≡ 2) × IsPromptAsked cols rows told))
 
 -- a script was read to its end
 abbrev pub IsRead : Option (List ℕ) → Option (List ℕ) → List ℕ → Type 0

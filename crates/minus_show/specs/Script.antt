@@ -1,5 +1,5 @@
 -- The script: its lines, and what each of them tells the session.
-use Rattle.std.specs.Prelude.{ℕ, ◌+◌, ◌==◌, ◌++◌, nat_lt, List, [], ◌∷◌, length, map, Bool, Option, Some, None, Result, Ok, Err, bytes_eq, codes, ◌&&◌, if◌then◌else◌}
+use Rattle.std.specs.Prelude.{ℕ, ◌+◌, ◌==◌, ◌++◌, nat_lt, List, [], ◌∷◌, length, map, Bool, true, false, Option, Some, None, Result, Ok, Err, bytes_eq, codes, ◌&&◌, if◌then◌else◌}
 use Rattle.std.specs.Option.{option_map}
 use Rattle.std.specs.Str.{is_utf8, chars}
 use Rattle.std.specs.List.{slice_split, before_first, after_first, position_or_len}
@@ -8,7 +8,7 @@ use Rattle.minus_term.specs.declared.event.KeyCode.TheVariants.{Char}
 use Rattle.minus_term.specs.declared.event.KeyEventKind.TheVariants.{Press}
 use Rattle.minus.specs.declared.stand_in.StandIn.{StandIn}
 use Rattle.minus.specs.Reads.{Told, a_command, an_event}
-use Rattle.minus.specs.Table.{Wanted, sets_data, appends_data, moves_mark, resizes}
+use Rattle.minus.specs.Table.{Wanted, sets_data, appends_data, moves_mark, resizes, sets_prompt, sends_message, follows, shows_prompt}
 use Rattle.minus_show.specs.Number.{usize_of}
 use Rattle.minus_show.specs.Escapes.{unescaped}
 
@@ -48,6 +48,10 @@ size_asked None rows = None
 abbrev pub resize_asked : List ℕ → Option (Wanted StandIn)
 resize_asked argument = if has_blank argument then size_asked (usize_of (before_first is_blank argument)) (usize_of (after_first is_blank argument)) else None
 
+-- whether an argument says on or off
+abbrev pub switch_of : List ℕ → Option Bool
+switch_of argument = if bytes_eq argument (codes "on") then Some true else if bytes_eq argument (codes "off") then Some false else None
+
 -- what a word asks for as a command with its argument: a known word, whose argument is well formed
 abbrev pub command_asked : List ℕ → List ℕ → Option (Wanted StandIn)
 command_asked word argument =
@@ -55,6 +59,10 @@ command_asked word argument =
     else if bytes_eq word (codes "set") then option_map sets_data (unescaped argument)
     else if bytes_eq word (codes "mark") then option_map moves_mark (usize_of argument)
     else if bytes_eq word (codes "resize") then resize_asked argument
+    else if bytes_eq word (codes "prompt") then option_map sets_prompt (unescaped argument)
+    else if bytes_eq word (codes "message") then option_map sends_message (unescaped argument)
+    else if bytes_eq word (codes "follow") then option_map follows (switch_of argument)
+    else if bytes_eq word (codes "showprompt") then option_map shows_prompt (switch_of argument)
     else None
 
 -- a command is one input

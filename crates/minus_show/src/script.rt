@@ -2,12 +2,12 @@
 ghost use Rattle.std.specs.Prelude.{◌≡◌, ◌+◌, ◌<◌, ◌++◌, ◌∷◌, [], map, length, IfOk, IfErr, OnOk, IfSome, IsSome, MatchOption, Ok, Some, None, string_bytes};
 ghost use Rattle.std.specs.Option.{option_map};
 ghost use Rattle.std.specs.List.{position};
-ghost use Rattle.minus_show.specs.Script.{is_newline, script_lines, script_told, line_told, word_told, command_asked, resize_asked, typed, all_typed};
+ghost use Rattle.minus_show.specs.Script.{is_newline, script_lines, script_told, line_told, word_told, command_asked, resize_asked, switch_of, typed, all_typed};
 ghost use Rattle.minus_show.specs.Escapes.{unescaped, escape_byte, split_escape_of};
 ghost use Rattle.minus_show.specs.ScriptLines.{told_by};
 ghost use Rattle.minus_show.specs.ScriptFaults.{IsScriptFault};
 ghost use Rattle.minus.specs.Reads.{told_of, wanted_of};
-ghost use Rattle.minus.specs.Table.{sets_data, appends_data, moves_mark};
+ghost use Rattle.minus.specs.Table.{sets_data, appends_data, moves_mark, sets_prompt, sends_message, follows, shows_prompt};
 
 use crate::fault::ScriptFault;
 use crate::number::parse_usize;
@@ -97,6 +97,45 @@ fn set(text: String) -> Command
     Command::SetData(text)
 }
 
+/// The command that lets the prompt row say a text.
+fn set_prompt(text: String) -> Command
+    ensures { wanted_of result ≡ sets_prompt (string_bytes text) }
+{
+    Command::SetPrompt(text)
+}
+
+/// The command that lets it say a text in the prompt's place.
+fn send_message(text: String) -> Command
+    ensures { wanted_of result ≡ sends_message (string_bytes text) }
+{
+    Command::SendMessage(text)
+}
+
+/// The command that lets the page go on with what is appended, or no longer.
+fn follow(follow: bool) -> Command
+    ensures { wanted_of result ≡ follows follow }
+{
+    Command::FollowOutput(follow)
+}
+
+/// The command that shows the prompt row, or hides it.
+fn show_prompt(is_shown: bool) -> Command
+    ensures { wanted_of result ≡ shows_prompt is_shown }
+{
+    Command::ShowPrompt(is_shown)
+}
+
+/// Whether an argument says on or off.
+fn parse_switch(argument: &str) -> Option<bool>
+    ensures { result ≡ switch_of argument.now }
+{
+    match argument {
+        "on" => Some(true),
+        "off" => Some(false),
+        _ => None,
+    }
+}
+
 /// The command that moves the mark to a row.
 fn move_mark(row: usize) -> Command
     ensures { wanted_of result ≡ moves_mark row }
@@ -123,6 +162,10 @@ fn parse_command(alloc: Global, word: &str, argument: &str) -> Result<Option<Com
         "set" => unescape(alloc, argument)?.map(set),
         "mark" => parse_usize(argument).map(move_mark),
         "resize" => parse_resize(argument),
+        "prompt" => unescape(alloc, argument)?.map(set_prompt),
+        "message" => unescape(alloc, argument)?.map(send_message),
+        "follow" => parse_switch(argument).map(follow),
+        "showprompt" => parse_switch(argument).map(show_prompt),
         _ => None,
     };
     Ok(command)

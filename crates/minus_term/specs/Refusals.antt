@@ -3,11 +3,12 @@ use Rattle.std.specs.Prelude.{ℕ}
 use Rattle.minus_term.specs.declared.error.SetupError.{SetupError}
 use Rattle.minus_term.specs.declared.error.CleanupError.{CleanupError}
 use Rattle.minus_term.specs.declared.error.MinusError.{MinusError}
-use Rattle.minus_term.specs.declared.error.MinusError.TheVariants.{Memory, BadSize, BadMode, Failed, Ended, Setup, Cleanup, Draw, HandleEvent, Cursor, FmtWriteError, Conversion, SearchExpError}
+use Rattle.minus_term.specs.declared.error.MinusError.TheVariants.{Memory, NewlineInPrompt, BadSize, BadMode, Failed, Ended, Setup, Cleanup, Draw, HandleEvent, Cursor, FmtWriteError, Conversion, SearchExpError}
 
 -- the number by which a refusal is named; 0 where it has none
 abbrev pub number_of : MinusError → ℕ
 number_of Memory = 1
+number_of NewlineInPrompt = 2
 number_of (BadSize columns rows) = 5
 number_of BadMode = 9
 number_of Failed = 10
@@ -21,10 +22,11 @@ number_of (HandleEvent cause) = 0
 number_of (Cursor cause) = 0
 number_of Conversion = 0
 
--- the kinds of refusals that contracts tell apart: for want of memory; for a size or a mode; after a failure or an exit; by
+-- the kinds of refusals that contracts tell apart: for want of memory; for a newline, a size or a mode; after a failure or an exit; by
 -- the sink, at the setup, the cleanup or a drawing; and those that no call of the pager answers
 pub data Refusal : Type 0 where
   for_memory : Refusal
+  for_newline : Refusal
   for_size : (columns rows : ℕ) → Refusal
   for_mode : Refusal
   after_failure : Refusal
@@ -36,6 +38,7 @@ pub data Refusal : Type 0 where
 
 abbrev pub refusal_of : MinusError → Refusal
 refusal_of Memory = for_memory
+refusal_of NewlineInPrompt = for_newline
 refusal_of (BadSize columns rows) = for_size columns rows
 refusal_of BadMode = for_mode
 refusal_of Failed = after_failure

@@ -63,6 +63,9 @@ pub enum MinusError {
     /// Memory ran out.
     #[error("refused 1")]
     Memory,
+    /// A prompt or a message holds a newline.
+    #[error("refused 2")]
+    NewlineInPrompt,
     /// So many columns and rows are out of range.
     #[error("refused 5")]
     BadSize(usize, usize),
@@ -180,6 +183,7 @@ impl MinusError {
     {
         match self {
             MinusError::Memory => 1,
+            MinusError::NewlineInPrompt => 2,
             MinusError::BadSize(_, _) => 5,
             MinusError::BadMode => 9,
             MinusError::Failed => 10,

@@ -24,6 +24,7 @@ fn names_each_error(rt: HostRuntime) -> Result<(), Fail> {
     let alloc = rt.alloc();
     let table = [
         (MinusError::Memory, 1, "refused 1"),
+        (MinusError::NewlineInPrompt, 2, "refused 2"),
         (MinusError::BadSize(1, 2), 5, "refused 5"),
         (MinusError::BadMode, 9, "refused 9"),
         (MinusError::Failed, 10, "refused 10"),

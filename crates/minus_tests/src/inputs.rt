@@ -1,6 +1,6 @@
 //! What events and bad sizes come to.
-use crate::sessions::{Asked, draws, number_of, session_on, shows, terminal};
-use minus::{Event, KeyCode, KeyEvent, KeyEventKind, KeyEventState, KeyModifiers};
+use crate::sessions::{Asked, draws, key, number_of, session_on, shows, terminal};
+use minus::{Event, KeyModifiers};
 use std::alloc::Global;
 use std::test::Fail;
 
@@ -21,13 +21,9 @@ fn a_resize_event_shows_the_page_of_the_new_size(rt: HostRuntime) -> Result<(), 
 
 #[test]
 fn other_events_write_nothing(rt: HostRuntime) -> Result<(), Fail> {
-    let key = KeyEvent {
-        code: KeyCode::Char('q'),
-        modifiers: KeyModifiers::NONE,
-        kind: KeyEventKind::Press,
-        state: KeyEventState::NONE,
-    };
-    for event in [Event::FocusGained, Event::FocusLost, Event::Key(key)] {
+    let letter = key('q', KeyModifiers::NONE);
+    let modified = key('1', KeyModifiers::CONTROL);
+    for event in [Event::FocusGained, Event::FocusLost, letter, modified] {
         assert!(rt; draws(rt.alloc(), 6, 2, &[Asked::Told(event)], "")?);
     }
     Ok(())

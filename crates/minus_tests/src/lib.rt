@@ -13,6 +13,8 @@ mod inputs;
 #[cfg(test)]
 mod pages;
 #[cfg(test)]
+mod prompts;
+#[cfg(test)]
 mod refusals;
 #[cfg(test)]
 mod sessions;

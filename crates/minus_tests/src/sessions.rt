@@ -1,7 +1,8 @@
 //! Sessions for the tests, started and stepped in one place.
 use minus::{
-    Answer, Command, Event, Input, InputEvent, MinusError, OutputSink, Page, Pager, RunMode,
-    Session, WithTty, init_core,
+    Answer, Command, Event, Input, InputEvent, IoCommand, KeyCode, KeyEvent, KeyEventKind,
+    KeyEventState, KeyModifiers, MinusError, OutputSink, Page, Pager, RunMode, Session, WithTty,
+    init_core,
 };
 use std::alloc::{AllocError, Global};
 use std::test::Fail;
@@ -21,25 +22,44 @@ pub enum Asked<'a> {
     Push(&'a str),
     Mark(usize),
     Size(usize, usize),
+    Prompt(&'a str),
+    Message(&'a str),
+    Shown(bool),
+    Follow(bool),
+    Restored,
+    Typed(char),
+    Io(IoCommand),
     Told(Event),
     Exit,
 }
 
+/// The press of a character's key, with these modifiers.
+pub fn key(character: char, modifiers: KeyModifiers) -> Event {
+    Event::Key(KeyEvent {
+        code: KeyCode::Char(character),
+        modifiers,
+        kind: KeyEventKind::Press,
+        state: KeyEventState::NONE,
+    })
+}
+
 /// The input that asks for it.
 pub fn input(alloc: Global, asked: Asked<'_>) -> Result<Input, AllocError> {
-    match asked {
-        Asked::Push(text) => Ok(Input::Command(Command::AppendData(String::from_str(
-            alloc, text,
-        )?))),
-        Asked::Mark(row) => Ok(Input::Command(Command::UserInput(InputEvent::UpdateUpperMark(
-            row,
-        )))),
-        Asked::Size(cols, rows) => Ok(Input::Command(Command::UserInput(InputEvent::UpdateTermArea(
-            cols, rows,
-        )))),
-        Asked::Told(event) => Ok(Input::Event(event)),
-        Asked::Exit => Ok(Input::Command(Command::UserInput(InputEvent::Exit))),
-    }
+    let command = match asked {
+        Asked::Push(text) => Command::AppendData(String::from_str(alloc, text)?),
+        Asked::Mark(row) => Command::UserInput(InputEvent::UpdateUpperMark(row)),
+        Asked::Size(cols, rows) => Command::UserInput(InputEvent::UpdateTermArea(cols, rows)),
+        Asked::Prompt(text) => Command::SetPrompt(String::from_str(alloc, text)?),
+        Asked::Message(text) => Command::SendMessage(String::from_str(alloc, text)?),
+        Asked::Shown(is_shown) => Command::ShowPrompt(is_shown),
+        Asked::Follow(follow) => Command::FollowOutput(follow),
+        Asked::Restored => Command::UserInput(InputEvent::RestorePrompt),
+        Asked::Typed(character) => Command::UserInput(InputEvent::Number(character)),
+        Asked::Io(command) => Command::Io(command),
+        Asked::Told(event) => return Ok(Input::Event(event)),
+        Asked::Exit => Command::UserInput(InputEvent::Exit),
+    };
+    Ok(Input::Command(command))
 }
 
 /// The inputs that ask for all of it.

@@ -15,8 +15,13 @@ fn command_text(alloc: Global, command: &Command) -> Result<String, Fail> {
         Command::UserInput(InputEvent::UpdateTermArea(cols, rows)) => {
             format!(in alloc; "resize[{cols} {rows}]")?
         }
-        Command::UserInput(InputEvent::Exit | InputEvent::Ignore)
-        | Command::SetInputClassifier(_) => String::new(alloc),
+        Command::SetPrompt(text) => format!(in alloc; "prompt[{text}]")?,
+        Command::SendMessage(text) => format!(in alloc; "message[{text}]")?,
+        Command::FollowOutput(follow) => format!(in alloc; "follow[{follow}]")?,
+        Command::ShowPrompt(is_shown) => format!(in alloc; "showprompt[{is_shown}]")?,
+        Command::UserInput(_) | Command::Io(_) | Command::SetInputClassifier(_) => {
+            String::new(alloc)
+        }
     };
     Ok(text)
 }
@@ -55,7 +60,7 @@ fn shown(alloc: Global, script: &[u8]) -> Result<String, Fail> {
 
 #[test]
 fn reads_each_word(rt: HostRuntime) -> Result<(), Fail> {
-    let table: [(&[u8], &str); 15] = [
+    let table: [(&[u8], &str); 17] = [
         (b"", ""),
         (b"push ", "push[]"),
         (b"push \n", "push[]"),
@@ -74,6 +79,11 @@ fn reads_each_word(rt: HostRuntime) -> Result<(), Fail> {
         (b"resize 30 6\nmark 1", "resize[30 6]mark[1]"),
         (b"type \nresize 0 +9", "resize[0 9]"),
         (b"type a\xc3\xa9\\n", "key[a]key[é]key[\n]"),
+        (b"prompt p q\nmessage \\n", "prompt[p q]message[\n]"),
+        (
+            b"follow on\nfollow off\nshowprompt off",
+            "follow[true]follow[false]showprompt[false]",
+        ),
     ];
     for (script, text) in table {
         assert_eq!(rt; shown(rt.alloc(), script)?.as_str(), text);
@@ -83,7 +93,7 @@ fn reads_each_word(rt: HostRuntime) -> Result<(), Fail> {
 
 #[test]
 fn names_the_first_faulty_line(rt: HostRuntime) -> Result<(), Fail> {
-    let table: [(&[u8], &str); 25] = [
+    let table: [(&[u8], &str); 28] = [
         (b"\n", "script line 1"),
         (b"push a\n\npush", "script line 2"),
         (b"push", "script line 1"),
@@ -109,6 +119,9 @@ fn names_the_first_faulty_line(rt: HostRuntime) -> Result<(), Fail> {
         (b"resize 30  6", "script line 1"),
         (b"resize 30 6 ", "script line 1"),
         (b"resize 30 x", "script line 1"),
+        (b"prompt", "script line 1"),
+        (b"follow On", "script line 1"),
+        (b"showprompt on ", "script line 1"),
     ];
     for (script, text) in table {
         assert_eq!(rt; shown(rt.alloc(), script)?.as_str(), text);

@@ -82,6 +82,13 @@ fn prints_the_page_that_a_script_leads_to(rt: HostRuntime) -> Result<(), Fail> {
             "push a\\nb\nset c\\nd\\ne\\nf\nmark 9\n",
             "e\nf\n\\e[2;40;37mminu\\e[0m\n",
         ),
+        (
+            20,
+            2,
+            "follow on\nprompt p\nmessage hi\npush a\\nb",
+            "b\n\\e[30;1;41mhi               \\e[1m[F]\\e[0m\n",
+        ),
+        (20, 2, "showprompt off\npush a", "a\n\n"),
     ];
     for (cols, rows, script, page) in table {
         let printed = printed_in(rt.alloc(), Mode::Page, cols, rows, script)?;
@@ -109,6 +116,7 @@ fn a_fault_prints_nothing(rt: HostRuntime) -> Result<(), Fail> {
         (10, 0, "", "refused 5, 0 bytes"),
         (65_536, 1, "", "refused 5, 0 bytes"),
         (20, 2, "resize 0 10\npush a", "refused 5, 0 bytes"),
+        (20, 2, "push a\nprompt a\\nb", "refused 2, 0 bytes"),
         (0, 10, "push a\npull b\n", "script line 2, 0 bytes"),
     ];
     for (cols, rows, script, text) in table {
