@@ -43,3 +43,4 @@ pub mod FormatResultLaws
 pub mod PushedLaws
 pub mod PendingLaws
 pub mod LineCountLaws
+pub mod StoredLaws

@@ -8,6 +8,8 @@ mod found;
 #[cfg(test)]
 mod highlights;
 #[cfg(test)]
+mod layouts;
+#[cfg(test)]
 mod pieces;
 #[cfg(test)]
 mod rows;
@@ -15,3 +17,5 @@ mod rows;
 mod screens;
 #[cfg(test)]
 mod search;
+#[cfg(test)]
+mod shown;
