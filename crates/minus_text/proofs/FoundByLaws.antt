@@ -1,16 +1,17 @@
 -- What is found in rows, row by row, and before and behind a row.
-use Rattle.std.proofs.Common.{inl, inr, ◌≡◌, ℕ, zero, suc, ◌+◌, ◌-◌, ◌<◌, ◌≤◌, Bool, true, false, cond, nat_le, ltb, List, [], ◌∷◌, ◌++◌, map, length, take, drop, get_or, position, Option, None, Some, refl, sym, ap, ap₂, ◌∙◌, subst, arith, append_assoc}
+use Rattle.std.proofs.Common.{inl, inr, ◌≡◌, ℕ, zero, suc, ◌+◌, ◌<◌, ◌≤◌, true, false, cond, nat_le, ltb, List, [], ◌∷◌, ◌++◌, map, length, take, get_or, position, Option, None, Some, refl, sym, ap, ap₂, ◌∙◌, arith, append_assoc}
 use Rattle.std.specs.List.{position_or_len, slice_get}
 use Rattle.std.specs.Option.{unwrap_or}
 use Rattle.std.proofs.lemmas.Bool.{cases_Bool, cases_lt}
 use Rattle.std.proofs.lemmas.List.{append-nil, take_more, length-take-le}
 use Rattle.std.proofs.lemmas.List.Sums.{prefix_len-le-length}
-use Rattle.std.proofs.lemmas.Option.{slice_get-get_or, same_Some}
+use Rattle.std.proofs.lemmas.Option.{slice_get-get_or}
 use Rattle.regex.specs.Patterns.{Re}
 use Rattle.minus_text.specs.declared.search.found.FoundRow.{FoundRow}
-use Rattle.minus_text.specs.Document.{rows_of, pushed}
+use Rattle.minus_text.specs.Document.{rows_of}
 use Rattle.minus_text.specs.Fragments.{rows_in}
-use Rattle.minus_text.specs.Highlight.{line_matches}
+use Rattle.minus_text.specs.Escapes.{escape_places}
+use Rattle.minus_text.specs.Highlight.{line_matches, line_match_places}
 use Rattle.minus_text.specs.Found.{RowMatches, found_in_row, found_in_rows, found_by, found_above}
 use Rattle.minus_text.specs.FoundRows.{matches_of}
 use Rattle.minus_text.specs.FoundBy.{found_in_some, FoundGoesOn}
@@ -38,8 +39,8 @@ one_more_row re first i n rows found grown o is more so_far here all =
 none_above : (re : Re) (n m : ℕ) (rows : List (List ℕ)) → n ≤ m → found_above n (found_in_rows re m rows) ≡ []
 none_above re n m [] le = refl
 none_above re n m (row ∷ rows) le = elim (cases_Bool (line_matches re row)) [
-  | inl yes ↦ let t : nat_le n m ≡ true = grind (arith, le) in rw (yes, t) refl
-  | inr no ↦ rw no (none_above re n (m + 1) rows (omega (arith, le)))
+  | inl hit ↦ let t : nat_le n m ≡ true = grind (arith, le) in rw (hit, t) refl
+  | inr miss ↦ rw miss (none_above re n (m + 1) rows (omega (arith, le)))
 ]
 
 above_is_front : (re : Re) (k m n : ℕ) (rows : List (List ℕ)) → n ≡ m + k → found_above n (found_in_rows re m rows) ≡ found_in_rows re m (take k rows)
@@ -47,12 +48,13 @@ above_is_front re zero m n rows e = none_above re n m rows (omega (arith, e))
 above_is_front re (suc k) m n [] e = refl
 above_is_front re (suc k) m n (row ∷ rows) e =
     let later = above_is_front re k (m + 1) n rows (omega (arith, e)) in
+    let here : RowMatches = record { row = m; escapes = escape_places row; matches = line_match_places re row } in
     elim (cases_Bool (line_matches re row)) [
-      | inl yes ↦
+      | inl hit ↦
           let f : nat_le n m ≡ false = grind (arith, e) in
           let one : 1 + position_or_len (λ x. nat_le n x.row) (found_in_rows re (m + 1) rows) ≡ suc (position_or_len (λ x. nat_le n x.row) (found_in_rows re (m + 1) rows)) = omega arith in
-          rw (yes, f, one) (ap (λ l. _ ∷ l) later)
-      | inr no ↦ rw no later
+          rw (hit, f, one) (ap (λ l. here ∷ l) later)
+      | inr miss ↦ rw miss later
     ]
 
 goes_on : (term : Option Re) (n : ℕ) (rows fresh : List (List ℕ)) → n ≤ length rows →

@@ -147,7 +147,7 @@ impl FoundRows {
         requires { HasRoomFor self.old fresh }
         ensures { found_rows self.new ≡ found_above row (found_rows self.old) ++ found_rows fresh }
     {
-        let mut rows = fresh.rows;
+        let FoundRows { mut rows } = fresh;
         let staying = count_above(self.rows.as_slice(), row);
         self.rows.truncate(staying);
         match self.rows.append(&mut rows) {

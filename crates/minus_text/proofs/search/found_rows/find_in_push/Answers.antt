@@ -1,4 +1,4 @@
-use Rattle.std.proofs.Common.{rules, ◌≡◌, ◌+◌, ◌++◌, ◌<◌, ◌≤◌, length, option_map, map, refl, sym, ap, ap₂, ◌∙◌, arith}
+use Rattle.std.proofs.Common.{◌+◌, ◌++◌, ◌<◌, ◌≤◌, length, option_map, map, refl, ap, ap₂, ◌∙◌, arith}
 use Rattle.std.proofs.lemmas.List.{take_all}
 use Rattle.regex.specs.Strings.{regex_pattern}
 use Rattle.minus_text.specs.Fragments.{rows_in}
@@ -17,7 +17,7 @@ loop-i-preserved c =
     let inv = c.loop-i.invariant in
     let o = option_map (λ r. r.now) c.row_text.result in
     let n = c.args.pending.now.kept_rows + i in
-    let more : i < length rows = omega (arith, c.formed_rows.ensures.value, c.loop-i-test.true) in
+    let more : i < length rows = omega (arith, c.formed_rows-i-end.ensures.value, c.loop-i-test.true) in
     record {
       same = c.note_some.ensures.same ∙ inv.same;
       found = one_more_row re c.args.pending.now.kept_rows i n rows old _ o refl more inv.found c.row_text.ensures (c.in_ok-note_some.ensures.found ∙ ap₂ (λ p k. old ++ found_in_some p k o) inv.same (ap (λ k. k + i) c.kept_rows-first.ensures.value));
@@ -26,5 +26,5 @@ loop-i-preserved c =
 pub returns : goal.returns
 returns c =
     let rows = rows_in c.args.pending.now.tail in
-    let past : length rows ≤ c.loop-i.i = omega (arith, c.formed_rows.ensures.value, c.loop-i-test.false) in
+    let past : length rows ≤ c.loop-i.i = omega (arith, c.formed_rows-i-end.ensures.value, c.loop-i-test.false) in
     c.loop-i.invariant.found ∙ ap (found_in_rows (regex_pattern c.args.term.now) c.args.pending.now.kept_rows) (take_all c.loop-i.i rows past)

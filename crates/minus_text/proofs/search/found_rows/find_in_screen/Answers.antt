@@ -1,4 +1,4 @@
-use Rattle.std.proofs.Common.{rules, ◌≡◌, ◌+◌, ◌++◌, ◌<◌, ◌≤◌, length, option_map, map, refl, sym, ap, ◌∙◌, arith}
+use Rattle.std.proofs.Common.{◌≡◌, ◌+◌, ◌++◌, ◌<◌, ◌≤◌, length, option_map, map, ap, ◌∙◌, arith}
 use Rattle.std.proofs.lemmas.List.{take_all}
 use Rattle.regex.specs.Strings.{regex_pattern}
 use Rattle.minus_text.specs.Document.{rows_of}
@@ -17,7 +17,7 @@ loop-i-preserved c =
     let inv = c.loop-i.invariant in
     let o = option_map (λ r. r.now) c.row_text.result in
     let here : i ≡ 0 + i = omega arith in
-    let more : i < length rows = omega (arith, c.formatted_lines_count.ensures.value, c.loop-i-test.true) in
+    let more : i < length rows = omega (arith, c.formatted_lines_count-i-end.ensures.value, c.loop-i-test.true) in
     record {
       same = c.note_some.ensures.same ∙ inv.same;
       found = one_more_row re 0 i i rows old _ o here more inv.found c.row_text.ensures (c.in_ok-note_some.ensures.found ∙ ap (λ p. old ++ found_in_some p i o) inv.same);
@@ -26,5 +26,5 @@ loop-i-preserved c =
 pub returns : goal.returns
 returns c =
     let rows = rows_of c.args.screen.now in
-    let past : length rows ≤ c.loop-i.i = omega (arith, c.formatted_lines_count.ensures.value, c.loop-i-test.false) in
+    let past : length rows ≤ c.loop-i.i = omega (arith, c.formatted_lines_count-i-end.ensures.value, c.loop-i-test.false) in
     c.loop-i.invariant.found ∙ ap (found_in_rows (regex_pattern c.args.term.now) 0) (take_all c.loop-i.i rows past)
