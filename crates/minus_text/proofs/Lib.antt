@@ -20,6 +20,7 @@ pub mod HighlightLaws
 pub mod EscapePatternLaws
 pub mod MarkersLaws
 pub mod FoundLaws
+pub mod FoundByLaws
 pub mod StandLaws
 pub mod GoesOnLaws
 pub mod FewColumnsLaws
