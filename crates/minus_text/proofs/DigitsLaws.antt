@@ -1,5 +1,6 @@
 -- How many digits a number has, a digit at a time.
-use Rattle.std.proofs.Common.{◌≡◌, ℕ, ◌+◌, ◌<◌, ◌≤◌, ◌/◌, ◌^◌, length, arith, ap, ◌∙◌}
+use Rattle.std.proofs.Common.{◌≡◌, ℕ, zero, suc, ◌+◌, ◌*◌, ◌<◌, ◌≤◌, ◌/◌, ◌^◌, length, arith, ap, ◌∙◌}
+use native.Mathlib.Nat.{pow-zero, pow-suc}
 use Rattle.std.specs.Fmt.{decimal}
 use Rattle.std.proofs.lemmas.Fmt.{decimal-digits_of, decimal_digit, length-decimal-le}
 use Rattle.std.proofs.lemmas.Int.Digits.{length-digits_of_step}
@@ -21,3 +22,16 @@ length-decimal_digit n small = ap length (decimal_digit n small)
 
 pub length-decimal_small : (n : ℕ) → n < 2 ^ 64 → length (decimal n) ≤ 20
 length-decimal_small n fits = length-decimal-le 20 n (omega arith) (omega arith) fits
+
+-- a number from a power of ten on and below the next has one digit more than the power
+pub length-decimal_power : (k n : ℕ) → 10 ^ k ≤ n → n < 10 * 10 ^ k → n < 2 ^ 64 → length (decimal n) ≡ k + 1
+length-decimal_power zero n low high fits = length-decimal_digit n (omega (arith, pow-zero 10))
+length-decimal_power (suc k) n low high fits =
+    let power : 10 ^ suc k ≡ 10 ^ k * 10 = pow-suc 10 k in
+    let some : 1 ≤ 10 ^ k = pow-some k in
+    let ih = length-decimal_power k (n / 10) (omega arith) (omega arith) (omega arith) in
+    omega (arith, length-decimal_step n (omega arith) fits, ih)
+  where
+    pow-some : (j : ℕ) → 1 ≤ 10 ^ j
+    pow-some zero = omega (arith, pow-zero 10)
+    pow-some (suc j) = omega (arith, pow-suc 10 j, pow-some j)

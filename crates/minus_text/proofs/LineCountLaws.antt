@@ -1,14 +1,15 @@
--- How many lines a text has that went on.
-use Rattle.std.proofs.Common.{◌≡◌, ℕ, ◌+◌, ◌-◌, ◌<◌, ◌≤◌, Bool, true, false, not, eqb, cond, List, [], ◌∷◌, ◌++◌, length, map, take, drop, get_or, refl, sym, ap, ◌∙◌, arith, append_assoc, inl, inr}
+-- How many lines a text has that went on, and a line without its carriage return.
+use Rattle.std.proofs.Common.{◌≡◌, ◌≢◌, ℕ, ◌+◌, ◌-◌, ◌<◌, ◌≤◌, Bool, true, false, not, eqb, cond, List, [], ◌∷◌, ◌++◌, length, map, take, drop, get_or, refl, sym, ap, ◌∙◌, arith, append_assoc, inl, inr}
 use mir.Val.{bool_byte}
 use Rattle.std.specs.List.{sum_by}
 use Rattle.std.specs.Str.Lines.{lines, strip_carriage_return}
 use Rattle.std.proofs.lemmas.Bool.{cases_Bool, eqb-true, ne_eqb}
-use Rattle.std.proofs.lemmas.List.{length-append, length-map, take_more, take_all}
+use Rattle.std.proofs.lemmas.List.{append-nil, length-append, length-map, take_more, take_all}
 use Rattle.std.proofs.lemmas.List.Sums.{sum_by-append, sum_by-cons}
 use Rattle.minus_text.specs.Lines.{Cut, onto, cut, whole, behind, unfinished_line}
 use Rattle.minus_text.proofs.LinesLaws.{cut-append, lines-cut}
 use Rattle.minus_text.proofs.PreparedLaws.{whole_append, front_cut}
+use Rattle.minus_text.proofs.SeamLaws.{strip_behind}
 use Rattle.minus_text.proofs.ScreenLaws.{open_whole}
 
 -- 1 for a newline
@@ -104,3 +105,21 @@ lines_counted text piece ends some ended other =
           absurd (let d : true ≡ false = sym is ∙ e in cc)
       | inr f ↦ f
     ]
+
+-- ---- a line without its carriage return
+
+pub strip_ended : (xs front : List ℕ) → xs ≡ front ++ 13 ∷ [] → strip_carriage_return xs ≡ front
+strip_ended xs front e = ap strip_carriage_return e ∙ strip_behind front (13 ∷ []) (omega arith) ∙ append-nil front
+
+pub strip_other : (xs : List ℕ) → ((front : List ℕ) → xs ≢ front ++ 13 ∷ []) → strip_carriage_return xs ≡ xs
+strip_other xs none = elim (cases_Bool (eqb (get_or xs (length xs - 1) 0) 13)) [
+  | inl t ↦ absurd (ends xs none (eqb-true (get_or xs (length xs - 1) 0) 13 t))
+  | inr f ↦ rw f refl
+]
+  where
+    ends : (xs : List ℕ) → ((front : List ℕ) → xs ≢ front ++ 13 ∷ []) → get_or xs (length xs - 1) 0 ≡ 13 → ⊥
+    ends [] none e = absurd (omega (arith, e))
+    ends (b ∷ bs) none e =
+        let n : ℕ = length (b ∷ bs) - 1 in
+        let last : b ∷ bs ≡ take n (b ∷ bs) ++ get_or (b ∷ bs) n 0 ∷ [] = sym (take_all (n + 1) (b ∷ bs) (omega arith)) ∙ take_more (b ∷ bs) n 0 (omega arith) in
+        none (take n (b ∷ bs)) (last ∙ ap (λ x. take n (b ∷ bs) ++ x ∷ []) e)

@@ -5,19 +5,21 @@ use Rattle.std.specs.Str.{IsUtf8}
 use Rattle.std.specs.Str.Lines.{lines, strip_carriage_return}
 use Rattle.std.proofs.Math.Seq.{take-append-add}
 use Rattle.std.proofs.lemmas.Bool.{cases_Bool}
-use Rattle.std.proofs.lemmas.List.{append-nil, length-append, length-take-le}
+use Rattle.std.proofs.lemmas.List.{append-nil, length-append, length-map, length-take-le, take_at}
 use Rattle.std.proofs.lemmas.List.Concat.{flat_map-append}
 use Rattle.minus_text.specs.declared.formed.Restart.{Restart}
+use Rattle.minus_text.specs.declared.formed.Formed.{Formed}
 use Rattle.minus_text.specs.declared.layout.Wrap.{Wrap}
 use Rattle.minus_text.specs.declared.line_numbers.LineNumbers.{LineNumbers}
 use Rattle.minus_text.specs.declared.formed.Plan.{Plan}
 use Rattle.minus_text.specs.Layouts.{own_rows}
 use Rattle.minus_text.specs.Lines.{Cut, cut, whole, behind, finished_lines, unfinished_line}
-use Rattle.minus_text.specs.Document.{Document, rows_of, rows_of_lines, open_rows, pushed, wrap_in, plan_of}
+use Rattle.minus_text.specs.Document.{Document, first_rows, line_map, line_count, rows_of, rows_of_lines, open_rows, pushed, wrap_in, plan_of}
 use Rattle.minus_text.specs.Fragments.{rows_in}
-use Rattle.minus_text.specs.Kept.{Reaches, IsRestart, IsRestartOf, at_start, line_going_on, piece_behind}
+use Rattle.minus_text.specs.Kept.{Reaches, IsFormOf, IsRestart, IsRestartOf, at_start, line_going_on, piece_behind}
 use Rattle.minus_text.specs.Pending.{Pending, IsPending}
 use Rattle.minus_text.proofs.LinesLaws.{lines-cut}
+use Rattle.minus_text.proofs.DocumentLaws.{length-first_rows, first_rows-append}
 use Rattle.minus_text.proofs.PlacesLaws.{joined, cut_joined, sides}
 use Rattle.minus_text.proofs.PreparedLaws.{front_cut, whole_append, whole_drop}
 use Rattle.minus_text.proofs.PushedLaws.{lines_pushed, keeps_wrap}
@@ -84,41 +86,91 @@ going_on text piece tail wrap start r u t first =
 pub plan_keeps : (d : Document) (piece : List ℕ) (numbers : LineNumbers) (cols : ℕ) (plan : Plan) → plan ≡ plan_of d piece numbers cols → plan.keeps ≡ true → plan.wrap ≡ wrap_in d
 plan_keeps d piece numbers cols plan is e = ap (λ (p : Plan). p.wrap) is ∙ keeps_wrap d piece numbers cols (sym (ap (λ (p : Plan). p.keeps) is) ∙ e)
 
+-- the first rows of the lines that a push leaves: those that stay, and those that are formed
+entries_after : (d : Document) (piece : List ℕ) (plan : Plan) (start : Restart) (f : Formed) → (plan.keeps ≡ true → plan.wrap ≡ wrap_in d) → IsRestartOf d.text plan start → IsFormOf plan.wrap (line_going_on d.text plan) (piece_behind d.text plan piece) start f
+    → (first_rows plan.wrap 0 (lines (d.text ++ piece)) ≡ take start.finished.lines (line_map d) ++ f.first_rows) × (start.finished.lines ≤ length (line_map d))
+unfolding line_map
+entries_after d piece plan start f w k formed = elim (cases_Bool plan.keeps) [
+  | inl t ↦
+      let same : plan.wrap ≡ wrap_in d = w t in
+      let reach : Reaches plan.wrap at_start (cut d.text).closed start.finished = rw t at k.reaches in
+      let its : f.first_rows ≡ first_rows plan.wrap start.finished.rows (lines (unfinished_line d.text ++ piece)) = rw t at formed.its_map in
+      let front : List (List ℕ) = finished_lines d.text in
+      let tail : List (List ℕ) = cond (eqb (length (unfinished_line d.text)) 0) [] (unfinished_line d.text ∷ []) in
+      let last : List ℕ = first_rows (wrap_in d) (0 + length (rows_of_lines (wrap_in d) front)) tail in
+      let old : first_rows (wrap_in d) 0 (lines d.text) ≡ first_rows (wrap_in d) 0 front ++ last = ap (first_rows (wrap_in d) 0) (lines-cut d.text) ∙ first_rows-append (wrap_in d) 0 front tail in
+      let count : length (first_rows (wrap_in d) 0 front) ≡ start.finished.lines = omega (arith, length-first_rows (wrap_in d) 0 front, length-map (cut d.text).closed strip_carriage_return, reach.by_lines) in
+      let taken : take start.finished.lines (first_rows (wrap_in d) 0 (lines d.text)) ≡ first_rows (wrap_in d) 0 front = ap (take start.finished.lines) old ∙ take_at (first_rows (wrap_in d) 0 front) last start.finished.lines count in (
+        ap (first_rows plan.wrap 0) (lines_pushed d.text piece) ∙ first_rows-append plan.wrap 0 front (lines (unfinished_line d.text ++ piece))
+            ∙ ap (λ m. first_rows plan.wrap 0 front ++ first_rows plan.wrap m (lines (unfinished_line d.text ++ piece))) (sym reach.by_rows) ∙ ap (λ ns. first_rows plan.wrap 0 front ++ ns) (sym its)
+            ∙ ap (λ v. first_rows v 0 front ++ f.first_rows) same ∙ ap (λ ns. ns ++ f.first_rows) (sym taken),
+        omega (arith, count, ap length old, length-append (first_rows (wrap_in d) 0 front) last),
+      )
+  | inr e ↦
+      let reach : Reaches plan.wrap at_start [] start.finished = rw e at k.reaches in
+      let its : f.first_rows ≡ first_rows plan.wrap start.finished.rows (lines (d.text ++ piece)) = rw e at formed.its_map in
+      let none : start.finished.lines ≡ 0 = omega (arith, reach.by_lines) in
+      let row : start.finished.rows ≡ 0 = omega (arith, reach.by_rows) in (
+        ap (λ m. first_rows plan.wrap m (lines (d.text ++ piece))) (sym row) ∙ sym its ∙ ap (λ m. take m (first_rows (wrap_in d) 0 (lines d.text)) ++ f.first_rows) (sym none),
+        omega (arith, none),
+      )
+]
+
+-- the same of the document that it leaves
+map_after : (d : Document) (piece : List ℕ) (numbers : LineNumbers) (cols : ℕ) (plan : Plan) (entries : List ℕ) → plan ≡ plan_of d piece numbers cols → entries ≡ first_rows plan.wrap 0 (lines (d.text ++ piece)) → line_map (pushed d piece numbers cols) ≡ entries
+unfolding line_map
+map_after d piece numbers cols plan entries is m = ap (λ (p : Plan). first_rows p.wrap 0 (lines (d.text ++ piece))) (sym is) ∙ sym m
+
 -- what is formed beside a document is pending
 pub prepared_pending : (d : Document) (piece tail : List ℕ) (numbers : LineNumbers) (cols : ℕ) (start : Restart) (plan : Plan) → plan ≡ plan_of d piece numbers cols → IsRestartOf d.text plan start
     → IsUtf8 (line_going_on d.text plan ++ piece_behind d.text plan piece) → tail ≡ drop start.bytes (line_going_on d.text plan) ++ piece_behind d.text plan piece
-    → IsPending d piece numbers cols (record { kept_rows = start.finished.rows + start.rows; tail = record { text = tail; wrap = plan.wrap }; numbers = numbers; cols = cols })
+    → (f : Formed) → IsFormOf plan.wrap (line_going_on d.text plan) (piece_behind d.text plan piece) start f
+    → IsPending d piece numbers cols (record { kept_rows = start.finished.rows + start.rows; kept_lines = start.finished.lines; first_rows = f.first_rows; tail = record { text = tail; wrap = plan.wrap }; numbers = numbers; cols = cols })
 unfolding rows_of rows_in
-prepared_pending d piece tail numbers cols start plan is k u t = elim (cases_Bool plan.keeps) [
-  | inl e ↦
-      let same : plan.wrap ≡ wrap_in d = plan_keeps d piece numbers cols plan is e in
-      let reach : Reaches plan.wrap at_start (cut d.text).closed start.finished = rw e at k.reaches in
-      let r : IsRestart plan.wrap (unfinished_line d.text) start = rw e at k.restarts in
-      let first : start.finished.rows ≡ 0 + length (rows_of_lines plan.wrap (finished_lines d.text)) = reach.by_rows in
-      let on = going_on d.text piece tail plan.wrap start r (rw e at u) (rw e at t) first in
-      let taken : take (start.finished.rows + start.rows) (rows_of_lines plan.wrap (lines d.text)) ≡ take (start.finished.rows + start.rows) (rows_of_lines (wrap_in d) (lines d.text)) = ap (λ w. take (start.finished.rows + start.rows) (rows_of_lines w (lines d.text))) same in
-      record {
-        rows = ap (λ (p : Plan). rows_of_lines p.wrap (lines (d.text ++ piece))) (sym is) ∙ on.0 ∙ ap (λ rs. rs ++ rows_of_lines plan.wrap (lines tail)) taken;
-        few = omega (arith, on.1, ap (λ w. length (rows_of_lines w (lines d.text))) same);
-        its_numbers = refl;
-        its_cols = refl;
-      }
-  | inr f ↦
-      let reach : Reaches plan.wrap at_start [] start.finished = rw f at k.reaches in
-      let r : IsRestart plan.wrap [] start = rw f at k.restarts in
-      let few : start.rows ≤ 0 = r.goes_on.few in
-      let at : start.bytes ≤ 0 = r.goes_on.boundary.0 in
-      let zero_bytes : start.bytes ≡ 0 = omega arith in
-      let none : start.finished.rows + start.rows ≡ 0 = omega (arith, few, reach.by_rows) in
-      let t0 : tail ≡ drop start.bytes [] ++ (d.text ++ piece) = rw f at t in
-      let all : tail ≡ d.text ++ piece = t0 ∙ ap (λ n. drop n [] ++ (d.text ++ piece)) zero_bytes in
-      record {
-        rows = ap (λ (p : Plan). rows_of_lines p.wrap (lines (d.text ++ piece))) (sym is) ∙ ap (λ x. rows_of_lines plan.wrap (lines x)) (sym all) ∙ ap (λ n. take n (rows_of_lines (wrap_in d) (lines d.text)) ++ rows_of_lines plan.wrap (lines tail)) (sym none);
-        few = omega (arith, none);
-        its_numbers = refl;
-        its_cols = refl;
-      }
-]
+prepared_pending d piece tail numbers cols start plan is k u t f formed =
+    let entries = entries_after d piece plan start f (plan_keeps d piece numbers cols plan is) k formed in
+    elim (cases_Bool plan.keeps) [
+      | inl e ↦
+          let same : plan.wrap ≡ wrap_in d = plan_keeps d piece numbers cols plan is e in
+          let reach : Reaches plan.wrap at_start (cut d.text).closed start.finished = rw e at k.reaches in
+          let r : IsRestart plan.wrap (unfinished_line d.text) start = rw e at k.restarts in
+          let first : start.finished.rows ≡ 0 + length (rows_of_lines plan.wrap (finished_lines d.text)) = reach.by_rows in
+          let on = going_on d.text piece tail plan.wrap start r (rw e at u) (rw e at t) first in
+          let taken : take (start.finished.rows + start.rows) (rows_of_lines plan.wrap (lines d.text)) ≡ take (start.finished.rows + start.rows) (rows_of_lines (wrap_in d) (lines d.text)) = ap (λ w. take (start.finished.rows + start.rows) (rows_of_lines w (lines d.text))) same in
+          record {
+            rows = ap (λ (p : Plan). rows_of_lines p.wrap (lines (d.text ++ piece))) (sym is) ∙ on.0 ∙ ap (λ rs. rs ++ rows_of_lines plan.wrap (lines tail)) taken;
+            few = omega (arith, on.1, ap (λ w. length (rows_of_lines w (lines d.text))) same);
+            map = map_after d piece numbers cols plan (take start.finished.lines (line_map d) ++ f.first_rows) is (sym entries.0);
+            few_lines = entries.1;
+            its_numbers = refl;
+            its_cols = refl;
+          }
+      | inr f0 ↦
+          let reach : Reaches plan.wrap at_start [] start.finished = rw f0 at k.reaches in
+          let r : IsRestart plan.wrap [] start = rw f0 at k.restarts in
+          let few : start.rows ≤ 0 = r.goes_on.few in
+          let at : start.bytes ≤ 0 = r.goes_on.boundary.0 in
+          let zero_bytes : start.bytes ≡ 0 = omega arith in
+          let none : start.finished.rows + start.rows ≡ 0 = omega (arith, few, reach.by_rows) in
+          let t0 : tail ≡ drop start.bytes [] ++ (d.text ++ piece) = rw f0 at t in
+          let all : tail ≡ d.text ++ piece = t0 ∙ ap (λ n. drop n [] ++ (d.text ++ piece)) zero_bytes in
+          record {
+            rows = ap (λ (p : Plan). rows_of_lines p.wrap (lines (d.text ++ piece))) (sym is) ∙ ap (λ x. rows_of_lines plan.wrap (lines x)) (sym all) ∙ ap (λ n. take n (rows_of_lines (wrap_in d) (lines d.text)) ++ rows_of_lines plan.wrap (lines tail)) (sym none);
+            few = omega (arith, none);
+            map = map_after d piece numbers cols plan (take start.finished.lines (line_map d) ++ f.first_rows) is (sym entries.0);
+            few_lines = entries.1;
+            its_numbers = refl;
+            its_cols = refl;
+          }
+    ]
+
+-- how many lines a push leaves
+pub lines_pending : (d : Document) (piece : List ℕ) (numbers : LineNumbers) (cols : ℕ) (p : Pending) → IsPending d piece numbers cols p → line_count (pushed d piece numbers cols) ≡ p.kept_lines + length p.first_rows
+unfolding line_map
+lines_pending d piece numbers cols p h =
+    let all = length-first_rows (wrap_in (pushed d piece numbers cols)) 0 (lines (d.text ++ piece)) in
+    let kept = length-take-le p.kept_lines (line_map d) h.few_lines in
+    omega (arith, all, ap length h.map, length-append (take p.kept_lines (line_map d)) p.first_rows, kept)
 
 -- ---- a row after a push
 

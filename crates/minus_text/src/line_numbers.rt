@@ -49,13 +49,10 @@ pub fn digits(number: usize) -> usize
     ensures value { result ≡ length (decimal number) }
     ensures few { result ≤ 20 }
 {
-    let mut count = 1;
-    let mut rest = number;
-    while rest >= 10 {
-        rest /= 10;
-        count += 1;
+    match number.checked_ilog10() {
+        Some(power) => power as usize + 1,
+        None => 1,
     }
-    count
 }
 
 // The columns of a number with its stop, where the text has so many lines.

@@ -7,12 +7,9 @@ ghost use Rattle.minus_text.specs.Lines.{cut, whole, behind, LinesAreCut};
 pub(crate) fn without_return(line: &str) -> &str
     ensures { result.now ≡ strip_carriage_return line.now }
 {
-    let bytes = line.as_bytes();
-    let n = bytes.len();
-    if n > 0 && bytes[n - 1] == 13 {
-        &line[..n - 1]
-    } else {
-        line
+    match line.strip_suffix('\r') {
+        Some(front) => front,
+        None => line,
     }
 }
 

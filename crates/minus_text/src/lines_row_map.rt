@@ -1,8 +1,8 @@
 //! A map from each line to the number of its first row.
-ghost use Rattle.std.specs.Prelude.{◌≡◌, ℕ, ◌+◌, ◌^◌, ◌<◌, ◌==◌, List, [], ◌∷◌, ◌++◌, length, map, take, slice_get, slice_index, OnOk, OnErr, MatchOption};
+ghost use Rattle.std.specs.Prelude.{◌≡◌, ℕ, ◌+◌, ◌^◌, ◌<◌, ◌≤◌, ◌==◌, List, [], ◌∷◌, ◌++◌, length, map, take, slice_get, slice_index, OnOk, OnErr, MatchOption};
 ghost use Rattle.std.specs.List.{All};
 ghost use Rattle.std.specs.List.Sorted.{IsStrictlyIncreasing};
-ghost use Rattle.minus_text.specs.LineMaps.{entries_kept, IsLineOfRow};
+ghost use Rattle.minus_text.specs.LineMaps.{entries_kept, IsLineOfRow, IsLineIn};
 
 use std::alloc::{AllocError, Global};
 use std::marker::Model;
@@ -34,6 +34,20 @@ fn replace_behind(entries: &mut Vec<usize>, keep: usize, fresh: &[usize]) -> Res
     match entries.extend_from_slice(fresh) {
         Ok(()) => Ok(()),
         Err(_) => unreachable!(),
+    }
+}
+
+// The last of some lines whose first row is at or before a row, and line 0 where there is none.
+fn line_of_row(first_rows: &[usize], row: usize) -> Option<usize>
+    requires { IsStrictlyIncreasing first_rows.now }
+    ensures { MatchOption result (first_rows.now ≡ []) (λ line. IsLineOfRow first_rows.now row line) }
+{
+    if first_rows.is_empty() {
+        return None;
+    }
+    match first_rows.binary_search(&row) {
+        Ok(line) => Some(line),
+        Err(after) => Some(after.saturating_sub(1)),
     }
 }
 
@@ -111,12 +125,31 @@ impl LinesRowMap {
     pub fn row_to_line(&self, row: usize) -> Option<usize>
         ensures { MatchOption result (self.now ≡ []) (λ line. IsLineOfRow self.now row line) }
     {
-        if self.first_rows.is_empty() {
-            return None;
+        match line_of_row(self.first_rows.as_slice(), row) {
+            Some(line) => Some(line),
+            None => None,
         }
-        match self.first_rows.binary_search(&row) {
-            Ok(line) => Some(line),
-            Err(after) => Some(after.saturating_sub(1)),
+    }
+
+    // The line of a row, and whether the line begins with it, where other entries stand behind the
+    // first few of these.
+    pub(crate) fn line_in(&self, keep: usize, behind: &Self, row: usize) -> Option<(usize, bool)>
+        requires { keep ≤ length self.now }
+        ensures { MatchOption result (take keep self.now ++ behind.now ≡ []) (λ x. IsLineIn (take keep self.now ++ behind.now) row x.0 x.1) }
+    {
+        let front = &self.first_rows[..keep];
+        let found = behind.row_to_line(row);
+        let Some(line) = line_of_row(front, row) else {
+            return match found {
+                Some(later) => Some((later, behind.begins(later, row))),
+                None => None,
+            };
+        };
+        match found {
+            Some(later) if behind.first_rows[later] <= row => {
+                Some((keep + later, behind.begins(later, row)))
+            }
+            _ => Some((line, front[line] == row)),
         }
     }
 
@@ -130,7 +163,8 @@ impl LinesRowMap {
 
     /// How many lines there are.
     pub fn len(&self) -> usize
-        ensures { result ≡ length self.now }
+        ensures value { result ≡ length self.now }
+        ensures few { result < 2 ^ 63 }
     {
         self.first_rows.len()
     }

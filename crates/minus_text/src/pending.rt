@@ -27,7 +27,7 @@ impl Model for PendingPush {
 
     ghost Value = { Pending };
 
-    ghost view = { λ p. record { kept_rows = p.start.finished.rows + p.start.rows; tail = record { text = string_bytes p.tail; wrap = p.wrap }; numbers = p.numbers; cols = p.cols } };
+    ghost view = { λ p. record { kept_rows = p.start.finished.rows + p.start.rows; kept_lines = p.start.finished.lines; first_rows = p.formed.first_rows; tail = record { text = string_bytes p.tail; wrap = p.wrap }; numbers = p.numbers; cols = p.cols } };
 
     ghost invariant = { λ p. IsPreparedPush p.wrap (string_bytes p.tail) p.start p.formed };
 }

@@ -8,7 +8,7 @@ ghost use Rattle.minus_text.specs.Layouts.{margin, plain, wrap_of};
 ghost use Rattle.minus_text.specs.Document.{rows_of, stored_rows, GrowsByPrefix, GrowsByRow, line_map, line_count, longest, unfinished_rows, pushed, wrap_in, plan_of, PushesJoin, LineMapAscends};
 ghost use Rattle.minus_text.specs.Fragments.{rows_in};
 ghost use Rattle.minus_text.specs.Kept.{IsFormOf, IsPrepared, IsRestartOf, GoesOnInSome, AscendsBehind, line_going_on, piece_behind};
-ghost use Rattle.minus_text.specs.Pending.{IsPending, RowIsPending};
+ghost use Rattle.minus_text.specs.Pending.{IsPending, RowIsPending, GrowsByPendingPrefix, GrowsByPendingRow};
 ghost use Rattle.minus_text.specs.FormatResults.{Tells, TellsPlan, TellsPush};
 
 use crate::formed::{Border, Finished, Formed, Plan, Restart, form};
@@ -268,7 +268,7 @@ impl Screen {
     }
 
     // Adds what stands before the text of a row, counted from 0.
-    fn push_before(&self, out: &mut String, i: usize) -> Result<(), AllocError>
+    fn push_row_prefix(&self, out: &mut String, i: usize) -> Result<(), AllocError>
         ensures { OnOk result (GrowsByPrefix self.now i (string_bytes out.old) (string_bytes out.new)) }
     {
         if !self.layout.numbers.is_on() {
@@ -291,7 +291,7 @@ impl Screen {
         let Some(text) = self.row_text(i) else {
             return Ok(false);
         };
-        self.push_before(out, i)?;
+        self.push_row_prefix(out, i)?;
         out.push_str(text)?;
         Ok(true)
     }
@@ -557,6 +557,46 @@ impl Screen {
         } else {
             pending.row_text(i - kept)
         }
+    }
+
+    // Adds what would stand before the text of a row, counted from 0, after the push.
+    fn push_prefix_after(
+        &self,
+        pending: &PendingPush,
+        out: &mut String,
+        i: usize,
+    ) -> Result<(), AllocError>
+        ensures { OnOk result (GrowsByPendingPrefix self.now pending.now i (string_bytes out.old) (string_bytes out.new)) }
+    {
+        if !pending.numbers.is_on() {
+            return Ok(());
+        }
+        let behind = &pending.formed.first_rows;
+        let kept = pending.start.finished.lines.min(self.first_rows.len());
+        let Some((line, is_first)) = self.first_rows.line_in(kept, behind, i) else {
+            return Ok(());
+        };
+        push_prefix(out, true, kept + behind.len(), line + 1, is_first)?;
+        Ok(())
+    }
+
+    /// Adds a row as it would be stored after the push, counted from 0: what stands before its text, and
+    /// its text. Answers whether there would be such a row, and adds nothing where there would be none. An
+    /// `Err` is for want of memory alone; it may leave a part of the row behind.
+    pub fn push_row_after(
+        &self,
+        pending: &PendingPush,
+        out: &mut String,
+        i: usize,
+    ) -> Result<bool, AllocError>
+        ensures { IfOk result (λ found. GrowsByPendingRow self.now pending.now i (string_bytes out.old) (string_bytes out.new) found) }
+    {
+        let Some(text) = self.row_after(pending, i) else {
+            return Ok(false);
+        };
+        self.push_prefix_after(pending, out, i)?;
+        out.push_str(text)?;
+        Ok(true)
     }
 
     /// Pushes a text for the numbers and columns of a push that was prepared. What was formed then is

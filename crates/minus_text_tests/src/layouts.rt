@@ -125,3 +125,30 @@ fn numbered_lines_in_pieces_store_the_rows_of_the_whole(rt: HostRuntime) -> Resu
     }
     Ok(())
 }
+
+// Whether a push onto so many bytes of a text is seen, before it is made, as the whole text is stored.
+fn seen_as_stored(alloc: Global, text: &str, i: usize, cols: usize) -> Result<bool, MinusError> {
+    let (Some(first), Some(piece)) = (text.get(..i), text.get(i..)) else {
+        return Ok(true);
+    };
+    let screen = numbered(alloc, first, i, cols)?;
+    let whole = numbered(alloc, text, text.len(), cols)?;
+    let pending = screen.prepare_push(alloc, piece, LineNumbers::Enabled, cols)?;
+    for row in 0..whole.formatted_lines_count() {
+        let mut seen = String::new(alloc);
+        if !screen.push_row_after(&pending, &mut seen, row)?
+            || !stores(alloc, &whole, row, &seen)?
+        {
+            return Ok(false);
+        }
+    }
+    Ok(screen.rows_after(&pending) == whole.formatted_lines_count())
+}
+
+#[test]
+fn a_push_is_seen_with_its_numbers_before_it_is_made(rt: HostRuntime) -> Result<(), Fail> {
+    for i in 0..LINES.len() {
+        assert!(rt; seen_as_stored(rt.alloc(), LINES, i, 14)?, "at {i}");
+    }
+    Ok(())
+}

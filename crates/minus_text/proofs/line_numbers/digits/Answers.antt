@@ -1,18 +1,13 @@
 use Rattle.std.proofs.Common.{arith}
-use Rattle.minus_text.proofs.DigitsLaws.{length-decimal_step, length-decimal_digit, length-decimal_small}
+use Rattle.minus_text.proofs.DigitsLaws.{length-decimal_power, length-decimal_digit}
 use Rattle.minus_text.proofs.line_numbers.digits.Goals as goal
 
-pub overflow_add-count : goal.overflow_add-count
-overflow_add-count c = let few = length-decimal_small c.args.number (omega arith) in omega (arith, c.loop-rest.invariant)
+pub returns-in-Some-clause-value : goal.returns-in-Some-clause-value
+returns-in-Some-clause-value c =
+    let is = c.in-Some.ensures in
+    omega (arith, length-decimal_power c.in-Some.power c.args.number is.power_le is.next_power_gt (omega arith))
 
-pub loop-rest-preserved : goal.loop-rest-preserved
-loop-rest-preserved c = let step = length-decimal_step c.loop-rest.rest (omega arith) (omega arith) in omega (arith, c.loop-rest.invariant)
-
-pub returns-clause-value : goal.returns-clause-value
-returns-clause-value c = let last = length-decimal_digit c.loop-rest.rest (omega arith) in omega (arith, c.loop-rest.invariant)
-
-pub returns-clause-few : goal.returns-clause-few
-returns-clause-few c =
-    let last = length-decimal_digit c.loop-rest.rest (omega arith) in
-    let few = length-decimal_small c.args.number (omega arith) in
-    omega (arith, c.loop-rest.invariant)
+pub returns-in-None-clause-value : goal.returns-in-None-clause-value
+returns-in-None-clause-value c =
+    let is = c.in-None.ensures in
+    omega (arith, length-decimal_digit c.args.number (omega (arith, is.none)))

@@ -15,7 +15,7 @@ use Rattle.minus_text.proofs.screen.Screen.lines_after.Goals as goal
 pub returns-then-is_empty : goal.returns-then-is_empty
 returns-then-is_empty c =
     let none : c.args.piece.now ≡ [] = nil_from_length c.args.piece.now (eqb-true (length c.args.piece.now) 0 (sym c.is_empty.ensures ∙ c.if-is_empty.true)) in
-    c.len.ensures ∙ formed-lines (string_bytes c.self.inside.text) c.self.inside.layout c.self.inside.rows.items c.self.inside.first_rows c.self.inside.finished c.self.inside.longest c.self.inside.border c.args.self.now c.self.view_is c.self.invariant
+    c.len.ensures.value ∙ formed-lines (string_bytes c.self.inside.text) c.self.inside.layout c.self.inside.rows.items c.self.inside.first_rows c.self.inside.finished c.self.inside.longest c.self.inside.border c.args.self.now c.self.view_is c.self.invariant
     ∙ ap (λ t. length (lines t)) (sym (append-nil c.args.self.now.text)) ∙ ap (λ xs. length (lines (c.args.self.now.text ++ xs))) (sym none)
 
 pub overflow_add-result : goal.overflow_add-result

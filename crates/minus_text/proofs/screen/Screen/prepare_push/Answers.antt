@@ -31,4 +31,6 @@ pub returns-clause-ok : goal.returns-clause-ok
 returns-clause-ok c =
     let r = c.restart-start.ensures in
     let h = push_start c.args.self.now.text c.plan-plan.result c.restart-start.result c.args.text.now r.text c.utf8.text r.start in
-    prepared_pending c.args.self.now c.args.text.now (string_bytes c.in_ok-tail.tail) c.args.numbers c.args.cols c.restart-start.result c.plan-plan.result c.plan-plan.ensures r.start h.0 (c.in_ok-tail.ensures ∙ h.1)
+    let tail = c.in_ok-tail.ensures ∙ h.1 in
+    let formed = c.in_ok-formed.ensures.its_form (line_going_on c.args.self.now.text c.plan-plan.result) (piece_behind c.args.self.now.text c.plan-plan.result c.args.text.now) r.start.restarts h.0 (c.deref.ensures ∙ tail) in
+    prepared_pending c.args.self.now c.args.text.now (string_bytes c.in_ok-tail.tail) c.args.numbers c.args.cols c.restart-start.result c.plan-plan.result c.plan-plan.ensures r.start h.0 tail c.in_ok-formed.formed formed

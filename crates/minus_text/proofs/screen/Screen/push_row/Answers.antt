@@ -9,6 +9,6 @@ returns-in_default c = rw (no_stored c.args.self.now c.args.i c.in_default.ensur
 
 pub returns : goal.returns
 returns c =
-    let grown = c.in_ok-push_before.ensures in
+    let grown = c.in_ok-push_row_prefix.ensures in
     let stored = grown.2 c.in-Some.text.now (sym c.in-Some.ensures) in
     rw stored (refl, c.in_ok-push_str.ensures.bytes ∙ ap (λ t. t ++ c.in-Some.text.now) grown.1 ∙ append_assoc (string_bytes c.args.out.now) grown.0 c.in-Some.text.now)

@@ -7,7 +7,7 @@ use Rattle.minus_text.specs.Prefixes.{is_on, prefix}
 use Rattle.minus_text.specs.Document.{Document, rows_of, line_count}
 use Rattle.minus_text.proofs.ScreenLaws.{formed-map, formed-lines}
 use Rattle.minus_text.proofs.StoredLaws.{stored_off, stored_row, no_line}
-use Rattle.minus_text.proofs.screen.Screen.push_before.Goals as goal
+use Rattle.minus_text.proofs.screen.Screen.push_row_prefix.Goals as goal
 
 pub returns-then-not-is_on : goal.returns-then-not-is_on
 returns-then-not-is_on c =
@@ -23,7 +23,7 @@ begins-is_first-requires c = c.in-Some.ensures.within
 pub returns : goal.returns
 returns c =
     let on : is_on c.args.self.now.layout.numbers ≡ true = subst (λ (x : Document). is_on x.layout.numbers ≡ true) c.self.view_is (sym c.is_on.ensures ∙ c.if-not-is_on.false) in
-    let count : c.len.result ≡ line_count c.args.self.now = c.len.ensures ∙ formed-lines (string_bytes c.self.inside.text) c.self.inside.layout c.self.inside.rows.items c.self.inside.first_rows c.self.inside.finished c.self.inside.longest c.self.inside.border c.args.self.now c.self.view_is c.self.invariant in (
+    let count : c.len.result ≡ line_count c.args.self.now = c.len.ensures.value ∙ formed-lines (string_bytes c.self.inside.text) c.self.inside.layout c.self.inside.rows.items c.self.inside.first_rows c.self.inside.finished c.self.inside.longest c.self.inside.border c.args.self.now c.self.view_is c.self.invariant in (
       prefix true (line_count c.args.self.now) (c.in-Some.line + 1) c.begins-is_first.result,
       c.in_ok-push_prefix.ensures ∙ ap (λ n. (string_bytes c.args.out.now) ++ prefix true n (c.in-Some.line + 1) c.begins-is_first.result) count,
       λ row e. stored_row c.args.self.now c.self.inside.first_rows c.args.i c.in-Some.line c.begins-is_first.result row (formed-map (string_bytes c.self.inside.text) c.self.inside.layout c.self.inside.rows.items c.self.inside.first_rows c.self.inside.finished c.self.inside.longest c.self.inside.border c.args.self.now c.self.view_is c.self.invariant) c.in-Some.ensures c.begins-is_first.ensures e ∙ ap (λ (b : Bool). Some (prefix b (line_count c.args.self.now) (c.in-Some.line + 1) c.begins-is_first.result ++ row)) on,
