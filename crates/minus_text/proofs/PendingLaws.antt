@@ -102,8 +102,8 @@ entries_after d piece plan start f w k formed = elim (cases_Bool plan.keeps) [
       let count : length (first_rows (wrap_in d) 0 front) ≡ start.finished.lines = omega (arith, length-first_rows (wrap_in d) 0 front, length-map (cut d.text).closed strip_carriage_return, reach.by_lines) in
       let taken : take start.finished.lines (first_rows (wrap_in d) 0 (lines d.text)) ≡ first_rows (wrap_in d) 0 front = ap (take start.finished.lines) old ∙ take_at (first_rows (wrap_in d) 0 front) last start.finished.lines count in (
         ap (first_rows plan.wrap 0) (lines_pushed d.text piece) ∙ first_rows-append plan.wrap 0 front (lines (unfinished_line d.text ++ piece))
-        ∙ ap (λ m. first_rows plan.wrap 0 front ++ first_rows plan.wrap m (lines (unfinished_line d.text ++ piece))) (sym reach.by_rows) ∙ ap (λ ns. first_rows plan.wrap 0 front ++ ns) (sym its)
-        ∙ ap (λ v. first_rows v 0 front ++ f.first_rows) same ∙ ap (λ ns. ns ++ f.first_rows) (sym taken),
+            ∙ ap (λ m. first_rows plan.wrap 0 front ++ first_rows plan.wrap m (lines (unfinished_line d.text ++ piece))) (sym reach.by_rows) ∙ ap (λ ns. first_rows plan.wrap 0 front ++ ns) (sym its)
+            ∙ ap (λ v. first_rows v 0 front ++ f.first_rows) same ∙ ap (λ ns. ns ++ f.first_rows) (sym taken),
         omega (arith, count, ap length old, length-append (first_rows (wrap_in d) 0 front) last),
       )
   | inr e ↦
@@ -130,39 +130,39 @@ unfolding rows_of rows_in
 prepared_pending d piece tail numbers cols start plan is k u t f formed =
     let entries = entries_after d piece plan start f (plan_keeps d piece numbers cols plan is) k formed in
     elim (cases_Bool plan.keeps) [
-  | inl e ↦
-      let same : plan.wrap ≡ wrap_in d = plan_keeps d piece numbers cols plan is e in
-      let reach : Reaches plan.wrap at_start (cut d.text).closed start.finished = rw e at k.reaches in
-      let r : IsRestart plan.wrap (unfinished_line d.text) start = rw e at k.restarts in
-      let first : start.finished.rows ≡ 0 + length (rows_of_lines plan.wrap (finished_lines d.text)) = reach.by_rows in
-      let on = going_on d.text piece tail plan.wrap start r (rw e at u) (rw e at t) first in
-      let taken : take (start.finished.rows + start.rows) (rows_of_lines plan.wrap (lines d.text)) ≡ take (start.finished.rows + start.rows) (rows_of_lines (wrap_in d) (lines d.text)) = ap (λ w. take (start.finished.rows + start.rows) (rows_of_lines w (lines d.text))) same in
-      record {
-        rows = ap (λ (p : Plan). rows_of_lines p.wrap (lines (d.text ++ piece))) (sym is) ∙ on.0 ∙ ap (λ rs. rs ++ rows_of_lines plan.wrap (lines tail)) taken;
-        few = omega (arith, on.1, ap (λ w. length (rows_of_lines w (lines d.text))) same);
-        map = map_after d piece numbers cols plan (take start.finished.lines (line_map d) ++ f.first_rows) is (sym entries.0);
-        few_lines = entries.1;
-        its_numbers = refl;
-        its_cols = refl;
-      }
-  | inr f0 ↦
-      let reach : Reaches plan.wrap at_start [] start.finished = rw f0 at k.reaches in
-      let r : IsRestart plan.wrap [] start = rw f0 at k.restarts in
-      let few : start.rows ≤ 0 = r.goes_on.few in
-      let at : start.bytes ≤ 0 = r.goes_on.boundary.0 in
-      let zero_bytes : start.bytes ≡ 0 = omega arith in
-      let none : start.finished.rows + start.rows ≡ 0 = omega (arith, few, reach.by_rows) in
-      let t0 : tail ≡ drop start.bytes [] ++ (d.text ++ piece) = rw f0 at t in
-      let all : tail ≡ d.text ++ piece = t0 ∙ ap (λ n. drop n [] ++ (d.text ++ piece)) zero_bytes in
-      record {
-        rows = ap (λ (p : Plan). rows_of_lines p.wrap (lines (d.text ++ piece))) (sym is) ∙ ap (λ x. rows_of_lines plan.wrap (lines x)) (sym all) ∙ ap (λ n. take n (rows_of_lines (wrap_in d) (lines d.text)) ++ rows_of_lines plan.wrap (lines tail)) (sym none);
-        few = omega (arith, none);
-        map = map_after d piece numbers cols plan (take start.finished.lines (line_map d) ++ f.first_rows) is (sym entries.0);
-        few_lines = entries.1;
-        its_numbers = refl;
-        its_cols = refl;
-      }
-]
+      | inl e ↦
+          let same : plan.wrap ≡ wrap_in d = plan_keeps d piece numbers cols plan is e in
+          let reach : Reaches plan.wrap at_start (cut d.text).closed start.finished = rw e at k.reaches in
+          let r : IsRestart plan.wrap (unfinished_line d.text) start = rw e at k.restarts in
+          let first : start.finished.rows ≡ 0 + length (rows_of_lines plan.wrap (finished_lines d.text)) = reach.by_rows in
+          let on = going_on d.text piece tail plan.wrap start r (rw e at u) (rw e at t) first in
+          let taken : take (start.finished.rows + start.rows) (rows_of_lines plan.wrap (lines d.text)) ≡ take (start.finished.rows + start.rows) (rows_of_lines (wrap_in d) (lines d.text)) = ap (λ w. take (start.finished.rows + start.rows) (rows_of_lines w (lines d.text))) same in
+          record {
+            rows = ap (λ (p : Plan). rows_of_lines p.wrap (lines (d.text ++ piece))) (sym is) ∙ on.0 ∙ ap (λ rs. rs ++ rows_of_lines plan.wrap (lines tail)) taken;
+            few = omega (arith, on.1, ap (λ w. length (rows_of_lines w (lines d.text))) same);
+            map = map_after d piece numbers cols plan (take start.finished.lines (line_map d) ++ f.first_rows) is (sym entries.0);
+            few_lines = entries.1;
+            its_numbers = refl;
+            its_cols = refl;
+          }
+      | inr f0 ↦
+          let reach : Reaches plan.wrap at_start [] start.finished = rw f0 at k.reaches in
+          let r : IsRestart plan.wrap [] start = rw f0 at k.restarts in
+          let few : start.rows ≤ 0 = r.goes_on.few in
+          let at : start.bytes ≤ 0 = r.goes_on.boundary.0 in
+          let zero_bytes : start.bytes ≡ 0 = omega arith in
+          let none : start.finished.rows + start.rows ≡ 0 = omega (arith, few, reach.by_rows) in
+          let t0 : tail ≡ drop start.bytes [] ++ (d.text ++ piece) = rw f0 at t in
+          let all : tail ≡ d.text ++ piece = t0 ∙ ap (λ n. drop n [] ++ (d.text ++ piece)) zero_bytes in
+          record {
+            rows = ap (λ (p : Plan). rows_of_lines p.wrap (lines (d.text ++ piece))) (sym is) ∙ ap (λ x. rows_of_lines plan.wrap (lines x)) (sym all) ∙ ap (λ n. take n (rows_of_lines (wrap_in d) (lines d.text)) ++ rows_of_lines plan.wrap (lines tail)) (sym none);
+            few = omega (arith, none);
+            map = map_after d piece numbers cols plan (take start.finished.lines (line_map d) ++ f.first_rows) is (sym entries.0);
+            few_lines = entries.1;
+            its_numbers = refl;
+            its_cols = refl;
+          }
+    ]
 
 -- how many lines a push leaves
 pub lines_pending : (d : Document) (piece : List ℕ) (numbers : LineNumbers) (cols : ℕ) (p : Pending) → IsPending d piece numbers cols p → line_count (pushed d piece numbers cols) ≡ p.kept_lines + length p.first_rows

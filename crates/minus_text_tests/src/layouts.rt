@@ -136,7 +136,9 @@ fn seen_as_stored(alloc: Global, text: &str, i: usize, cols: usize) -> Result<bo
     let pending = screen.prepare_push(alloc, piece, LineNumbers::Enabled, cols)?;
     for row in 0..whole.formatted_lines_count() {
         let mut seen = String::new(alloc);
-        if !screen.push_row_after(&pending, &mut seen, row)? || !stores(alloc, &whole, row, &seen)? {
+        if !screen.push_row_after(&pending, &mut seen, row)?
+            || !stores(alloc, &whole, row, &seen)?
+        {
             return Ok(false);
         }
     }
