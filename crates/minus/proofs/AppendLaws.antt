@@ -12,10 +12,10 @@ use Rattle.minus_term.proofs.PlayLaws.{play_all-append, draws_from, length-play_
 use Rattle.minus_term.proofs.ScrollLaws.{one_put}
 use Rattle.minus_term.proofs.WrittenLaws.{IsClean-append}
 use Rattle.minus_text.specs.declared.line_numbers.LineNumbers.TheVariants.{Disabled}
-use Rattle.minus_text.specs.Document.{Document, rows_of, unfinished_rows, plan_of}
+use Rattle.minus_text.specs.Document.{Document, rows_of, unfinished_rows, wrap_in, keeps_rows}
 use Rattle.minus_text.specs.Fragments.{rows_in}
-use Rattle.minus_text.specs.FormatResults.{formed_by, first_formed}
-use Rattle.minus_text.proofs.PushedLaws.{rows_pushed}
+use Rattle.minus_text.specs.Lines.{unfinished_line}
+use Rattle.minus_text.proofs.PushedLaws.{rows_kept}
 use Rattle.minus.specs.declared.commands.Drawing.TheVariants.{Nothing, Append}
 use Rattle.minus.specs.Control.{Control, Settings, document_of, text_rows, first_changed}
 use Rattle.minus.specs.Drawings.{ops_of_step, changed_prompt}
@@ -41,12 +41,10 @@ agree_shown xs ys k m n f e l w = take-take f n (drop m xs) w ∙ shown_so ∙ s
 rows_stay : (c : Control) (text : List ℕ) → take (first_changed c) (text_rows c) ≡ take (first_changed c) (text_rows (record c { text = c.text ++ text }))
 rows_stay c text =
     let d : Document = document_of c in
-    let plan = plan_of d text Disabled c.cols in
     let equal : (c.cols == c.cols) ≡ true = grind arith in
-    let same : plan.keeps ≡ true = rw equal refl in
-    let first : first_formed d plan ≡ first_changed c = ap (λ (b : Bool). cond b (length (rows_of d) - unfinished_rows d) 0) same in
-    let more : List (List ℕ) = rows_in (formed_by c.text text plan) in
-    let is : text_rows (record c { text = c.text ++ text }) ≡ take (first_changed c) (text_rows c) ++ more = rows_pushed d text Disabled c.cols ∙ ap (λ (n : ℕ). take n (rows_of d) ++ more) first in
+    let keeps : keeps_rows d text Disabled c.cols ≡ true = rw equal refl in
+    let more : List (List ℕ) = rows_in (record { text = unfinished_line c.text ++ text; wrap = wrap_in d }) in
+    let is : text_rows (record c { text = c.text ++ text }) ≡ take (first_changed c) (text_rows c) ++ more = rows_kept d text Disabled c.cols keeps in
     let count : length (take (first_changed c) (text_rows c)) ≡ first_changed c = length-take-le (first_changed c) (text_rows c) (omega arith) in
     sym (ap (take (first_changed c)) is ∙ take_at (take (first_changed c) (text_rows c)) more (first_changed c) count)
 

@@ -1,8 +1,8 @@
 -- The prompt row: what stands in it, and its columns.
 use Rattle.std.specs.Prelude.{◌≡◌, ℕ, ◌+◌, ◌-◌, ◌^◌, ◌==◌, Bool, min, max, Option, is_some, unwrap_or, option_map, List, [], ◌∷◌, ◌++◌, length, chars, codes, if◌then◌else◌}
 use Rattle.std.specs.Fmt.{decimal}
-use Rattle.std.specs.List.{sum_by}
-use Rattle.minus_text.specs.Units.{unit_columns, columns}
+use Rattle.std.specs.List.{concat}
+use Rattle.minus_text.specs.Units.{text_columns, columns}
 use Rattle.minus_text.specs.TextUnits.{text_units}
 use Rattle.minus_text.specs.Crop.{fitted, fitted_units}
 use Rattle.minus_state.specs.declared.prompt.PromptRow as code
@@ -75,6 +75,10 @@ prompt_row p =
     ++ (27 ∷ codes "[0m")
     else []
 
--- what the row says, unit by unit, and the indicators take all columns together, and as many as the indicators where these are more
+-- what the row says and the indicators take all columns together, and as many as the indicators where these are more
+abbrev pub FillsItsRow : PromptRow → Type 0
+FillsItsRow p = columns (fitted (columns_left p) (said p)) + indicator_columns p ≡ max p.cols (indicator_columns p)
+
+-- the same for the characters of what the row says, of any prompt row
 abbrev pub PromptFillsItsRow : Type 0
-PromptFillsItsRow = (p : PromptRow) → sum_by unit_columns (fitted_units (columns_left p) (text_units (chars (said p)))) + indicator_columns p ≡ max p.cols (indicator_columns p)
+PromptFillsItsRow = (p : PromptRow) → text_columns (concat (fitted_units (columns_left p) (text_units (chars (said p))))) + indicator_columns p ≡ max p.cols (indicator_columns p)

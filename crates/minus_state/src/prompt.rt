@@ -1,6 +1,6 @@
 //! The prompt row.
-ghost use Rattle.std.specs.Prelude.{◌≡◌, ◌++◌, string_bytes, IfOk, OnOk};
-ghost use Rattle.minus_state.specs.PromptRow.{seen_prompt, said, said_style, prefix_indicator, match_indicator, follow_indicator, columns_left, styled, prompt_row, PromptFillsItsRow};
+ghost use Rattle.std.specs.Prelude.{◌≡◌, ◌++◌, true, string_bytes, IfOk, OnOk};
+ghost use Rattle.minus_state.specs.PromptRow.{seen_prompt, said, said_style, prefix_indicator, match_indicator, follow_indicator, columns_left, styled, prompt_row, FillsItsRow, PromptFillsItsRow};
 
 use minus_text::{columns, push_fitted};
 use std::alloc::{AllocError, Global};
@@ -94,7 +94,8 @@ fn push_styled(text: &mut String, style: &'static str, indicator: &str) -> Resul
 /// which row that matches is shown, and of how many; `[F]` where the pager follows its text. Empty where
 /// the prompt is hidden. Fails for want of memory alone.
 pub fn format_prompt(alloc: Global, row: &PromptRow<'_>) -> Result<String, AllocError>
-    ensures { IfOk result (λ text. string_bytes text ≡ prompt_row (seen_prompt row.now)) }
+    ensures text { IfOk result (λ text. string_bytes text ≡ prompt_row (seen_prompt row.now)) }
+    ensures fills { IfOk result (λ _. row.now.is_shown ≡ true → FillsItsRow (seen_prompt row.now)) }
 {
     let mut text = String::new(alloc);
     if !row.is_shown {

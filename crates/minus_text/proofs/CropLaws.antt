@@ -15,7 +15,7 @@ use Rattle.minus_text.proofs.WordsLaws.{spaces_encode}
 
 -- ---- what is shown, unit by unit
 
-last_columns-push : (us : List (List ℕ)) (u : List ℕ) → last_columns (us ++ u ∷ []) ≡ (if unit_columns u == 0 then last_columns us else unit_columns u)
+pub last_columns-push : (us : List (List ℕ)) (u : List ℕ) → last_columns (us ++ u ∷ []) ≡ (if unit_columns u == 0 then last_columns us else unit_columns u)
 last_columns-push [] u = last_one (unit_columns u)
   where
     last_one : (c : ℕ) → c ≡ (if c == 0 then 0 else c)

@@ -1,4 +1,4 @@
--- The rows of a line that goes on: those before a place where a word begins stay, if a later word of the line begins before its end.
+-- The rows of a line that goes on: those before a row stay where the row's first character stays, with no hyphen that joins it to what stands before, and its first piece takes no fewer columns.
 use Rattle.std.proofs.Common.{◌≡◌, ℕ, suc, ◌+◌, ◌<◌, false, eqb, List, [], ◌∷◌, ◌++◌, length, map, take, chars, arith, refl, sym, ap, ◌∙◌}
 use Rattle.std.specs.Str.{IsUtf8, encode_utf8_all}
 use Rattle.std.proofs.lemmas.Bool.{ne_eqb}
@@ -9,10 +9,8 @@ use Rattle.minus_text.specs.RowRuns.{fits_row}
 use Rattle.minus_text.specs.Rows.{the_rows, run_text, row_text, line_runs, line_rows, places, line_places}
 use Rattle.minus_text.specs.declared.wrap.Span.{Span}
 use Rattle.minus_text.specs.Kept.{moved}
-use Rattle.minus_text.proofs.PiecesLaws.{pieces_join_lem}
-use Rattle.minus_text.proofs.WordsLaws.{some_chars}
-use Rattle.minus_text.proofs.RestartLaws.{elements, elements_append, EndsWord, BeginsWord, runs_elements, pieces_seam, begins_front, runs_go_on}
-use Rattle.minus_text.proofs.PiecesSomeLaws.{pieces_some, same_front}
+use Rattle.minus_text.proofs.RestartLaws.{elements, elements_append, runs_elements, BeginsAsWide, rows_stay}
+use Rattle.minus_text.proofs.FirstPieceLaws.{IsSound, pieces_from}
 
 -- the rows of a line that is not empty
 rows_of_some : (cols : ℕ) (line : List ℕ) → 0 < length (chars line) → line_rows cols line ≡ map (λ run. encode_utf8_all (row_text run)) (line_runs cols line)
@@ -44,70 +42,67 @@ places_append at (run ∷ before) after =
     ap (λ ss. let s : Span = record { start = at; end = at + length (encode_utf8_all (row_text run)) } in s ∷ ss)
     (places_append (at + length (encode_utf8_all (run_text run))) before after ∙ ap (λ k. places (at + length (encode_utf8_all (run_text run))) before ++ places k after) e)
 
--- a line in three parts, of which the second begins and ends with words' ends
-pub record IsSeam (xs us : List ℕ) : Type 0 where
-  pub text_x : IsUtf8 xs
-  pub text_u : IsUtf8 us
-  pub some : 0 < length us
-  pub ends_x : EndsWord (chars xs)
-  pub begins_u : BeginsWord (chars us)
-  pub ends_u : EndsWord (chars us)
+-- a line in two parts, and another text in the place of the second: both go on alike, and the pieces of each are those of a line of its own
+pub record GoesOnAs (cols : ℕ) (xs rest others : List ℕ) : Type 0 where
+  pub text : IsUtf8 xs
+  pub next : ℕ
+  pub more : List ℕ
+  pub other : List ℕ
+  pub rest_is : chars rest ≡ next ∷ more
+  pub others_are : chars others ≡ next ∷ other
+  pub sound : IsSound (chars xs) next more
+  pub other_sound : IsSound (chars xs) next other
+  pub as_wide : BeginsAsWide (pieces cols (next ∷ more)) (pieces cols (next ∷ other))
 
-seam_chars : (xs us vs : List ℕ) → IsSeam xs us → chars (xs ++ (us ++ vs)) ≡ chars xs ++ (chars us ++ chars vs)
-seam_chars xs us vs h = chars-append xs (us ++ vs) h.text_x ∙ ap (λ ys. chars xs ++ ys) (chars-append us vs h.text_u)
+-- the runs of the line that goes on otherwise
+line_runs_go_on : (cols : ℕ) (xs rest others : List ℕ) (before after : List (List Piece)) → GoesOnAs cols xs rest others → line_runs cols (xs ++ rest) ≡ before ++ after → run_text (elements before) ≡ chars xs
+    → line_runs cols (xs ++ others) ≡ before ++ line_runs cols others
+line_runs_go_on cols xs rest others before after h e text =
+    let front : List Piece = elements before in
+    let back : List Piece = elements after in
+    let old : List ℕ = h.next ∷ h.more in
+    let new : List ℕ = h.next ∷ h.other in
+    let old_is : chars (xs ++ rest) ≡ run_text front ++ old = chars-append xs rest h.text ∙ ap (λ cs. chars xs ++ cs) h.rest_is ∙ ap (λ cs. cs ++ old) (sym text) in
+    let new_is : chars (xs ++ others) ≡ run_text front ++ new = chars-append xs others h.text ∙ ap (λ cs. chars xs ++ cs) h.others_are ∙ ap (λ cs. cs ++ new) (sym text) in
+    let all : pieces cols (run_text front ++ old) ≡ front ++ back =
+    ap (pieces cols) (sym old_is) ∙ runs_elements (fits_row cols) (pieces cols (chars (xs ++ rest))) (line_runs cols (xs ++ rest)) (the_rows cols (pieces cols (chars (xs ++ rest)))).are ∙ ap elements e ∙ elements_append before after in
+    let here : pieces cols (run_text front ++ old) ≡ front ++ pieces cols old = pieces_from cols front back h.next h.more h.more all (rw (← text) at h.sound) in
+    let there : pieces cols (run_text front ++ new) ≡ front ++ pieces cols new = pieces_from cols front back h.next h.more h.other all (rw (← text) at h.other_sound) in
+    let was : (the_rows cols (front ++ pieces cols old)).runs ≡ before ++ after = ap (λ ps. (the_rows cols ps).runs) (sym here ∙ ap (pieces cols) (sym old_is)) ∙ e in
+    ap (λ cs. (the_rows cols (pieces cols cs)).runs) new_is ∙ ap (λ ps. (the_rows cols ps).runs) there ∙ rows_stay cols before after (pieces cols old) (pieces cols new) was h.as_wide
+    ∙ ap (λ cs. before ++ (the_rows cols (pieces cols cs)).runs) (sym h.others_are)
 
--- the runs before the seam are those of the text before it
-runs_before : (cols : ℕ) (xs us vs : List ℕ) (before after : List (List Piece)) → IsSeam xs us → BeginsWord (chars vs) → line_runs cols (xs ++ (us ++ vs)) ≡ before ++ after → length (run_text (elements before)) ≡ length (chars xs)
-    → elements before ≡ pieces cols (chars xs)
-runs_before cols xs us vs before after h bv e l =
-    let cs : List ℕ = chars (xs ++ (us ++ vs)) in
-    let some : 0 < length (chars us) = some_chars us h.text_u h.some in
-    let split : pieces cols cs ≡ pieces cols (chars xs) ++ pieces cols (chars us ++ chars vs) = ap (pieces cols) (seam_chars xs us vs h) ∙ pieces_seam cols (chars xs) (chars us ++ chars vs) h.ends_x (begins_front (chars us) (chars vs) some h.begins_u) in
-    let all : pieces cols cs ≡ elements before ++ elements after = runs_elements (fits_row cols) (pieces cols cs) (line_runs cols (xs ++ (us ++ vs))) (the_rows cols (pieces cols cs)).are ∙ ap elements e ∙ elements_append before after in
-    same_front (elements before) (elements after) (pieces cols (chars xs)) (pieces cols (chars us ++ chars vs)) (rw all at (pieces_some cols cs)) (sym all ∙ split) (l ∙ sym (ap length (pieces_join_lem cols (chars xs))))
+some_other : (cols : ℕ) (xs rest others : List ℕ) → GoesOnAs cols xs rest others → (0 < length (chars (xs ++ rest))) × (0 < length (chars (xs ++ others))) × (0 < length (chars others))
+some_other cols xs rest others h = (
+  omega (arith, ap length (chars-append xs rest h.text), length-append (chars xs) (chars rest), ap length h.rest_is),
+  omega (arith, ap length (chars-append xs others h.text), length-append (chars xs) (chars others), ap length h.others_are),
+  omega (arith, ap length h.others_are),
+)
 
--- the runs of the line that goes on
-pub line_runs_go_on : (cols : ℕ) (xs us vs ws : List ℕ) (before after : List (List Piece)) → IsSeam xs us → BeginsWord (chars vs) → BeginsWord (chars ws)
-    → line_runs cols (xs ++ (us ++ vs)) ≡ before ++ after → length (run_text (elements before)) ≡ length (chars xs)
-    → line_runs cols (xs ++ (us ++ ws)) ≡ before ++ line_runs cols (us ++ ws)
-line_runs_go_on cols xs us vs ws before after h bv bw e l =
-    let some : 0 < length (chars us) = some_chars us h.text_u h.some in
-    let old : (the_rows cols (pieces cols (chars xs ++ (chars us ++ chars vs)))).runs ≡ before ++ after = ap (λ cs. (the_rows cols (pieces cols cs)).runs) (sym (seam_chars xs us vs h)) ∙ e in
-    ap (λ cs. (the_rows cols (pieces cols cs)).runs) (seam_chars xs us ws h)
-    ∙ runs_go_on cols (chars xs) (chars us) (chars vs) (chars ws) before after h.ends_x some h.begins_u h.ends_u bv bw old (runs_before cols xs us vs before after h bv e l)
-    ∙ ap (λ cs. before ++ (the_rows cols (pieces cols cs)).runs) (sym (chars-append us ws h.text_u))
-
--- its rows: those before the seam, and those of what follows it alone
-pub line_rows_go_on : (cols : ℕ) (xs us vs ws : List ℕ) (before after : List (List Piece)) → IsSeam xs us → BeginsWord (chars vs) → BeginsWord (chars ws)
-    → line_runs cols (xs ++ (us ++ vs)) ≡ before ++ after → length (run_text (elements before)) ≡ length (chars xs)
-    → line_rows cols (xs ++ (us ++ ws)) ≡ take (length before) (line_rows cols (xs ++ (us ++ vs))) ++ line_rows cols (us ++ ws)
-line_rows_go_on cols xs us vs ws before after h bv bw e l =
-    let some : 0 < length (chars us) = some_chars us h.text_u h.some in
+-- its rows: those before the place, and those of what follows it alone
+pub line_rows_go_on : (cols : ℕ) (xs rest others : List ℕ) (before after : List (List Piece)) → GoesOnAs cols xs rest others → line_runs cols (xs ++ rest) ≡ before ++ after → run_text (elements before) ≡ chars xs
+    → line_rows cols (xs ++ others) ≡ take (length before) (line_rows cols (xs ++ rest)) ++ line_rows cols others
+line_rows_go_on cols xs rest others before after h e text =
+    let some = some_other cols xs rest others h in
     let f : List Piece → List ℕ = λ run. encode_utf8_all (row_text run) in
-    let many : (ys : List ℕ) → 0 < length (chars (xs ++ (us ++ ys))) = λ ys. omega (arith, ap length (seam_chars xs us ys h), length-append (chars xs) (chars us ++ chars ys), length-append (chars us) (chars ys)) in
-    let tail : 0 < length (chars (us ++ ws)) = omega (arith, ap length (chars-append us ws h.text_u), length-append (chars us) (chars ws)) in
-    let new : line_rows cols (xs ++ (us ++ ws)) ≡ map f before ++ line_rows cols (us ++ ws) =
-    rows_of_some cols (xs ++ (us ++ ws)) (many ws) ∙ ap (map f) (line_runs_go_on cols xs us vs ws before after h bv bw e l) ∙ map-append f before (line_runs cols (us ++ ws)) ∙ ap (λ rs. map f before ++ rs) (sym (rows_of_some cols (us ++ ws) tail)) in
-    let old : take (length before) (line_rows cols (xs ++ (us ++ vs))) ≡ map f before =
-    ap (take (length before)) (rows_of_some cols (xs ++ (us ++ vs)) (many vs) ∙ ap (map f) e ∙ map-append f before after) ∙ take_at (map f before) (map f after) (length before) (length-map before f) in
-    new ∙ ap (λ rs. rs ++ line_rows cols (us ++ ws)) (sym old)
+    let new : line_rows cols (xs ++ others) ≡ map f before ++ line_rows cols others =
+    rows_of_some cols (xs ++ others) some.1 ∙ ap (map f) (line_runs_go_on cols xs rest others before after h e text) ∙ map-append f before (line_runs cols others) ∙ ap (λ rs. map f before ++ rs) (sym (rows_of_some cols others some.2)) in
+    let old : take (length before) (line_rows cols (xs ++ rest)) ≡ map f before =
+    ap (take (length before)) (rows_of_some cols (xs ++ rest) some.0 ∙ ap (map f) e ∙ map-append f before after) ∙ take_at (map f before) (map f after) (length before) (length-map before f) in
+    new ∙ ap (λ rs. rs ++ line_rows cols others) (sym old)
 
--- and their places: the first ones stay, and the others are counted from the seam
-pub line_places_go_on : (cols : ℕ) (xs us vs ws : List ℕ) (before after : List (List Piece)) → IsSeam xs us → BeginsWord (chars vs) → BeginsWord (chars ws)
-    → line_runs cols (xs ++ (us ++ vs)) ≡ before ++ after → length (run_text (elements before)) ≡ length (chars xs)
-    → line_places cols (xs ++ (us ++ ws)) ≡ take (length before) (line_places cols (xs ++ (us ++ vs))) ++ map (moved (length xs)) (line_places cols (us ++ ws))
-line_places_go_on cols xs us vs ws before after h bv bw e l =
-    let some : 0 < length (chars us) = some_chars us h.text_u h.some in
-    let many : (ys : List ℕ) → 0 < length (chars (xs ++ (us ++ ys))) = λ ys. omega (arith, ap length (seam_chars xs us ys h), length-append (chars xs) (chars us ++ chars ys), length-append (chars us) (chars ys)) in
-    let tail : 0 < length (chars (us ++ ws)) = omega (arith, ap length (chars-append us ws h.text_u), length-append (chars us) (chars ws)) in
-    let text : run_text (elements before) ≡ chars xs = ap run_text (runs_before cols xs us vs before after h bv e l) ∙ pieces_join_lem cols (chars xs) in
-    let bytes : 0 + length (encode_utf8_all (run_text (elements before))) ≡ length xs + 0 = omega (arith, ap (λ cs. length (encode_utf8_all cs)) text, ap length (encodes-chars xs h.text_x)) in
-    let new : line_places cols (xs ++ (us ++ ws)) ≡ places 0 before ++ map (moved (length xs)) (line_places cols (us ++ ws)) =
-    places_of_some cols (xs ++ (us ++ ws)) (many ws) ∙ ap (places 0) (line_runs_go_on cols xs us vs ws before after h bv bw e l) ∙ places_append 0 before (line_runs cols (us ++ ws))
-    ∙ ap (λ k. places 0 before ++ places k (line_runs cols (us ++ ws))) bytes ∙ ap (λ ss. places 0 before ++ ss) (places_moved (length xs) 0 (line_runs cols (us ++ ws)) ∙ ap (map (moved (length xs))) (sym (places_of_some cols (us ++ ws) tail))) in
-    let old : take (length before) (line_places cols (xs ++ (us ++ vs))) ≡ places 0 before =
-    ap (take (length before)) (places_of_some cols (xs ++ (us ++ vs)) (many vs) ∙ ap (places 0) e ∙ places_append 0 before after) ∙ take_at (places 0 before) (places (0 + length (encode_utf8_all (run_text (elements before)))) after) (length before) (places_count 0 before) in
-    new ∙ ap (λ ss. ss ++ map (moved (length xs)) (line_places cols (us ++ ws))) (sym old)
+-- and their places: the first ones stay, and the others are counted from the place on
+pub line_places_go_on : (cols : ℕ) (xs rest others : List ℕ) (before after : List (List Piece)) → GoesOnAs cols xs rest others → line_runs cols (xs ++ rest) ≡ before ++ after → run_text (elements before) ≡ chars xs
+    → line_places cols (xs ++ others) ≡ take (length before) (line_places cols (xs ++ rest)) ++ map (moved (length xs)) (line_places cols others)
+line_places_go_on cols xs rest others before after h e text =
+    let some = some_other cols xs rest others h in
+    let bytes : 0 + length (encode_utf8_all (run_text (elements before))) ≡ length xs + 0 = omega (arith, ap (λ cs. length (encode_utf8_all cs)) text, ap length (encodes-chars xs h.text)) in
+    let new : line_places cols (xs ++ others) ≡ places 0 before ++ map (moved (length xs)) (line_places cols others) =
+    places_of_some cols (xs ++ others) some.1 ∙ ap (places 0) (line_runs_go_on cols xs rest others before after h e text) ∙ places_append 0 before (line_runs cols others)
+    ∙ ap (λ k. places 0 before ++ places k (line_runs cols others)) bytes ∙ ap (λ ss. places 0 before ++ ss) (places_moved (length xs) 0 (line_runs cols others) ∙ ap (map (moved (length xs))) (sym (places_of_some cols others some.2))) in
+    let old : take (length before) (line_places cols (xs ++ rest)) ≡ places 0 before =
+    ap (take (length before)) (places_of_some cols (xs ++ rest) some.0 ∙ ap (places 0) e ∙ places_append 0 before after) ∙ take_at (places 0 before) (places (0 + length (encode_utf8_all (run_text (elements before)))) after) (length before) (places_count 0 before) in
+    new ∙ ap (λ ss. ss ++ map (moved (length xs)) (line_places cols others)) (sym old)
   where
     places_count : (at : ℕ) (runs : List (List Piece)) → length (places at runs) ≡ length runs
     places_count at [] = refl

@@ -9,8 +9,10 @@ pub mod RowsMeasured
 pub mod PiecesLaws
 pub mod RowsLaws
 pub mod PlainLaws
-pub mod PiecesSomeLaws
 pub mod RestartLaws
+pub mod BodyLaws
+pub mod FirstPieceLaws
+pub mod FirstColumnsLaws
 pub mod MatchPlacesLaws
 pub mod FindPlacesLaws
 pub mod PartedLaws
@@ -27,6 +29,7 @@ pub mod DigitsLaws
 pub mod SpacesLaws
 pub mod TextUnitsLaws
 pub mod CropLaws
+pub mod ShownColumnsLaws
 pub mod LineMapLaws
 pub mod LinesLaws
 pub mod LayoutLaws

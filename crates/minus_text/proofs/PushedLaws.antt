@@ -12,7 +12,6 @@ use Rattle.minus_text.specs.Layouts.{own_rows, wrapped}
 use Rattle.minus_text.specs.Lines.{cut, finished_lines, unfinished_line}
 use Rattle.minus_text.specs.Document.{Document, rows_of, rows_of_lines, open_rows, unfinished_rows, pushed, wrap_in, margin_in, keeps_rows, plan_of}
 use Rattle.minus_text.specs.Fragments.{rows_in}
-use Rattle.minus_text.specs.FormatResults.{formed_by, first_formed}
 use Rattle.minus_text.proofs.LinesLaws.{cut-append}
 use Rattle.minus_text.proofs.DocumentLaws.{lines_closed, lines_open, length-rows_of_lines}
 use Rattle.minus_text.proofs.ScreenLaws.{lines_front}
@@ -55,13 +54,10 @@ keeps_wrap d piece numbers cols e =
     let margins : margin_in (pushed d piece numbers cols) ≡ margin_in d = eqb-true (margin_in (pushed d piece numbers cols)) (margin_in d) both.1 in
     ap (λ n. wrapped d.layout.wrapping (cols - n)) margins ∙ ap (λ n. wrapped d.layout.wrapping (n - margin_in d)) same
 
--- the rows that a push leaves: those that stay, and those that it forms
-pub rows_pushed : (d : Document) (piece : List ℕ) (numbers : LineNumbers) (cols : ℕ)
-    → rows_of (pushed d piece numbers cols) ≡ take (first_formed d (plan_of d piece numbers cols)) (rows_of d) ++ rows_in (formed_by d.text piece (plan_of d piece numbers cols))
+-- and leaves the rows of the finished lines, and those that it forms
+pub rows_kept : (d : Document) (piece : List ℕ) (numbers : LineNumbers) (cols : ℕ) → keeps_rows d piece numbers cols ≡ true
+    → rows_of (pushed d piece numbers cols) ≡ take (length (rows_of d) - unfinished_rows d) (rows_of d) ++ rows_in (record { text = unfinished_line d.text ++ piece; wrap = wrap_in d })
 unfolding rows_of rows_in unfinished_rows
-rows_pushed d piece numbers cols = elim (cases_Bool (keeps_rows d piece numbers cols)) [
-  | inl e ↦
-      let same : wrap_in (pushed d piece numbers cols) ≡ wrap_in d = keeps_wrap d piece numbers cols e in
-      rw (e, same) (rows_going_on d.text piece (wrap_in d) (length (rows_of_lines (wrap_in d) (lines d.text)) - length (open_rows (wrap_in d) (unfinished_line d.text))) refl)
-  | inr e ↦ rw e refl
-]
+rows_kept d piece numbers cols e =
+    let same : wrap_in (pushed d piece numbers cols) ≡ wrap_in d = keeps_wrap d piece numbers cols e in
+    ap (λ w. rows_of_lines w (lines (d.text ++ piece))) same ∙ rows_going_on d.text piece (wrap_in d) (length (rows_of_lines (wrap_in d) (lines d.text)) - length (open_rows (wrap_in d) (unfinished_line d.text))) refl

@@ -1,13 +1,16 @@
--- Where two later rows of an unfinished line begin with words, the rows before them stay.
-use Rattle.std.proofs.Common.{◌≡◌, ◌≢◌, ℕ, zero, suc, ◌+◌, ◌-◌, ◌<◌, ◌≤◌, false, eqb, List, [], ◌∷◌, ◌++◌, length, map, take, drop, get_or, chars, encode_utf8, arith, refl, sym, ap, ◌∙◌, append_assoc, inl, inr}
-use Rattle.std.specs.Str.{IsUtf8, IsCharBoundary, encode_utf8_all}
+-- The rows of an unfinished line before one at whose beginning forming can begin anew stay however the line goes on.
+use Rattle.std.proofs.Common.{◌≡◌, ℕ, zero, suc, ◌+◌, ◌-◌, ◌<◌, ◌&&◌, Bool, true, false, eqb, List, [], ◌∷◌, ◌++◌, length, map, take, drop, get_or, chars, encode_utf8, arith, refl, sym, ap, ◌∙◌, append_assoc, inl, inr, ◌≤◌}
+use Rattle.std.specs.Char.{is_ascii_alphanumeric}
+use Rattle.std.specs.Str.{IsUtf8, IsAscii, IsCharBoundary, encode_utf8_all}
 use Rattle.std.specs.Str.Lines.{strip_carriage_return}
-use Rattle.std.proofs.lemmas.Bool.{cases_Bool, eqb-true, ne_eqb}
-use Rattle.std.proofs.lemmas.List.{append-nil, length-append, length-drop, length-take-le, length-map, drop-drop, take-append-drop, map-append, take-map, get_or-drop, get_or-map, get_or_append_left, get_or-append_right, take_more}
+use Rattle.std.proofs.lemmas.Bool.{cases_Bool, cases_lt, and_parts, eqb-true, ne_eqb}
+use Rattle.std.proofs.lemmas.Bool.Decides.{nat_tests}
+use Rattle.std.proofs.lemmas.List.{append-nil, length-append, length-drop, length-take-le, length-map, take-append-drop, take_at, take_all, take_more, map-append, take-map, get_or-drop, get_or-take, get_or-map, get_or_push, get_or_append_left, get_or-append_right, drop_all, drop_more, drop-drop}
+use Rattle.std.proofs.lemmas.List.Elements.{All-nil, All-cons, All-drop}
 use Rattle.std.proofs.lemmas.List.Concat.{flat_map-append}
-use Rattle.std.proofs.lemmas.Str.{IsUtf8-take, IsUtf8-drop, IsUtf8-between, IsCharBoundary-start, IsCharBoundary-after_ascii, IsCharBoundary-before_ascii, chars-append, chars-IsAscii, encodes-IsAscii, encodes-append, encodes-chars, length-le-encodes}
+use Rattle.std.proofs.lemmas.Str.{IsUtf8-take, IsUtf8-drop, IsCharBoundary-start, chars-append, chars-IsAscii, encodes-IsAscii, encodes-append, encodes-chars, length-le-encodes}
 use Rattle.minus_text.specs.declared.wrap.Span.{Span}
-use Rattle.minus_text.specs.Pieces.{Piece, pieces, piece_text, is_space}
+use Rattle.minus_text.specs.Pieces.{Piece, pieces, piece_text, begins_alphanumeric}
 use Rattle.minus_text.specs.RowRuns.{fits_row}
 use Rattle.minus_text.specs.RunsLaws.{two_fronts}
 use Rattle.minus_text.specs.declared.layout.Wrap.{Wrap}
@@ -16,51 +19,18 @@ use Rattle.minus_text.specs.Layouts.{own_rows}
 use Rattle.minus_text.specs.Rows.{the_rows, run_text, line_runs, line_rows, line_places, places}
 use Rattle.minus_text.specs.Document.{open_rows}
 use Rattle.minus_text.specs.Kept.{moved, line_stored, open_stored, GoesOn}
-use Rattle.minus_text.specs.Seams.{WordBeginsAt, RowsGoOn}
-use Rattle.minus_text.proofs.StretchesLaws.{one_space}
+use Rattle.minus_text.specs.Seams.{StandsAlone, NoneAlone, RowsGoOn}
 use Rattle.minus_text.proofs.PiecesLaws.{pieces_join_lem}
 use Rattle.minus_text.proofs.WordsLaws.{some_chars}
-use Rattle.minus_text.proofs.RowsLaws.{line_places-are}
-use Rattle.minus_text.proofs.RestartLaws.{elements, elements_append, EndsWord, BeginsWord, runs_elements}
-use Rattle.minus_text.proofs.GoesOnLaws.{run_bytes, places_of_some, IsSeam, line_rows_go_on, line_places_go_on}
+use Rattle.minus_text.proofs.RowsLaws.{line_places-are, place_at as row_at}
+use Rattle.minus_text.proofs.RestartLaws.{elements, elements_append, runs_elements}
+use Rattle.minus_text.proofs.BodyLaws.{ends_alphanumeric}
+use Rattle.minus_text.proofs.FirstPieceLaws.{IsSound}
+use Rattle.minus_text.proofs.FirstColumnsLaws.{first_grows, return_takes_none}
+use Rattle.minus_text.proofs.GoesOnLaws.{run_bytes, places_of_some, GoesOnAs, line_rows_go_on, line_places_go_on}
 use Rattle.minus_text.proofs.FormLaws.{length-places}
 use Rattle.minus_text.proofs.PlacesLaws.{stripped}
 use Rattle.minus_text.proofs.PreparedLaws.{strip_cons, left_of_front}
-
--- ---- the text round a place where a word begins
-
-space_boundary : (text : List ℕ) (at : ℕ) → IsUtf8 text → WordBeginsAt text at → IsCharBoundary text at
-space_boundary text at u w =
-    let some : 0 < at = w.behind in
-    let within : at < length text = w.within in
-    let space : get_or text (at - 1) 0 ≡ 32 = w.space in
-    let e : (at - 1) + 1 ≡ at = omega arith in
-    rw e at (IsCharBoundary-after_ascii text (at - 1) u (omega arith) (omega arith))
-
--- a text that ends with a space
-ends_word : (text : List ℕ) (n : ℕ) → IsUtf8 text → 0 < n → n ≤ length text → get_or text (n - 1) 0 ≡ 32 → EndsWord (chars (take n text))
-ends_word text n u some within space =
-    let m : ℕ = n - 1 in
-    let e : m + 1 ≡ n = omega arith in
-    let lt : m < length text = omega arith in
-    let split : take n text ≡ take m text ++ 32 ∷ [] = ap (λ k. take k text) (sym e) ∙ take_more text m 0 lt ∙ ap (λ b. take m text ++ b ∷ []) space in
-    let front : IsUtf8 (take m text) = IsUtf8-take text m u (IsCharBoundary-before_ascii text m lt (omega (arith, space))) in
-    inr (chars (take m text), ap chars split ∙ chars-append (take m text) (32 ∷ []) front ∙ ap (λ cs. chars (take m text) ++ cs) (chars-IsAscii (32 ∷ []) one_space))
-
--- a text that begins with none
-begins_word : (text : List ℕ) → IsUtf8 text → (0 < length text → get_or text 0 0 ≢ 32) → BeginsWord (chars text)
-begins_word text u none = go (chars text) refl
-  where
-    go : (cs : List ℕ) → chars text ≡ cs → BeginsWord cs
-    go [] e = tt
-    go (c ∷ cs) e = elim (cases_Bool (is_space c)) [
-      | inl t ↦
-          let here : c ≡ 32 = eqb-true c 32 t in
-          let one : encode_utf8 c ≡ 32 ∷ [] = ap encode_utf8 here ∙ sym (append-nil (encode_utf8 32)) ∙ encodes-IsAscii (32 ∷ []) one_space in
-          let all : text ≡ 32 ∷ encode_utf8_all cs = sym (encodes-chars text u) ∙ ap encode_utf8_all e ∙ ap (λ bs. bs ++ encode_utf8_all cs) one in
-          absurd (none (omega (arith, ap length all)) (ap (λ bs. get_or bs 0 0) all))
-      | inr f ↦ f
-    ]
 
 -- ---- the rows before a place
 
@@ -86,7 +56,7 @@ length-places-at at (run ∷ runs) = ap suc (length-places-at (at + length (enco
 
 -- the runs before a place hold the characters before it
 runs_before_place : (cols : ℕ) (line : List ℕ) (at i : ℕ) (d : Span) → IsUtf8 line → 0 < length line → IsCharBoundary line at → i < length (line_places cols line) → (get_or (line_places cols line) i d).start ≡ at
-    → length (run_text (elements (take i (line_runs cols line)))) ≡ length (chars (take at line))
+    → run_text (elements (take i (line_runs cols line))) ≡ chars (take at line)
 runs_before_place cols line at i d u some b l e =
     let runs : List (List Piece) = line_runs cols line in
     let front : List Piece = elements (take i runs) in
@@ -99,7 +69,9 @@ runs_before_place cols line at i d u some b l e =
     let ux : IsUtf8 (take at line) = IsUtf8-take line at u b in
     let split : chars (take at line) ++ chars (drop at line) ≡ chars line = sym (chars-append (take at line) (drop at line) ux) ∙ ap chars (take-append-drop at line) in
     let size : length (encode_utf8_all (chars (take at line))) ≡ at = ap length (encodes-chars (take at line) ux) ∙ length-take-le at line b.0 in
-    same_chars (run_text front) (run_text back) (chars (take at line)) (chars (drop at line)) (joined ∙ sym split) (omega (arith, here, size))
+    let all_is : run_text front ++ run_text back ≡ chars (take at line) ++ chars (drop at line) = joined ∙ sym split in
+    let long : length (run_text front) ≡ length (chars (take at line)) = same_chars (run_text front) (run_text back) (chars (take at line)) (chars (drop at line)) all_is (omega (arith, here, size)) in
+    sym (take_at (run_text front) (run_text back) (length (run_text front)) refl) ∙ ap (take (length (run_text front))) all_is ∙ take_at (chars (take at line)) (chars (drop at line)) (length (run_text front)) (sym long)
 
 -- ---- what is moved twice, and a line without its carriage return
 
@@ -113,12 +85,6 @@ moved_twice n m (s ∷ ss) =
 pub strip_behind : (xs ys : List ℕ) → 0 < length ys → strip_carriage_return (xs ++ ys) ≡ xs ++ strip_carriage_return ys
 strip_behind [] ys some = refl
 strip_behind (b ∷ xs) ys some = strip_cons b (xs ++ ys) (omega (arith, some, length-append xs ys)) ∙ ap (λ zs. b ∷ zs) (strip_behind xs ys some)
-
-strip_begins : (ys : List ℕ) → IsUtf8 ys → (0 < length ys → get_or ys 0 0 ≢ 32) → BeginsWord (chars (strip_carriage_return ys))
-strip_begins ys u none =
-    let w = stripped ys u in
-    begins_word (strip_carriage_return ys) w.3 (λ some e. none (omega (arith, some, ap length w.1, length-append (strip_carriage_return ys) w.0))
-    (ap (λ zs. get_or zs 0 0) w.1 ∙ get_or_append_left (strip_carriage_return ys) w.0 0 0 some ∙ e))
 
 some_open : (wrap : Wrap) (n : ℕ) (line : List ℕ) → 0 < length line → (open_rows wrap line ≡ own_rows wrap line) × (open_stored wrap n line ≡ line_stored wrap n line)
 some_open wrap n line some = let other : eqb (length line) 0 ≡ false = ne_eqb (length line) 0 (λ z. omega arith) in (rw other refl, rw other refl)
@@ -137,106 +103,252 @@ start_goes_on wrap line u = record {
   ended_places = λ n more v. let e : n ≡ n + 0 = omega arith in ap (λ m. line_stored wrap m (strip_carriage_return (line ++ more))) e;
 }
 
--- and at the row where a word begins, if a later word of the line begins before its end
-pub seam_goes_on : (cols : ℕ) (line : List ℕ) (at later i : ℕ) (d : Span) → IsUtf8 line → WordBeginsAt line at → WordBeginsAt line later → at < later → i < length (line_places cols line) → (get_or (line_places cols line) i d).start ≡ at → GoesOn (At cols) line i at
-seam_goes_on cols line at later i d u w v lt l e =
-    let xs : List ℕ = take at line in
-    let us : List ℕ = take (later - at) (drop at line) in
-    let vs : List ℕ = drop later line in
-    let within : at < length line = w.within in
-    let later_within : later < length line = v.within in
-    let some : 0 < length line = omega arith in
-    let b : IsCharBoundary line at = space_boundary line at u w in
-    let c : IsCharBoundary line later = space_boundary line later u v in
-    let to : at + (later - at) ≡ later = omega arith in
-    let rest : us ++ vs ≡ drop at line = ap (λ ys. us ++ ys) (sym (drop-drop (later - at) at line ∙ ap (λ n. drop n line) to)) ∙ take-append-drop (later - at) (drop at line) in
-    let whole_line : xs ++ (us ++ vs) ≡ line = ap (λ ys. xs ++ ys) rest ∙ take-append-drop at line in
+-- ---- a text that stands alone
+
+-- a byte is a character where it is one of ASCII
+ascii_alone : (c : ℕ) → c < 128 → encode_utf8 c ≡ c ∷ []
+ascii_alone c l = sym (append-nil (encode_utf8 c)) ∙ encodes-IsAscii (c ∷ []) small
+  where
+    small : (i : ℕ) → get_or (c ∷ []) i 0 < 128
+    small zero = l
+    small (suc i) = omega arith
+
+alphanumeric_small : (c : ℕ) → is_ascii_alphanumeric c ≡ true → c < 128
+alphanumeric_small c h = grind (arith, nat_tests, h)
+
+-- the first bytes of a text, by its first characters
+first_byte : (text : List ℕ) (c : ℕ) (cs : List ℕ) → IsUtf8 text → chars text ≡ c ∷ cs → c < 128 → text ≡ c ∷ encode_utf8_all cs
+first_byte text c cs u e l = sym (encodes-chars text u) ∙ ap encode_utf8_all e ∙ ap (λ bs. bs ++ encode_utf8_all cs) (ascii_alone c l)
+
+next_byte : (cs : List ℕ) → begins_alphanumeric cs ≡ true → (0 < length (encode_utf8_all cs)) × (is_ascii_alphanumeric (get_or (encode_utf8_all cs) 0 0) ≡ true)
+next_byte [] h = absurd cc
+next_byte (c ∷ cs) h =
+    let all : encode_utf8_all (c ∷ cs) ≡ c ∷ encode_utf8_all cs = ap (λ bs. bs ++ encode_utf8_all cs) (ascii_alone c (alphanumeric_small c h)) in
+    (omega (arith, ap length all), ap (λ bs. is_ascii_alphanumeric (get_or bs 0 0)) all ∙ h)
+
+-- the last one, if it is a letter or digit
+last_letter : (before : Bool) (c : ℕ) (cs : List ℕ) → ends_alphanumeric before (c ∷ cs) ≡ true → (front : List ℕ) × (d : ℕ) × (c ∷ cs ≡ front ++ d ∷ []) × (is_ascii_alphanumeric d ≡ true)
+last_letter before c [] h = ([], c, refl, h)
+last_letter before c (e ∷ cs) h = let on = last_letter (is_ascii_alphanumeric c) e cs h in (c ∷ on.0, on.1, ap (λ xs. c ∷ xs) on.2, on.3)
+
+last_byte : (text cs : List ℕ) → IsUtf8 text → chars text ≡ cs → ends_alphanumeric false cs ≡ true → (0 < length text) × (is_ascii_alphanumeric (get_or text (length text - 1) 0) ≡ true)
+last_byte text [] u e h = absurd cc
+last_byte text (c ∷ cs) u e h =
+    let last = last_letter false c cs h in
+    let front : List ℕ = encode_utf8_all last.0 in
+    let one : encode_utf8_all (last.1 ∷ []) ≡ last.1 ∷ [] = append-nil (encode_utf8 last.1) ∙ ascii_alone last.1 (alphanumeric_small last.1 last.3) in
+    let all : text ≡ front ++ last.1 ∷ [] = sym (encodes-chars text u) ∙ ap encode_utf8_all (e ∙ last.2) ∙ encodes-append last.0 (last.1 ∷ []) ∙ ap (λ bs. front ++ bs) one in
+    let size : length text ≡ length front + 1 = ap length all ∙ length-append front (last.1 ∷ []) in
+    let place : length text - 1 ≡ length front = omega (arith, size) in
+    let byte : get_or text (length text - 1) 0 ≡ last.1 = ap (λ n. get_or text n 0) place ∙ ap (λ bs. get_or bs (length front) 0) all ∙ get_or_push front last.1 0 (length front) refl in
+    (omega (arith, size), ap is_ascii_alphanumeric byte ∙ last.3)
+
+-- a text behind another one does not begin with a hyphen between letters or digits
+abbrev NoJoint : List ℕ → List ℕ → Type 0
+NoJoint xs ys = 0 < length xs → get_or ys 0 0 ≡ 45 → is_ascii_alphanumeric (get_or xs (length xs - 1) 0) ≡ true → 1 < length ys → is_ascii_alphanumeric (get_or ys 1 0) ≡ false
+
+sound_bytes : (xs ys : List ℕ) (c : ℕ) (cs : List ℕ) → IsUtf8 xs → IsUtf8 ys → chars ys ≡ c ∷ cs → NoJoint xs ys → IsSound (chars xs) c cs
+sound_bytes xs ys c cs u v e none = elim (cases_Bool (ends_alphanumeric false (chars xs) && (eqb c 45 && begins_alphanumeric cs))) [
+  | inl t ↦
+      let one = and_parts (ends_alphanumeric false (chars xs)) (eqb c 45 && begins_alphanumeric cs) t in
+      let two = and_parts (eqb c 45) (begins_alphanumeric cs) one.1 in
+      let hyphen : c ≡ 45 = eqb-true c 45 two.0 in
+      let last = last_byte xs (chars xs) u refl one.0 in
+      let next = next_byte cs two.1 in
+      let all : ys ≡ c ∷ encode_utf8_all cs = first_byte ys c cs v e (omega (arith, hyphen)) in
+      let no : is_ascii_alphanumeric (get_or ys 1 0) ≡ false = none last.0 (ap (λ bs. get_or bs 0 0) all ∙ hyphen) last.1 (omega (arith, ap length all, next.0)) in
+      let both : true ≡ false = sym next.1 ∙ sym (ap (λ bs. is_ascii_alphanumeric (get_or bs 1 0)) all) ∙ no in
+      absurd cc
+  | inr f ↦ f
+]
+
+joint_front : (xs front more : List ℕ) → 0 < length front → NoJoint xs (front ++ more) → NoJoint xs front
+joint_front xs front more some h l hyphen letter two =
+    ap is_ascii_alphanumeric (sym (get_or_append_left front more 0 1 two)) ∙ h l (get_or_append_left front more 0 0 some ∙ hyphen) letter (omega (arith, two, length-append front more))
+
+-- what goes on behind a place
+goes_on_more : (cols : ℕ) (xs rest more : List ℕ) → IsUtf8 xs → IsUtf8 rest → IsUtf8 (rest ++ more) → 0 < length rest → NoJoint xs (rest ++ more) → GoesOnAs cols xs rest (rest ++ more)
+goes_on_more cols xs rest more u v w some none = go (chars rest) refl
+  where
+    go : (cs : List ℕ) → chars rest ≡ cs → GoesOnAs cols xs rest (rest ++ more)
+    go [] e = absurd (let l = some_chars rest v some in omega (arith, l, ap length e))
+    go (c ∷ cs) e =
+        let all : chars (rest ++ more) ≡ c ∷ (cs ++ chars more) = chars-append rest more v ∙ ap (λ ds. ds ++ chars more) e in
+        record {
+          text = u;
+          next = c;
+          more = cs;
+          other = cs ++ chars more;
+          rest_is = e;
+          others_are = all;
+          sound = sound_bytes xs rest c cs u v e (joint_front xs rest more some none);
+          other_sound = sound_bytes xs (rest ++ more) c (cs ++ chars more) u w all none;
+          as_wide = first_grows cols (c ∷ cs) (chars more) (omega arith);
+        }
+
+-- or loses the carriage return at its end
+goes_on_less : (cols : ℕ) (xs rest short : List ℕ) → IsUtf8 xs → IsUtf8 rest → IsUtf8 short → rest ≡ short ++ 13 ∷ [] → 0 < length short → NoJoint xs rest → GoesOnAs cols xs rest short
+goes_on_less cols xs rest short u v w e some none = go (chars short) refl
+  where
+    return_alone : IsAscii (13 ∷ [])
+    return_alone zero = omega arith
+    return_alone (suc i) = omega arith
+
+    go : (cs : List ℕ) → chars short ≡ cs → GoesOnAs cols xs rest short
+    go [] f = absurd (let l = some_chars short w some in omega (arith, l, ap length f))
+    go (c ∷ cs) f =
+        let all : chars rest ≡ c ∷ (cs ++ 13 ∷ []) = ap chars e ∙ chars-append short (13 ∷ []) w ∙ ap (λ ds. chars short ++ ds) (chars-IsAscii (13 ∷ []) return_alone) ∙ ap (λ ds. ds ++ 13 ∷ []) f in
+        record {
+          text = u;
+          next = c;
+          more = cs ++ 13 ∷ [];
+          other = cs;
+          rest_is = all;
+          others_are = f;
+          sound = sound_bytes xs rest c (cs ++ 13 ∷ []) u v all none;
+          other_sound = sound_bytes xs short c cs u w f (joint_front xs short (13 ∷ []) some (rw e at none));
+          as_wide = return_takes_none cols (c ∷ cs) (omega arith);
+        }
+
+-- behind a place where what stands needs nothing before it
+no_joint : (line : List ℕ) (at : ℕ) (more : List ℕ) → StandsAlone line at → NoJoint (take at line) (drop at line ++ more)
+no_joint line at more s some hyphen letter two =
+    let within : at < length line = s.within in
     let left : length (drop at line) ≡ length line - at = length-drop at line in
-    let us_long : length us ≡ later - at = length-take-le (later - at) (drop at line) (omega arith) in
+    let size : length (take at line) ≡ at = length-take-le at line (omega arith) in
+    let here : get_or line at 0 ≡ 45 = ap (λ n. get_or line n 0) (let z : at ≡ at + 0 = omega arith in z) ∙ sym (get_or-drop at line 0 0) ∙ sym (get_or_append_left (drop at line) more 0 0 (omega arith)) ∙ hyphen in
+    let before : is_ascii_alphanumeric (get_or line (at - 1) 0) ≡ true = ap is_ascii_alphanumeric (sym (get_or-take at line (at - 1) 0 (omega (arith, some, size))) ∙ ap (λ n. get_or (take at line) (n - 1) 0) (sym size)) ∙ letter in
+    let joint = s.no_joint (omega (arith, some, size)) here before in
+    let inside : at + 1 < length line = joint.0 in
+    ap is_ascii_alphanumeric (get_or_append_left (drop at line) more 0 1 (omega arith) ∙ get_or-drop at line 1 0) ∙ joint.1
+
+open_goes_on : (cols : ℕ) (line : List ℕ) (at : ℕ) (more : List ℕ) → IsUtf8 line → IsUtf8 (line ++ more) → IsCharBoundary line at → StandsAlone line at → GoesOnAs cols (take at line) (drop at line) (drop at line ++ more)
+open_goes_on cols line at more u v b s =
+    let within : at < length line = s.within in
+    goes_on_more cols (take at line) (drop at line) more (IsUtf8-take line at u b) (IsUtf8-drop line at u b) (left_of_front line more at u v b) (omega (arith, length-drop at line)) (no_joint line at more s)
+
+ended_goes_on : (cols : ℕ) (line : List ℕ) (at : ℕ) (more : List ℕ) → IsUtf8 line → IsUtf8 (line ++ more) → IsCharBoundary line at → StandsAlone line at → GoesOnAs cols (take at line) (drop at line) (strip_carriage_return (drop at line ++ more))
+ended_goes_on cols line at [] u v b s =
+    let within : at < length line = s.within in
+    let rest : List ℕ = drop at line in
+    let n : ℕ = length rest - 1 in
+    let left : length rest ≡ length line - at = length-drop at line in
+    let nil : rest ++ [] ≡ rest = append-nil rest in
+    let ur : IsUtf8 rest = IsUtf8-drop line at u b in
+    let ux : IsUtf8 (take at line) = IsUtf8-take line at u b in
+    let joint : NoJoint (take at line) rest = rw nil at (no_joint line at [] s) in
+    rw nil (elim (cases_Bool (eqb (get_or rest n 0) 13)) [
+      | inl t ↦
+          let last : get_or rest n 0 ≡ 13 = eqb-true (get_or rest n 0) 13 t in
+          let far : get_or line (at + n) 0 ≡ 13 = sym (get_or-drop at line n 0) ∙ last in
+          let more_than : 0 < n = elim (cases_lt 0 n) [
+            | inl l ↦ l
+            | inr g ↦ let end : at + n ≡ at = omega arith in let long = s.no_return (ap (λ k. get_or line k 0) (sym end) ∙ far) in absurd (omega arith)
+          ] in
+          let short : strip_carriage_return rest ≡ take n rest = rw t refl in
+          let whole : take (n + 1) rest ≡ rest = take_all (n + 1) rest (omega arith) in
+          let split : rest ≡ strip_carriage_return rest ++ 13 ∷ [] = sym whole ∙ take_more rest n 0 (omega arith) ∙ ap (λ x. take n rest ++ x ∷ []) last ∙ ap (λ xs. xs ++ 13 ∷ []) (sym short) in
+          goes_on_less cols (take at line) rest (strip_carriage_return rest) ux ur (stripped rest ur).3 split (omega (arith, ap length split, length-append (strip_carriage_return rest) (13 ∷ []), more_than)) joint
+      | inr f ↦
+          let same : strip_carriage_return rest ≡ rest = rw f refl in
+          rw same (rw nil at (goes_on_more cols (take at line) rest [] ux ur (rw (← nil) at ur) (omega arith) (no_joint line at [] s)))
+    ])
+ended_goes_on cols line at (m ∷ more) u v b s =
+    let within : at < length line = s.within in
+    let rest : List ℕ = drop at line in
+    let joined : strip_carriage_return (rest ++ m ∷ more) ≡ rest ++ strip_carriage_return (m ∷ more) = strip_behind rest (m ∷ more) (omega arith) in
+    let text = (stripped (rest ++ m ∷ more) (left_of_front line (m ∷ more) at u v b)).3 in
+    rw joined (goes_on_more cols (take at line) rest (strip_carriage_return (m ∷ more)) (IsUtf8-take line at u b) (IsUtf8-drop line at u b) (rw joined at text) (omega (arith, length-drop at line)) (no_joint line at (strip_carriage_return (m ∷ more)) s))
+
+-- so the rows before a row stay, if what stands where it begins needs nothing before it
+pub seam_goes_on : (cols : ℕ) (line : List ℕ) (at i : ℕ) (d : Span) → IsUtf8 line → StandsAlone line at → i < length (line_places cols line) → (get_or (line_places cols line) i d).start ≡ at → GoesOn (At cols) line i at
+seam_goes_on cols line at i d u s l e =
+    let xs : List ℕ = take at line in
+    let rest : List ℕ = drop at line in
+    let within : at < length line = s.within in
+    let some : 0 < length line = omega arith in
+    let place = row_at line (line_places cols line) (line_rows cols line) i d [] (line_places-are cols line u) l in
+    let b : IsCharBoundary line at = rw e at place.start in
+    let whole_line : xs ++ rest ≡ line = take-append-drop at line in
+    let left : length rest ≡ length line - at = length-drop at line in
     let xs_long : length xs ≡ at = length-take-le at line (omega arith) in
-    let last : get_or (drop at line) ((later - at) - 1) 0 ≡ 32 = get_or-drop at line ((later - at) - 1) 0 ∙ ap (λ n. get_or line n 0) (let z : at + ((later - at) - 1) ≡ later - 1 = omega arith in z) ∙ v.space in
-    let head_x : get_or (drop at line) 0 0 ≢ 32 = λ f. w.word (ap (λ n. get_or line n 0) (let z : at ≡ at + 0 = omega arith in z) ∙ sym (get_or-drop at line 0 0) ∙ f) in
-    let head_v : get_or vs 0 0 ≢ 32 = λ f. v.word (ap (λ n. get_or line n 0) (let z : later ≡ later + 0 = omega arith in z) ∙ sym (get_or-drop later line 0 0) ∙ f) in
-    let ul : IsUtf8 (drop at line) = IsUtf8-drop line at u b in
-    let uu : IsUtf8 us = IsUtf8-between line at later u (omega arith) b c in
-    let uv : IsUtf8 vs = IsUtf8-drop line later u c in
-    let vs_long : length vs ≡ length line - later = length-drop later line in
-    let seam : IsSeam xs us = record {
-      text_x = IsUtf8-take line at u b;
-      text_u = uu;
-      some = omega arith;
-      ends_x = ends_word line at u w.behind (omega arith) w.space;
-      begins_u = begins_word us uu (λ m f. head_x (ap (λ ys. get_or ys 0 0) (sym rest) ∙ get_or_append_left us vs 0 0 m ∙ f));
-      ends_u = ends_word (drop at line) (later - at) ul (omega arith) (omega arith) last;
-    } in
     let runs : List (List Piece) = line_runs cols line in
     let many : length (line_places cols line) ≡ length runs = ap length (places_of_some cols line (some_chars line u some)) ∙ length-places-at 0 runs in
     let before : List (List Piece) = take i runs in
     let after : List (List Piece) = drop i runs in
     let count : length before ≡ i = length-take-le i runs (omega arith) in
-    let divided : line_runs cols (xs ++ (us ++ vs)) ≡ before ++ after = ap (line_runs cols) whole_line ∙ sym (take-append-drop i runs) in
-    let texts : length (run_text (elements before)) ≡ length (chars xs) = runs_before_place cols line at i d u some b l e in
-    let bv : BeginsWord (chars vs) = begins_word vs uv (λ m. head_v) in
-    let behind_it : (more : List ℕ) → IsUtf8 (line ++ more) → IsUtf8 (vs ++ more) = λ more k. left_of_front line more later u k c in
-    let head_more : (more : List ℕ) → get_or (vs ++ more) 0 0 ≢ 32 = λ more f. head_v (sym (get_or_append_left vs more 0 0 (omega arith)) ∙ f) in
-    let open_begins : (more : List ℕ) → IsUtf8 (line ++ more) → BeginsWord (chars (vs ++ more)) = λ more k. begins_word (vs ++ more) (behind_it more k) (λ m. head_more more) in
-    let ended_begins : (more : List ℕ) → IsUtf8 (line ++ more) → BeginsWord (chars (strip_carriage_return (vs ++ more))) = λ more k. strip_begins (vs ++ more) (behind_it more k) (λ m. head_more more) in
-    let open_text : (more : List ℕ) → xs ++ (us ++ (vs ++ more)) ≡ line ++ more = λ more. ap (λ ys. xs ++ ys) (sym (append_assoc us vs more)) ∙ sym (append_assoc xs (us ++ vs) more) ∙ ap (λ ys. ys ++ more) whole_line in
-    let open_rest : (more : List ℕ) → us ++ (vs ++ more) ≡ drop at line ++ more = λ more. sym (append_assoc us vs more) ∙ ap (λ ys. ys ++ more) rest in
-    let left_some : (more : List ℕ) → 0 < length (vs ++ more) = λ more. omega (arith, length-append vs more) in
-    let ended_rest : (more : List ℕ) → us ++ strip_carriage_return (vs ++ more) ≡ strip_carriage_return (drop at line ++ more) = λ more. sym (strip_behind us (vs ++ more) (left_some more)) ∙ ap strip_carriage_return (open_rest more) in
-    let ended_text : (more : List ℕ) → xs ++ (us ++ strip_carriage_return (vs ++ more)) ≡ strip_carriage_return (line ++ more) = λ more.
-    ap (λ ys. xs ++ ys) (sym (strip_behind us (vs ++ more) (left_some more))) ∙ sym (strip_behind xs (us ++ (vs ++ more)) (omega (arith, left_some more, length-append us (vs ++ more)))) ∙ ap strip_carriage_return (open_text more) in
-    let rows_on : (ws : List ℕ) → BeginsWord (chars ws) → line_rows cols (xs ++ (us ++ ws)) ≡ take i (line_rows cols line) ++ line_rows cols (us ++ ws) = λ ws bw.
-    line_rows_go_on cols xs us vs ws before after seam bv bw divided texts ∙ ap (λ n. take n (line_rows cols (xs ++ (us ++ vs))) ++ line_rows cols (us ++ ws)) count ∙ ap (λ ys. take i (line_rows cols ys) ++ line_rows cols (us ++ ws)) whole_line in
-    let places_on : (ws : List ℕ) → BeginsWord (chars ws) → line_places cols (xs ++ (us ++ ws)) ≡ take i (line_places cols line) ++ map (moved at) (line_places cols (us ++ ws)) = λ ws bw.
-    line_places_go_on cols xs us vs ws before after seam bv bw divided texts ∙ ap (λ n. take n (line_places cols (xs ++ (us ++ vs))) ++ map (moved (length xs)) (line_places cols (us ++ ws))) count
-    ∙ ap (λ ys. take i (line_places cols ys) ++ map (moved (length xs)) (line_places cols (us ++ ws))) whole_line ∙ ap (λ n. take i (line_places cols line) ++ map (moved n) (line_places cols (us ++ ws))) xs_long in
-    let stored_on : (n : ℕ) (ws : List ℕ) → BeginsWord (chars ws) → line_stored (At cols) n (xs ++ (us ++ ws)) ≡ take i (line_stored (At cols) n line) ++ line_stored (At cols) (n + at) (us ++ ws) = λ n ws bw.
-    ap (map (moved n)) (places_on ws bw) ∙ map-append (moved n) (take i (line_places cols line)) (map (moved at) (line_places cols (us ++ ws)))
-    ∙ ap (λ rs. rs ++ map (moved n) (map (moved at) (line_places cols (us ++ ws)))) (sym (take-map (moved n) i (line_places cols line)))
-    ∙ ap (λ rs. take i (line_stored (At cols) n line) ++ rs) (moved_twice n at (line_places cols (us ++ ws))) in
+    let divided : line_runs cols (xs ++ rest) ≡ before ++ after = ap (line_runs cols) whole_line ∙ sym (take-append-drop i runs) in
+    let texts : run_text (elements before) ≡ chars xs = runs_before_place cols line at i d u some b l e in
+    let open_text : (more : List ℕ) → xs ++ (rest ++ more) ≡ line ++ more = λ more. sym (append_assoc xs rest more) ∙ ap (λ ys. ys ++ more) whole_line in
     let more_some : (more : List ℕ) → 0 < length (line ++ more) = λ more. omega (arith, length-append line more) in
-    let rest_some : (more : List ℕ) → 0 < length (drop at line ++ more) = λ more. omega (arith, length-append (drop at line) more) in
+    let rest_some : (more : List ℕ) → 0 < length (rest ++ more) = λ more. omega (arith, length-append rest more) in
+    let ended_text : (more : List ℕ) → xs ++ strip_carriage_return (rest ++ more) ≡ strip_carriage_return (line ++ more) = λ more. sym (strip_behind xs (rest ++ more) (rest_some more)) ∙ ap strip_carriage_return (open_text more) in
+    let rows_on : (ws : List ℕ) → GoesOnAs cols xs rest ws → line_rows cols (xs ++ ws) ≡ take i (line_rows cols line) ++ line_rows cols ws = λ ws h.
+    line_rows_go_on cols xs rest ws before after h divided texts ∙ ap (λ n. take n (line_rows cols (xs ++ rest)) ++ line_rows cols ws) count ∙ ap (λ ys. take i (line_rows cols ys) ++ line_rows cols ws) whole_line in
+    let places_on : (ws : List ℕ) → GoesOnAs cols xs rest ws → line_places cols (xs ++ ws) ≡ take i (line_places cols line) ++ map (moved at) (line_places cols ws) = λ ws h.
+    line_places_go_on cols xs rest ws before after h divided texts ∙ ap (λ n. take n (line_places cols (xs ++ rest)) ++ map (moved (length xs)) (line_places cols ws)) count
+    ∙ ap (λ ys. take i (line_places cols ys) ++ map (moved (length xs)) (line_places cols ws)) whole_line ∙ ap (λ n. take i (line_places cols line) ++ map (moved n) (line_places cols ws)) xs_long in
+    let stored_on : (n : ℕ) (ws : List ℕ) → GoesOnAs cols xs rest ws → line_stored (At cols) n (xs ++ ws) ≡ take i (line_stored (At cols) n line) ++ line_stored (At cols) (n + at) ws = λ n ws h.
+    ap (map (moved n)) (places_on ws h) ∙ map-append (moved n) (take i (line_places cols line)) (map (moved at) (line_places cols ws))
+    ∙ ap (λ rs. rs ++ map (moved n) (map (moved at) (line_places cols ws))) (sym (take-map (moved n) i (line_places cols line)))
+    ∙ ap (λ rs. take i (line_stored (At cols) n line) ++ rs) (moved_twice n at (line_places cols ws)) in
+    let opens : (more : List ℕ) → IsUtf8 (line ++ more) → GoesOnAs cols xs rest (rest ++ more) = λ more k. open_goes_on cols line at more u k b s in
+    let ends : (more : List ℕ) → IsUtf8 (line ++ more) → GoesOnAs cols xs rest (strip_carriage_return (rest ++ more)) = λ more k. ended_goes_on cols line at more u k b s in
     record {
       boundary = b;
       few = rw (some_open (At cols) 0 line some).0 (omega (arith, l, length-places line (line_places cols line) (line_rows cols line) (line_places-are cols line u)));
       some_left = λ m. within;
-      open_go_on = λ more k. (some_open (At cols) 0 (line ++ more) (more_some more)).0 ∙ ap (line_rows cols) (sym (open_text more)) ∙ rows_on (vs ++ more) (open_begins more k)
-          ∙ ap (λ rs. take i rs ++ line_rows cols (us ++ (vs ++ more))) (sym (some_open (At cols) 0 line some).0) ∙ ap (λ ys. take i (open_rows (At cols) line) ++ line_rows cols ys) (open_rest more)
-          ∙ ap (λ rs. take i (open_rows (At cols) line) ++ rs) (sym (some_open (At cols) 0 (drop at line ++ more) (rest_some more)).0);
-      ended_go_on = λ more k. ap (line_rows cols) (sym (ended_text more)) ∙ rows_on (strip_carriage_return (vs ++ more)) (ended_begins more k)
-          ∙ ap (λ rs. take i rs ++ line_rows cols (us ++ strip_carriage_return (vs ++ more))) (sym (some_open (At cols) 0 line some).0) ∙ ap (λ ys. take i (open_rows (At cols) line) ++ line_rows cols ys) (ended_rest more);
-      open_places = λ n more k. (some_open (At cols) n (line ++ more) (more_some more)).1 ∙ ap (line_stored (At cols) n) (sym (open_text more)) ∙ stored_on n (vs ++ more) (open_begins more k)
-          ∙ ap (λ rs. take i rs ++ line_stored (At cols) (n + at) (us ++ (vs ++ more))) (sym (some_open (At cols) n line some).1) ∙ ap (λ ys. take i (open_stored (At cols) n line) ++ line_stored (At cols) (n + at) ys) (open_rest more)
-          ∙ ap (λ rs. take i (open_stored (At cols) n line) ++ rs) (sym (some_open (At cols) (n + at) (drop at line ++ more) (rest_some more)).1);
-      ended_places = λ n more k. ap (line_stored (At cols) n) (sym (ended_text more)) ∙ stored_on n (strip_carriage_return (vs ++ more)) (ended_begins more k)
-          ∙ ap (λ rs. take i rs ++ line_stored (At cols) (n + at) (us ++ strip_carriage_return (vs ++ more))) (sym (some_open (At cols) n line some).1) ∙ ap (λ ys. take i (open_stored (At cols) n line) ++ line_stored (At cols) (n + at) ys) (ended_rest more);
+      open_go_on = λ more k. (some_open (At cols) 0 (line ++ more) (more_some more)).0 ∙ ap (line_rows cols) (sym (open_text more)) ∙ rows_on (rest ++ more) (opens more k)
+          ∙ ap (λ rs. take i rs ++ line_rows cols (rest ++ more)) (sym (some_open (At cols) 0 line some).0) ∙ ap (λ rs. take i (open_rows (At cols) line) ++ rs) (sym (some_open (At cols) 0 (rest ++ more) (rest_some more)).0);
+      ended_go_on = λ more k. ap (line_rows cols) (sym (ended_text more)) ∙ rows_on (strip_carriage_return (rest ++ more)) (ends more k)
+          ∙ ap (λ rs. take i rs ++ line_rows cols (strip_carriage_return (rest ++ more))) (sym (some_open (At cols) 0 line some).0);
+      open_places = λ n more k. (some_open (At cols) n (line ++ more) (more_some more)).1 ∙ ap (line_stored (At cols) n) (sym (open_text more)) ∙ stored_on n (rest ++ more) (opens more k)
+          ∙ ap (λ rs. take i rs ++ line_stored (At cols) (n + at) (rest ++ more)) (sym (some_open (At cols) n line some).1) ∙ ap (λ rs. take i (open_stored (At cols) n line) ++ rs) (sym (some_open (At cols) (n + at) (rest ++ more) (rest_some more)).1);
+      ended_places = λ n more k. ap (line_stored (At cols) n) (sym (ended_text more)) ∙ stored_on n (strip_carriage_return (rest ++ more)) (ends more k)
+          ∙ ap (λ rs. take i rs ++ line_stored (At cols) (n + at) (strip_carriage_return (rest ++ more))) (sym (some_open (At cols) n line some).1);
     }
 
 -- the same for rows that are stored; a line that is not wrapped has none behind its first
-pub stored_seam : (wrap : Wrap) (base : ℕ) (line : List ℕ) (rows : List Span) (at later i : ℕ) (d : Span) → IsUtf8 line → rows ≡ open_stored wrap base line → WordBeginsAt line at → WordBeginsAt line later → at < later → i < length rows → at ≡ (get_or rows i d).start - base → GoesOn wrap line i at
-stored_seam (At cols) base line rows at later i d u e w v lt l is =
-    let within : at < length line = w.within in
+pub stored_seam : (wrap : Wrap) (base : ℕ) (line : List ℕ) (rows : List Span) (at i : ℕ) (d : Span) → IsUtf8 line → rows ≡ open_stored wrap base line → StandsAlone line at → i < length rows → at ≡ (get_or rows i d).start - base → GoesOn wrap line i at
+stored_seam (At cols) base line rows at i d u e s l is =
+    let within : at < length line = s.within in
     let stored : rows ≡ map (moved base) (line_places cols line) = e ∙ (some_open (At cols) base line (omega arith)).1 in
     let many : length rows ≡ length (line_places cols line) = ap length stored ∙ length-map (line_places cols line) (moved base) in
     let one : get_or rows i d ≡ moved base (get_or (line_places cols line) i d) = ap (λ rs. get_or rs i d) stored ∙ get_or-map (moved base) (line_places cols line) i d d (omega arith) in
     let start : (get_or rows i d).start ≡ base + (get_or (line_places cols line) i d).start = ap (λ (s : Span). s.start) one in
-    seam_goes_on cols line at later i d u w v lt (omega arith) (omega (arith, start, is))
-stored_seam Off base line rows at later zero d u e w v lt l is =
-    let within : at < length line = w.within in
-    let behind : 0 < at = w.behind in
+    seam_goes_on cols line at i d u s (omega arith) (omega (arith, start, is))
+stored_seam Off base line rows at zero d u e s l is =
+    let within : at < length line = s.within in
     let stored : rows ≡ record { start = base + 0; end = base + length line } ∷ [] = e ∙ (some_open Off base line (omega arith)).1 in
     let start : (get_or rows 0 d).start ≡ base + 0 = ap (λ rs. (get_or rs 0 d).start) stored in
-    absurd (omega (arith, start, is, behind))
-stored_seam Off base line rows at later (suc i) d u e w v lt l is =
-    let within : at < length line = w.within in
+    let here : at ≡ 0 = omega (arith, start, is) in
+    rw here (start_goes_on Off line u)
+stored_seam Off base line rows at (suc i) d u e s l is =
+    let within : at < length line = s.within in
     let stored : rows ≡ record { start = base + 0; end = base + length line } ∷ [] = e ∙ (some_open Off base line (omega arith)).1 in
     absurd (omega (arith, ap length stored, l))
 
+-- ---- rows that do not
+
+-- behind the last row there is none
+pub none_behind : (line : List ℕ) (base border n : ℕ) (rows : List Span) → length rows ≤ n → NoneAlone line base border (drop n rows)
+none_behind line base border n rows l = rw (drop_all n rows l) (All-nil (λ r. r.start - base ≤ border → StandsAlone line (r.start - base) → ⊥))
+
+-- nor from one that does not stand alone up to the border
+pub none_from : (line : List ℕ) (base border n m : ℕ) (rows : List Span) (d : Span) → m < length rows → m + 1 ≡ n → ((get_or rows m d).start - base ≤ border → StandsAlone line ((get_or rows m d).start - base) → ⊥)
+    → NoneAlone line base border (drop n rows) → NoneAlone line base border (drop m rows)
+none_from line base border n m rows d l e here h =
+    rw (drop_more rows m d l, e) (All-cons (λ r. r.start - base ≤ border → StandsAlone line (r.start - base) → ⊥) (get_or rows m d) (drop n rows) here h)
+
+-- nor further on
+pub none_further : (line : List ℕ) (base border n m : ℕ) (rows : List Span) → n ≤ m → NoneAlone line base border (drop n rows) → NoneAlone line base border (drop m rows)
+none_further line base border n m rows l h =
+    let to : n + (m - n) ≡ m = omega arith in
+    rw (drop-drop (m - n) n rows, to) at (All-drop (λ r. r.start - base ≤ border → StandsAlone line (r.start - base) → ⊥) (m - n) (drop n rows) h)
+
 -- the law, over the texts of lines
 pub rows_go_on : RowsGoOn
-rows_go_on cols line before row after later u e w v lt =
+rows_go_on cols line before row after u e s =
     let few : length before < length (line_places cols line) = omega (arith, ap length e, length-append before (row ∷ after)) in
     let here : get_or (before ++ row ∷ after) (length before) row ≡ row = get_or-append_right before (row ∷ after) (length before) (length before) row refl (omega arith) ∙ ap (λ n. get_or (row ∷ after) n row) (let z : length before - length before ≡ 0 = omega arith in z) in
-    seam_goes_on cols line row.start later (length before) row u w v lt few (ap (λ (ss : List Span). (get_or ss (length before) row).start) e ∙ ap (λ (s : Span). s.start) here)
+    seam_goes_on cols line row.start (length before) row u s few (ap (λ (ss : List Span). (get_or ss (length before) row).start) e ∙ ap (λ (s : Span). s.start) here)

@@ -2,7 +2,7 @@
 use Rattle.std.specs.Prelude.{◌≡◌, ℕ, ◌+◌, ◌-◌, ◌≤◌, ◌==◌, ◌&&◌, Bool, true, nat_le, min, max, List, [], ◌∷◌, ◌++◌, replicate, chars, if◌then◌else◌}
 use Rattle.std.specs.List.{concat, sum_by}
 use Rattle.std.specs.Str.{encode_utf8_all}
-use Rattle.minus_text.specs.Units.{begins_sequence, unit_columns}
+use Rattle.minus_text.specs.Units.{begins_sequence, unit_columns, text_columns}
 use Rattle.minus_text.specs.TextUnits.{text_units}
 
 -- the columns of the last unit that has columns, 0 with none
@@ -55,12 +55,15 @@ fitted_units cols us = longest_front cols us ++ replicate (cols - sum_by unit_co
 unfoldable pub fitted : ℕ → List ℕ → List ℕ
 fitted cols text = encode_utf8_all (concat (fitted_units cols (text_units (chars text))))
 
--- what is shown of a text takes no more columns than there are
+-- what is shown of a text, taken as one piece, takes no more columns than there are
 abbrev pub CroppedFits : Type 0
-CroppedFits = (left width : ℕ) (text : List ℕ) → sum_by unit_columns (shown_units left width [] (text_units (chars text))) ≤ width
+CroppedFits = (left width : ℕ) (text : List ℕ) → text_columns (concat (shown_units left width [] (text_units (chars text)))) ≤ width
 
--- a front of units that takes at most so many columns is a front of the longest; cut or filled, they take just as many
+-- the front of a text's units is the longest that takes at most so many columns; filled, and taken as one piece, it takes just as many
 pub record FittedFills (cols : ℕ) (us : List (List ℕ)) : Type 0 where
   pub front : (rest : List (List ℕ)) × (us ≡ longest_front cols us ++ rest)
   pub longest : (before after : List (List ℕ)) → us ≡ before ++ after → sum_by unit_columns before ≤ cols → (rest : List (List ℕ)) × (longest_front cols us ≡ before ++ rest)
   pub fills : sum_by unit_columns (fitted_units cols us) ≡ cols
+
+abbrev pub FittedTextsFill : Type 0
+FittedTextsFill = (cols : ℕ) (text : List ℕ) → FittedFills cols (text_units (chars text)) × (text_columns (concat (fitted_units cols (text_units (chars text)))) ≡ cols)

@@ -1,9 +1,9 @@
 //! Texts cut to some columns.
-ghost use Rattle.std.specs.Prelude.{◌≡◌, ◌==◌, ◌++◌, ℕ, List, chars, string_bytes, if◌then◌else◌, IfOk, OnOk};
+ghost use Rattle.std.specs.Prelude.{◌≡◌, ◌≤◌, ◌==◌, ◌++◌, chars, string_bytes, if◌then◌else◌, IfOk, OnOk};
 ghost use Rattle.std.specs.List.{concat};
 ghost use Rattle.std.specs.Str.{encode_utf8_all};
-ghost use Rattle.minus_text.specs.Units.{unit_columns, begins_sequence};
-ghost use Rattle.minus_text.specs.Crop.{is_inside, columns_inside, is_shown_behind, is_shown, shown_unit, cropped, fitted, CroppedFits, FittedFills};
+ghost use Rattle.minus_text.specs.Units.{unit_columns, columns, begins_sequence};
+ghost use Rattle.minus_text.specs.Crop.{is_inside, columns_inside, is_shown_behind, is_shown, shown_unit, cropped, fitted, CroppedFits, FittedTextsFill};
 
 use crate::screen::Row;
 use crate::spaces::push_spaces;
@@ -92,7 +92,8 @@ fn last_columns(last: usize, columns: usize) -> usize
 /// that is; each `ESC[` sequence is shown; any other character without columns is shown with the last unit
 /// with columns before it, and with none before it where `left` is 0. Fails for want of memory alone.
 pub fn crop_columns(alloc: Global, text: &str, left: usize, width: usize) -> Result<Row, AllocError>
-    ensures { IfOk result (λ row. string_bytes row ≡ cropped left width text.now) }
+    ensures row { IfOk result (λ row. string_bytes row ≡ cropped left width text.now) }
+    ensures fits { IfOk result (λ row. columns (string_bytes row) ≤ width) }
 {
     let window = Window { left, width };
     let mut row = String::new(alloc);
@@ -111,7 +112,8 @@ pub fn crop_columns(alloc: Global, text: &str, left: usize, width: usize) -> Res
 /// Adds a text, taken as one piece, cut to its longest front of whole units that takes at most so many
 /// columns, and filled with spaces to as many. Fails for want of memory alone.
 pub fn push_fitted(row: &mut String, text: &str, cols: usize) -> Result<(), AllocError>
-    ensures { OnOk result (string_bytes row.new ≡ string_bytes row.old ++ fitted cols text.now) }
+    ensures row { OnOk result (string_bytes row.new ≡ string_bytes row.old ++ fitted cols text.now) }
+    ensures fills { OnOk result (columns (fitted cols text.now) ≡ cols) }
 {
     let mut left = cols;
     let mut rest = Units::new(text);
@@ -128,12 +130,13 @@ pub fn push_fitted(row: &mut String, text: &str, cols: usize) -> Result<(), Allo
     Ok(())
 }
 
-/// What is shown of a text takes at most the columns that there are.
+/// What is shown of a text, taken as one piece, takes at most the columns that there are.
 pub fn cropped_texts_fit()
     ensures { CroppedFits }
 {}
 
-/// A text cut or filled to some columns has the longest front of units that fits, and takes just as many.
+/// A text cut or filled to some columns has the longest front of units that fits, and takes just as many
+/// columns.
 pub fn fitted_texts_fill()
-    ensures { (cols : ℕ) (us : List (List ℕ)) → FittedFills cols us }
+    ensures { FittedTextsFill }
 {}

@@ -16,7 +16,9 @@ fn unfinished_told(alloc: Global, pieces: &str) -> Result<usize, MinusError> {
     let mut screen = Screen::new(alloc);
     let mut rows = 0;
     for piece in pieces.split('|') {
-        rows = screen.push_screen_buf(alloc, piece, LineNumbers::Disabled, 20)?.num_unterminated;
+        rows = screen
+            .push_screen_buf(alloc, piece, LineNumbers::Disabled, 20)?
+            .num_unterminated;
     }
     Ok(rows)
 }

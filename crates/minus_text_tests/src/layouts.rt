@@ -23,7 +23,7 @@ fn stores_all(alloc: Global, screen: &Screen, rows: &str) -> Result<bool, MinusE
         if !stores(alloc, screen, i, wanted)? {
             return Ok(false);
         }
-        i += 1;
+        i = i.saturating_add(1);
     }
     Ok(i == screen.formatted_lines_count())
 }
@@ -44,7 +44,7 @@ fn numbered(alloc: Global, text: &str, size: usize, cols: usize) -> Result<Scree
     let mut screen = Screen::new(alloc);
     let mut start = 0;
     for i in 1..text.len() + 1 {
-        let is_piece = i - start >= size || i == text.len();
+        let is_piece = i.saturating_sub(start) >= size || i == text.len();
         if let (true, Some(piece)) = (is_piece, text.get(start..i)) {
             let _ = screen.push_screen_buf(alloc, piece, LineNumbers::Enabled, cols)?;
             start = i;
@@ -117,7 +117,10 @@ fn numbered_lines_in_pieces_store_the_rows_of_the_whole(rt: HostRuntime) -> Resu
         for size in [1, 3, 7] {
             let pieces = numbered(rt.alloc(), LINES, size, cols)?;
             let whole = numbered(rt.alloc(), LINES, LINES.len(), cols)?;
-            assert!(rt; store_the_same(rt.alloc(), &pieces, &whole)?, "at {size} in {cols}");
+            assert!(rt;
+                store_the_same(rt.alloc(), &pieces, &whole)?,
+                "at {size} in {cols}"
+            );
         }
     }
     Ok(())

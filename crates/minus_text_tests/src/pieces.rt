@@ -1,17 +1,23 @@
 //! An unfinished line that comes in pieces has the rows of the whole.
+use crate::screens::fill;
 use minus_term::error::MinusError;
 use minus_text::{LineNumbers, Screen};
 use std::alloc::Global;
 use std::test::Fail;
 
-// Lines that go on at their hyphens, in wide and combining characters, in `ESC[`, and between both characters of an ending.
-const TEXTS: [&str; 6] = [
+// Lines that go on at their hyphens, in wide and combining characters, in `ESC[`, and between both characters of an ending;
+// the last ones are words of many rows.
+const TEXTS: [&str; 10] = [
     "a well-known -fact- and 9-9 x-\r\nnext",
     "日本 語 ab 日本語 e\u{301} z\n",
     "r \x1b[31mred\x1b[0m and \x1b[ 1 m q w e",
     "aaaa    \r\nbb  bb   b ",
     "  two  spaces   first and   last  ",
     "-bb-a a b c-d-e f\r\r\n\r\n",
+    "bb-aa99-9--b-.c-.d-.e9-\r\n",
+    "日本語日本語-日a-e\u{301}本",
+    "ab\x1b[31mcd\x1b[ 0mef-gh\x1b",
+    "\r   \r \r \r\n",
 ];
 
 // Whether two screens show the same.
@@ -129,6 +135,21 @@ fn a_text_cut_at_any_two_places_has_the_rows_of_the_whole(rt: HostRuntime) -> Re
                 "at {text} in {cols}"
             );
         }
+    }
+    Ok(())
+}
+
+#[test]
+fn a_word_in_pieces_has_its_rows(rt: HostRuntime) -> Result<(), Fail> {
+    // (a row that begins with a hyphen is formed again, and one that is a carriage return alone goes with its newline)
+    let table = [
+        ("bb-a|a", "bb|-|aa"),
+        ("99-|9-", "99|-|9-"),
+        ("\r   \r|\n", "\r"),
+        ("ab|cde|f|gh|i", "ab|cd|ef|gh|i"),
+    ];
+    for (pieces, rows) in table {
+        assert!(rt; fill(rt.alloc(), pieces, 2, rows)?, "at {pieces}");
     }
     Ok(())
 }

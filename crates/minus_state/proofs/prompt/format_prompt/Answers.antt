@@ -1,8 +1,8 @@
 -- What the row says and its indicators, one after another.
-use Rattle.std.proofs.Common.{◌≡◌, ◌++◌, ◌∷◌, ℕ, true, List, [], codes, string_bytes, arith, refl, ap, ◌∙◌}
+use Rattle.std.proofs.Common.{◌≡◌, ◌++◌, ◌∷◌, ℕ, true, false, List, [], codes, string_bytes, arith, refl, sym, ap, ◌∙◌}
 use Rattle.minus_text.specs.Units.{columns}
 use Rattle.minus_text.specs.Crop.{fitted}
-use Rattle.minus_state.specs.PromptRow.{PromptRow, seen_prompt, said, said_style, prefix_indicator, match_indicator, follow_indicator, columns_left, styled, prompt_row}
+use Rattle.minus_state.specs.PromptRow.{PromptRow, seen_prompt, said, said_style, prefix_indicator, match_indicator, follow_indicator, columns_left, styled, prompt_row, FillsItsRow}
 use Rattle.minus_state.proofs.prompt.format_prompt.Goals as goal
 
 row_formed : (p : PromptRow) (left : ℕ) (t0 t1 t2 t3 t4 t5 t6 : List ℕ) → p.is_shown ≡ true → left ≡ columns_left p → t0 ≡ [] → t1 ≡ t0 ++ said_style p → t2 ≡ t1 ++ fitted left (said p)
@@ -11,12 +11,29 @@ row_formed : (p : PromptRow) (left : ℕ) (t0 t1 t2 t3 t4 t5 t6 : List ℕ) → 
 unfolding prompt_row
 row_formed p left t0 t1 t2 t3 t4 t5 t6 h l e0 e1 e2 e3 e4 e5 e6 = rw (h, e6, e5, e4, e3, e2, e1, e0, l) refl
 
-pub returns-then-not-row : goal.returns-then-not-row
-unfolding prompt_row
-returns-then-not-row c = rw c.if-not-row.true c.new-text.ensures.bytes
+row_filled : (p : PromptRow) (left : ℕ) (says : List ℕ) → left ≡ columns_left p → says ≡ said p → columns (fitted left says) ≡ left → FillsItsRow p
+row_filled p left says l s h =
+    let same : columns (fitted (columns_left p) (said p)) ≡ columns (fitted left says) = rw (l, s) refl in
+    omega (arith, same, h, l)
 
-pub returns : goal.returns
-returns c =
+pub returns-then-not-row-clause-text : goal.returns-then-not-row-clause-text
+unfolding prompt_row
+returns-then-not-row-clause-text c = rw c.if-not-row.true c.new-text.ensures.bytes
+
+pub returns-then-not-row-clause-fills : goal.returns-then-not-row-clause-fills
+returns-then-not-row-clause-fills c = λ shown. let both : false ≡ true = sym c.if-not-row.true ∙ shown in absurd cc
+
+pub returns-clause-fills : goal.returns-clause-fills
+returns-clause-fills c = λ shown.
+    let p = seen_prompt c.args.row.now in
+    let prefix = c.as_str.ensures.value ∙ c.in_ok-prefix.ensures in
+    let matches = c.as_str-2.ensures.value ∙ c.in_ok-matches.ensures in
+    let left : c.saturating_sub-left.result ≡ columns_left p =
+    omega (arith, c.saturating_sub.ensures, c.saturating_sub-2.ensures, c.saturating_sub-left.ensures, c.columns.ensures, ap columns prefix, c.columns-2.ensures, ap columns matches, c.columns-3.ensures, ap columns c.follow_indicator-follow.ensures) in
+    row_filled p c.saturating_sub-left.result c.said.result.1.now left c.said.ensures.text c.in_ok-push_fitted.ensures.fills
+
+pub returns-clause-text : goal.returns-clause-text
+returns-clause-text c =
     let p = seen_prompt c.args.row.now in
     let prefix = c.as_str.ensures.value ∙ c.in_ok-prefix.ensures in
     let matches = c.as_str-2.ensures.value ∙ c.in_ok-matches.ensures in
@@ -29,7 +46,7 @@ returns c =
     let t4 = string_bytes c.push_styled-2.new.text in
     row_formed p c.saturating_sub-left.result t0 t1 t2 t3 t4 (string_bytes c.push_styled-3.new.text) (string_bytes c.push_str-2.new.self) c.if-not-row.false left c.new-text.ensures.bytes
     (c.in_ok-push_str.ensures.bytes ∙ ap (λ bs. t0 ++ bs) c.said.ensures.style)
-    (c.in_ok-push_fitted.ensures ∙ ap (λ bs. t1 ++ fitted c.saturating_sub-left.result bs) c.said.ensures.text)
+    (c.in_ok-push_fitted.ensures.row ∙ ap (λ bs. t1 ++ fitted c.saturating_sub-left.result bs) c.said.ensures.text)
     (c.in_ok-push_styled.ensures ∙ ap (λ bs. t2 ++ styled (27 ∷ codes "[30;43m") bs) (c.as_str-3.ensures.value ∙ c.in_ok-prefix.ensures))
     (c.in_ok-push_styled-2.ensures ∙ ap (λ bs. t3 ++ styled (27 ∷ codes "[30;44m") bs) (c.as_str-4.ensures.value ∙ c.in_ok-matches.ensures))
     (c.in_ok-push_styled-3.ensures ∙ ap (λ bs. t4 ++ styled (27 ∷ codes "[1m") bs) c.follow_indicator-follow.ensures)

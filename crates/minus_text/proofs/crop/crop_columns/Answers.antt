@@ -2,6 +2,8 @@
 use Rattle.std.proofs.Common.{chars, length, string_bytes, arith, refl, ap}
 use Rattle.minus_text.specs.TextUnits.{units_left}
 use Rattle.minus_text.specs.Crop.{cropped}
+use Rattle.std.proofs.lemmas.Str.{IsUtf8-string_bytes}
+use Rattle.minus_text.proofs.ShownColumnsLaws.{cropped_columns}
 use Rattle.minus_text.proofs.CropLaws.{crop_begun, crop_more, crop_done}
 use Rattle.minus_text.proofs.crop.crop_columns.Goals as goal
 
@@ -21,6 +23,9 @@ loop-unit-preserved c =
       room = omega (arith, room, c.loop-unit.invariant.room);
     }
 
-pub returns : goal.returns
-returns c =
+pub returns-clause-row : goal.returns-clause-row
+returns-clause-row c =
     crop_done c.args.left c.args.width (units_left c.loop-unit.rest) c.loop-unit.at c.loop-unit.last (string_bytes c.loop-unit.row) (cropped c.args.left c.args.width c.args.text.now) c.loop-unit.invariant.so_far c.in_default.ensures.units
+
+pub returns-clause-fits : goal.returns-clause-fits
+returns-clause-fits c = cropped_columns c.args.left c.args.width c.args.text.now (string_bytes c.loop-unit.row) (IsUtf8-string_bytes c.loop-unit.row) (returns-clause-row c)

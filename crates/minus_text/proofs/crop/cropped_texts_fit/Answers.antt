@@ -1,8 +1,7 @@
--- The columns of all units are those between the two ends.
-use Rattle.std.proofs.Common.{arith, chars, []}
-use Rattle.minus_text.specs.TextUnits.{text_units}
-use Rattle.minus_text.proofs.CropLaws.{shown_fit}
+-- The units that are shown take no more columns, and one after another no other.
+use Rattle.std.proofs.Common.{chars}
+use Rattle.minus_text.proofs.ShownColumnsLaws.{shown_columns_fit}
 use Rattle.minus_text.proofs.crop.cropped_texts_fit.Goals as goal
 
 pub returns : goal.returns
-returns c = λ left width text. omega (arith, shown_fit left width [] (text_units (chars text)))
+returns c = λ left width text. shown_columns_fit left width (chars text)

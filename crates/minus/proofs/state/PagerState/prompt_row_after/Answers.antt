@@ -11,7 +11,7 @@ pub returns : goal.returns
 returns c new h =
     let change = c.args.change.now in
     let settings : Settings = settings_after (settings_of c.args.self.now) change.clears change.setting in
-    c.in_ok-text.ensures
+    c.in_ok-text.ensures.text
     ∙ ap prompt_row c.prompt_after-row.ensures
     ∙ ap (λ (n : ℕ). prompt_row_of n settings) h.cols_are
     ∙ ap (λ (s : Settings). prompt_row_of new.cols s) h.settings_are

@@ -1,0 +1,7 @@
+//! Tests of `minus_state`: worked rows.
+#![tactic(auto)]
+
+#[cfg(test)]
+mod prompts;
+#[cfg(test)]
+mod rows;
