@@ -52,6 +52,15 @@ resize_asked argument = if has_blank argument then size_asked (usize_of (before_
 abbrev pub switch_of : List ℕ → Option Bool
 switch_of argument = if bytes_eq argument (codes "on") then Some true else if bytes_eq argument (codes "off") then Some false else None
 
+-- what a word sets beside the text with its argument
+abbrev pub setting_asked : List ℕ → List ℕ → Option (Wanted StandIn)
+setting_asked word argument =
+    if bytes_eq word (codes "prompt") then option_map sets_prompt (unescaped argument)
+    else if bytes_eq word (codes "message") then option_map sends_message (unescaped argument)
+    else if bytes_eq word (codes "follow") then option_map follows (switch_of argument)
+    else if bytes_eq word (codes "showprompt") then option_map shows_prompt (switch_of argument)
+    else None
+
 -- what a word asks for as a command with its argument: a known word, whose argument is well formed
 abbrev pub command_asked : List ℕ → List ℕ → Option (Wanted StandIn)
 command_asked word argument =
@@ -59,11 +68,7 @@ command_asked word argument =
     else if bytes_eq word (codes "set") then option_map sets_data (unescaped argument)
     else if bytes_eq word (codes "mark") then option_map moves_mark (usize_of argument)
     else if bytes_eq word (codes "resize") then resize_asked argument
-    else if bytes_eq word (codes "prompt") then option_map sets_prompt (unescaped argument)
-    else if bytes_eq word (codes "message") then option_map sends_message (unescaped argument)
-    else if bytes_eq word (codes "follow") then option_map follows (switch_of argument)
-    else if bytes_eq word (codes "showprompt") then option_map shows_prompt (switch_of argument)
-    else None
+    else setting_asked word argument
 
 -- a command is one input
 abbrev pub one_command : Wanted StandIn → List (Told StandIn)

@@ -2,7 +2,7 @@
 ghost use Rattle.std.specs.Prelude.{◌≡◌, ◌+◌, ◌<◌, ◌++◌, ◌∷◌, [], map, length, IfOk, IfErr, OnOk, IfSome, IsSome, MatchOption, Ok, Some, None, string_bytes};
 ghost use Rattle.std.specs.Option.{option_map};
 ghost use Rattle.std.specs.List.{position};
-ghost use Rattle.minus_show.specs.Script.{is_newline, script_lines, script_told, line_told, word_told, command_asked, resize_asked, switch_of, typed, all_typed};
+ghost use Rattle.minus_show.specs.Script.{is_newline, script_lines, script_told, line_told, word_told, command_asked, setting_asked, resize_asked, switch_of, typed, all_typed};
 ghost use Rattle.minus_show.specs.Escapes.{unescaped, escape_byte, split_escape_of};
 ghost use Rattle.minus_show.specs.ScriptLines.{told_by};
 ghost use Rattle.minus_show.specs.ScriptFaults.{IsScriptFault};
@@ -153,6 +153,20 @@ fn parse_resize(argument: &str) -> Option<Command>
     Some(Command::UserInput(InputEvent::UpdateTermArea(cols, rows)))
 }
 
+/// The command that sets something beside the text, if a word and the argument after it stand for one.
+fn parse_setting(alloc: Global, word: &str, argument: &str) -> Result<Option<Command>, AllocError>
+    ensures { IfOk result (λ command. option_map wanted_of command ≡ setting_asked word.now argument.now) }
+{
+    let command = match word {
+        "prompt" => unescape(alloc, argument)?.map(set_prompt),
+        "message" => unescape(alloc, argument)?.map(send_message),
+        "follow" => parse_switch(argument).map(follow),
+        "showprompt" => parse_switch(argument).map(show_prompt),
+        _ => None,
+    };
+    Ok(command)
+}
+
 /// The command that a word and the argument after it stand for, if they are well formed.
 fn parse_command(alloc: Global, word: &str, argument: &str) -> Result<Option<Command>, AllocError>
     ensures { IfOk result (λ command. option_map wanted_of command ≡ command_asked word.now argument.now) }
@@ -162,11 +176,7 @@ fn parse_command(alloc: Global, word: &str, argument: &str) -> Result<Option<Com
         "set" => unescape(alloc, argument)?.map(set),
         "mark" => parse_usize(argument).map(move_mark),
         "resize" => parse_resize(argument),
-        "prompt" => unescape(alloc, argument)?.map(set_prompt),
-        "message" => unescape(alloc, argument)?.map(send_message),
-        "follow" => parse_switch(argument).map(follow),
-        "showprompt" => parse_switch(argument).map(show_prompt),
-        _ => None,
+        _ => parse_setting(alloc, word, argument)?,
     };
     Ok(command)
 }
