@@ -1,17 +1,17 @@
 -- A change that was put in its place.
-use Rattle.std.proofs.Common.{◌≡◌, ℕ, ◌-◌, List, take, drop, min, ◌==◌, true, arith, refl, ap, ◌∙◌}
+use Rattle.std.proofs.Common.{◌≡◌, ℕ, ◌-◌, List, take, drop, refl, ap, ◌∙◌}
 use Rattle.minus_text.specs.Layouts.{plain}
 use Rattle.minus_text.specs.Document.{Document, rows_of}
 use Rattle.minus.specs.declared.state.PagerState.{PagerState}
 use Rattle.minus.specs.declared.change.Change.{Change}
 use Rattle.minus.specs.declared.change.NextText.{NextText}
-use Rattle.minus.specs.declared.change.NextText.TheVariants.{Same, Whole, Pushed}
-use Rattle.minus.specs.Control.{Control, document_of, text_rows, top, IsClamped}
-use Rattle.minus.specs.Table.{Wanted, sets_data, appends_data, moves_mark, resizes, exits, ignores, effect, changed_by}
-use Rattle.minus.specs.declared.commands.Drawing.TheVariants.{Nothing}
+use Rattle.minus.specs.declared.change.NextText.TheVariants.{Same, Whole}
+use Rattle.minus.specs.Control.{Control, document_of, text_rows}
+use Rattle.minus.specs.Table.{Wanted, effect, changed_by, drawing_by, drawing_of}
+use Rattle.minus.specs.declared.commands.Redraw.{Redraw}
 use Rattle.minus.specs.Page.{shown}
 use Rattle.minus.specs.NextTexts.{next_document}
-use Rattle.minus.specs.Changes.{IsChange, IsTextFor, shown_by, drawing_by}
+use Rattle.minus.specs.Changes.{IsChange, shown_by}
 use Rattle.minus.specs.Reads.{control_of, IsFormed}
 
 same_control : (a b : Control) → a.text ≡ b.text → a.cols ≡ b.cols → a.rows ≡ b.rows → a.mark ≡ b.mark → a ≡ b
@@ -56,29 +56,6 @@ shown_is s change new f h =
 pub unchanged : (s : PagerState) (change : Change) → change.text ≡ Same → change.mark ≡ s.upper_mark → change.cols ≡ s.cols → change.rows ≡ s.rows → IsChange (control_of s) change (control_of s)
 unchanged s change is m c r = record { belongs = rw is tt; document = rw is refl; mark_is = m; cols_are = c; rows_are = r }
 
-still : (c : Control) (mark : ℕ) → IsClamped c → mark ≡ min c.mark (top c) → drawing_by Same c.mark mark ≡ Nothing
-still c mark h is =
-    let same : mark ≡ c.mark = omega (arith, h, is) in
-    let equal : (c.mark == c.mark) ≡ true = grind arith in
-    rw (same, equal) refl
-
 -- a change is drawn as the table says of its command
-pub drawn_as : (c : Control) (w : Wanted) (text : NextText) (mark : ℕ) → IsTextFor text w → IsClamped c → mark ≡ (changed_by (effect c w)).mark → drawing_by text c.mark mark ≡ (effect c w).drawing
-drawn_as c (sets_data text) (Whole screen) mark h clamped is = refl
-drawn_as c (sets_data text) Same mark h clamped is = absurd h
-drawn_as c (sets_data text) (Pushed piece pending) mark h clamped is = absurd h
-drawn_as c (appends_data text) (Pushed piece pending) mark h clamped is = rw is refl
-drawn_as c (appends_data text) Same mark h clamped is = absurd h
-drawn_as c (appends_data text) (Whole screen) mark h clamped is = absurd h
-drawn_as c (moves_mark to) Same mark h clamped is = rw is refl
-drawn_as c (moves_mark to) (Whole screen) mark h clamped is = absurd h
-drawn_as c (moves_mark to) (Pushed piece pending) mark h clamped is = absurd h
-drawn_as c (resizes cols rows) (Whole screen) mark h clamped is = refl
-drawn_as c (resizes cols rows) Same mark h clamped is = absurd h
-drawn_as c (resizes cols rows) (Pushed piece pending) mark h clamped is = absurd h
-drawn_as c exits Same mark h clamped is = still c mark clamped is
-drawn_as c exits (Whole screen) mark h clamped is = absurd h
-drawn_as c exits (Pushed piece pending) mark h clamped is = absurd h
-drawn_as c ignores Same mark h clamped is = still c mark clamped is
-drawn_as c ignores (Whole screen) mark h clamped is = absurd h
-drawn_as c ignores (Pushed piece pending) mark h clamped is = absurd h
+pub drawn_as : {K : Type 0} (c : Control) (w : Wanted K) (redraw : Redraw) (mark : ℕ) → redraw ≡ (effect c w).redraw → mark ≡ (changed_by (effect c w)).mark → drawing_by redraw c.mark mark ≡ drawing_of c w
+drawn_as c w redraw mark r m = ap (λ (x : Redraw). drawing_by x c.mark mark) r ∙ ap (λ (n : ℕ). drawing_by (effect c w).redraw c.mark n) m

@@ -12,6 +12,7 @@ use Rattle.minus_term.proofs.PlayLaws.{play_all-append, draws_from, shows_below,
 use Rattle.minus.specs.Control.{Control}
 use Rattle.minus.specs.Page.{page}
 use Rattle.minus.specs.Works.{Work, WorkedOff, all, one, up_to, is_full, is_drawn, some_full, some_drawn, passed_in}
+use Rattle.minus.specs.Seen.{Seen}
 use Rattle.minus.specs.Table.{Wanted, Exit}
 use Rattle.minus.specs.declared.commands.Drawing.TheVariants.{Nothing, Full, Scroll, Append}
 use Rattle.minus.proofs.TableLaws.{unresized}
@@ -176,21 +177,21 @@ some_join a b c w v ws vs xs ys rows is there h k =
         (IsClean-more (map page (b ∷ passed_in (v ∷ vs))) (map page (before ++ passed_in (v ∷ vs))) (λ p i. pages_after before (passed_in (v ∷ vs)) b p there i) ys k.clean))
 
 -- the control that works reach is the one that they leave
-is_reached : {c d : Control} {ws : List Wanted} {works : List Work} {exit : Option Exit} → WorkedOff c ws works exit d → d ≡ reached c works
+is_reached : {K : Type 0} {s t : Seen K} {ws : List (Wanted K)} {works : List Work} {exit : Option Exit} {text : Option (List ℕ)} → WorkedOff s ws works exit text t → t.control ≡ reached s.control works
 is_reached all = refl
 is_reached (one possible on more) = is_reached more
 is_reached (up_to possible is) = refl
 
-nothing_done : {c d : Control} {ws : List Wanted} {exit : Option Exit} → WorkedOff c ws [] exit d → d ≡ c
+nothing_done : {K : Type 0} {s t : Seen K} {ws : List (Wanted K)} {exit : Option Exit} {text : Option (List ℕ)} → WorkedOff s ws [] exit text t → t.control ≡ s.control
 nothing_done all = refl
 
-pub drawings_join_lem : DrawingsJoin
-drawings_join_lem a b c ws vs [] more exit xs ys h k p q =
-    let same : b ≡ a = nothing_done h in
+pub drawings_join_lem : {K : Type 0} → DrawingsJoin K
+drawings_join_lem a b c ws vs [] more exit text copied xs ys h k p q =
+    let same : b.control ≡ a.control = nothing_done h in
     let none : xs ≡ [] = p.none refl in
-    rw none (subst (λ (x : Control). IsDrawing ys x more c) same q)
-drawings_join_lem a b c ws vs (w ∷ works) [] exit xs ys h k p q =
-    let same : c ≡ b = nothing_done k in
+    rw none (subst (λ (x : Control). IsDrawing ys x more c.control) same q)
+drawings_join_lem a b c ws vs (w ∷ works) [] exit text copied xs ys h k p q =
+    let same : c.control ≡ b.control = nothing_done k in
     let none : ys ≡ [] = q.none refl in
-    rw (none, append-nil xs, append-nil (w ∷ works)) (subst (λ (x : Control). IsDrawing xs a (w ∷ works) x) (sym same) p)
-drawings_join_lem a b c ws vs (w ∷ works) (v ∷ more) exit xs ys h k p q = some_join a b c w v works more xs ys (unresized k) (is_reached h) (last_passed h) p q
+    rw (none, append-nil xs, append-nil (w ∷ works)) (subst (λ (x : Control). IsDrawing xs a.control (w ∷ works) x) (sym same) p)
+drawings_join_lem a b c ws vs (w ∷ works) (v ∷ more) exit text copied xs ys h k p q = some_join a.control b.control c.control w v works more xs ys (unresized k) (is_reached h) (last_passed h) p q

@@ -12,10 +12,11 @@ use Rattle.minus_term.proofs.WrittenLaws.{written_all-append, IsClean-append, Is
 use Rattle.minus.specs.declared.status.Status.TheVariants as status
 use Rattle.minus.specs.Control.{Control}
 use Rattle.minus.specs.Page.{page}
-use Rattle.minus.specs.Table.{Wanted, Exit, effect, changed_by}
-use Rattle.minus.specs.Works.{Work, work_of, WorkedOff, all, one, up_to, passed_in, some_full}
+use Rattle.minus.specs.Seen.{Seen}
+use Rattle.minus.specs.Table.{Wanted, Exit}
+use Rattle.minus.specs.Works.{Work, work_of, after, WorkedOff, all, one, up_to, passed_in, some_full}
 use Rattle.minus.specs.Drawn.{Drawn, Leaves}
-use Rattle.minus.specs.Steps.{Seen, Works, Writes, status_after}
+use Rattle.minus.specs.Steps.{Works, Writes, status_after}
 use Rattle.minus.proofs.TableLaws.{unresized}
 
 head_there : {X : Type 0} (x : X) (xs : List X) → Contains (x ∷ xs) x
@@ -25,10 +26,10 @@ tail_there : {X : Type 0} (x : X) (xs : List X) (y : X) → Contains xs y → Co
 tail_there x xs y h = (suc h.0, omega (arith, h.1), h.2)
 
 -- the control that works leave is among those that they pass, the one before them among these
-pub last_passed : {c d : Control} {ws : List Wanted} {works : List Work} {exit : Option Exit} → WorkedOff c ws works exit d → Contains (c ∷ passed_in works) d
-last_passed (all {c = c}) = head_there c []
-last_passed (one {c = c} {d = d} {w = w} {works = works} possible on more) = tail_there c (passed_in (work_of (effect c w) ∷ works)) d (last_passed more)
-last_passed (up_to {c = c} {w = w} possible is) = tail_there c (changed_by (effect c w) ∷ []) (changed_by (effect c w)) (head_there (changed_by (effect c w)) [])
+pub last_passed : {K : Type 0} {s t : Seen K} {ws : List (Wanted K)} {works : List Work} {exit : Option Exit} {text : Option (List ℕ)} → WorkedOff s ws works exit text t → Contains (s.control ∷ passed_in works) t.control
+last_passed (all {s = s}) = head_there s.control []
+last_passed (one {s = s} {t = t} {w = w} {works = works} possible on more) = tail_there s.control (passed_in (work_of s.control w ∷ works)) t.control (last_passed more)
+last_passed (up_to {s = s} {w = w} possible is) = let left : Control = (after s w).control in tail_there s.control (left ∷ []) left (head_there left [])
 
 -- what is among a first one and some is among those and any that contain the first
 pub after_first : {X : Type 0} (before ps : List X) (x y : X) → Contains before x → Contains (x ∷ ps) y → Contains (before ++ ps) y
@@ -94,6 +95,7 @@ leaves_more (Some x) (Some y) old new works before rows reached d h = elim (case
 ]
 
 -- what works leave of it, as long as the session goes on
-pub leaves_after : {K : Type 0} (old new : Seen K) (items : List Wanted) (works : List Work) (exit : Option Exit) (a b : Option (List ℕ)) (before : List Control) → Works old items works exit (status_after exit) new → Writes exit old.control works new.control a b → Leaves a before old.control → new.status ≡ status.Running → Leaves b (before ++ passed_in works) new.control
-leaves_after old new items works None a b before h writes k running = leaves_more a b old.control new.control works before (unresized h.worked) (last_passed h.worked) writes k
-leaves_after old new items works (Some exit) a b before h writes k running = let both : status.Running ≡ status.Ended = sym running ∙ ap (λ (x : Seen _). x.status) h.stands in cc
+pub leaves_after : {K : Type 0} (old new : Seen K) (items : List (Wanted K)) (works : List Work) (exit : Option Exit) (text : Option (List ℕ)) (a b : Option (List ℕ)) (before : List Control) → Works old items works exit text (status_after exit) new → Writes exit old.control works new.control a b → Leaves a before old.control → new.status ≡ status.Running
+    → Leaves b (before ++ passed_in works) new.control
+leaves_after old new items works None text a b before h writes k running = leaves_more a b old.control new.control works before (unresized h.worked) (last_passed h.worked) writes k
+leaves_after old new items works (Some exit) text a b before h writes k running = let both : status.Running ≡ status.Ended = sym running ∙ h.stands in cc

@@ -1,15 +1,11 @@
 -- What a command leaves, formed beside the state.
-use Rattle.std.specs.Prelude.{◌≡◌, ℕ, ◌-◌, ◌==◌, if◌then◌else◌, List, take, drop}
+use Rattle.std.specs.Prelude.{◌≡◌, ℕ, ◌-◌, List, take, drop}
 use Rattle.minus_text.specs.Document.{Document, rows_of}
 use Rattle.minus.specs.declared.change.Change.{Change}
-use Rattle.minus.specs.declared.change.NextText.{NextText}
-use Rattle.minus.specs.declared.change.NextText.TheVariants.{Same, Whole, Pushed}
-use Rattle.minus.specs.declared.commands.Drawing.{Drawing}
-use Rattle.minus.specs.declared.commands.Drawing.TheVariants.{Nothing, Full, Scroll, Append}
 use Rattle.minus.specs.NextTexts.{next_document, IsNext}
 use Rattle.minus.specs.Control.{Control, document_of}
 use Rattle.minus.specs.Sizes.{IsSize}
-use Rattle.minus.specs.Table.{Wanted, sets_data, appends_data, moves_mark, resizes, exits, ignores}
+use Rattle.minus.specs.Table.{Wanted, resizes}
 use Rattle.minus_term.specs.Refusals.{Refusal, for_memory, for_size}
 
 -- the change leads from one control to the other
@@ -24,25 +20,8 @@ pub record IsChange (old : Control) (change : Change) (new : Control) : Type 0 w
 abbrev pub shown_by : Document → Change → List (List ℕ)
 shown_by d change = take (change.rows - 1) (drop change.mark (rows_of (next_document d change.text)))
 
--- how a change is drawn over a page at a mark: what keeps the text scrolls, what pushes to it appends, unless the mark was
--- lowered
-abbrev pub drawing_by : NextText → ℕ → ℕ → Drawing
-drawing_by Same from to = if to == from then Nothing else Scroll
-drawing_by (Whole screen) from to = Full
-drawing_by (Pushed text pending) from to = if to == from then Append else Full
-
--- a text formed as a command asks for it: another one, one that was pushed to, or the same
-abbrev pub IsTextFor : NextText → Wanted → Type 0
-IsTextFor (Whole screen) (sets_data text) = Unit {0}
-IsTextFor (Whole screen) (resizes cols rows) = Unit {0}
-IsTextFor (Pushed text pending) (appends_data piece) = Unit {0}
-IsTextFor Same (moves_mark mark) = Unit {0}
-IsTextFor Same exits = Unit {0}
-IsTextFor Same ignores = Unit {0}
-IsTextFor next w = ⊥
-
 -- why a command was not formed: for want of memory, or for a size that is none of a terminal
-abbrev pub IsUnformed : Refusal → Wanted → Type 0
+abbrev pub IsUnformed : {K : Type 0} → Refusal → Wanted K → Type 0
 IsUnformed for_memory w = Unit {0}
 IsUnformed (for_size cols rows) w = (w ≡ resizes cols rows) × (IsSize cols rows → ⊥)
 IsUnformed refusal w = ⊥

@@ -1,6 +1,6 @@
 -- What contracts read of a session.
 use Rattle.minus.specs.declared.session.Core.{Core}
-use Rattle.minus.specs.Steps.{Seen}
+use Rattle.minus.specs.Seen.{Seen}
 use Rattle.minus.specs.Reads.{control_of}
 
 abbrev pub seen_of : {S P K : Type 0} → Core S P K → Seen K

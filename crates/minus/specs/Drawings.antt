@@ -7,7 +7,8 @@ use Rattle.minus_term.specs.Append.{append_ops}
 use Rattle.minus.specs.declared.commands.Drawing.{Drawing}
 use Rattle.minus.specs.declared.commands.Drawing.TheVariants.{Nothing, Full, Scroll, Append}
 use Rattle.minus.specs.Control.{Control, first_changed}
-use Rattle.minus.specs.Table.{move_drawing, moved_to}
+use Rattle.minus.specs.declared.commands.Redraw.TheVariants.{Moved}
+use Rattle.minus.specs.Table.{drawing_by, moved_to}
 use Rattle.minus.specs.Page.{shown}
 use Rattle.minus.specs.PromptRow.{prompt_row}
 
@@ -36,4 +37,4 @@ ops_between Append old new = rows_after (first_changed old - old.mark) (length (
 
 -- the list that a move of the mark is drawn by
 abbrev pub scroll_to : Control → ℕ → List Op
-scroll_to c mark = ops_between (move_drawing c mark) c (moved_to c mark)
+scroll_to c mark = ops_between (drawing_by Moved c.mark (moved_to c mark).mark) c (moved_to c mark)

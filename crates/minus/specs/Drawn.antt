@@ -11,6 +11,7 @@ use Rattle.minus_term.specs.Scroll.{distance}
 use Rattle.minus_term.specs.Terminal.{setup_bytes}
 use Rattle.minus.specs.Control.{Control, text_rows, first_changed}
 use Rattle.minus.specs.Page.{page}
+use Rattle.minus.specs.Seen.{Seen}
 use Rattle.minus.specs.Table.{Wanted, Exit}
 use Rattle.minus.specs.Works.{Work, WorkedOff, passed_in, some_full, some_drawn}
 use Rattle.minus.specs.declared.commands.Drawing.{Drawing}
@@ -53,10 +54,10 @@ pub record IsDrawing (ops : List Op) (old : Control) (works : List Work) (new : 
   pub none : some_drawn works ≡ false → ops ≡ []
 
 -- the drawings of some works, and after them those of others, are the drawings of them all
-abbrev pub DrawingsJoin : Type 0
-DrawingsJoin =
-    (a b c : Control) (ws vs : List Wanted) (works more : List Work) (exit : Option Exit) (xs ys : List Op) → WorkedOff a ws works None b → WorkedOff b vs more exit c → IsDrawing xs a works b → IsDrawing ys b more c
-    → IsDrawing (xs ++ ys) a (works ++ more) c
+abbrev pub DrawingsJoin : Type 0 → Type 0
+DrawingsJoin K =
+    (a b c : Seen K) (ws vs : List (Wanted K)) (works more : List Work) (exit : Option Exit) (text copied : Option (List ℕ)) (xs ys : List Op) → WorkedOff a ws works None text b → WorkedOff b vs more exit copied c
+    → IsDrawing xs a.control works b.control → IsDrawing ys b.control more c.control → IsDrawing (xs ++ ys) a.control (works ++ more) c.control
 
 -- the sink grew by the written form of one such list of operations
 abbrev pub Drawn : Option (List ℕ) → Option (List ℕ) → Control → List Work → Control → Type 0

@@ -7,12 +7,13 @@ use Rattle.minus.specs.declared.session.Answer.{Answer}
 use Rattle.minus.specs.declared.status.Status.TheVariants as status
 use Rattle.minus.specs.Control.{Control}
 use Rattle.minus.specs.Reads.{Told}
-use Rattle.minus.specs.Steps.{Seen, Allows, Steps, Refuses, IsSinkFault}
+use Rattle.minus.specs.Seen.{Seen}
+use Rattle.minus.specs.Steps.{Allows, Steps, Refuses, IsSinkFault}
 use Rattle.minus.specs.Answers.{ends_run}
 use Rattle.minus.specs.Drawn.{Leaves}
 
 -- how a run stopped: at the end of its inputs or after a step, or at an input that was refused
-abbrev pub Stops : {A K : Type 0} → Allows K → (A → Told) → Option MinusError → List A → Seen K → Seen K → Option (List ℕ) → Option (List ℕ) → Type 0
+abbrev pub Stops : {A K : Type 0} → Allows K → (A → Told K) → Option MinusError → List A → Seen K → Seen K → Option (List ℕ) → Option (List ℕ) → Type 0
 Stops allows told None [] reached new bytes new_bytes = (new ≡ reached) × (new_bytes ≡ bytes)
 Stops allows told (Some e) (x ∷ []) reached new bytes new_bytes = Refuses allows (refusal_of e) reached (told x) new bytes new_bytes
 Stops allows told stopped refused reached new bytes new_bytes = ⊥
@@ -31,7 +32,7 @@ StopsAfter (answer ∷ next ∷ answers) stopped rest = (ends_run answer ≡ fal
 -- a run: the inputs that were done, in order, the one that was refused, if any, and the rest; the steps of those done, the
 -- controls that they passed, their answers and what they reached; and, where the sink's bytes ended with a list of
 -- operations that takes every screen to the page, they still do as long as the session runs
-pub record IsRun {A K : Type 0} (allows : Allows K) (told : A → Told) (old new : Seen K) (inputs : List A) (done : ℕ) (last : Option Answer) (stopped : Option MinusError) (rest : List A) (old_bytes new_bytes : Option (List ℕ)) : Type 0 where
+pub record IsRun {A K : Type 0} (allows : Allows K) (told : A → Told K) (old new : Seen K) (inputs : List A) (done : ℕ) (last : Option Answer) (stopped : Option MinusError) (rest : List A) (old_bytes new_bytes : Option (List ℕ)) : Type 0 where
   pub taken : List A
   pub refused : List A
   pub passed : List Control

@@ -2,8 +2,8 @@
 use Rattle.std.specs.Prelude.{◌≡◌, ℕ, List, map, Bool, Option, None, Some}
 use Rattle.minus_term.specs.Counts.{Stays, Rises}
 use Rattle.minus_term.specs.Refusals.{refusal_of}
-use Rattle.minus.specs.declared.init.StartError.{StartError}
-use Rattle.minus.specs.declared.pager.Pager.{Pager}
+use Rattle.minus.specs.declared.init.StartErrorOf.{StartErrorOf}
+use Rattle.minus.specs.declared.pager.PagerOf.{PagerOf}
 use Rattle.minus.specs.declared.session.Core.{Core}
 use Rattle.minus.specs.declared.state.RunMode.{RunMode}
 use Rattle.minus.specs.Core.{seen_of}
@@ -11,12 +11,12 @@ use Rattle.minus.specs.Reads.{wanted_of}
 use Rattle.minus.specs.Starts.{first_control, IsStarted, IsStartRefused, IsEarly, StartBreaksOff, IsStartFault}
 
 -- a start of a pager over a sink that ends well: the sink refused nothing
-pub record IsStart {S P K : Type 0} (contents : S → Option (List ℕ)) (count : S → Option ℕ) (terminal : S → Bool) (pager : Pager) (mode : RunMode) (cols rows : ℕ) (classifier : K) (sink : S) (session : Core S P K) : Type 0 where
+pub record IsStart {S P K : Type 0} (contents : S → Option (List ℕ)) (count : S → Option ℕ) (terminal : S → Bool) (pager : PagerOf P K) (mode : RunMode) (cols rows : ℕ) (classifier : K) (sink : S) (session : Core S P K) : Type 0 where
   pub started : IsStarted (seen_of session) classifier (map wanted_of pager.queue.items) mode cols rows (terminal sink) (contents sink) (contents session.sink)
   pub stays : Stays (count sink) (count session.sink)
 
 -- a start that is refused: when it is, whether the pager comes back, and what it leaves on the sink, which comes back too
-pub record IsRefusedStart {S : Type 0} (contents : S → Option (List ℕ)) (count : S → Option ℕ) (terminal : S → Bool) (pager : Pager) (mode : RunMode) (cols rows : ℕ) (sink : S) (e : StartError S) : Type 0 where
+pub record IsRefusedStart {S P K : Type 0} (contents : S → Option (List ℕ)) (count : S → Option ℕ) (terminal : S → Bool) (pager : PagerOf P K) (mode : RunMode) (cols rows : ℕ) (sink : S) (e : StartErrorOf S P K) : Type 0 where
   pub refused : IsStartRefused (refusal_of e.cause) mode cols rows (terminal sink)
   pub returned : IsEarly (refusal_of e.cause) → e.pager ≡ Some pager
   pub gone : (IsEarly (refusal_of e.cause) → ⊥) → e.pager ≡ None

@@ -3,7 +3,7 @@ use Rattle.std.specs.Prelude.{◌≡◌, ℕ, List, Option}
 use Rattle.minus_term.specs.Counts.{Stays, Rises}
 use Rattle.minus_term.specs.Refusals.{refusal_of}
 use Rattle.minus_term.specs.declared.error.MinusError.{MinusError}
-use Rattle.minus.specs.declared.commands.Input.{Input}
+use Rattle.minus.specs.declared.commands.InputOf.{InputOf}
 use Rattle.minus.specs.declared.session.Answer.{Answer}
 use Rattle.minus.specs.declared.session.Core.{Core}
 use Rattle.minus.specs.Answers.{IsAnswer}
@@ -14,22 +14,22 @@ use Rattle.minus.specs.Table.{Exit}
 use Rattle.minus.specs.Steps.{Allows, IsStep, Refuses, IsSinkFault}
 
 -- a step that ends well: the sink refused nothing
-pub record IsStepOf {S P K : Type 0} (contents : S → Option (List ℕ)) (count : S → Option ℕ) (allows : Allows K) (old : Core S P K) (told : Told) (new : Core S P K) (answer : Answer) : Type 0 where
+pub record IsStepOf {S P K : Type 0} (contents : S → Option (List ℕ)) (count : S → Option ℕ) (allows : Allows K) (old : Core S P K) (told : Told K) (new : Core S P K) (answer : Answer) : Type 0 where
   pub step : IsStep allows (seen_of old) told (seen_of new) answer (contents old.sink) (contents new.sink)
   pub stays : Stays (count old.sink) (count new.sink)
 
--- a step that ends well with an exit, or with none, whatever answer says so
-abbrev pub StepsOf : {S P K : Type 0} → (S → Option (List ℕ)) → (S → Option ℕ) → Allows K → Core S P K → Told → Core S P K → Option Exit → Type 0
-StepsOf contents count allows old told new exit = (answer : Answer) → IsAnswer exit answer → IsStepOf contents count allows old told new answer
+-- a step that ends well with an exit, or with none, and with a text that was copied, or with none, whatever answer says so
+abbrev pub StepsOf : {S P K : Type 0} → (S → Option (List ℕ)) → (S → Option ℕ) → Allows K → Core S P K → Told K → Core S P K → Option Exit → Option (List ℕ) → Type 0
+StepsOf contents count allows old told new exit text = (answer : Answer) → IsAnswer exit text answer → IsStepOf contents count allows old told new answer
 
 -- a step that is refused: what it leaves, and that the sink refused where that is said, and was left alone where it is not
-pub record IsRefusedStepOf {S P K : Type 0} (contents : S → Option (List ℕ)) (count : S → Option ℕ) (allows : Allows K) (old : Core S P K) (told : Told) (new : Core S P K) (e : MinusError) : Type 0 where
+pub record IsRefusedStepOf {S P K : Type 0} (contents : S → Option (List ℕ)) (count : S → Option ℕ) (allows : Allows K) (old : Core S P K) (told : Told K) (new : Core S P K) (e : MinusError) : Type 0 where
   pub refuses : Refuses allows (refusal_of e) (seen_of old) told (seen_of new) (contents old.sink) (contents new.sink)
   pub rises : IsSinkFault (refusal_of e) → Rises (count old.sink) (count new.sink)
   pub untouched : (IsSinkFault (refusal_of e) → ⊥) → new.sink ≡ old.sink
 
 -- a run: the sink refused where it stopped at the sink, and nowhere else
-pub record IsRunOf {S P K : Type 0} (contents : S → Option (List ℕ)) (count : S → Option ℕ) (allows : Allows K) (old new : Core S P K) (inputs : List Input) (done : ℕ) (last : Option Answer) (stopped : Option MinusError) (rest : List Input) : Type 0 where
+pub record IsRunOf {S P K : Type 0} (contents : S → Option (List ℕ)) (count : S → Option ℕ) (allows : Allows K) (old new : Core S P K) (inputs : List (InputOf P K)) (done : ℕ) (last : Option Answer) (stopped : Option MinusError) (rest : List (InputOf P K)) : Type 0 where
   pub run : IsRun allows told_of (seen_of old) (seen_of new) inputs done last stopped rest (contents old.sink) (contents new.sink)
   pub stays : (StopsAtSink stopped → ⊥) → Stays (count old.sink) (count new.sink)
   pub rises : StopsAtSink stopped → Rises (count old.sink) (count new.sink)

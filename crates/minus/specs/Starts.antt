@@ -14,7 +14,7 @@ use Rattle.minus.specs.declared.status.Status.TheVariants as status
 use Rattle.minus.specs.Sizes.{IsSize}
 use Rattle.minus.specs.Control.{Control}
 use Rattle.minus.specs.Drawn.{Begins, IsWholeDrawing}
-use Rattle.minus.specs.Steps.{Seen}
+use Rattle.minus.specs.Seen.{Seen}
 use Rattle.minus.specs.Table.{Wanted, effect}
 
 -- no text, and the mark at the first row
@@ -22,16 +22,16 @@ abbrev pub at_start : ℕ → ℕ → Control
 at_start cols rows = record { text = []; cols = cols; rows = rows; mark = 0 }
 
 -- what a command that waits for the start changes: the text on show; nothing moves
-abbrev pub taken : Control → Wanted → Control
+abbrev pub taken : {K : Type 0} → Control → Wanted K → Control
 taken c w = record c { text = (effect c w).changed.text }
 
 -- commands that wait are taken in their order
-abbrev pub taken_all : Control → List Wanted → Control
+abbrev pub taken_all : {K : Type 0} → Control → List (Wanted K) → Control
 taken_all c [] = c
 taken_all c (w ∷ ws) = taken_all (taken c w) ws
 
 -- the first control: that of the commands that waited
-abbrev pub first_control : ℕ → ℕ → List Wanted → Control
+abbrev pub first_control : {K : Type 0} → ℕ → ℕ → List (Wanted K) → Control
 first_control cols rows waiting = taken_all (at_start cols rows) waiting
 
 -- a start is asked for as it can be: in a mode in which a session runs, and for a size of a terminal
@@ -40,7 +40,7 @@ pub record CanStart (mode : RunMode) (cols rows : ℕ) : Type 0 where
   pub size : IsSize cols rows
 
 -- a start that ends well: on a terminal, where the session runs and has drawn its first page
-pub record IsStarted {K : Type 0} (seen : Seen K) (classifier : K) (waiting : List Wanted) (mode : RunMode) (cols rows : ℕ) (terminal : Bool) (old_bytes new_bytes : Option (List ℕ)) : Type 0 where
+pub record IsStarted {K : Type 0} (seen : Seen K) (classifier : K) (waiting : List (Wanted K)) (mode : RunMode) (cols rows : ℕ) (terminal : Bool) (old_bytes new_bytes : Option (List ℕ)) : Type 0 where
   pub can : CanStart mode cols rows
   pub on_terminal : terminal ≡ true
   pub begins : seen ≡ record { control = first_control cols rows waiting; classifier = classifier; mode = mode; status = status.Running }

@@ -1,4 +1,4 @@
--- What a session is seen as, its steps, and what a refusal leaves.
+-- Steps, and what a refusal leaves.
 use Rattle.std.specs.Prelude.{◌≡◌, ℕ, List, [], ◌∷◌, ◌++◌, Option, None, Some}
 use Rattle.std.specs.Io.KnownBytes.{Appends}
 use Rattle.minus_term.specs.Refusals.{Refusal, for_memory, for_size, after_failure, after_exit, at_cleanup, at_drawing}
@@ -15,17 +15,11 @@ use Rattle.minus.specs.declared.status.Status.TheVariants as status
 use Rattle.minus.specs.Answers.{IsAnswer}
 use Rattle.minus.specs.Control.{Control}
 use Rattle.minus.specs.Reads.{control_of, IsFormed, answer_wanted, Told, a_command, an_event}
+use Rattle.minus.specs.Seen.{Seen}
 use Rattle.minus.specs.Sizes.{IsSize}
 use Rattle.minus.specs.Table.{Wanted, Exit, resizes}
 use Rattle.minus.specs.Works.{Work, WorkedOff, passed_in, items_of}
 use Rattle.minus.specs.Drawn.{Drawn, BrokenOff, Leaves}
-
--- the control, the classifier that is kept, the mode of the session, and whether it runs, has exited or has failed
-pub record Seen (K : Type 0) : Type 0 where
-  pub control : Control
-  pub classifier : K
-  pub mode : RunMode
-  pub status : Status
 
 -- what a classifier may answer to an event in a state
 abbrev pub Allows : Type 0 → Type 1
@@ -33,7 +27,7 @@ Allows K = K → Event → PagerState → Option InputEvent → Type 0
 
 -- what is asked for: a command asks by itself, an event by an answer that the classifier which is kept may give, in a
 -- formed state that holds the control
-abbrev pub Asks : {K : Type 0} → Allows K → Seen K → Told → Wanted → Type 0
+abbrev pub Asks : {K : Type 0} → Allows K → Seen K → Told K → Wanted K → Type 0
 Asks allows seen (a_command w) wanted = wanted ≡ w
 Asks allows seen (an_event event) wanted =
     (state : PagerState) × (answer : Option InputEvent) × IsFormed state × (control_of state ≡ seen.control) × allows seen.classifier event state answer × (wanted ≡ answer_wanted answer)
@@ -43,11 +37,11 @@ abbrev pub status_after : Option Exit → Status
 status_after None = status.Running
 status_after (Some exit) = status.Ended
 
--- items were worked off in a session that was running, which stands so after them; all else stays
-pub record Works {K : Type 0} (old : Seen K) (items : List Wanted) (works : List Work) (exit : Option Exit) (now : Status) (new : Seen K) : Type 0 where
+-- items were worked off in a session that was running, which stands so after them; all else is as they leave it
+pub record Works {K : Type 0} (old : Seen K) (items : List (Wanted K)) (works : List Work) (exit : Option Exit) (text : Option (List ℕ)) (now : Status) (new : Seen K) : Type 0 where
   pub running : old.status ≡ status.Running
-  pub worked : WorkedOff old.control items works exit new.control
-  pub stands : new ≡ record old { control = new.control; status = now }
+  pub worked : WorkedOff old items works exit text (record new { status = old.status })
+  pub stands : new.status ≡ now
 
 -- what is written: one list of operations that draws the works, and after an exit what cleans the terminal up
 abbrev pub Writes : Option Exit → Control → List Work → Control → Option (List ℕ) → Option (List ℕ) → Type 0
@@ -56,41 +50,43 @@ Writes (Some exit) old works new old_bytes new_bytes = (drawn : Option (List ℕ
 
 -- a step that ends well: what was asked for, the works that were done for it, its answer and what it writes; and that the
 -- page which the sink's bytes left is left by them still, as long as the session runs
-pub record IsStep {K : Type 0} (allows : Allows K) (old : Seen K) (told : Told) (new : Seen K) (answer : Answer) (old_bytes new_bytes : Option (List ℕ)) : Type 0 where
-  pub wanted : Wanted
+pub record IsStep {K : Type 0} (allows : Allows K) (old : Seen K) (told : Told K) (new : Seen K) (answer : Answer) (old_bytes new_bytes : Option (List ℕ)) : Type 0 where
+  pub wanted : Wanted K
   pub works : List Work
   pub exit : Option Exit
+  pub text : Option (List ℕ)
   pub asked : Asks allows old told wanted
-  pub worked : Works old (items_of old.control wanted) works exit (status_after exit) new
-  pub answers : IsAnswer exit answer
+  pub worked : Works old (items_of old.control wanted) works exit text (status_after exit) new
+  pub answers : IsAnswer exit text answer
   pub writes : Writes exit old.control works new.control old_bytes new_bytes
   pub leaves : (before : List Control) → Leaves old_bytes before old.control → new.status ≡ status.Running → Leaves new_bytes (before ++ passed_in works) new.control
 
 -- steps that end well, one after another, with the controls that they pass, their answers and what they write
-pub data Steps {K : Type 0} (allows : Allows K) : Seen K → List Told → List Control → List Answer → Seen K → Option (List ℕ) → Option (List ℕ) → Type 0 where
+pub data Steps {K : Type 0} (allows : Allows K) : Seen K → List (Told K) → List Control → List Answer → Seen K → Option (List ℕ) → Option (List ℕ) → Type 0 where
   none : {a : Seen K} {x : Option (List ℕ)} → Steps allows a [] [] [] a x x
-  more : {a b c : Seen K} {t : Told} {ts : List Told} {cs : List Control} {answer : Answer} {answers : List Answer} {x y z : Option (List ℕ)} → (s : IsStep allows a t b answer x y) → Steps allows b ts cs answers c y z → Steps allows a (t ∷ ts) (passed_in s.works ++ cs) (answer ∷ answers) c x z
+  more : {a b c : Seen K} {t : Told K} {ts : List (Told K)} {cs : List Control} {answer : Answer} {answers : List Answer} {x y z : Option (List ℕ)} → (s : IsStep allows a t b answer x y) → Steps allows b ts cs answers c y z → Steps allows a (t ∷ ts) (passed_in s.works ++ cs) (answer ∷ answers) c x z
 
 -- a step in which the sink refused: the items up to the one that it refused were worked off, and the session has failed
-pub record IsBroken {K : Type 0} (allows : Allows K) (old : Seen K) (told : Told) (works : List Work) (exit : Option Exit) (new : Seen K) : Type 0 where
-  pub wanted : Wanted
-  pub items : List Wanted
-  pub rest : List Wanted
+pub record IsBroken {K : Type 0} (allows : Allows K) (old : Seen K) (told : Told K) (works : List Work) (exit : Option Exit) (new : Seen K) : Type 0 where
+  pub wanted : Wanted K
+  pub items : List (Wanted K)
+  pub rest : List (Wanted K)
+  pub text : Option (List ℕ)
   pub asked : Asks allows old told wanted
   pub all : items_of old.control wanted ≡ items ++ rest
-  pub worked : Works old items works exit status.Failed new
+  pub worked : Works old items works exit text status.Failed new
 
 -- a drawing was refused, of which a beginning was written
-abbrev pub IsBrokenStep : {K : Type 0} → Allows K → Seen K → Told → Seen K → Option (List ℕ) → Option (List ℕ) → Type 0
+abbrev pub IsBrokenStep : {K : Type 0} → Allows K → Seen K → Told K → Seen K → Option (List ℕ) → Option (List ℕ) → Type 0
 IsBrokenStep allows old told new old_bytes new_bytes = (works : List Work) × IsBroken allows old told works None new × BrokenOff old_bytes new_bytes old.control works new.control
 
 -- the cleanup of an exit was refused, of which a beginning was written
-abbrev pub IsBrokenExit : {K : Type 0} → Allows K → CleanupError → Seen K → Told → Seen K → Option (List ℕ) → Option (List ℕ) → Type 0
+abbrev pub IsBrokenExit : {K : Type 0} → Allows K → CleanupError → Seen K → Told K → Seen K → Option (List ℕ) → Option (List ℕ) → Type 0
 IsBrokenExit allows cause old told new old_bytes new_bytes =
     (works : List Work) × (exit : Exit) × (drawn : Option (List ℕ)) × IsBroken allows old told works (Some exit) new × Drawn old_bytes drawn old.control works new.control × CleanupBreaksOff cause drawn new_bytes
 
 -- a size that is none of a terminal was asked for, and nothing has changed
-pub record IsBadSize {K : Type 0} (allows : Allows K) (old : Seen K) (told : Told) (new : Seen K) (cols rows : ℕ) : Type 0 where
+pub record IsBadSize {K : Type 0} (allows : Allows K) (old : Seen K) (told : Told K) (new : Seen K) (cols rows : ℕ) : Type 0 where
   pub asked : Asks allows old told (resizes cols rows)
   pub running : old.status ≡ status.Running
   pub bad : IsSize cols rows → ⊥
@@ -98,7 +94,7 @@ pub record IsBadSize {K : Type 0} (allows : Allows K) (old : Seen K) (told : Tol
 
 -- what a refused step leaves: all as it was, where memory was wanted, the size is none, or the session had exited or failed
 -- before; where the sink refused, a session that has failed
-abbrev pub Refuses : {K : Type 0} → Allows K → Refusal → Seen K → Told → Seen K → Option (List ℕ) → Option (List ℕ) → Type 0
+abbrev pub Refuses : {K : Type 0} → Allows K → Refusal → Seen K → Told K → Seen K → Option (List ℕ) → Option (List ℕ) → Type 0
 Refuses allows for_memory old told new old_bytes new_bytes = (old.status ≡ status.Running) × (new ≡ old) × (new_bytes ≡ old_bytes)
 Refuses allows (for_size cols rows) old told new old_bytes new_bytes = IsBadSize allows old told new cols rows × (new_bytes ≡ old_bytes)
 Refuses allows after_failure old told new old_bytes new_bytes = (old.status ≡ status.Failed) × (new ≡ old) × (new_bytes ≡ old_bytes)

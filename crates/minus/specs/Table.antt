@@ -1,57 +1,62 @@
 -- The table of commands and events.
 use Rattle.std.specs.Prelude.{ℕ, min, ◌==◌, List, ◌++◌, Option, None, Some, if◌then◌else◌}
+use Rattle.std.specs.Option.{unwrap_or}
 use Rattle.minus.specs.declared.commands.Drawing.{Drawing}
 use Rattle.minus.specs.declared.commands.Drawing.TheVariants.{Nothing, Full, Scroll, Append}
+use Rattle.minus.specs.declared.commands.Redraw.{Redraw}
+use Rattle.minus.specs.declared.commands.Redraw.TheVariants.{Stays, Whole, Moved, Appended}
 use Rattle.minus.specs.declared.state.ExitStrategy.{ExitStrategy}
 use Rattle.minus.specs.declared.state.ExitStrategy.TheVariants.{ProcessQuit}
 use Rattle.minus.specs.Sizes.{IsSize}
-use Rattle.minus.specs.Control.{Control, clamp, top}
+use Rattle.minus.specs.Control.{Control, clamp}
 
--- a command, as values alone
-pub data Wanted : Type 0 where
-  sets_data : List ℕ → Wanted
-  appends_data : List ℕ → Wanted
-  moves_mark : ℕ → Wanted
-  resizes : (cols rows : ℕ) → Wanted
-  exits : Wanted
-  ignores : Wanted
+-- a command, as values alone; a classifier is a value of the kind that the session keeps
+pub data Wanted (K : Type 0) : Type 0 where
+  sets_data : List ℕ → Wanted K
+  appends_data : List ℕ → Wanted K
+  moves_mark : ℕ → Wanted K
+  resizes : (cols rows : ℕ) → Wanted K
+  exits : Wanted K
+  ignores : Wanted K
+  sets_classifier : K → Wanted K
 
 -- an exit: how the program is to go on, and the code that it ends with if it is to end
 abbrev pub Exit : Type 0
 Exit = ExitStrategy × ℕ
 
--- how a move of the mark is drawn: not at all where the mark stays after the clamp
-abbrev pub move_drawing : Control → ℕ → Drawing
-move_drawing c mark = if min mark (top c) == c.mark then Nothing else Scroll
-
--- the control that a move of the mark leaves
-abbrev pub moved_to : Control → ℕ → Control
-moved_to c mark = clamp (record c { mark = mark })
-
--- how an append is drawn, from the control before it to the one that it changes: in full where the clamp lowers the mark
-abbrev pub append_drawing : Control → Control → Drawing
-append_drawing c new = if min c.mark (top new) == c.mark then Append else Full
-
--- what a command does: the control that it changes, the move of the mark after it, if any, how what comes of it is drawn,
--- and the exit that is answered, if it is one
+-- what a command does: the control that it changes, the move of the mark after it, if any, what it asks to be drawn, the exit
+-- that is answered, if it is one, and the text that is copied, if one is
 pub record Effect : Type 0 where
   pub changed : Control
   pub moves_to : Option ℕ
-  pub drawing : Drawing
+  pub redraw : Redraw
   pub exits_by : Option Exit
+  pub copies : Option (List ℕ)
 
-abbrev pub effect : Control → Wanted → Effect
-effect c (sets_data text) = record { changed = record c { text = text }; moves_to = None; drawing = Full; exits_by = None }
-effect c (appends_data text) =
-    let new : Control = record c { text = c.text ++ text } in
-    record { changed = new; moves_to = None; drawing = append_drawing c new; exits_by = None }
-effect c (moves_mark mark) = record { changed = c; moves_to = Some mark; drawing = move_drawing c mark; exits_by = None }
-effect c (resizes cols rows) = record { changed = record c { cols = cols; rows = rows }; moves_to = None; drawing = Full; exits_by = None }
-effect c exits = record { changed = c; moves_to = None; drawing = Nothing; exits_by = Some (ProcessQuit, 0) }
-effect c ignores = record { changed = c; moves_to = None; drawing = Nothing; exits_by = None }
+-- what only changes the control
+abbrev pub changes : Control → Redraw → Effect
+changes c redraw = record { changed = c; moves_to = None; redraw = redraw; exits_by = None; copies = None }
+
+abbrev pub effect : {K : Type 0} → Control → Wanted K → Effect
+effect c (sets_data text) = changes (record c { text = text }) Whole
+effect c (appends_data text) = changes (record c { text = c.text ++ text }) Appended
+effect c (moves_mark mark) = record (changes c Moved) { moves_to = Some mark }
+effect c (resizes cols rows) = changes (record c { cols = cols; rows = rows }) Whole
+effect c exits = record (changes c Stays) { exits_by = Some (ProcessQuit, 0) }
+effect c ignores = changes c Stays
+effect c (sets_classifier k) = changes c Stays
+
+-- the classifier that a command hands over to be kept, if it does
+abbrev pub handed : {K : Type 0} → Wanted K → Option K
+handed (sets_classifier k) = Some k
+handed w = None
+
+-- the classifier that is kept after a command
+abbrev pub kept_after : {K : Type 0} → K → Wanted K → K
+kept_after k w = unwrap_or (handed w) k
 
 -- it can be done: a size is one of a terminal
-abbrev pub IsPossible : Wanted → Type 0
+abbrev pub IsPossible : {K : Type 0} → Wanted K → Type 0
 IsPossible (resizes cols rows) = IsSize cols rows
 IsPossible w = Unit {0}
 
@@ -67,3 +72,19 @@ moved_by e = moved e.changed e.moves_to
 -- the control that a command leaves: the clamp ends each
 abbrev pub changed_by : Effect → Control
 changed_by e = clamp (moved_by e)
+
+-- the control that a move of the mark leaves
+abbrev pub moved_to : Control → ℕ → Control
+moved_to c mark = clamp (record c { mark = mark })
+
+-- how what is asked for is drawn, by the mark before it and the mark that the clamp leaves: a move not at all where the mark
+-- stays, and an append in full where it does not
+abbrev pub drawing_by : Redraw → ℕ → ℕ → Drawing
+drawing_by Stays from to = Nothing
+drawing_by Whole from to = Full
+drawing_by Moved from to = if to == from then Nothing else Scroll
+drawing_by Appended from to = if to == from then Append else Full
+
+-- how what comes of a command is drawn
+abbrev pub drawing_of : {K : Type 0} → Control → Wanted K → Drawing
+drawing_of c w = drawing_by (effect c w).redraw c.mark (changed_by (effect c w)).mark

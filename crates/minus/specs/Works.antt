@@ -1,32 +1,42 @@
 -- Items that are worked off.
-use Rattle.std.specs.Prelude.{◌≡◌, List, [], ◌∷◌, map, Option, None, Some, Bool, true, false}
+use Rattle.std.specs.Prelude.{◌≡◌, ℕ, List, [], ◌∷◌, map, Option, None, Some, Bool, true, false}
 use Rattle.std.specs.List.{list_any}
 use Rattle.minus.specs.declared.commands.Drawing.{Drawing}
 use Rattle.minus.specs.declared.commands.Drawing.TheVariants.{Nothing, Full}
 use Rattle.minus.specs.Control.{Control, SameSize}
-use Rattle.minus.specs.Table.{Wanted, Exit, Effect, effect, changed_by, IsPossible}
+use Rattle.minus.specs.Seen.{Seen}
+use Rattle.minus.specs.Table.{Wanted, Exit, effect, kept_after, changed_by, drawing_of, IsPossible}
 
 -- a work: how what comes of it is drawn, and the control that it leaves
 pub record Work : Type 0 where
   pub drawing : Drawing
   pub left : Control
 
-abbrev pub work_of : Effect → Work
-work_of e = record { drawing = e.drawing; left = changed_by e }
+abbrev pub work_of : {K : Type 0} → Control → Wanted K → Work
+work_of c w = record { drawing = drawing_of c w; left = changed_by (effect c w) }
 
 -- the controls that works pass
 abbrev pub passed_in : List Work → List Control
 passed_in works = map (λ (w : Work). w.left) works
 
--- items that are worked off in order, all of them or, where one is an exit, up to it: the works, the exit, and the control
--- that they leave
-pub data WorkedOff : Control → List Wanted → List Work → Option Exit → Control → Type 0 where
-  all : {c : Control} → WorkedOff c [] [] None c
-  one : {c d : Control} {w : Wanted} {ws : List Wanted} {works : List Work} {exit : Option Exit} → IsPossible w → (effect c w).exits_by ≡ None → WorkedOff (changed_by (effect c w)) ws works exit d → WorkedOff c (w ∷ ws) (work_of (effect c w) ∷ works) exit d
-  up_to : {c : Control} {w : Wanted} {ws : List Wanted} {exit : Exit} → IsPossible w → (effect c w).exits_by ≡ Some exit → WorkedOff c (w ∷ ws) (work_of (effect c w) ∷ []) (Some exit) (changed_by (effect c w))
+-- what a session is seen as after a command
+abbrev pub after : {K : Type 0} → Seen K → Wanted K → Seen K
+after seen w = record seen { control = changed_by (effect seen.control w); classifier = kept_after seen.classifier w }
+
+-- the text that was copied last
+abbrev pub last_copied : Option (List ℕ) → Option (List ℕ) → Option (List ℕ)
+last_copied before None = before
+last_copied before (Some text) = Some text
+
+-- items that are worked off in order, all of them or, where one is an exit, up to it: the works, the exit, the text that was
+-- copied last, and what they leave
+pub data WorkedOff {K : Type 0} : Seen K → List (Wanted K) → List Work → Option Exit → Option (List ℕ) → Seen K → Type 0 where
+  all : {s : Seen K} → WorkedOff s [] [] None None s
+  one : {s t : Seen K} {w : Wanted K} {ws : List (Wanted K)} {works : List Work} {exit : Option Exit} {copied : Option (List ℕ)} → IsPossible w → (effect s.control w).exits_by ≡ None → WorkedOff (after s w) ws works exit copied t → WorkedOff s (w ∷ ws) (work_of s.control w ∷ works) exit (last_copied (effect s.control w).copies copied) t
+  up_to : {s : Seen K} {w : Wanted K} {ws : List (Wanted K)} {exit : Exit} → IsPossible w → (effect s.control w).exits_by ≡ Some exit → WorkedOff s (w ∷ ws) (work_of s.control w ∷ []) (Some exit) (effect s.control w).copies (after s w)
 
 -- what is worked off for what was asked for: that alone
-abbrev pub items_of : Control → Wanted → List Wanted
+abbrev pub items_of : {K : Type 0} → Control → Wanted K → List (Wanted K)
 items_of c w = w ∷ []
 
 abbrev pub is_full : Drawing → Bool
@@ -46,5 +56,5 @@ abbrev pub some_drawn : List Work → Bool
 some_drawn works = list_any (λ (w : Work). is_drawn w.drawing) works
 
 -- what is not drawn in full keeps the size
-abbrev pub ResizesAreFull : Type 0
-ResizesAreFull = (c : Control) (w : Wanted) → is_full (effect c w).drawing ≡ false → SameSize c (changed_by (effect c w))
+abbrev pub ResizesAreFull : Type 0 → Type 0
+ResizesAreFull K = (c : Control) (w : Wanted K) → is_full (drawing_of c w) ≡ false → SameSize c (changed_by (effect c w))

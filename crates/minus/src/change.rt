@@ -1,7 +1,8 @@
 //! What a command leaves, formed beside the state.
 ghost use Rattle.minus.specs.Sizes.{IsSize};
 
-use crate::commands::Drawing;
+use crate::commands::{Drawing, Redraw};
+use crate::parts::Parts;
 use minus_text::{PendingPush, Screen};
 
 // The text that there will be: as it is, another one, or as a push leaves it.
@@ -42,29 +43,54 @@ impl NextText {
     }
 }
 
-// What a command leaves: the text, the mark and the size.
+// What a command leaves: the text, the mark and the size; and what of it is asked to be drawn.
 #[derive(Debug, Drop)]
 pub(crate) struct Change {
     pub(crate) text: NextText,
     pub(crate) mark: usize,
     pub(crate) cols: usize,
     pub(crate) rows: usize,
+    pub(crate) redraw: Redraw,
     pub(crate) ghost sized: { IsSize cols rows },
 }
 
 impl Change {
     ghost use Rattle.std.specs.Prelude.{◌≡◌};
-    ghost use Rattle.minus.specs.Changes.{drawing_by};
+    ghost use Rattle.minus.specs.Table.{drawing_by};
 
     // How it is drawn over a page at a mark.
     pub(crate) fn drawing(&self, from: usize) -> Drawing
-        ensures { result ≡ drawing_by self.now.text from self.now.mark }
+        ensures { result ≡ drawing_by self.now.redraw from self.now.mark }
     {
-        match &self.text {
-            NextText::Same if self.mark == from => Drawing::Nothing,
-            NextText::Same => Drawing::Scroll,
-            NextText::Pushed(_, _) if self.mark == from => Drawing::Append,
-            NextText::Whole(_) | NextText::Pushed(_, _) => Drawing::Full,
+        match self.redraw {
+            Redraw::Stays => Drawing::Nothing,
+            Redraw::Whole => Drawing::Full,
+            Redraw::Moved if self.mark == from => Drawing::Nothing,
+            Redraw::Moved => Drawing::Scroll,
+            Redraw::Appended if self.mark == from => Drawing::Append,
+            Redraw::Appended => Drawing::Full,
+        }
+    }
+}
+
+// What comes of a command: a change, and a classifier that is to be kept, if it hands one over.
+#[derive(Drop)]
+pub(crate) struct Prepared<P: Parts> {
+    pub(crate) change: Change,
+    pub(crate) classifier: Option<P::Classifier>,
+}
+
+impl<P: Parts> Prepared<P> {
+    ghost use Rattle.std.specs.Prelude.{◌≡◌, None};
+
+    // A change alone.
+    pub(crate) fn of(change: Change) -> Prepared<P>
+        ensures change { result.change ≡ change }
+        ensures none { result.classifier ≡ None }
+    {
+        Prepared {
+            change,
+            classifier: None,
         }
     }
 }

@@ -15,28 +15,37 @@ ghost use Rattle.minus.specs.Sizes.{IsSize};
 ghost use Rattle.minus.specs.Starts.{taken_all, first_control, IsShowRefused, ShowBreaksOff, IsStartFault};
 
 use crate::change::NextText;
-use crate::commands::{Command, Drawing};
-use crate::pager::Pager;
+use crate::commands::{CommandOf, Drawing, Redraw};
+use crate::pager::{Pager, PagerOf};
+use crate::parts::Parts;
 use crate::session::{Core, Session};
-use crate::stand_in::ResizeAlone;
+use crate::stand_in::{StandIn, StandIns};
 use crate::state::{PagerState, RunMode};
 use crate::status::Status;
 use minus_term::{MinusError, OutputSink, cleanup, draw_bytes, setup};
 use std::alloc::Global;
 
-/// A start that was refused.
-#[derive(Debug, Drop)]
-pub struct StartError<S> {
+/// A start that was refused, over the kinds of what the session would keep.
+#[derive(Drop)]
+#[derive_where(Debug; S)]
+pub struct StartErrorOf<S, P: Parts> {
     /// The sink that was handed in.
     pub sink: S,
     /// The pager that was handed in, unchanged, where the cause was found before the sink was asked for anything.
-    pub pager: Option<Pager>,
+    pub pager: Option<PagerOf<P>>,
     /// Why.
     pub cause: MinusError,
 }
 
+/// A refused start of a session to which no classifier was given.
+pub type StartError<S> = StartErrorOf<S, StandIns>;
+
 // Takes over the texts that wait in a pager.
-fn take_waiting(alloc: Global, state: &mut PagerState, queue: &[Command]) -> Result<(), MinusError>
+fn take_waiting<P: Parts>(
+    alloc: Global,
+    state: &mut PagerState,
+    queue: &[CommandOf<P>],
+) -> Result<(), MinusError>
     requires { IsFormed state.old }
     ensures control { OnOk result (control_of state.new ≡ taken_all (control_of state.old) (map wanted_of queue.now)) }
     ensures formed { OnOk result (IsFormed state.new) }
@@ -59,7 +68,7 @@ struct First {
 }
 
 // The first state of a pager, with its page. A size that is none is refused.
-fn first_page(pager: &Pager, cols: usize, rows: usize) -> Result<First, MinusError>
+fn first_page<P: Parts>(pager: &PagerOf<P>, cols: usize, rows: usize) -> Result<First, MinusError>
     ensures control { IfOk result (λ f. control_of f.state ≡ first_control cols rows (map wanted_of pager.now.queue.items)) }
     ensures size { OnOk result (IsSize cols rows) }
     ensures refused { IfErr result (λ e. IsUnformedState (refusal_of e) cols rows) }
@@ -67,7 +76,7 @@ fn first_page(pager: &Pager, cols: usize, rows: usize) -> Result<First, MinusErr
     let alloc = pager.alloc;
     let mut state = PagerState::new(alloc, cols, rows)?;
     take_waiting(alloc, &mut state, &pager.queue)?;
-    let change = state.change_to(NextText::Same);
+    let change = state.change_to(NextText::Same, Redraw::Whole);
     let mut drawing = Vec::new(alloc);
     state.draw_after(alloc, &mut drawing, Drawing::Full, &change)?;
     Ok(First { state, drawing })
@@ -93,20 +102,21 @@ fn show<S: OutputSink>(sink: &mut S, drawing: &[u8]) -> Result<(), MinusError>
 }
 
 // The session of a pager whose first page was formed.
-fn begin<S: OutputSink + Drop>(
-    pager: Pager,
+fn begin<S: OutputSink + Drop, P: Parts>(
+    pager: PagerOf<P>,
     mode: RunMode,
     sink: S,
+    classifier: P::Classifier,
     first: First,
-) -> Result<Session<S>, StartError<S>>
+) -> Result<Core<S, P>, StartErrorOf<S, P>>
     requires runs { mode ≡ RunMode.Uninitialized → ⊥ }
     requires control { control_of first.state ≡ first_control first.state.cols first.state.rows (map wanted_of pager.queue.items) }
-    ensures started { IfOk result (λ s. IsStart S.contents S.refused S.terminal pager mode first.state.cols first.state.rows (record {}) sink s) }
+    ensures started { IfOk result (λ s. IsStart S.contents S.refused S.terminal pager mode first.state.cols first.state.rows classifier sink s) }
     ensures refused { IfErr result (λ e. IsRefusedStart S.contents S.refused S.terminal pager mode first.state.cols first.state.rows sink e) }
 {
     let mut sink = sink;
     if let Err(cause) = show(&mut sink, &first.drawing) {
-        return Err(StartError {
+        return Err(StartErrorOf {
             sink,
             pager: None,
             cause,
@@ -117,15 +127,15 @@ fn begin<S: OutputSink + Drop>(
         alloc: pager.alloc,
         sink,
         state,
-        classifier: ResizeAlone,
+        classifier,
         drawing,
         mode,
         status: Status::Running,
     })
 }
 
-/// Starts a pager over a sink, for a terminal of so many columns and rows: takes over the texts that wait in it, sets
-/// the terminal up, and draws the first page.
+/// Starts a pager over a sink, for a terminal of so many columns and rows, with a classifier of the caller's: takes over
+/// the texts that wait in it, sets the terminal up, and draws the first page.
 ///
 /// # Errors
 ///
@@ -134,6 +144,36 @@ fn begin<S: OutputSink + Drop>(
 /// [`MinusError::Memory`] where there is no memory. [`MinusError::Setup`] where the sink is no terminal, or refused to
 /// set it up: a beginning of the setup was written. [`MinusError::Draw`] where the sink refused the first page: a
 /// beginning of it was written after the setup, and the cleanup as far as the sink took it.
+pub fn init_core_with<S: OutputSink + Drop, P: Parts>(
+    pager: PagerOf<P>,
+    mode: RunMode,
+    sink: S,
+    cols: usize,
+    rows: usize,
+    classifier: P::Classifier,
+) -> Result<Core<S, P>, StartErrorOf<S, P>>
+    ensures started { IfOk result (λ s. IsStart S.contents S.refused S.terminal pager mode cols rows classifier sink s) }
+    ensures refused { IfErr result (λ e. IsRefusedStart S.contents S.refused S.terminal pager mode cols rows sink e) }
+{
+    if mode.is_uninitialized() {
+        return Err(StartErrorOf {
+            sink,
+            pager: Some(pager),
+            cause: MinusError::BadMode,
+        });
+    }
+    match first_page(&pager, cols, rows) {
+        Ok(first) => begin(pager, mode, sink, classifier, first),
+        Err(cause) => Err(StartErrorOf {
+            sink,
+            pager: Some(pager),
+            cause,
+        }),
+    }
+}
+
+/// Starts a pager over a sink: [`init_core_with`], whose errors it has, with the classifier for which a resize asks for
+/// the terminal's new size, and any other event for nothing.
 pub fn init_core<S: OutputSink + Drop>(
     pager: Pager,
     mode: RunMode,
@@ -144,20 +184,9 @@ pub fn init_core<S: OutputSink + Drop>(
     ensures started { IfOk result (λ s. IsStart S.contents S.refused S.terminal pager mode cols rows (record {}) sink s) }
     ensures refused { IfErr result (λ e. IsRefusedStart S.contents S.refused S.terminal pager mode cols rows sink e) }
 {
-    if mode.is_uninitialized() {
-        return Err(StartError {
-            sink,
-            pager: Some(pager),
-            cause: MinusError::BadMode,
-        });
-    }
-    match first_page(&pager, cols, rows) {
-        Ok(first) => begin(pager, mode, sink, first),
-        Err(cause) => Err(StartError {
-            sink,
-            pager: Some(pager),
-            cause,
-        }),
+    match init_core_with(pager, mode, sink, cols, rows, StandIn) {
+        Ok(session) => Ok(session),
+        Err(refused) => Err(refused),
     }
 }
 

@@ -25,12 +25,14 @@ mod stand_in;
 pub mod state;
 mod status;
 
-pub use commands::{Command, Input};
+pub use commands::{Command, CommandOf, Input, InputOf};
 pub use draw::{draw_append_text, draw_for_change, draw_full, write_prompt};
 pub use error::{CleanupError, DescriptionError, MinusError, RegexError, SetupError, TermError};
 pub use help::{format_help_table_from_entries, format_key};
 pub use hooks::Hook;
-pub use init::{StartError, a_start_leaves_its_page, dynamic_paging, init_core};
+pub use init::{
+    StartError, StartErrorOf, a_start_leaves_its_page, dynamic_paging, init_core, init_core_with,
+};
 pub use input::crossterm_event::{
     Event, KeyCode, KeyEvent, KeyEventKind, KeyEventState, KeyModifiers, MouseButton, MouseEvent,
     MouseEventKind,
@@ -54,10 +56,11 @@ pub use minus_text::{
     rows_are_determined, rows_fit, wrap_line,
 };
 pub use page::Page;
-pub use pager::Pager;
+pub use pager::{Pager, PagerOf};
+pub use parts::{Calls, Kinds, Parts};
 pub use screen::{FormatResult, Line, OwnedTextBlock, Row, Rows, Screen, TextBlock};
 pub use search::{Patterns, highlight_line_matches, next_nth_match, strip_escapes};
-pub use session::{Answer, Ran, Session};
+pub use session::{Answer, Core, Ran, RanOf, Session};
 pub use sink::{
     OutputSink, WithTty, cleanup, clear_entire_screen, draw_bytes, move_cursor, setup, write_bytes,
     write_raw_lines,

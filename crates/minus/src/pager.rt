@@ -3,31 +3,37 @@ ghost use Rattle.std.specs.Prelude.{◌≡◌, ◌++◌, ◌∷◌, [], map, OnO
 ghost use Rattle.minus.specs.Reads.{wanted_of};
 ghost use Rattle.minus.specs.Table.{sets_data, appends_data};
 
-use crate::commands::Command;
+use crate::commands::CommandOf;
+use crate::parts::Parts;
+use crate::stand_in::StandIns;
 use minus_term::MinusError;
 use std::alloc::{AllocError, Global};
 use std::fmt;
 
 /// A pager that is not yet on show: what it is told waits for its start.
-#[derive(Debug, Drop)]
-pub struct Pager {
+#[derive(Drop)]
+#[derive_where(Debug)]
+pub struct PagerOf<P: Parts> {
     pub(crate) alloc: Global,
-    pub(crate) queue: Vec<Command>,
+    pub(crate) queue: Vec<CommandOf<P>>,
 }
 
-impl Pager {
+/// A pager to which no classifier is given.
+pub type Pager = PagerOf<StandIns>;
+
+impl<P: Parts> PagerOf<P> {
     /// A pager that was told nothing.
-    pub fn new(alloc: Global) -> Pager
+    pub fn new(alloc: Global) -> PagerOf<P>
         ensures { result.queue.items ≡ [] }
     {
-        Pager {
+        PagerOf {
             alloc,
             queue: Vec::new(alloc),
         }
     }
 
     // Adds a command after those that wait.
-    fn queue(&mut self, command: Command) -> Result<(), MinusError>
+    fn queue(&mut self, command: CommandOf<P>) -> Result<(), MinusError>
         ensures ok { OnOk result (self.new.queue.items ≡ self.old.queue.items ++ command ∷ []) }
         ensures err { OnErr result (self.new.queue.items ≡ self.old.queue.items) }
         ensures memory { IfErr result (λ e. e ≡ MinusError.Memory) }
@@ -48,7 +54,7 @@ impl Pager {
         ensures err { OnErr result (self.new.queue.items ≡ self.old.queue.items) }
         ensures memory { IfErr result (λ e. e ≡ MinusError.Memory) }
     {
-        self.queue(Command::SetData(String::from_str(self.alloc, text)?))?;
+        self.queue(CommandOf::SetData(String::from_str(self.alloc, text)?))?;
         Ok(())
     }
 
@@ -62,12 +68,12 @@ impl Pager {
         ensures err { OnErr result (self.new.queue.items ≡ self.old.queue.items) }
         ensures memory { IfErr result (λ e. e ≡ MinusError.Memory) }
     {
-        self.queue(Command::AppendData(String::from_str(self.alloc, text)?))?;
+        self.queue(CommandOf::AppendData(String::from_str(self.alloc, text)?))?;
         Ok(())
     }
 }
 
-impl fmt::Write for Pager {
+impl<P: Parts> fmt::Write for PagerOf<P> {
     ghost use Rattle.std.specs.Prelude.{◌≡◌, ◌++◌, ◌∷◌, [], map, OnOk, OnErr};
     ghost use Rattle.minus.specs.Reads.{wanted_of};
     ghost use Rattle.minus.specs.Table.{appends_data};

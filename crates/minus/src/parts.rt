@@ -1,17 +1,19 @@
 //! What a session keeps of its caller's.
+//!
+//! A function of your own on a session is written over the kinds: `<P: Calls>(session: &mut Core<S, P>)`.
 use crate::input::InputClassifier;
 use std::marker::PhantomData;
 
-/// The kinds of what a session keeps.
+/// The kinds of what a session keeps of its caller's.
 pub trait Parts {
     /// What decides about events.
     type Classifier: Drop;
 }
 
-/// Kinds of which the classifier can be asked.
+/// Kinds that a session can step with: the classifier can be asked.
 pub trait Calls: Parts<Classifier: InputClassifier> {}
 
-/// What is kept, by its kinds.
+/// The kinds, named by their types: a classifier of the kind `K`.
 pub struct Kinds<K> {
     kinds: PhantomData<K>,
 }

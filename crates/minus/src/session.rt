@@ -1,13 +1,15 @@
 //! A session: a pager over a sink.
+ghost use Rattle.std.specs.Prelude.{◌≡◌};
+ghost use Rattle.std.specs.Option.{unwrap_or};
 ghost use Rattle.minus.specs.Control.{IsClamped};
 ghost use Rattle.minus.specs.Reads.{control_of, IsFormed};
 
 use crate::change::{Change, NextText};
-use crate::commands::{Command, Drawing, Input};
+use crate::commands::{CommandOf, Drawing, InputOf, Redraw};
 use crate::input::{InputClassifier, InputEvent};
 use crate::page::Page;
-use crate::parts::{Calls, Kinds, Parts};
-use crate::stand_in::ResizeAlone;
+use crate::parts::{Calls, Parts};
+use crate::stand_in::StandIns;
 use crate::state::{ExitStrategy, PagerState, RunMode};
 use crate::status::Status;
 use minus_term::{CleanupError, MinusError, OutputSink, cleanup, draw_bytes};
@@ -27,8 +29,8 @@ pub struct Core<S, P: Parts> {
     ghost clamped: { IsClamped (control_of state) },
 }
 
-/// A pager over a sink.
-pub type Session<S> = Core<S, Kinds<ResizeAlone>>;
+/// A pager over a sink, to which no classifier was given.
+pub type Session<S> = Core<S, StandIns>;
 
 /// What a step answers.
 #[derive(Debug, Drop)]
@@ -42,12 +44,12 @@ pub struct Answer {
 }
 
 impl Answer {
-    ghost use Rattle.std.specs.Prelude.{◌≡◌};
+    ghost use Rattle.std.specs.Prelude.{◌≡◌, None};
     ghost use Rattle.minus.specs.Answers.{IsAnswer, ends_run};
 
     // The answer of a step that exits so, or goes on.
     fn of_exit(alloc: Global, exited: Option<(ExitStrategy, u8)>) -> Answer
-        ensures { IsAnswer exited result }
+        ensures { IsAnswer exited None result }
     {
         Answer {
             exited,
@@ -64,9 +66,10 @@ impl Answer {
     }
 }
 
-/// What came of a list of inputs.
-#[derive(Debug, Drop)]
-pub struct Ran {
+/// What came of a list of inputs, over the kinds of what the session keeps.
+#[derive(Drop)]
+#[derive_where(Debug)]
+pub struct RanOf<P: Parts> {
     /// How many steps ended well.
     pub done: usize,
     /// The answer of the last of them.
@@ -74,8 +77,11 @@ pub struct Ran {
     /// The refusal after them, whose input is dropped.
     pub stopped: Option<MinusError>,
     /// The inputs that were not taken.
-    pub rest: Vec<Input>,
+    pub rest: Vec<InputOf<P>>,
 }
+
+/// What came of a list of inputs to a session to which no classifier was given.
+pub type Ran = RanOf<StandIns>;
 
 // How far a list of inputs was worked off.
 #[derive(Drop)]
@@ -85,17 +91,27 @@ struct Progress {
     stopped: Option<MinusError>,
 }
 
+// Puts a value in the place of the one that is kept, if there is one.
+fn keep<T: Drop>(kept: &mut T, new: Option<T>)
+    ensures { kept.new ≡ unwrap_or new kept.old }
+{
+    if let Some(new) = new {
+        *kept = new;
+    }
+}
+
 impl<S, P: Parts> Core<S, P> {
     ghost use Rattle.std.specs.Prelude.{◌≡◌, map, None, OnOk, OnErr, IfOk, IfErr, string_bytes};
     ghost use Rattle.minus_term.specs.Refusals.{refusal_of};
     ghost use Rattle.minus.specs.Control.{Control};
     ghost use Rattle.minus.specs.Page.{page};
-    ghost use Rattle.minus.specs.SessionDrawings.{DrawsBetween, with_control};
+    ghost use Rattle.minus.specs.SessionDrawings.{DrawsBetween};
     ghost use Rattle.minus.specs.Reads.{control_of, wanted_of};
     ghost use Rattle.minus.specs.NextTexts.{IsNext};
     ghost use Rattle.minus.specs.Changes.{IsChange, IsUnformed};
     ghost use Rattle.minus.specs.Sizes.{IsSize};
-    ghost use Rattle.minus.specs.Table.{effect, changed_by, IsPossible};
+    ghost use Rattle.minus.specs.Table.{drawing_of, IsPossible};
+    ghost use Rattle.minus.specs.Works.{after};
     ghost use Rattle.minus.specs.Steps.{mode_told};
     ghost use Rattle.minus.specs.Core.{seen_of};
 
@@ -127,7 +143,7 @@ impl<S, P: Parts> Core<S, P> {
         ensures cursor { IfOk result (λ p. p.cursor ≡ (page (seen_of self.now).control).cursor) }
         ensures memory { IfErr result (λ e. e ≡ MinusError.Memory) }
     {
-        let change = self.state.change_to(NextText::Same);
+        let change = self.state.change_to(NextText::Same, Redraw::Stays);
         let shown = self.state.shown_after(self.alloc, &change, 0)?;
         let page = Page::form(self.alloc, &self.state, &shown)?;
         Ok(page)
@@ -149,20 +165,21 @@ impl<S, P: Parts> Core<S, P> {
         Ok(())
     }
 
-    // Forms the change of a command, draws it into the buffer and puts it in its place. An `Err` changes nothing.
-    fn take(&mut self, command: Command) -> Result<(), MinusError>
-        ensures done { OnOk result (seen_of self.new ≡ with_control self.old (changed_by (effect (control_of self.old.state) (wanted_of command)))) }
+    // Forms what comes of a command, draws it into the buffer and puts it in its place. An `Err` changes nothing.
+    fn take(&mut self, command: CommandOf<P>) -> Result<(), MinusError>
+        ensures done { OnOk result (seen_of self.new ≡ after (seen_of self.old) (wanted_of command)) }
         ensures possible { OnOk result (IsPossible (wanted_of command)) }
-        ensures drawn { OnOk result (DrawsBetween self.new (effect (control_of self.old.state) (wanted_of command)).drawing (control_of self.old.state) (control_of self.new.state)) }
+        ensures drawn { OnOk result (DrawsBetween self.new (drawing_of (control_of self.old.state) (wanted_of command)) (control_of self.old.state) (control_of self.new.state)) }
         ensures size { OnOk result (IsSize self.new.state.cols self.new.state.rows) }
         ensures sink { self.new.sink ≡ self.old.sink }
         ensures err { OnErr result (seen_of self.new ≡ seen_of self.old) }
         ensures unformed { IfErr result (λ e. IsUnformed (refusal_of e) (wanted_of command)) }
     {
-        let change = self.state.prepare(self.alloc, command)?;
-        let drawing = change.drawing(self.state.upper_mark);
-        self.draw_change(drawing, &change)?;
-        self.state.place(self.alloc, change)?;
+        let prepared = self.state.prepare(self.alloc, command)?;
+        let drawing = prepared.change.drawing(self.state.upper_mark);
+        self.draw_change(drawing, &prepared.change)?;
+        self.state.place(self.alloc, prepared.change)?;
+        keep(&mut self.classifier, prepared.classifier);
         Ok(())
     }
 }
@@ -181,10 +198,10 @@ impl<S: OutputSink + Drop, P: Calls> Core<S, P> {
     ghost use Rattle.minus.specs.declared.status.Status.TheVariants as status;
 
     // Does what a command asks for that is no exit, and draws it. A refusal of the sink fails the session.
-    fn change(&mut self, command: Command) -> Result<(), MinusError>
+    fn change(&mut self, command: CommandOf<P>) -> Result<(), MinusError>
         requires on { (effect (seen_of self.old).control (wanted_of command)).exits_by ≡ None }
         requires running { (seen_of self.old).status ≡ status.Running }
-        ensures step { OnOk result (StepsOf S.contents S.refused P.Classifier.allows self.old (a_command (wanted_of command)) self.new None) }
+        ensures step { OnOk result (StepsOf S.contents S.refused P.Classifier.allows self.old (a_command (wanted_of command)) self.new None None) }
         ensures refused { IfErr result (λ e. IsRefusedStepOf S.contents S.refused P.Classifier.allows self.old (a_command (wanted_of command)) self.new e) }
     {
         self.take(command)?;
@@ -199,7 +216,11 @@ impl<S: OutputSink + Drop, P: Calls> Core<S, P> {
     }
 
     // Cleans the terminal up, and ends the session by an exit. A refusal fails it.
-    fn exit(&mut self, command: &Command, exit: (ExitStrategy, u8)) -> Result<Answer, MinusError>
+    fn exit(
+        &mut self,
+        command: &CommandOf<P>,
+        exit: (ExitStrategy, u8),
+    ) -> Result<Answer, MinusError>
         requires exits { (effect (seen_of self.old).control (wanted_of command.now)).exits_by ≡ Some exit }
         requires running { (seen_of self.old).status ≡ status.Running }
         ensures step { IfOk result (λ a. IsStepOf S.contents S.refused P.Classifier.allows self.old (a_command (wanted_of command.now)) self.new a) }
@@ -214,7 +235,7 @@ impl<S: OutputSink + Drop, P: Calls> Core<S, P> {
     }
 
     // Does what a command asks for, and draws it.
-    fn work_off(&mut self, command: Command) -> Result<Answer, MinusError>
+    fn work_off(&mut self, command: CommandOf<P>) -> Result<Answer, MinusError>
         requires { (seen_of self.old).status ≡ status.Running }
         ensures step { IfOk result (λ a. IsStepOf S.contents S.refused P.Classifier.allows self.old (a_command (wanted_of command)) self.new a) }
         ensures refused { IfErr result (λ e. IsRefusedStepOf S.contents S.refused P.Classifier.allows self.old (a_command (wanted_of command)) self.new e) }
@@ -227,14 +248,14 @@ impl<S: OutputSink + Drop, P: Calls> Core<S, P> {
     }
 
     // The command that an input is: for an event, what the classifier answers.
-    fn command_of(&self, input: Input) -> Command
+    fn command_of(&self, input: InputOf<P>) -> CommandOf<P>
         ensures { Asks P.Classifier.allows (seen_of self.now) (told_of input) (wanted_of result) }
     {
         match input {
-            Input::Command(command) => command,
-            Input::Event(event) => {
+            InputOf::Command(command) => command,
+            InputOf::Event(event) => {
                 let answer = self.classifier.classify_input(event, &self.state);
-                Command::UserInput(answer.unwrap_or(InputEvent::Ignore))
+                CommandOf::UserInput(answer.unwrap_or(InputEvent::Ignore))
             }
         }
     }
@@ -248,7 +269,7 @@ impl<S: OutputSink + Drop, P: Calls> Core<S, P> {
     /// [`MinusError::Memory`] where there is no memory: nothing has changed then, and nothing was written.
     /// [`MinusError::Draw`] and, at an exit, [`MinusError::Cleanup`] where the sink refuses a write or the flush, or
     /// takes nothing: a beginning of the bytes was written, and the session has failed.
-    pub fn step(&mut self, input: Input) -> Result<Answer, MinusError>
+    pub fn step(&mut self, input: InputOf<P>) -> Result<Answer, MinusError>
         ensures step { IfOk result (λ a. IsStepOf S.contents S.refused P.Classifier.allows self.old (told_of input) self.new a) }
 
         // A refusal: what it leaves, and when it comes.
@@ -267,7 +288,7 @@ impl<S: OutputSink + Drop, P: Calls> Core<S, P> {
     }
 
     // Works inputs off from the end of a list, until one is refused or the session has exited.
-    fn run_from_end(&mut self, left: &mut Vec<Input>) -> Progress
+    fn run_from_end(&mut self, left: &mut Vec<InputOf<P>>) -> Progress
         ensures { IsRunOf S.contents S.refused P.Classifier.allows self.old self.new (reverse left.old.items)
             result.done result.last result.stopped (reverse left.new.items) }
     {
@@ -304,14 +325,14 @@ impl<S: OutputSink + Drop, P: Calls> Core<S, P> {
 
     /// Works inputs off in order, until one is refused or the session has exited. An input that is refused is dropped,
     /// and those after it, or after an exit, are handed back.
-    pub fn run(&mut self, inputs: Vec<Input>) -> Ran
+    pub fn run(&mut self, inputs: Vec<InputOf<P>>) -> RanOf<P>
         ensures { IsRunOf S.contents S.refused P.Classifier.allows self.old self.new inputs.items result.done result.last result.stopped result.rest.items }
     {
         let mut left = inputs;
         left.reverse();
         let progress = self.run_from_end(&mut left);
         left.reverse();
-        Ran {
+        RanOf {
             done: progress.done,
             last: progress.last,
             stopped: progress.stopped,

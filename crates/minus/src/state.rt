@@ -4,10 +4,11 @@ ghost use Rattle.minus.specs.NextTexts.{next_document, IsNext};
 ghost use Rattle.minus.specs.Sizes.{IsSize};
 ghost use Rattle.minus_text.specs.Layouts.{plain};
 
-use crate::change::{Change, NextText};
-use crate::commands::{Command, Drawing};
+use crate::change::{Change, NextText, Prepared};
+use crate::commands::{CommandOf, Drawing, Redraw};
 use crate::display::{draw_append_text, draw_full, draw_scroll, format_prompt};
 use crate::input::InputEvent;
+use crate::parts::Parts;
 use minus_term::MinusError;
 use minus_text::{Layout, LineNumbers, Screen};
 use std::alloc::{AllocError, Global};
@@ -99,13 +100,13 @@ pub struct PagerState {
 impl PagerState {
     ghost use Rattle.std.specs.Prelude.{◌≡◌, ◌+◌, ◌-◌, ◌++◌, ◌^◌, ◌<◌, length, map, take, drop, OnOk, OnErr, IfOk, IfErr};
     ghost use Rattle.minus.specs.Control.{Control, first_changed};
-    ghost use Rattle.minus.specs.Table.{effect, moved_by, moved_to, changed_by, resizes, IsPossible};
+    ghost use Rattle.minus.specs.Table.{effect, handed, moved_by, moved_to, changed_by, IsPossible};
     ghost use Rattle.minus_term.specs.Refusals.{refusal_of};
     ghost use Rattle.minus_term.specs.Written.{written_all};
     ghost use Rattle.minus.specs.Drawings.{rows_after, rows_newly, append_from, ops_between};
     ghost use Rattle.minus.specs.Reads.{control_of, wanted_of, IsFormed};
     ghost use Rattle.minus.specs.NextTexts.{next_document, IsNext};
-    ghost use Rattle.minus.specs.Changes.{IsChange, IsTextFor, shown_by, IsUnformed, IsUnformedState};
+    ghost use Rattle.minus.specs.Changes.{IsChange, shown_by, IsUnformed, IsUnformedState};
     ghost use Rattle.minus.specs.Starts.{at_start, taken};
 
     /// No text yet, for a terminal of so many columns and rows.
@@ -132,7 +133,11 @@ impl PagerState {
     }
 
     // Takes over the text that a command leaves, before the start. An `Err` changes nothing.
-    pub(crate) fn take_text(&mut self, alloc: Global, command: &Command) -> Result<(), MinusError>
+    pub(crate) fn take_text<P: Parts>(
+        &mut self,
+        alloc: Global,
+        command: &CommandOf<P>,
+    ) -> Result<(), MinusError>
         requires { IsFormed self.old }
         ensures control { OnOk result (control_of self.new ≡ taken (control_of self.old) (wanted_of command.now)) }
         ensures formed { OnOk result (IsFormed self.new) }
@@ -140,11 +145,11 @@ impl PagerState {
         ensures memory { IfErr result (λ e. e ≡ MinusError.Memory) }
     {
         match command {
-            Command::SetData(text) => {
+            CommandOf::SetData(text) => {
                 let layout = Layout::plain(self.cols);
                 let _ = self.screen.set_text(alloc, text, layout)?;
             }
-            Command::AppendData(text) => {
+            CommandOf::AppendData(text) => {
                 let _ = self.screen.push_screen_buf(
                     alloc,
                     text,
@@ -152,24 +157,25 @@ impl PagerState {
                     self.cols,
                 )?;
             }
-            Command::UserInput(_) => {}
+            CommandOf::UserInput(_) | CommandOf::SetInputClassifier(_) => {}
         }
         Ok(())
     }
 
     // How the program is to go on after a command that is an exit, and the code that it ends with.
-    pub(crate) fn exit_of(&self, command: &Command) -> Option<(ExitStrategy, u8)>
+    pub(crate) fn exit_of<P: Parts>(&self, command: &CommandOf<P>) -> Option<(ExitStrategy, u8)>
         ensures { result ≡ (effect (control_of self.now) (wanted_of command.now)).exits_by }
     {
         match command {
-            Command::UserInput(InputEvent::Exit) => Some((ExitStrategy::ProcessQuit, 0)),
+            CommandOf::UserInput(InputEvent::Exit) => Some((ExitStrategy::ProcessQuit, 0)),
             _ => None,
         }
     }
 
     // The state as it is, but for the text.
-    pub(crate) fn change_to(&self, text: NextText) -> Change
+    pub(crate) fn change_to(&self, text: NextText, redraw: Redraw) -> Change
         ensures text { result.text ≡ text }
+        ensures redraw { result.redraw ≡ redraw }
         ensures mark { result.mark ≡ self.now.upper_mark }
         ensures cols { result.cols ≡ self.now.cols }
         ensures rows { result.rows ≡ self.now.rows }
@@ -179,6 +185,7 @@ impl PagerState {
             mark: self.upper_mark,
             cols: self.cols,
             rows: self.rows,
+            redraw,
         }
     }
 
@@ -186,7 +193,7 @@ impl PagerState {
     pub(crate) fn moved_to(&self, mark: usize) -> Change
         requires { IsFormed self.now }
         ensures next { IsChange (control_of self.now) result (moved_to (control_of self.now) mark) }
-        ensures text { result.text ≡ NextText.Same }
+        ensures redraw { result.redraw ≡ Redraw.Moved }
     {
         let rows = self.screen.formatted_lines_count();
         Change {
@@ -194,6 +201,7 @@ impl PagerState {
             mark: mark.min(rows.saturating_sub(self.rows - 1)),
             cols: self.cols,
             rows: self.rows,
+            redraw: Redraw::Moved,
         }
     }
 
@@ -202,7 +210,7 @@ impl PagerState {
         requires formed { IsFormed self.now }
         requires size { IsSize cols rows }
         ensures next { IfOk result (λ c. IsChange (control_of self.now) c (record (control_of self.now) { cols = cols; rows = rows })) }
-        ensures text { IfOk result (λ c. IsTextFor c.text (resizes cols rows)) }
+        ensures redraw { IfOk result (λ c. c.redraw ≡ Redraw.Whole) }
         ensures memory { IfErr result (λ e. e ≡ MinusError.Memory) }
     {
         Ok(Change {
@@ -210,64 +218,79 @@ impl PagerState {
             mark: self.upper_mark,
             cols,
             rows,
+            redraw: Redraw::Whole,
         })
     }
 
-    // The text and the mark that a command leaves, before the mark is clamped.
-    fn next_text(&self, alloc: Global, command: Command) -> Result<Change, MinusError>
+    // What comes of a command, before the mark is clamped.
+    fn next<P: Parts>(
+        &self,
+        alloc: Global,
+        command: CommandOf<P>,
+    ) -> Result<Prepared<P>, MinusError>
         requires { IsFormed self.now }
-        ensures next { IfOk result (λ c. IsChange (control_of self.now) c (moved_by (effect (control_of self.now) (wanted_of command)))) }
-        ensures text { IfOk result (λ c. IsTextFor c.text (wanted_of command)) }
+        ensures next { IfOk result (λ p. IsChange (control_of self.now) p.change (moved_by (effect (control_of self.now) (wanted_of command)))) }
+        ensures redraw { IfOk result (λ p. p.change.redraw ≡ (effect (control_of self.now) (wanted_of command)).redraw) }
+        ensures handed { IfOk result (λ p. p.classifier ≡ handed (wanted_of command)) }
         ensures possible { OnOk result (IsPossible (wanted_of command)) }
         ensures unformed { IfErr result (λ e. IsUnformed (refusal_of e) (wanted_of command)) }
     {
         match command {
-            Command::SetData(text) => {
+            CommandOf::SetData(text) => {
                 let next = formed(alloc, &text, self.cols)?;
-                Ok(self.change_to(NextText::Whole(next)))
+                Ok(Prepared::of(self.change_to(NextText::Whole(next), Redraw::Whole)))
             }
-            Command::AppendData(text) => {
+            CommandOf::AppendData(text) => {
                 let pending = self.screen.prepare_push(
                     alloc,
                     &text,
                     LineNumbers::Disabled,
                     self.cols,
                 )?;
-                Ok(self.change_to(NextText::Pushed(text, pending)))
+                let next = NextText::Pushed(text, pending);
+                Ok(Prepared::of(self.change_to(next, Redraw::Appended)))
             }
-            Command::UserInput(InputEvent::UpdateUpperMark(mark)) => Ok(Change {
+            CommandOf::UserInput(InputEvent::UpdateUpperMark(mark)) => Ok(Prepared::of(Change {
                 text: NextText::Same,
                 mark,
                 cols: self.cols,
                 rows: self.rows,
-            }),
-            Command::UserInput(InputEvent::UpdateTermArea(cols, rows)) if is_size(cols, rows) => {
-                self.resized(alloc, cols, rows)
+                redraw: Redraw::Moved,
+            })),
+            CommandOf::UserInput(InputEvent::UpdateTermArea(cols, rows)) if is_size(cols, rows) => {
+                Ok(Prepared::of(self.resized(alloc, cols, rows)?))
             }
-            Command::UserInput(InputEvent::UpdateTermArea(cols, rows)) => {
+            CommandOf::UserInput(InputEvent::UpdateTermArea(cols, rows)) => {
                 Err(MinusError::BadSize(cols, rows))
             }
-            Command::UserInput(InputEvent::Exit | InputEvent::Ignore) => {
-                Ok(self.change_to(NextText::Same))
+            CommandOf::UserInput(InputEvent::Exit | InputEvent::Ignore) => {
+                Ok(Prepared::of(self.change_to(NextText::Same, Redraw::Stays)))
             }
+            CommandOf::SetInputClassifier(classifier) => Ok(Prepared {
+                change: self.change_to(NextText::Same, Redraw::Stays),
+                classifier: Some(classifier),
+            }),
         }
     }
 
-    // What a command leaves, formed beside the state.
-    pub(crate) fn prepare(&self, alloc: Global, command: Command) -> Result<Change, MinusError>
+    // What comes of a command, formed beside the state.
+    pub(crate) fn prepare<P: Parts>(
+        &self,
+        alloc: Global,
+        command: CommandOf<P>,
+    ) -> Result<Prepared<P>, MinusError>
         requires { IsFormed self.now }
-        ensures next { IfOk result (λ c. IsChange (control_of self.now) c (changed_by (effect (control_of self.now) (wanted_of command)))) }
-        ensures text { IfOk result (λ c. IsTextFor c.text (wanted_of command)) }
+        ensures next { IfOk result (λ p. IsChange (control_of self.now) p.change (changed_by (effect (control_of self.now) (wanted_of command)))) }
+        ensures redraw { IfOk result (λ p. p.change.redraw ≡ (effect (control_of self.now) (wanted_of command)).redraw) }
+        ensures handed { IfOk result (λ p. p.classifier ≡ handed (wanted_of command)) }
         ensures possible { OnOk result (IsPossible (wanted_of command)) }
         ensures unformed { IfErr result (λ e. IsUnformed (refusal_of e) (wanted_of command)) }
     {
-        let mut change = self.next_text(alloc, command)?;
-        let top = change
-            .text
-            .rows_after(&self.screen)
-            .saturating_sub(change.rows - 1);
-        change.mark = change.mark.min(top);
-        Ok(change)
+        let mut prepared = self.next(alloc, command)?;
+        let rows = prepared.change.text.rows_after(&self.screen);
+        let top = rows.saturating_sub(prepared.change.rows - 1);
+        prepared.change.mark = prepared.change.mark.min(top);
+        Ok(prepared)
     }
 
     // How many rows of text the page has that a change leads to.
@@ -403,7 +426,7 @@ impl PagerState {
         requires { IsFormed self.now }
         ensures { OnOk result (out.new.items ≡ out.old.items ++ written_all (append_from (control_of self.now) first old_count)) }
     {
-        let change = self.change_to(NextText::Same);
+        let change = self.change_to(NextText::Same, Redraw::Stays);
         let were = old_count.saturating_sub(self.upper_mark).min(self.rows - 1);
         let first = first.saturating_sub(self.upper_mark);
         self.draw_rows_after(alloc, out, &change, first, were)?;
@@ -456,6 +479,7 @@ impl PagerState {
             mark,
             cols,
             rows,
+            redraw: _,
         } = change;
         place_text(alloc, &mut self.screen, text)?;
         self.upper_mark = mark;

@@ -4,17 +4,18 @@ use Rattle.std.specs.List.{last_or}
 use Rattle.std.specs.Option.{option_and_then, option_map}
 use Rattle.std.specs.Io.KnownBytes.{Appends, Consumes, IsAtEnd}
 use Rattle.minus_term.specs.Counts.{AppendsFront}
-use Rattle.minus.specs.declared.stand_in.ResizeAlone.{ResizeAlone}
+use Rattle.minus.specs.declared.stand_in.StandIn.{StandIn}
 use Rattle.minus.specs.declared.session.Answer.{Answer}
 use Rattle.minus.specs.declared.state.RunMode.TheVariants.{Dynamic}
-use Rattle.minus.specs.Classified.{resize_alone}
+use Rattle.minus.specs.Classified.{stand_in}
 use Rattle.minus.specs.Control.{Control}
 use Rattle.minus.specs.Page.{page}
 use Rattle.minus.specs.Reads.{Told}
 use Rattle.minus.specs.Runs.{StopsAfter}
 use Rattle.minus.specs.Sizes.{IsSize}
 use Rattle.minus.specs.Starts.{IsStarted}
-use Rattle.minus.specs.Steps.{Seen, Asks, Steps, cleanup_after}
+use Rattle.minus.specs.Seen.{Seen}
+use Rattle.minus.specs.Steps.{Asks, Steps, cleanup_after}
 use Rattle.minus.specs.Table.{resizes}
 use Rattle.minus_show.specs.Script.{script_lines, script_told}
 use Rattle.minus_show.specs.Printed.{printed_all}
@@ -27,13 +28,13 @@ use Rattle.minus_show.specs.declared.fault.ScriptFault.TheVariants.{Io, Line, Re
 
 -- a pager was started without a text over a sink that held nothing, and took what it was told in order, with these answers,
 -- up to a rest
-pub record IsTaken (cols rows : ℕ) (told : List Told) (answers : List Answer) (reached : Seen ResizeAlone) (bytes : Option (List ℕ)) (rest : List Told) : Type 0 where
-  pub first : Seen ResizeAlone
+pub record IsTaken (cols rows : ℕ) (told : List (Told StandIn)) (answers : List Answer) (reached : Seen StandIn) (bytes : Option (List ℕ)) (rest : List (Told StandIn)) : Type 0 where
+  pub first : Seen StandIn
   pub begun : Option (List ℕ)
-  pub taken : List Told
+  pub taken : List (Told StandIn)
   pub passed : List Control
   pub started : IsStarted first (record {}) [] Dynamic cols rows true (Some []) begun
-  pub steps : Steps resize_alone first taken passed answers reached begun bytes
+  pub steps : Steps stand_in first taken passed answers reached begun bytes
   pub all : told ≡ taken ++ rest
 
 -- what is printed after an exit: the code that the program would end with
@@ -50,16 +51,16 @@ printed_after None control = printed_all (page control).texts
 printed_after (Some code) control = printed_exit code
 
 -- what the modes print: the page, or all bytes of the sink, with those that clean the terminal up
-abbrev pub Prints : Mode → List Answer → Seen ResizeAlone → Option (List ℕ) → List ℕ → Type 0
+abbrev pub Prints : Mode → List Answer → Seen StandIn → Option (List ℕ) → List ℕ → Type 0
 Prints Page answers reached bytes output = output ≡ printed_after (exit_code (last_or None answers)) reached.control
 Prints Bytes answers reached bytes output = Appends bytes (Some output) (cleanup_after reached.status)
 
 -- the pager took all that it was told, or all up to an exit, and what it came to was printed
-pub record IsShown (mode : Mode) (cols rows : ℕ) (told : List Told) (output : List ℕ) : Type 0 where
+pub record IsShown (mode : Mode) (cols rows : ℕ) (told : List (Told StandIn)) (output : List ℕ) : Type 0 where
   pub answers : List Answer
-  pub reached : Seen ResizeAlone
+  pub reached : Seen StandIn
   pub bytes : Option (List ℕ)
-  pub rest : List Told
+  pub rest : List (Told StandIn)
   pub taken : IsTaken cols rows told answers reached bytes rest
   pub whole : StopsAfter answers None rest
   pub prints : Prints mode answers reached bytes output
@@ -67,7 +68,7 @@ pub record IsShown (mode : Mode) (cols rows : ℕ) (told : List Told) (output : 
 -- a script was read to its end, each of its lines is well formed, and this is what they lead to
 pub record IsScriptShown (mode : Mode) (cols rows : ℕ) (old_input new_input : Option (List ℕ)) (printed : List ℕ) : Type 0 where
   pub script : List ℕ
-  pub told : List Told
+  pub told : List (Told StandIn)
   pub read : Consumes old_input new_input script
   pub end : IsAtEnd new_input
   pub lines : script_told (script_lines script) ≡ Ok told
@@ -84,20 +85,20 @@ abbrev pub IsWantOfMemory : ℕ → Type 0
 IsWantOfMemory number = (number ≡ 1) ⊎ ((number ≡ 12) ⊎ ((number ≡ 13) ⊎ (number ≡ 14)))
 
 -- after a part of what it was told, the pager was asked for a size that is none of a terminal
-pub record IsSizeAsked (cols rows : ℕ) (told : List Told) : Type 0 where
+pub record IsSizeAsked (cols rows : ℕ) (told : List (Told StandIn)) : Type 0 where
   pub answers : List Answer
-  pub reached : Seen ResizeAlone
+  pub reached : Seen StandIn
   pub bytes : Option (List ℕ)
-  pub refused : Told
-  pub rest : List Told
+  pub refused : Told StandIn
+  pub rest : List (Told StandIn)
   pub columns : ℕ
   pub lines : ℕ
   pub taken : IsTaken cols rows told answers reached bytes (refused ∷ rest)
-  pub asked : Asks resize_alone reached refused (resizes columns lines)
+  pub asked : Asks stand_in reached refused (resizes columns lines)
   pub bad : IsSize columns lines → ⊥
 
 -- memory ran out, or the size of the start, or one that was asked for later, is none of a terminal
-abbrev pub IsRefusal : ℕ → ℕ → ℕ → List Told → Type 0
+abbrev pub IsRefusal : ℕ → ℕ → ℕ → List (Told StandIn) → Type 0
 IsRefusal number cols rows told = IsWantOfMemory number ⊎ ((number ≡ 5) × ((IsSize cols rows → ⊥) ⊎ IsSizeAsked cols rows told))
 
 -- a script was read to its end
@@ -117,7 +118,7 @@ IsRunFault mode cols rows old_input new_input old_output new_output (Io Output c
 IsRunFault mode cols rows old_input new_input old_output new_output (Line number) =
     (script : List ℕ) × IsRead old_input new_input script × (script_told (script_lines script) ≡ Err number)
 IsRunFault mode cols rows old_input new_input old_output new_output (Refused number) =
-    (number ≡ 1) ⊎ ((script : List ℕ) × (told : List Told) × IsRead old_input new_input script × (script_told (script_lines script) ≡ Ok told) × IsRefusal number cols rows told)
+    (number ≡ 1) ⊎ ((script : List ℕ) × (told : List (Told StandIn)) × IsRead old_input new_input script × (script_told (script_lines script) ≡ Ok told) × IsRefusal number cols rows told)
 
 -- a fault that came before anything was printed
 abbrev pub IsBeforePrinting : ScriptFault → Type 0

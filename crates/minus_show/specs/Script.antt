@@ -6,6 +6,7 @@ use Rattle.std.specs.List.{slice_split, before_first, after_first, position_or_l
 use Rattle.minus_term.specs.declared.event.Event.TheVariants.{Key}
 use Rattle.minus_term.specs.declared.event.KeyCode.TheVariants.{Char}
 use Rattle.minus_term.specs.declared.event.KeyEventKind.TheVariants.{Press}
+use Rattle.minus.specs.declared.stand_in.StandIn.{StandIn}
 use Rattle.minus.specs.Reads.{Told, a_command, an_event}
 use Rattle.minus.specs.Table.{Wanted, sets_data, appends_data, moves_mark, resizes}
 use Rattle.minus_show.specs.Number.{usize_of}
@@ -34,21 +35,21 @@ abbrev pub has_blank : List ℕ → Bool
 has_blank line = nat_lt (position_or_len is_blank line) (length line)
 
 -- a character typed: the press of its key, without a modifier
-abbrev pub typed : ℕ → Told
+abbrev pub typed : ℕ → Told StandIn
 typed character = an_event (Key (record { code = Char character; modifiers = record { 0 = 0 }; kind = Press; state = record { 0 = 0 } }))
 
 -- two numbers ask for a size
-abbrev pub size_asked : Option ℕ → Option ℕ → Option Wanted
+abbrev pub size_asked : Option ℕ → Option ℕ → Option (Wanted StandIn)
 size_asked (Some cols) (Some rows) = Some (resizes cols rows)
 size_asked (Some cols) None = None
 size_asked None rows = None
 
 -- a size is two numbers with one blank between them
-abbrev pub resize_asked : List ℕ → Option Wanted
+abbrev pub resize_asked : List ℕ → Option (Wanted StandIn)
 resize_asked argument = if has_blank argument then size_asked (usize_of (before_first is_blank argument)) (usize_of (after_first is_blank argument)) else None
 
 -- what a word asks for as a command with its argument: a known word, whose argument is well formed
-abbrev pub command_asked : List ℕ → List ℕ → Option Wanted
+abbrev pub command_asked : List ℕ → List ℕ → Option (Wanted StandIn)
 command_asked word argument =
     if bytes_eq word (codes "push") then option_map appends_data (unescaped argument)
     else if bytes_eq word (codes "set") then option_map sets_data (unescaped argument)
@@ -57,28 +58,28 @@ command_asked word argument =
     else None
 
 -- a command is one input
-abbrev pub one_command : Wanted → List Told
+abbrev pub one_command : Wanted StandIn → List (Told StandIn)
 one_command wanted = a_command wanted ∷ []
 
 -- a text that is typed is as many as it has characters
-abbrev pub all_typed : List ℕ → List Told
+abbrev pub all_typed : List ℕ → List (Told StandIn)
 all_typed text = map typed (chars text)
 
 -- what a word tells the session with its argument
-abbrev pub word_told : List ℕ → List ℕ → Option (List Told)
+abbrev pub word_told : List ℕ → List ℕ → Option (List (Told StandIn))
 word_told word argument = if bytes_eq word (codes "type") then option_map all_typed (unescaped argument) else option_map one_command (command_asked word argument)
 
 -- what a line tells: it is UTF-8, and its first blank ends its word and begins the argument; a faulty line tells nothing
-abbrev pub line_told : List ℕ → Option (List Told)
+abbrev pub line_told : List ℕ → Option (List (Told StandIn))
 line_told line = if is_utf8 line && has_blank line then word_told (before_first is_blank line) (after_first is_blank line) else None
 
 -- what a first line tells, and then the later ones, or the number of the first faulty line
-abbrev pub then_told : Option (List Told) → Result (List Told) ℕ → Result (List Told) ℕ
+abbrev pub then_told : Option (List (Told StandIn)) → Result (List (Told StandIn)) ℕ → Result (List (Told StandIn)) ℕ
 then_told None later = Err 1
 then_told (Some first) (Ok later) = Ok (first ++ later)
 then_told (Some first) (Err number) = Err (number + 1)
 
 -- what all lines tell, or the number from 1 of the first faulty one
-abbrev pub script_told : List (List ℕ) → Result (List Told) ℕ
+abbrev pub script_told : List (List ℕ) → Result (List (Told StandIn)) ℕ
 script_told [] = Ok []
 script_told (line ∷ lines) = then_told (line_told line) (script_told lines)

@@ -7,7 +7,7 @@ ghost use Rattle.minus_show.specs.Escapes.{unescaped, escape_byte, split_escape_
 ghost use Rattle.minus_show.specs.ScriptLines.{told_by};
 ghost use Rattle.minus_show.specs.ScriptFaults.{IsScriptFault};
 ghost use Rattle.minus.specs.Reads.{told_of, wanted_of};
-ghost use Rattle.minus.specs.Table.{moves_mark};
+ghost use Rattle.minus.specs.Table.{sets_data, appends_data, moves_mark};
 
 use crate::fault::ScriptFault;
 use crate::number::parse_usize;
@@ -83,6 +83,20 @@ fn unescape(alloc: Global, written: &str) -> Result<Option<String>, AllocError>
     Ok(Some(text))
 }
 
+/// The command that adds a text.
+fn append(text: String) -> Command
+    ensures { wanted_of result ≡ appends_data (string_bytes text) }
+{
+    Command::AppendData(text)
+}
+
+/// The command that puts a text in the place of all text.
+fn set(text: String) -> Command
+    ensures { wanted_of result ≡ sets_data (string_bytes text) }
+{
+    Command::SetData(text)
+}
+
 /// The command that moves the mark to a row.
 fn move_mark(row: usize) -> Command
     ensures { wanted_of result ≡ moves_mark row }
@@ -105,8 +119,8 @@ fn parse_command(alloc: Global, word: &str, argument: &str) -> Result<Option<Com
     ensures { IfOk result (λ command. option_map wanted_of command ≡ command_asked word.now argument.now) }
 {
     let command = match word {
-        "push" => unescape(alloc, argument)?.map(Command::AppendData),
-        "set" => unescape(alloc, argument)?.map(Command::SetData),
+        "push" => unescape(alloc, argument)?.map(append),
+        "set" => unescape(alloc, argument)?.map(set),
         "mark" => parse_usize(argument).map(move_mark),
         "resize" => parse_resize(argument),
         _ => None,

@@ -3,6 +3,8 @@
 #![tactic(auto)]
 
 #[cfg(test)]
+mod classifiers;
+#[cfg(test)]
 mod drawings;
 #[cfg(test)]
 mod endings;

@@ -9,7 +9,7 @@ use Rattle.minus_text.specs.declared.layout.Wrap.{Wrap}
 use Rattle.minus_text.specs.declared.line_numbers.LineNumbers.{LineNumbers}
 use Rattle.minus_text.specs.Layouts.{own_rows, relaid}
 use Rattle.minus_text.specs.Lines.{finished_lines, unfinished_line}
-use Rattle.minus_text.specs.Document.{Document, rows_of_lines, first_rows, open_rows, longest_of, wrap_in, rows_of, line_map, longest, pushed, PushesJoin, LineMapAscends}
+use Rattle.minus_text.specs.Document.{Document, rows_of_lines, first_rows, open_rows, longest_of, wrap_in, rows_of, stored_rows, line_map, longest, pushed, PushesJoin, LineMapAscends}
 use Rattle.minus_text.proofs.LayoutLaws.{own_rows-some}
 use Rattle.minus_text.proofs.LinesLaws.{lines-cut}
 
@@ -53,6 +53,7 @@ pushes-join d one two whole a b numbers cols e f g =
     let both : two ≡ whole = f ∙ ap (λ (x : Document). pushed x b numbers cols) e ∙ ap (λ t. let r : Document = record { text = t; layout = relaid d.layout numbers cols } in r) (append_assoc d.text a b) ∙ sym g in
     record {
       same_rows = ap rows_of both;
+      same_stored = ap stored_rows both;
       same_map = ap line_map both;
       same_count = ap (λ (x : Document). length (lines x.text)) both;
       same_longest = ap longest both;

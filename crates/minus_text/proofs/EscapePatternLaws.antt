@@ -1,5 +1,5 @@
 -- The texts of the fixed patterns are patterns, and that of escape sequences means what is written out.
-use Rattle.std.proofs.Common.{Bool, ◌||◌, ◌==◌, ap₂, subst, codes, ◌≡◌, ℕ, zero, suc, ◌<◌, ◌≤◌, true, List, [], ◌∷◌, Option, None, Some, IsSomeAnd, IfSome, get_or, refl, sym, ◌∙◌, inl, inr, ⊎_elim, arith, lit≤}
+use Rattle.std.proofs.Common.{Bool, ◌||◌, ◌==◌, ap₂, subst, codes, ◌≡◌, ℕ, zero, suc, ◌<◌, ◌≤◌, true, List, [], ◌∷◌, Option, None, Some, IsSomeAnd, IfSome, refl, sym, inl, inr, ⊎_elim, arith, lit≤}
 use Rattle.std.proofs.lemmas.Bool.Decides.{nat_tests}
 use Rattle.std.specs.Str.{chars}
 use Rattle.std.specs.List.{list_any}
@@ -7,16 +7,12 @@ use Rattle.std.specs.Int.{is_in_range}
 use Rattle.regex_hir.specs.Meaning.{up_to}
 use Rattle.regex.specs.Patterns.{Re, empty, literal, char_in, byte_in, cat, alt, optional, repeat, members, in_range, in_ranges, HasExactly, Refuses, default_config}
 use Rattle.regex.specs.Strings.{regex_pattern}
-use Rattle.regex.specs.Sources.{IsRefusal}
-use Rattle.regex.specs.Failures.{IsRightKind}
 use Rattle.regex.specs.declared.string.regex.Regex.{Regex}
-use Rattle.regex.specs.declared.error.Error.{Error}
 use Rattle.regex.specs.declared.error.Error.TheVariants.{Syntax, CompiledTooBig, Internal, OutOfMemory}
 use Rattle.regex.proofs.OnLiterals.{regex_on_literals, IsReadAs, class_is, same_plus, same_refl, ◌then◌, cat_cong, alt_cong, cat-empty, alt-fail}
 use Rattle.regex.proofs.ForCallers.{alike_as_written, spans_alike}
 use Rattle.regex_syntax.specs.Same.{SameTree}
 use Rattle.regex_syntax.specs.Grammar.{Names, read}
-use Rattle.regex_syntax.specs.Brackets.{Nested}
 use Rattle.minus_text.specs.FixedPatterns.{escape_source, word_source, digit, later_number, numbers, escape_sequence, IsBuiltOf, IsPatternText, MatchesAs}
 
 -- one of some sets has the character

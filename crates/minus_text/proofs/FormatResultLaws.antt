@@ -41,7 +41,7 @@ joined_is : (text piece : List ℕ) (plan : Plan) → (formed_by text piece plan
 joined_is text piece plan = elim (cases_Bool plan.keeps) [ inl t ↦ rw t refl | inr f ↦ rw f refl ]
 
 -- a part is the whole just where nothing is left
-same_part : (a b c : ℕ) → a + b ≡ c → eqb a c ≡ eqb b 0
+pub same_part : (a b c : ℕ) → a + b ≡ c → eqb a c ≡ eqb b 0
 same_part a b c e = elim (cases_Bool (eqb b 0)) [
   | inl t ↦ let z : b ≡ 0 = eqb-true b 0 t in rw t (eq-eqb a c (omega arith))
   | inr f ↦ grind (arith, nat_tests)

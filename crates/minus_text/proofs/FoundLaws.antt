@@ -1,5 +1,5 @@
 -- What is found in a row.
-use Rattle.std.proofs.Common.{◌≡◌, ℕ, Bool, true, false, cond, eqb, not, List, [], ◌∷◌, length, refl, sym, ap, ◌∙◌}
+use Rattle.std.proofs.Common.{◌≡◌, ℕ, true, false, cond, eqb, not, List, [], ◌∷◌, length, sym, ap, ◌∙◌}
 use Rattle.regex.specs.Patterns.{Re}
 use Rattle.minus_text.specs.Escapes.{stripped, escape_places}
 use Rattle.minus_text.specs.Highlight.{line_matches, line_match_places}

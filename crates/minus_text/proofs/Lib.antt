@@ -18,6 +18,7 @@ pub mod HighlightLaws
 pub mod EscapePatternLaws
 pub mod MarkersLaws
 pub mod FoundLaws
+pub mod FoundByLaws
 pub mod StandLaws
 pub mod GoesOnLaws
 pub mod FewColumnsLaws
@@ -42,3 +43,4 @@ pub mod FormatResultLaws
 pub mod PushedLaws
 pub mod PendingLaws
 pub mod LineCountLaws
+pub mod StoredLaws

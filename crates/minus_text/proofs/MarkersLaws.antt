@@ -1,10 +1,9 @@
 -- What is put into a line is its markers and its escape sequences.
 use Rattle.std.proofs.Common.{◌≡◌, ℕ, ◌+◌, ◌-◌, ◌≤◌, Bool, true, false, cond, List, [], ◌∷◌, ◌++◌, map, take, length, drop, slice_range, refl, sym, ap, ap₂, ◌∙◌, subst, arith, append_assoc, drop-drop}
 use Rattle.std.proofs.lemmas.List.{map-append, take-append-drop, take_at, drop_at, length-append, length-take-le, length-drop}
-use Rattle.regex.specs.Patterns.{Re}
 use Rattle.minus_text.specs.Escapes.{inside, outside, stripped, escapes, escape_places}
-use Rattle.minus_text.specs.FixedPatterns.{match_places, escape_sequence}
-use Rattle.minus_text.specs.Highlight.{before, behind, moved, closed, ordered, reverse_on, reverse_off, put_in, markers, highlighted, line_matches, line_match_places, AreMerged, nothing, of_first, of_second, AddsMarkersAlone, HighlightsAddMarkersAlone, OnlyMatchesAreHighlighted}
+use Rattle.minus_text.specs.FixedPatterns.{escape_sequence}
+use Rattle.minus_text.specs.Highlight.{before, behind, moved, closed, ordered, reverse_on, reverse_off, put_in, markers, highlighted, line_matches, line_match_places, AreMerged, nothing, of_first, of_second, HighlightsAddMarkersAlone, OnlyMatchesAreHighlighted}
 use Rattle.minus_text.proofs.MatchPlacesLaws.{LieIn, places_lie, no_place}
 
 abbrev Inserts : Type 0

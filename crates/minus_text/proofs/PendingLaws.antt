@@ -128,7 +128,7 @@ get_front [] ys (suc n) i l w = absurd (omega arith)
 get_front (x ∷ xs) ys (suc n) zero l w = refl
 get_front (x ∷ xs) ys (suc n) (suc i) l w = get_front xs ys n i (omega arith) (omega arith)
 
-get_behind : {X : Type 0} (xs ys : List X) (i : ℕ) → length xs ≤ i → slice_get (xs ++ ys) i ≡ slice_get ys (i - length xs)
+pub get_behind : {X : Type 0} (xs ys : List X) (i : ℕ) → length xs ≤ i → slice_get (xs ++ ys) i ≡ slice_get ys (i - length xs)
 get_behind [] ys i l = let z : i - 0 ≡ i = omega arith in rw z refl
 get_behind (x ∷ xs) ys zero l = absurd (omega arith)
 get_behind (x ∷ xs) ys (suc i) l = let z : suc i - suc (length xs) ≡ i - length xs = omega arith in rw z (get_behind xs ys i (omega arith))

@@ -1,5 +1,5 @@
 -- A document: a text and the layout of its rows, and what follows from them.
-use Rattle.std.specs.Prelude.{◌≡◌, ℕ, ◌+◌, ◌==◌, ◌&&◌, Bool, List, [], ◌∷◌, ◌++◌, length, max, if◌then◌else◌}
+use Rattle.std.specs.Prelude.{◌≡◌, ℕ, ◌+◌, ◌==◌, ◌&&◌, Bool, true, false, List, [], ◌∷◌, ◌++◌, length, map, max, Option, None, Some, slice_get, if◌then◌else◌}
 use Rattle.std.specs.List.{flat_map}
 use Rattle.std.specs.List.Sorted.{IsStrictlyIncreasing}
 use Rattle.std.specs.Str.Lines.{lines}
@@ -7,6 +7,7 @@ use Rattle.minus_text.specs.declared.layout.Wrap.{Wrap}
 use Rattle.minus_text.specs.declared.layout.Layout.{Layout}
 use Rattle.minus_text.specs.declared.formed.Plan.{Plan}
 use Rattle.minus_text.specs.declared.line_numbers.LineNumbers.{LineNumbers}
+use Rattle.minus_text.specs.Prefixes.{is_on, prefix}
 use Rattle.minus_text.specs.Layouts.{own_rows, margin, wrap_of, relaid}
 use Rattle.minus_text.specs.Units.{columns}
 use Rattle.minus_text.specs.Lines.{unfinished_line}
@@ -50,6 +51,20 @@ margin_in d = margin d.layout.numbers (line_count d)
 unfoldable pub rows_of : Document → List (List ℕ)
 rows_of d = rows_of_lines (wrap_in d) (lines d.text)
 
+-- the stored rows of the line with a number, counted from 1, where there are so many lines: what stands before each row, and the row
+abbrev pub stored_line : Bool → ℕ → ℕ → List (List ℕ) → List (List ℕ)
+stored_line numbers count line [] = []
+stored_line numbers count line (row ∷ more) = (prefix numbers count line true ++ row) ∷ map (λ r. prefix numbers count line false ++ r) more
+
+-- those of lines, of which the first has a number
+abbrev pub stored_lines : Wrap → Bool → ℕ → ℕ → List (List ℕ) → List (List ℕ)
+stored_lines wrap numbers count line [] = []
+stored_lines wrap numbers count line (x ∷ xs) = stored_line numbers count line (own_rows wrap x) ++ stored_lines wrap numbers count (line + 1) xs
+
+-- the stored rows of a document, in order
+unfoldable pub stored_rows : Document → List (List ℕ)
+stored_rows d = stored_lines (wrap_in d) (is_on d.layout.numbers) (line_count d) 1 (lines d.text)
+
 -- for each line the number of rows of the lines before it
 unfoldable pub line_map : Document → List ℕ
 line_map d = first_rows (wrap_in d) 0 (lines d.text)
@@ -74,9 +89,10 @@ keeps_rows d piece numbers cols = (cols == d.layout.cols) && (margin_in (pushed 
 abbrev pub plan_of : Document → List ℕ → LineNumbers → ℕ → Plan
 plan_of d piece numbers cols = record { keeps = keeps_rows d piece numbers cols; wrap = wrap_in (pushed d piece numbers cols) }
 
--- two documents look the same: their rows, the first row of each line, their number of lines and their longest line
+-- two documents look the same: their rows, as they are and as they are stored, the first row of each line, their number of lines and their longest line
 pub record LooksTheSame (d e : Document) : Type 0 where
   pub same_rows : rows_of d ≡ rows_of e
+  pub same_stored : stored_rows d ≡ stored_rows e
   pub same_map : line_map d ≡ line_map e
   pub same_count : line_count d ≡ line_count e
   pub same_longest : longest d ≡ longest e
@@ -89,3 +105,12 @@ PushesJoin = (d one two whole : Document) (a b : List ℕ) (numbers : LineNumber
 -- each line begins at a later row than the line before it
 abbrev pub LineMapAscends : Type 0
 LineMapAscends = (d : Document) → IsStrictlyIncreasing (line_map d)
+
+-- a text that grew by what stands before the text of a row of a document
+abbrev pub GrowsByPrefix : Document → ℕ → List ℕ → List ℕ → Type 0
+GrowsByPrefix d i old new = (before : List ℕ) × (new ≡ old ++ before) × ((row : List ℕ) → slice_get (rows_of d) i ≡ Some row → slice_get (stored_rows d) i ≡ Some (before ++ row))
+
+-- a text that grew by a row, if there is one
+abbrev pub GrowsByRow : Option (List ℕ) → List ℕ → List ℕ → Bool → Type 0
+GrowsByRow None old new found = (found ≡ false) × (new ≡ old)
+GrowsByRow (Some row) old new found = (found ≡ true) × (new ≡ old ++ row)

@@ -1,5 +1,5 @@
 -- The escape sequences of a text, and the text without them. Places count bytes from 0.
-use Rattle.std.specs.Prelude.{ℕ, ◌+◌, ◌-◌, ◌≤◌, List, [], ◌∷◌, ◌++◌, map, drop, slice_range, IsCharBoundary}
+use Rattle.std.specs.Prelude.{ℕ, ◌+◌, ◌-◌, ◌≤◌, List, [], ◌∷◌, ◌++◌, drop, slice_range, IsCharBoundary}
 use Rattle.minus_text.specs.FixedPatterns.{escape_sequence, match_places}
 use Rattle.minus_text.specs.declared.search.escapes.Insert.{Insert}
 

@@ -1,5 +1,5 @@
 -- What a term finds in rows.
-use Rattle.std.specs.Prelude.{◌≡◌, ℕ, ◌+◌, List, [], ◌∷◌, ◌++◌, Option, None, Some, take, if◌then◌else◌, nat_le}
+use Rattle.std.specs.Prelude.{ℕ, ◌+◌, List, [], ◌∷◌, ◌++◌, Option, None, Some, take, if◌then◌else◌, nat_le}
 use Rattle.std.specs.List.{position_or_len}
 use Rattle.regex.specs.Patterns.{Re}
 use Rattle.minus_text.specs.Escapes.{escape_places}

@@ -32,3 +32,4 @@ pub mod Settled
 pub mod Forms
 pub mod FormatResults
 pub mod Pending
+pub mod FoundBy

@@ -23,8 +23,8 @@ pub use pending::PendingPush;
 pub use screen::{FormatResult, Line, OwnedTextBlock, Row, Rows, Screen, TextBlock};
 pub use seams::rows_go_on;
 pub use search::{
-    HighlightMatchesArgs, Patterns, highlight_line_matches, highlights_add_markers_alone,
-    next_nth_match, only_matches_are_highlighted, strip_escapes,
+    FoundRows, HighlightMatchesArgs, Patterns, found_rows_go_on, highlight_line_matches,
+    highlights_add_markers_alone, next_nth_match, only_matches_are_highlighted, strip_escapes,
 };
 pub use spaces::push_spaces;
 pub use units::{Unit, Units};

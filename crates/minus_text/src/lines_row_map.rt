@@ -1,5 +1,5 @@
 //! A map from each line to the number of its first row.
-ghost use Rattle.std.specs.Prelude.{◌≡◌, ℕ, ◌+◌, ◌^◌, ◌<◌, ◌==◌, List, [], ◌∷◌, ◌++◌, length, map, take, slice_get, OnOk, OnErr, MatchOption};
+ghost use Rattle.std.specs.Prelude.{◌≡◌, ℕ, ◌+◌, ◌^◌, ◌<◌, ◌==◌, List, [], ◌∷◌, ◌++◌, length, map, take, slice_get, slice_index, OnOk, OnErr, MatchOption};
 ghost use Rattle.std.specs.List.{All};
 ghost use Rattle.std.specs.List.Sorted.{IsStrictlyIncreasing};
 ghost use Rattle.minus_text.specs.LineMaps.{entries_kept, IsLineOfRow};
@@ -118,6 +118,14 @@ impl LinesRowMap {
             Ok(line) => Some(line),
             Err(after) => Some(after.saturating_sub(1)),
         }
+    }
+
+    // Whether a line begins with a row.
+    pub(crate) fn begins(&self, line: usize, row: usize) -> bool
+        requires { line < length self.now }
+        ensures { result ≡ (slice_index self.now line == row) }
+    {
+        self.first_rows[line] == row
     }
 
     /// How many lines there are.

@@ -33,9 +33,10 @@ impl Model for PendingPush {
 }
 
 impl PendingPush {
-    // How many rows stay in front of what is formed.
-    pub(crate) fn kept_rows(&self) -> usize
-        ensures { result ≡ self.now.kept_rows }
+    /// How many rows stay in front of what is formed.
+    pub fn kept_rows(&self) -> usize
+        ensures value { result ≡ self.now.kept_rows }
+        ensures few { result < 2 ^ 63 }
     {
         self.start.finished.rows + self.start.rows
     }

@@ -5,7 +5,7 @@ ghost use Rattle.std.specs.Str.{IsUtf8, IsCharBoundary};
 ghost use Rattle.std.specs.Str.Lines.{lines};
 ghost use Rattle.std.specs.String.{string_len, string_capacity};
 ghost use Rattle.minus_text.specs.Layouts.{margin, plain, wrap_of};
-ghost use Rattle.minus_text.specs.Document.{rows_of, line_map, line_count, longest, unfinished_rows, pushed, wrap_in, plan_of, PushesJoin, LineMapAscends};
+ghost use Rattle.minus_text.specs.Document.{rows_of, stored_rows, GrowsByPrefix, GrowsByRow, line_map, line_count, longest, unfinished_rows, pushed, wrap_in, plan_of, PushesJoin, LineMapAscends};
 ghost use Rattle.minus_text.specs.Fragments.{rows_in};
 ghost use Rattle.minus_text.specs.Kept.{IsFormOf, IsPrepared, IsRestartOf, GoesOnInSome, AscendsBehind, line_going_on, piece_behind};
 ghost use Rattle.minus_text.specs.Pending.{IsPending, RowIsPending};
@@ -13,7 +13,7 @@ ghost use Rattle.minus_text.specs.FormatResults.{Tells, TellsPlan, TellsPush};
 
 use crate::formed::{Border, Finished, Formed, Plan, Restart, form};
 use crate::layout::{Layout, Wrap};
-use crate::line_numbers::{LineNumbers, prefix_columns};
+use crate::line_numbers::{LineNumbers, prefix_columns, push_prefix};
 use crate::lines::newlines;
 use crate::lines_row_map::LinesRowMap;
 use crate::pending::PendingPush;
@@ -256,7 +256,7 @@ impl Screen {
         &self.first_rows
     }
 
-    /// The text of a row, counted from 0. It takes no memory.
+    /// The text of a row, counted from 0, without what stands before it. It takes no memory.
     pub fn row_text(&self, i: usize) -> Option<&str>
         ensures { option_map (λ r. r.now) result ≡ slice_get (rows_of self.now) i }
     {
@@ -267,19 +267,49 @@ impl Screen {
         }
     }
 
-    /// A copy of the text of a row, counted from 0.
+    // Adds what stands before the text of a row, counted from 0.
+    fn push_before(&self, out: &mut String, i: usize) -> Result<(), AllocError>
+        ensures { OnOk result (GrowsByPrefix self.now i (string_bytes out.old) (string_bytes out.new)) }
+    {
+        if !self.layout.numbers.is_on() {
+            return Ok(());
+        }
+        let Some(line) = self.first_rows.row_to_line(i) else {
+            return Ok(());
+        };
+        let is_first = self.first_rows.begins(line, i);
+        push_prefix(out, true, self.first_rows.len(), line + 1, is_first)?;
+        Ok(())
+    }
+
+    /// Adds a row as it is stored, counted from 0: what stands before its text, and its text. Answers
+    /// whether there is such a row, and adds nothing where there is none. An `Err` is for want of memory
+    /// alone; it may leave a part of the row behind.
+    pub fn push_row(&self, out: &mut String, i: usize) -> Result<bool, AllocError>
+        ensures { IfOk result (λ found. GrowsByRow (slice_get (stored_rows self.now) i) (string_bytes out.old) (string_bytes out.new) found) }
+    {
+        let Some(text) = self.row_text(i) else {
+            return Ok(false);
+        };
+        self.push_before(out, i)?;
+        out.push_str(text)?;
+        Ok(true)
+    }
+
+    /// A copy of a row as it is stored, counted from 0: what stands before its text, and its text.
     ///
     /// # Errors
     ///
     /// [`MinusError::Memory`] where there is no memory for the copy.
     pub fn formatted_row(&self, alloc: Global, i: usize) -> Result<Option<Row>, MinusError>
-        ensures ok { IfOk result (λ row. option_map string_bytes row ≡ slice_get (rows_of self.now) i) }
+        ensures ok { IfOk result (λ row. option_map string_bytes row ≡ slice_get (stored_rows self.now) i) }
         ensures memory { IfErr result (λ e. e ≡ MinusError.Memory) }
     {
-        match self.row_text(i) {
-            Some(text) => Ok(Some(String::from_str(alloc, text)?)),
-            None => Ok(None),
+        let mut row = String::new(alloc);
+        if self.push_row(&mut row, i)? {
+            return Ok(Some(row));
         }
+        Ok(None)
     }
 
     // How many lines there are with a piece behind the text.

@@ -4,7 +4,11 @@
 #[cfg(test)]
 mod counts;
 #[cfg(test)]
+mod found;
+#[cfg(test)]
 mod highlights;
+#[cfg(test)]
+mod layouts;
 #[cfg(test)]
 mod pieces;
 #[cfg(test)]
@@ -13,3 +17,5 @@ mod rows;
 mod screens;
 #[cfg(test)]
 mod search;
+#[cfg(test)]
+mod shown;

@@ -15,7 +15,8 @@ fn command_text(alloc: Global, command: &Command) -> Result<String, Fail> {
         Command::UserInput(InputEvent::UpdateTermArea(cols, rows)) => {
             format!(in alloc; "resize[{cols} {rows}]")?
         }
-        Command::UserInput(InputEvent::Exit | InputEvent::Ignore) => String::new(alloc),
+        Command::UserInput(InputEvent::Exit | InputEvent::Ignore)
+        | Command::SetInputClassifier(_) => String::new(alloc),
     };
     Ok(text)
 }

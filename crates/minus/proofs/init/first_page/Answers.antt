@@ -8,7 +8,7 @@ use Rattle.minus.proofs.ChangeLaws.{unchanged}
 use Rattle.minus.proofs.init.first_page.Goals as goal
 
 pub invariant_of-result : goal.invariant_of-result
-invariant_of-result c =
+invariant_of-result g c =
     let waiting = map wanted_of c.deref.result.now in
     let is = c.change_to-change.ensures in
     let same = unchanged c.take_waiting.new.state c.change_to-change.result is.text is.mark is.cols is.rows in

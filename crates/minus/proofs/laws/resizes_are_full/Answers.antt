@@ -3,4 +3,4 @@ use Rattle.minus.proofs.TableLaws.{resizes_full_lem}
 use Rattle.minus.proofs.laws.resizes_are_full.Goals as goal
 
 pub returns : goal.returns
-returns c = resizes_full_lem
+returns g c = resizes_full_lem

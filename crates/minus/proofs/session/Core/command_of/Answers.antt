@@ -6,7 +6,7 @@ use Rattle.minus.specs.declared.input.InputEvent.TheVariants.{Ignore}
 use Rattle.minus.specs.Reads.{event_wanted, answer_wanted}
 use Rattle.minus.proofs.session.Core.command_of.Goals as goal
 
-answered : (answer : Option InputEvent) → event_wanted (unwrap_or answer Ignore) ≡ answer_wanted answer
+answered : {K : Type 0} (answer : Option InputEvent) → event_wanted {K = K} (unwrap_or answer Ignore) ≡ answer_wanted answer
 answered None = refl
 answered (Some event) = refl
 

@@ -7,7 +7,7 @@ pub returns : goal.returns
 returns c = λ piece numbers cols h.
     let count = count_after c.args.self.now piece numbers cols c.args.pending.now h in
     let within = h.few in
-    let kept = c.kept_rows.ensures in
+    let kept = c.kept_rows.ensures.value in
     let here = c.formatted_lines_count.ensures.value in
     let behind = c.formed_rows.ensures.value in
     let least = c.min-staying.ensures in

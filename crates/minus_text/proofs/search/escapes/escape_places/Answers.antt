@@ -1,4 +1,4 @@
-use Rattle.std.proofs.Common.{◌≡◌, ◌∙◌, ap}
+use Rattle.std.proofs.Common.{◌∙◌, ap}
 use Rattle.minus_text.specs.FixedPatterns.{match_places}
 use Rattle.minus_text.proofs.search.escapes.escape_places.Goals as goal
 

@@ -1,4 +1,4 @@
-use Rattle.std.proofs.Common.{◌≡◌, ◌-◌, ◌+◌, length, option_map, IfSome}
+use Rattle.std.proofs.Common.{◌≡◌, option_map, IfSome}
 use Rattle.regex.specs.Strings.{matcher_pattern, match_span, match_haystack}
 use Rattle.minus_text.proofs.MatchPlacesLaws.{EachCuts}
 use Rattle.minus_text.proofs.FindPlacesLaws.{IsLeft, room}

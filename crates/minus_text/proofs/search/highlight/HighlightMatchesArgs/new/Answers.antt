@@ -1,8 +1,8 @@
-use Rattle.std.proofs.Common.{◌≡◌, eqb, not, length, map, string_bytes, sym, ap, ap₂, ◌∙◌, subst, subst₂}
-use Rattle.regex.specs.Strings.{regex_pattern, matcher_pattern}
+use Rattle.std.proofs.Common.{◌≡◌, eqb, not, length, map, string_bytes, sym, ap, ap₂, ◌∙◌, subst}
+use Rattle.regex.specs.Strings.{regex_pattern}
 use Rattle.minus_text.specs.FixedPatterns.{match_places}
-use Rattle.minus_text.specs.Escapes.{insert_of, stripped, escapes, CutsText}
-use Rattle.minus_text.specs.Highlight.{ordered, put_in, put_into_line, line_match_places, highlighted, line_matches, StandIn}
+use Rattle.minus_text.specs.Escapes.{insert_of, CutsText}
+use Rattle.minus_text.specs.Highlight.{ordered, put_in, put_into_line, line_match_places, highlighted, StandIn}
 use Rattle.minus_text.proofs.StandLaws.{ordered_stand}
 use Rattle.minus_text.proofs.FoundLaws.{matches_where_some}
 use Rattle.minus_text.proofs.search.highlight.HighlightMatchesArgs.new.Goals as goal

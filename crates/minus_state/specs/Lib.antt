@@ -1,0 +1,5 @@
+-- What the contracts cite.
+pub mod PromptRow
+pub mod VisibleCharacters
+pub mod Selection
+pub mod ScrollBounds

@@ -1,0 +1,15 @@
+//! The state of a pager beside its text: what its prompt row shows, what is selected, and what of a
+//! row stands in some columns.
+#![tactic(auto)]
+
+pub mod prompt;
+pub mod scroll;
+pub mod selection;
+pub mod visible;
+
+pub use prompt::{PromptRow, format_prompt, prompt_fills_its_row};
+pub use scroll::get_horizontal_scroll_bounds;
+pub use selection::{Selection, marked_range};
+pub use visible::{
+    highlight_visible_range, markers_alone_are_added, place_after_visible, place_of_visible,
+};

@@ -1,0 +1,124 @@
+//! Rows with numbers before them, and lines that are not wrapped.
+use minus_term::error::MinusError;
+use minus_text::{Layout, LineNumbers, Screen};
+use std::alloc::Global;
+use std::test::Fail;
+
+// Lines that go on, one of them with a hyphen, wide characters and a sequence, and enough of them that their number gets a second digit.
+const LINES: &str =
+    "one two\n\nwell-known\n日本 語\n\x1b[31mred\x1b[0m r\r\n6\n7\n8\n9\nten ten ten\nlast one";
+
+// Whether a row with a number is stored so.
+fn stores(alloc: Global, screen: &Screen, i: usize, wanted: &str) -> Result<bool, MinusError> {
+    Ok(match screen.formatted_row(alloc, i)? {
+        Some(row) => row.as_str() == wanted,
+        None => false,
+    })
+}
+
+// Whether a screen's stored rows are these and no others. A bar stands between them.
+fn stores_all(alloc: Global, screen: &Screen, rows: &str) -> Result<bool, MinusError> {
+    let mut i = 0;
+    for wanted in rows.split('|') {
+        if !stores(alloc, screen, i, wanted)? {
+            return Ok(false);
+        }
+        i += 1;
+    }
+    Ok(i == screen.formatted_lines_count())
+}
+
+// Whether two screens store the same rows.
+fn store_the_same(alloc: Global, a: &Screen, b: &Screen) -> Result<bool, MinusError> {
+    for i in 0..a.formatted_lines_count() {
+        let mut row = String::new(alloc);
+        if !b.push_row(&mut row, i)? || !stores(alloc, a, i, &row)? {
+            return Ok(false);
+        }
+    }
+    Ok(a.formatted_lines_count() == b.formatted_lines_count())
+}
+
+// A screen of a text with numbers that comes in pieces of so many characters.
+fn numbered(alloc: Global, text: &str, size: usize, cols: usize) -> Result<Screen, MinusError> {
+    let mut screen = Screen::new(alloc);
+    let mut start = 0;
+    for i in 1..text.len() + 1 {
+        let is_piece = i - start >= size || i == text.len();
+        if let (true, Some(piece)) = (is_piece, text.get(start..i)) {
+            let _ = screen.push_screen_buf(alloc, piece, LineNumbers::Enabled, cols)?;
+            start = i;
+        }
+    }
+    Ok(screen)
+}
+
+#[test]
+fn the_first_row_of_a_line_has_its_number(rt: HostRuntime) -> Result<(), Fail> {
+    let screen = numbered(rt.alloc(), "ab", 2, 1)?;
+    let rows = "     \x1b[1m1.\x1b[0m a|        b";
+    assert!(rt; stores_all(rt.alloc(), &screen, rows)?);
+    Ok(())
+}
+
+// Whether the first row makes room where a tenth line comes.
+fn makes_room(alloc: Global) -> Result<bool, MinusError> {
+    let mut screen = numbered(alloc, "a\na\na\na\na\na\na\na\na\n", 2, 30)?;
+    let before = stores(alloc, &screen, 0, "     \x1b[1m1.\x1b[0m a")?;
+    let _ = screen.push_screen_buf(alloc, "a\n", LineNumbers::Enabled, 30)?;
+    let after = stores(alloc, &screen, 0, "      \x1b[1m1.\x1b[0m a")?;
+    Ok(before && after && stores(alloc, &screen, 9, "     \x1b[1m10.\x1b[0m a")?)
+}
+
+#[test]
+fn numbers_make_room_for_one_more_digit(rt: HostRuntime) -> Result<(), Fail> {
+    assert!(rt; makes_room(rt.alloc())?);
+    Ok(())
+}
+
+// Whether a push shows numbers, and another takes them away.
+fn exchanges_numbers(alloc: Global) -> Result<bool, MinusError> {
+    let mut screen = Screen::new(alloc);
+    let _ = screen.set_text(alloc, "one two", Layout::plain(12))?;
+    let told = screen.push_screen_buf(alloc, "\nx", LineNumbers::AlwaysOn, 12)?;
+    let on = "     \x1b[1m1.\x1b[0m one|        two|     \x1b[1m2.\x1b[0m x";
+    let shown = told.rows_formatted == 3 && told.clean_append && stores_all(alloc, &screen, on)?;
+    let _ = screen.push_screen_buf(alloc, "", LineNumbers::Disabled, 12)?;
+    Ok(shown && stores_all(alloc, &screen, "one two|x")?)
+}
+
+#[test]
+fn a_push_exchanges_numbers(rt: HostRuntime) -> Result<(), Fail> {
+    assert!(rt; exchanges_numbers(rt.alloc())?);
+    Ok(())
+}
+
+// Whether a line is one row, however long, until lines are wrapped again.
+fn is_one_row(alloc: Global) -> Result<bool, MinusError> {
+    let mut screen = Screen::new(alloc);
+    let mut layout = Layout::plain(4);
+    layout.wrapping = false;
+    let _ = screen.set_text(alloc, "abcdefghij\nk", layout)?;
+    let _ = screen.push_screen_buf(alloc, "l m n o", LineNumbers::Disabled, 4)?;
+    let whole = stores_all(alloc, &screen, "abcdefghij|kl m n o")?;
+    let _ = screen.reform(alloc, Layout::plain(4))?;
+    Ok(whole && stores_all(alloc, &screen, "abcd|efgh|ij|kl m|n o")?)
+}
+
+#[test]
+fn a_line_that_is_not_wrapped_is_one_row(rt: HostRuntime) -> Result<(), Fail> {
+    assert!(rt; is_one_row(rt.alloc())?);
+    Ok(())
+}
+
+#[test]
+fn numbered_lines_in_pieces_store_the_rows_of_the_whole(rt: HostRuntime) -> Result<(), Fail> {
+    for cols in [3, 12, 14] {
+        for size in [1, 3, 7] {
+            let pieces = numbered(rt.alloc(), LINES, size, cols)?;
+            let whole = numbered(rt.alloc(), LINES, LINES.len(), cols)?;
+            assert!(rt; store_the_same(rt.alloc(), &pieces, &whole)?, "at {size} in {cols}");
+        }
+    }
+    Ok(())
+}

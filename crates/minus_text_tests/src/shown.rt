@@ -1,0 +1,72 @@
+//! What is shown of a text in some columns, and the prefixes of numbered rows.
+use minus_text::{LineNumbers, crop_columns, prefix_columns, push_fitted, push_prefix};
+use std::alloc::{AllocError, Global};
+use std::test::Fail;
+
+// Whether a text shows this in so many columns from one on.
+fn shows(
+    alloc: Global,
+    text: &str,
+    left: usize,
+    width: usize,
+    shown: &str,
+) -> Result<bool, AllocError> {
+    let row = crop_columns(alloc, text, left, width)?;
+    Ok(row.as_str() == shown)
+}
+
+#[test]
+fn a_text_is_cropped_by_columns(rt: HostRuntime) -> Result<(), Fail> {
+    let table = [
+        // a wide character that is cut shows a space for each of its columns
+        ("日本語abc", 0, 4, "日本"),
+        ("日本語abc", 1, 4, " 本 "),
+        ("日本語abc", 2, 4, "本語"),
+        ("日本語abc", 5, 4, " abc"),
+        // escape sequences are always shown
+        ("\x1b[31mred\x1b[0m", 1, 2, "\x1b[31med\x1b[0m"),
+        ("a▲b", 0, 3, "a▲b"),
+        // a character without columns goes with the one before it, and the first with the left end
+        ("\u{301}e\u{301}a", 0, 1, "\u{301}e\u{301}"),
+        ("\u{301}e\u{301}a", 1, 1, "a"),
+    ];
+    for (text, left, width, shown) in table {
+        assert!(rt; shows(rt.alloc(), text, left, width, shown)?, "at {text} from {left}");
+    }
+    Ok(())
+}
+
+#[test]
+fn a_text_is_cut_or_filled(rt: HostRuntime) -> Result<(), Fail> {
+    let table = [
+        ("日本", 20, "日本                "),
+        ("日本", 3, "日 "),
+        ("\x1b[1mhi", 20, "\x1b[1mhi                  "),
+        ("Help: q:quit | j/k:scroll", 17, "Help: q:quit | j/"),
+    ];
+    for (text, cols, fitted) in table {
+        let mut row = String::new(rt.alloc());
+        push_fitted(&mut row, text, cols)?;
+        assert!(rt; row.as_str() == fitted, "at {text}");
+    }
+    Ok(())
+}
+
+#[test]
+fn rows_begin_with_numbers(rt: HostRuntime) -> Result<(), Fail> {
+    let mut rows = String::new(rt.alloc());
+    push_prefix(&mut rows, true, 1, 1, true)?;
+    push_prefix(&mut rows, false, 1, 1, true)?;
+    push_prefix(&mut rows, true, 10, 9, false)?;
+    let formed = rows.as_str() == "     \x1b[1m1.\x1b[0m          ";
+    assert!(rt; formed && prefix_columns(true, 10) == 9 && prefix_columns(false, 10) == 0);
+    Ok(())
+}
+
+#[test]
+fn numbers_are_exchanged(rt: HostRuntime) -> Result<(), Fail> {
+    let exchanged =
+        !LineNumbers::Enabled == LineNumbers::Disabled && (!LineNumbers::Disabled).is_on();
+    assert!(rt; exchanged && !LineNumbers::AlwaysOff == LineNumbers::AlwaysOff);
+    Ok(())
+}
