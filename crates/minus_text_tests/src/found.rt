@@ -52,7 +52,10 @@ fn matches_change_when_the_unfinished_line_goes_on(rt: HostRuntime) -> Result<()
         ("b\nab|\n|c\nb", "013"),
     ];
     for (pieces, rows) in table {
-        assert!(rt; found_after(rt.alloc(), pieces, "b$")?.as_str() == rows, "at {pieces}");
+        assert!(rt;
+            found_after(rt.alloc(), pieces, "b$")?.as_str() == rows,
+            "at {pieces}"
+        );
     }
     Ok(())
 }
