@@ -12,6 +12,7 @@ use crate::display::{
 };
 use crate::input::InputEvent;
 use crate::parts::Parts;
+pub use minus_state::Selection;
 use minus_state::{PromptRow, format_prompt};
 use minus_term::MinusError;
 use minus_text::{Layout, LineNumbers, Screen};
