@@ -3,3 +3,4 @@ pub mod PromptRow
 pub mod VisibleCharacters
 pub mod Selection
 pub mod ScrollBounds
+pub mod View

@@ -5,3 +5,7 @@
 mod prompts;
 #[cfg(test)]
 mod rows;
+#[cfg(test)]
+mod selections;
+#[cfg(test)]
+mod texts;
