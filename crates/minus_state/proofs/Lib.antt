@@ -1,2 +1,3 @@
 pub mod VisibleLaws
 pub mod ScrollLaws
+pub mod CopiedLaws

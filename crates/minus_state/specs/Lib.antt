@@ -4,3 +4,4 @@ pub mod VisibleCharacters
 pub mod Selection
 pub mod ScrollBounds
 pub mod View
+pub mod Copied

@@ -1,6 +1,6 @@
 //! Worked selections: the ends that places of the page select.
-use crate::texts::formed;
-use minus_state::{Selection, View, selection_from_coordinates};
+use crate::texts::{end, formed};
+use minus_state::{View, selection_from_coordinates};
 use minus_text::{Layout, LineNumbers};
 use std::test::Fail;
 
@@ -11,11 +11,6 @@ fn view(upper_mark: usize, left_mark: usize, rows: usize) -> View {
         left_mark,
         rows,
     }
-}
-
-// An end of a selection.
-fn end(absolute_row: usize, col: usize) -> Selection {
-    Selection { absolute_row, col }
 }
 
 #[test]
