@@ -5,3 +5,4 @@ pub mod Selection
 pub mod ScrollBounds
 pub mod View
 pub mod Copied
+pub mod ShownRow

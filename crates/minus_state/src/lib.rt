@@ -4,6 +4,7 @@
 
 pub mod copied;
 pub mod prompt;
+pub mod rendering;
 pub mod scroll;
 pub mod selection;
 pub mod view;
@@ -11,6 +12,9 @@ pub mod visible;
 
 pub use copied::extract_selection;
 pub use prompt::{PromptRow, format_prompt, prompt_fills_its_row};
+pub use rendering::{
+    Rendering, render_rows_for_display, selection_adds_markers_alone, shown_rows_fit,
+};
 pub use scroll::get_horizontal_scroll_bounds;
 pub use selection::{Selection, SelectionEnds, marked_range};
 pub use view::{View, selection_from_coordinates};

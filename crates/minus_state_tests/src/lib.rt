@@ -10,4 +10,6 @@ mod rows;
 #[cfg(test)]
 mod selections;
 #[cfg(test)]
+mod shown_rows;
+#[cfg(test)]
 mod texts;
