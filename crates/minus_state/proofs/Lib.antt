@@ -1,2 +1,4 @@
 pub mod VisibleLaws
 pub mod ScrollLaws
+pub mod CopiedLaws
+pub mod ShownRowLaws

@@ -106,7 +106,7 @@ marks_alone start end row u = elim (cases_Bool (ltb start end && has_visible sta
 -- ---- places
 
 -- what follows some characters of a text is text
-utf8_rest : (cs row rest : List ℕ) → IsUtf8 row → row ≡ encode_utf8_all cs ++ rest → IsUtf8 rest
+pub utf8_rest : (cs row rest : List ℕ) → IsUtf8 row → row ≡ encode_utf8_all cs ++ rest → IsUtf8 rest
 utf8_rest [] row rest u e = subst (λ (bs : List ℕ). IsUtf8 bs) e u
 utf8_rest (c ∷ cs) row rest u e =
     let more : List ℕ = encode_utf8_all cs ++ rest in

@@ -1,6 +1,7 @@
 -- What is selected: its two ends, each a row and a column, counted from 0.
 use Rattle.std.specs.Prelude.{ℕ, ◌+◌, ◌-◌, ◌^◌, ◌==◌, ◌&&◌, ◌||◌, Bool, nat_le, nat_lt, min, Option, None, Some, option_map, if◌then◌else◌}
 use Rattle.minus_state.specs.declared.selection.Selection.{Selection}
+use Rattle.minus_state.specs.declared.selection.SelectionEnds.{SelectionEnds}
 
 -- whether an end comes first, by row and then by column
 abbrev pub comes_first : Selection → Selection → Bool
@@ -9,6 +10,15 @@ comes_first a b = nat_lt a.absolute_row b.absolute_row || ((a.absolute_row == b.
 -- the two ends in order
 abbrev pub in_order : Selection → Selection → Selection × Selection
 in_order a b = if comes_first a b then (a, b) else (b, a)
+
+-- both ends of a selection in order, if there are both
+abbrev pub both_in_order : Option Selection → Option Selection → Option (Selection × Selection)
+both_in_order None b = None
+both_in_order (Some a) None = None
+both_in_order (Some a) (Some b) = Some (in_order a b)
+
+abbrev pub ends_in_order : SelectionEnds → Option (Selection × Selection)
+ends_in_order ends = both_in_order ends.anchor ends.selection
 
 -- whether a row is between two ends in order
 abbrev pub is_between : Selection → Selection → ℕ → Bool

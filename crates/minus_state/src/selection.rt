@@ -1,6 +1,6 @@
 //! What is selected, and which characters of a row are.
 ghost use Rattle.std.specs.Prelude.{◌≡◌, option_map};
-ghost use Rattle.minus_state.specs.Selection.{comes_first, in_order, is_between, first_column, column_behind, visible_at, marked_range};
+ghost use Rattle.minus_state.specs.Selection.{comes_first, in_order, ends_in_order, is_between, first_column, column_behind, visible_at, marked_range};
 
 /// An end of what is selected: a row of the document and a column of it, both counted from 0.
 #[derive(Clone, Copy, Debug, PartialEq, Eq)]
@@ -26,6 +26,29 @@ impl Selection {
             (self, other)
         } else {
             (other, self)
+        }
+    }
+}
+
+/// The two ends of what is selected, in any order, as far as they are there: where it began, and where it
+/// was led to.
+#[derive(Clone, Copy)]
+pub struct SelectionEnds {
+    pub anchor: Option<Selection>,
+    pub selection: Option<Selection>,
+}
+
+impl SelectionEnds {
+    ghost use Rattle.std.specs.Prelude.{◌≡◌};
+    ghost use Rattle.minus_state.specs.Selection.{ends_in_order};
+
+    /// Both ends in order of row and column; `None` where one is missing.
+    pub fn in_order(self) -> Option<(Selection, Selection)>
+        ensures { result ≡ ends_in_order self }
+    {
+        match (self.anchor, self.selection) {
+            (Some(anchor), Some(selection)) => Some(anchor.in_order(selection)),
+            _ => None,
         }
     }
 }

@@ -2,6 +2,14 @@
 #![tactic(auto)]
 
 #[cfg(test)]
+mod copies;
+#[cfg(test)]
 mod prompts;
 #[cfg(test)]
 mod rows;
+#[cfg(test)]
+mod selections;
+#[cfg(test)]
+mod shown_rows;
+#[cfg(test)]
+mod texts;

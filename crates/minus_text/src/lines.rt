@@ -1,7 +1,11 @@
 //! Lines of a text, one at a time.
-ghost use Rattle.std.specs.Prelude.{◌≡◌, ◌+◌, ◌<◌, ◌≤◌, ◌^◌, length, IfSome, MatchOption};
+ghost use Rattle.std.specs.Prelude.{◌≡◌, ◌+◌, ◌<◌, ◌≤◌, ◌^◌, ◌++◌, length, string_bytes, IfSome, MatchOption, OnOk};
+ghost use Rattle.std.specs.Str.{IsCharBoundary};
 ghost use Rattle.std.specs.Str.Lines.{strip_carriage_return};
 ghost use Rattle.minus_text.specs.Lines.{cut, whole, behind, LinesAreCut};
+ghost use Rattle.minus_text.specs.LinePlaces.{joined_lines, last_line_end};
+
+use std::alloc::AllocError;
 
 // A line without the carriage return at its end.
 pub(crate) fn without_return(line: &str) -> &str
@@ -34,6 +38,33 @@ pub(crate) fn split_line(text: &str) -> Option<(&str, &str)>
     match text.split_once('\n') {
         Some((first, rest)) => Some((first, rest)),
         None => None,
+    }
+}
+
+/// Adds the lines of a text, joined by newlines: the text without the carriage return at the end of each
+/// line that a newline ends. Fails for want of memory alone.
+pub fn push_lines(out: &mut String, text: &str) -> Result<(), AllocError>
+    ensures { OnOk result (string_bytes out.new ≡ string_bytes out.old ++ joined_lines text.now) }
+{
+    let mut rest = text;
+    while let Some((line, more)) = split_line(rest) {
+        out.push_str(without_return(line))?;
+        out.push_str("\n")?;
+        rest = more;
+    }
+    out.push_str(rest)?;
+    Ok(())
+}
+
+/// The place in the bytes of a text where its last line ends: before the newline that ends the text, and a
+/// carriage return before that, or else at the text's end.
+pub fn last_line_end(text: &str) -> usize
+    ensures value { result ≡ last_line_end text.now }
+    ensures boundary { IsCharBoundary text.now result }
+{
+    match text.strip_suffix('\n') {
+        Some(front) => without_return(front).len(),
+        None => text.len(),
     }
 }
 

@@ -7,6 +7,7 @@ ghost use Rattle.std.specs.String.{string_len, string_capacity};
 ghost use Rattle.minus_text.specs.Layouts.{margin, plain, wrap_of};
 ghost use Rattle.minus_text.specs.Document.{rows_of, stored_rows, GrowsByPrefix, GrowsByRow, line_map, line_count, longest, unfinished_rows, pushed, wrap_in, plan_of, PushesJoin, LineMapAscends};
 ghost use Rattle.minus_text.specs.Fragments.{rows_in};
+ghost use Rattle.minus_text.specs.LinePlaces.{row_places};
 ghost use Rattle.minus_text.specs.Kept.{IsFormOf, IsPrepared, IsRestartOf, GoesOnInSome, AscendsBehind, line_going_on, piece_behind};
 ghost use Rattle.minus_text.specs.Pending.{IsPending, RowIsPending, GrowsByPendingPrefix, GrowsByPendingRow};
 ghost use Rattle.minus_text.specs.FormatResults.{Tells, TellsPlan, TellsPush};
@@ -263,6 +264,16 @@ impl Screen {
         let text = self.text.as_str();
         match self.rows.get(i) {
             Some(row) => Some(&text[row.start..row.end]),
+            None => None,
+        }
+    }
+
+    /// The place of a row's own text, counted from 0, in the bytes of the text. It takes no memory.
+    pub fn row_place(&self, i: usize) -> Option<Span>
+        ensures { result ≡ slice_get (row_places self.now) i }
+    {
+        match self.rows.get(i) {
+            Some(place) => Some(*place),
             None => None,
         }
     }

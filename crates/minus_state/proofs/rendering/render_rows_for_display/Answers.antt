@@ -1,0 +1,23 @@
+-- One row more, and all of them.
+use Rattle.std.proofs.Common.{◌≡◌, ℕ, suc, ◌+◌, ◌-◌, min, map, string_bytes, option_map, ap, arith, ◌∙◌}
+use Rattle.minus_state.specs.Selection.{ends_in_order}
+use Rattle.minus_state.specs.ShownRow.{rows_from, shown_rows}
+use Rattle.minus_state.proofs.ShownRowLaws.{one_row_more, all_rows}
+use Rattle.minus_state.proofs.rendering.render_rows_for_display.Goals as goal
+
+pub loop-i-preserved : goal.loop-i-preserved
+loop-i-preserved c =
+    let r = c.args.rendering.now in
+    let ends = ends_in_order r.ends in
+    let left : c.min-i-end.result - c.loop-i.i ≡ suc (c.min-i-end.result - (c.loop-i.i + 1)) = omega (arith, c.loop-i-test.true) in
+    one_row_more r.screen.now r.left_mark ends c.loop-i.i (c.min-i-end.result - (c.loop-i.i + 1)) (c.min-i-end.result - c.loop-i.i) (option_map string_bytes c.in_ok-shown_row.field-0) (map string_bytes c.loop-i.rows.items) (map string_bytes c.push_some.new.rows.items)
+    (rows_from r.screen.now r.left_mark ends c.args.start (c.min-i-end.result - c.args.start)) left c.in_ok-shown_row.ensures c.loop-i.invariant c.in_ok-push_some.ensures
+
+pub returns : goal.returns
+unfolding shown_rows
+returns c =
+    let r = c.args.rendering.now in
+    let ends = ends_in_order r.ends in
+    let none : c.min-i-end.result - c.loop-i.i ≡ 0 = omega (arith, c.loop-i-test.false) in
+    all_rows r.screen.now r.left_mark ends c.loop-i.i (c.min-i-end.result - c.loop-i.i) (map string_bytes c.loop-i.rows.items) (rows_from r.screen.now r.left_mark ends c.args.start (c.min-i-end.result - c.args.start)) none c.loop-i.invariant
+    ∙ ap (λ (n : ℕ). rows_from r.screen.now r.left_mark ends c.args.start (n - c.args.start)) (c.min-i-end.ensures ∙ ap (min c.args.end) c.formatted_lines_count-count.ensures.value)
