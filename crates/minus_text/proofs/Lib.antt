@@ -47,3 +47,4 @@ pub mod PushedLaws
 pub mod PendingLaws
 pub mod LineCountLaws
 pub mod StoredLaws
+pub mod BlockLaws
