@@ -1,5 +1,5 @@
 -- What the result of a push tells.
-use Rattle.std.proofs.Common.{◌≡◌, ℕ, ◌+◌, ◌-◌, ◌≤◌, true, false, eqb, cond, List, [], ◌++◌, length, refl, sym, subst, ap, ◌∙◌, arith, inl, inr}
+use Rattle.std.proofs.Common.{◌≡◌, ℕ, ◌+◌, ◌-◌, ◌≤◌, true, false, eqb, cond, Option, None, List, [], ◌++◌, length, refl, sym, subst, ap, ◌∙◌, arith, inl, inr}
 use Rattle.std.specs.List.{sum_by}
 use Rattle.std.specs.Str.Lines.{lines}
 use Rattle.std.proofs.lemmas.Bool.{cases_Bool, eqb-true, eq-eqb}
@@ -60,25 +60,26 @@ clean_is text wrap rows firsts finished n b plan h =
 -- what a push that formed this tells
 pub tells_push : (text piece : List ℕ) (wrap : Wrap) (rows : List Span) (firsts : List ℕ) (finished : Finished) (n : ℕ) (b : Border) (start : Restart) (f : Formed) (r : FormatResult) (d : Document) (plan : Plan)
     → text ≡ d.text → IsFormed text wrap rows firsts finished n b → (plan.keeps ≡ true → plan.wrap ≡ wrap_in d) → IsRestartOf d.text plan start → IsFormOf plan.wrap (line_going_on d.text plan) (piece_behind d.text plan piece) start f
-    → r.lines_formatted ≡ length f.first_rows → r.rows_formatted ≡ start.rows + length f.rows.items → r.num_unterminated ≡ (start.finished.rows + (start.rows + length f.rows.items)) - f.finished.rows → r.lines_to_row_map ≡ f.first_rows → r.max_line_length ≡ f.longest
+    → r.lines_formatted ≡ length f.first_rows → r.rows_formatted ≡ start.rows + length f.rows.items → r.num_unterminated ≡ (start.finished.rows + (start.rows + length f.rows.items)) - f.finished.rows → r.append_search_idx.keys ≡ [] → r.lines_to_row_map ≡ f.first_rows → r.max_line_length ≡ f.longest
     → r.clean_append ≡ cond plan.keeps (eqb finished.bytes (length text)) true
-    → Tells r (formed_by d.text piece plan) (first_formed d plan) (is_clean d.text plan)
+    → Tells r None (formed_by d.text piece plan) (first_formed d plan) (is_clean d.text plan)
 unfolding rows_in
-tells_push text piece wrap rows firsts finished n b start f r d plan v h w k is el er eu em ew ec =
+tells_push text piece wrap rows firsts finished n b start f r d plan v h w k is el er eu es em ew ec =
     let joined : List ℕ = line_going_on d.text plan ++ piece_behind d.text plan piece in
     let ej : joined ≡ (formed_by d.text piece plan).text = sym (joined_is d.text piece plan) in
     record {
       lines_told = el ∙ ap length is.its_map ∙ length-first_rows plan.wrap start.finished.rows (lines joined) ∙ ap (λ t. length (lines t)) ej;
       rows_told = er ∙ sym is.its_count ∙ ap (λ t. length (rows_of_lines plan.wrap (lines t))) ej;
       unfinished_told = eu ∙ (form-unfinished plan.wrap (line_going_on d.text plan) (piece_behind d.text plan piece) start f is).1 ∙ ap (λ t. length (open_rows plan.wrap (unfinished_line t))) ej;
+      matches_told = es;
       map_told = em ∙ is.its_map ∙ ap (λ t. first_rows plan.wrap start.finished.rows (lines t)) ej ∙ ap (λ m. first_rows plan.wrap m (lines (formed_by d.text piece plan).text)) (first_is d plan start w k);
       longest_told = ew ∙ is.its_longest ∙ ap (λ t. longest_of (lines t)) ej;
       clean_told = ec ∙ clean_is text wrap rows firsts finished n b plan h ∙ ap (λ t. is_clean t plan) v;
     }
 
 -- what tells of a push that forms all anew
-pub tells_anew : (r : FormatResult) (d : Document) (piece : List ℕ) (plan : Plan) (all : List ℕ) (wrap : Wrap) → plan ≡ record { keeps = false; wrap = wrap } → d.text ++ piece ≡ all → TellsPlan r d piece plan → Tells r (record { text = all; wrap = wrap }) 0 true
+pub tells_anew : (r : FormatResult) (d : Document) (piece : List ℕ) (plan : Plan) (all : List ℕ) (wrap : Wrap) → plan ≡ record { keeps = false; wrap = wrap } → d.text ++ piece ≡ all → TellsPlan r None d piece plan → Tells r None (record { text = all; wrap = wrap }) 0 true
 tells_anew r d piece plan all wrap e t h =
     let anew : Plan = record { keeps = false; wrap = wrap } in
-    let told : TellsPlan r d piece anew = subst (λ (p : Plan). TellsPlan r d piece p) e h in
-    subst (λ x. Tells r (record { text = x; wrap = wrap }) 0 true) t told
+    let told : TellsPlan r None d piece anew = subst (λ (p : Plan). TellsPlan r None d piece p) e h in
+    subst (λ x. Tells r None (record { text = x; wrap = wrap }) 0 true) t told

@@ -37,7 +37,7 @@ stored_off d off = ap (λ (b : Bool). stored_lines (wrap_in d) b (line_count d) 
 
 -- ---- as many as rows
 
-length-stored_line : (on : Bool) (count k : ℕ) (rows : List (List ℕ)) → length (stored_line on count k rows) ≡ length rows
+pub length-stored_line : (on : Bool) (count k : ℕ) (rows : List (List ℕ)) → length (stored_line on count k rows) ≡ length rows
 length-stored_line on count k [] = refl
 length-stored_line on count k (row ∷ more) = ap suc (length-map more (λ r. prefix on count k false ++ r))
 
@@ -46,7 +46,7 @@ length-stored_lines wrap on count k [] = refl
 length-stored_lines wrap on count k (x ∷ xs) =
     omega (arith, length-append (stored_line on count k (own_rows wrap x)) (stored_lines wrap on count (k + 1) xs), length-append (own_rows wrap x) (rows_of_lines wrap xs), length-stored_line on count k (own_rows wrap x), length-stored_lines wrap on count (k + 1) xs)
 
-none_alike : {X Y : Type 0} (xs : List X) (ys : List Y) (i : ℕ) → length xs ≡ length ys → slice_get xs i ≡ None → slice_get ys i ≡ None
+pub none_alike : {X Y : Type 0} (xs : List X) (ys : List Y) (i : ℕ) → length xs ≡ length ys → slice_get xs i ≡ None → slice_get ys i ≡ None
 none_alike xs [] i l e = refl
 none_alike [] (y ∷ ys) i l e = absurd (omega arith)
 none_alike (x ∷ xs) (y ∷ ys) zero l e = absurd cc
@@ -59,18 +59,18 @@ no_stored d i e = none_alike (rows_of_lines (wrap_in d) (lines d.text)) (stored_
 
 -- ---- a row with its number
 
-at_front : {X : Type 0} (xs ys : List X) (i : ℕ) → i < length xs → slice_get (xs ++ ys) i ≡ slice_get xs i
+pub at_front : {X : Type 0} (xs ys : List X) (i : ℕ) → i < length xs → slice_get (xs ++ ys) i ≡ slice_get xs i
 at_front [] ys i l = absurd (omega arith)
 at_front (x ∷ xs) ys zero l = refl
 at_front (x ∷ xs) ys (suc i) l = at_front xs ys i (omega arith)
 
-some_within : {X : Type 0} (xs : List X) (i : ℕ) (x : X) → slice_get xs i ≡ Some x → i < length xs
+pub some_within : {X : Type 0} (xs : List X) (i : ℕ) (x : X) → slice_get xs i ≡ Some x → i < length xs
 some_within [] i x e = absurd cc
 some_within (y ∷ xs) zero x e = omega arith
 some_within (y ∷ xs) (suc i) x e = let more = some_within xs i x e in omega arith
 
 -- in its line
-row_in_line : (on : Bool) (count k : ℕ) (rows : List (List ℕ)) (i : ℕ) (row : List ℕ) → slice_get rows i ≡ Some row → slice_get (stored_line on count k rows) i ≡ Some (prefix on count k (eqb i 0) ++ row)
+pub row_in_line : (on : Bool) (count k : ℕ) (rows : List (List ℕ)) (i : ℕ) (row : List ℕ) → slice_get rows i ≡ Some row → slice_get (stored_line on count k rows) i ≡ Some (prefix on count k (eqb i 0) ++ row)
 row_in_line on count k [] i row e = absurd cc
 row_in_line on count k (r ∷ rs) zero row e =
     let same : r ≡ row = cc in
@@ -81,13 +81,13 @@ row_in_line on count k (r ∷ rs) (suc i) row e =
     rw other (slice_get-map (λ r. prefix on count k false ++ r) rs i ∙ ap (option_map (λ r. prefix on count k false ++ r)) e)
 
 -- no line begins before the first
-first_rows-least : (wrap : Wrap) (n : ℕ) (ls : List (List ℕ)) (j : ℕ) → j < length (first_rows wrap n ls) → n ≤ get_or (first_rows wrap n ls) j 0
+pub first_rows-least : (wrap : Wrap) (n : ℕ) (ls : List (List ℕ)) (j : ℕ) → j < length (first_rows wrap n ls) → n ≤ get_or (first_rows wrap n ls) j 0
 first_rows-least wrap n [] j l = absurd (omega arith)
 first_rows-least wrap n (x ∷ xs) zero l = omega arith
 first_rows-least wrap n (x ∷ xs) (suc j) l = let more = first_rows-least wrap (n + length (own_rows wrap x)) xs j (omega arith) in omega arith
 
 -- the row of the first line, if the line after it begins later
-in_first : (wrap : Wrap) (n : ℕ) (x : List ℕ) (xs : List (List ℕ)) (i : ℕ) (row : List ℕ) → slice_get (rows_of_lines wrap (x ∷ xs)) i ≡ Some row → IsLineOfRow (first_rows wrap n (x ∷ xs)) (n + i) 0 → i < length (own_rows wrap x)
+pub in_first : (wrap : Wrap) (n : ℕ) (x : List ℕ) (xs : List (List ℕ)) (i : ℕ) (row : List ℕ) → slice_get (rows_of_lines wrap (x ∷ xs)) i ≡ Some row → IsLineOfRow (first_rows wrap n (x ∷ xs)) (n + i) 0 → i < length (own_rows wrap x)
 in_first wrap n x [] i row e h = omega (arith, some_within (own_rows wrap x ++ []) i row e, ap length (append-nil (own_rows wrap x)))
 in_first wrap n x (y ∷ xs) i row e h = let before = h.ends (omega arith) in omega arith
 

@@ -1,18 +1,21 @@
 -- What a FormatResult tells.
-use Rattle.std.specs.Prelude.{◌≡◌, ℕ, ◌-◌, ◌==◌, Bool, true, List, ◌++◌, length, if◌then◌else◌}
+use Rattle.std.specs.Prelude.{◌≡◌, ℕ, ◌-◌, ◌==◌, Bool, true, List, ◌++◌, length, map, Option, if◌then◌else◌}
 use Rattle.std.specs.Str.Lines.{lines}
+use Rattle.regex.specs.Patterns.{Re}
 use Rattle.minus_text.specs.declared.screen.FormatResult.{FormatResult}
 use Rattle.minus_text.specs.declared.formed.Plan.{Plan}
 use Rattle.minus_text.specs.declared.line_numbers.LineNumbers.{LineNumbers}
 use Rattle.minus_text.specs.Lines.{unfinished_line}
 use Rattle.minus_text.specs.Document.{Document, rows_of, first_rows, open_rows, longest_of, unfinished_rows, plan_of}
 use Rattle.minus_text.specs.Fragments.{Fragment, rows_in}
+use Rattle.minus_text.specs.Found.{found_by}
 
--- a result tells of a fragment formed: its counts of lines and rows, its unfinished rows, the first row of each line where its first row has a number, its longest line, and whether nothing was attached
-pub record Tells (result : FormatResult) (formed : Fragment) (first_row : ℕ) (clean : Bool) : Type 0 where
+-- a result tells of a fragment formed: its counts of lines and rows, its unfinished rows, the rows that match a term and the first row of each line where its first row has a number, its longest line, and whether nothing was attached
+pub record Tells (result : FormatResult) (term : Option Re) (formed : Fragment) (first_row : ℕ) (clean : Bool) : Type 0 where
   pub lines_told : result.lines_formatted ≡ length (lines formed.text)
   pub rows_told : result.rows_formatted ≡ length (rows_in formed)
   pub unfinished_told : result.num_unterminated ≡ length (open_rows formed.wrap (unfinished_line formed.text))
+  pub matches_told : result.append_search_idx.keys ≡ map (λ f. f.row) (found_by term first_row (rows_in formed))
   pub map_told : result.lines_to_row_map ≡ first_rows formed.wrap first_row (lines formed.text)
   pub longest_told : result.max_line_length ≡ longest_of (lines formed.text)
   pub clean_told : result.clean_append ≡ clean
@@ -30,9 +33,9 @@ abbrev pub is_clean : List ℕ → Plan → Bool
 is_clean text plan = if plan.keeps then length (unfinished_line text) == 0 else true
 
 -- a result tells of a push that forms by a plan
-abbrev pub TellsPlan : FormatResult → Document → List ℕ → Plan → Type 0
-TellsPlan result d piece plan = Tells result (formed_by d.text piece plan) (first_formed d plan) (is_clean d.text plan)
+abbrev pub TellsPlan : FormatResult → Option Re → Document → List ℕ → Plan → Type 0
+TellsPlan result term d piece plan = Tells result term (formed_by d.text piece plan) (first_formed d plan) (is_clean d.text plan)
 
 -- a result tells of a push
-abbrev pub TellsPush : FormatResult → Document → List ℕ → LineNumbers → ℕ → Type 0
-TellsPush result d piece numbers cols = TellsPlan result d piece (plan_of d piece numbers cols)
+abbrev pub TellsPush : FormatResult → Option Re → Document → List ℕ → LineNumbers → ℕ → Type 0
+TellsPush result term d piece numbers cols = TellsPlan result term d piece (plan_of d piece numbers cols)

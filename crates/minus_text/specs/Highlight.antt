@@ -55,13 +55,21 @@ line_match_places pattern line = match_places pattern (stripped line)
 abbrev pub put_into_line : Re → Bool → List ℕ → List (ℕ × List ℕ)
 put_into_line pattern accurate line = ordered accurate (line_match_places pattern line) (escapes line)
 
+-- a text without escape sequences, highlighted for a pattern, with these put in
+abbrev pub highlighted_text : Re → Bool → List ℕ → List (ℕ × List ℕ) → List ℕ
+highlighted_text pattern accurate text es = put_in text 0 (ordered accurate (match_places pattern text) es)
+
+-- whether it matches
+abbrev pub matches_text : Re → List ℕ → Bool
+matches_text pattern text = is_some (find_str pattern text 0)
+
 -- a line highlighted for a pattern
 unfoldable pub highlighted : Re → Bool → List ℕ → List ℕ
 highlighted pattern accurate line = put_in (stripped line) 0 (put_into_line pattern accurate line)
 
 -- whether a line matches a pattern: its text without escape sequences does
 unfoldable pub line_matches : Re → List ℕ → Bool
-line_matches pattern line = is_some (find_str pattern (stripped line) 0)
+line_matches pattern line = matches_text pattern (stripped line)
 
 -- the places lie in order in a text from a place on, each between two characters
 abbrev pub StandIn : List ℕ → ℕ → List (ℕ × List ℕ) → Type 0

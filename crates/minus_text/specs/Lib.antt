@@ -25,6 +25,10 @@ pub mod FoundRows
 pub mod Layouts
 pub mod Document
 pub mod Fragments
+pub mod Formatted
+pub mod Buffers
+pub mod Blocks
+pub mod Formats
 pub mod LineMaps
 pub mod Kept
 pub mod Seams

@@ -1,7 +1,11 @@
 //! The text of a pager: lines, rows and what is kept of them.
 #![tactic(auto)]
 
+mod block;
+mod buffers;
 pub mod crop;
+mod format;
+mod formatted;
 mod formed;
 pub mod layout;
 pub mod line_numbers;
@@ -15,7 +19,10 @@ pub mod spaces;
 pub mod units;
 pub mod wrap;
 
+pub use buffers::{AppendableBuffer, ReusableRows};
 pub use crop::{Window, crop_columns, cropped_texts_fit, fitted_texts_fill, push_fitted};
+pub use format::{FormatOpts, format_lines_into, format_text_block};
+pub use formatted::{FormattedRow, SearchFormattedRow, format_search_rows};
 pub use layout::Layout;
 pub use line_numbers::{LineNumbers, digits, numbers_toggle_twice, prefix_columns, push_prefix};
 pub use lines::{last_line_end, push_lines};

@@ -5,6 +5,7 @@ ghost use Rattle.minus_text.specs.Fragments.{rows_in};
 use crate::formed::{Formed, Restart};
 use crate::layout::Wrap;
 use crate::line_numbers::LineNumbers;
+use crate::lines_row_map::LinesRowMap;
 use std::marker::Model;
 
 /// What a push would form, beside the rows that would stay: `Screen::prepare_push` makes it.
@@ -33,6 +34,21 @@ impl Model for PendingPush {
 }
 
 impl PendingPush {
+    // The first row of each line that is formed.
+    pub(crate) fn first_rows(&self) -> &LinesRowMap
+        ensures { result.now ≡ self.now.first_rows }
+    {
+        &self.formed.first_rows
+    }
+
+    // The same for good.
+    pub(crate) fn into_first_rows(self) -> LinesRowMap
+        ensures { result ≡ self.first_rows }
+    {
+        let PendingPush { formed, .. } = self;
+        formed.first_rows
+    }
+
     /// How many rows stay in front of what is formed.
     pub fn kept_rows(&self) -> usize
         ensures value { result ≡ self.now.kept_rows }

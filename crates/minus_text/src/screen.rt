@@ -22,6 +22,7 @@ use crate::seams::last_seam;
 use crate::wrap::Span;
 use minus_term::error::MinusError;
 use std::alloc::{AllocError, Global};
+use std::collections::BTreeSet;
 use std::marker::Model;
 
 /// The text of a row.
@@ -49,6 +50,8 @@ pub struct FormatResult {
     pub rows_formatted: usize,
     /// How many rows its last line has where no newline ends it, and 0 otherwise.
     pub num_unterminated: usize,
+    /// Those of its rows that match, numbered in the whole text from 0.
+    pub append_search_idx: BTreeSet<usize>,
     /// The first row of each of its lines, numbered in the whole text from 0.
     pub lines_to_row_map: LinesRowMap,
     /// The columns of its longest line.
@@ -170,12 +173,13 @@ fn form_end(
 }
 
 // What a call tells that formed this.
-fn told(start: Restart, formed: Formed, clean: bool) -> FormatResult
+fn told(alloc: Global, start: Restart, formed: Formed, clean: bool) -> FormatResult
     requires rows { start.finished.rows + (start.rows + length formed.rows.items) < 2 ^ 64 }
     requires finished { formed.finished.rows ≤ start.finished.rows + (start.rows + length formed.rows.items) }
     ensures lines { result.lines_formatted ≡ length formed.first_rows }
     ensures rows { result.rows_formatted ≡ start.rows + length formed.rows.items }
     ensures unfinished { result.num_unterminated ≡ (start.finished.rows + (start.rows + length formed.rows.items)) - formed.finished.rows }
+    ensures matches { result.append_search_idx.keys ≡ [] }
     ensures map { result.lines_to_row_map ≡ formed.first_rows }
     ensures longest { result.max_line_length ≡ formed.longest }
     ensures clean { result.clean_append ≡ clean }
@@ -185,6 +189,7 @@ fn told(start: Restart, formed: Formed, clean: bool) -> FormatResult
         lines_formatted: formed.first_rows.len(),
         rows_formatted,
         num_unterminated: start.finished.rows + rows_formatted - formed.finished.rows,
+        append_search_idx: BTreeSet::new(alloc),
         lines_to_row_map: formed.first_rows,
         max_line_length: formed.longest,
         clean_append: clean,
@@ -418,7 +423,7 @@ impl Screen {
         requires wrap { plan.wrap ≡ wrap_of layout (length (lines (self.old.text ++ piece.now))) }
         requires keeps { plan.keeps ≡ true → plan.wrap ≡ wrap_in self.old }
         ensures ok { OnOk result (self.new ≡ record { text = self.old.text ++ piece.now; layout = layout }) }
-        ensures told { IfOk result (λ r. TellsPlan r self.old piece.now plan) }
+        ensures told { IfOk result (λ r. TellsPlan r None self.old piece.now plan) }
         ensures err { OnErr result (self.new ≡ self.old) }
     {
         let start = self.restart(plan);
@@ -443,13 +448,14 @@ impl Screen {
         self.finished = formed.finished;
         self.longest = formed.longest_behind(start);
         self.border = formed.border;
-        Ok(told(start, formed, clean))
+        Ok(told(alloc, start, formed, clean))
     }
 
     // Puts a piece, and what is formed of it and of what it goes on, behind what is kept. An `Err`
     // changes nothing.
     fn place_formed(
         &mut self,
+        alloc: Global,
         piece: &str,
         start: Restart,
         formed: Formed,
@@ -461,7 +467,7 @@ impl Screen {
         requires start { IsRestartOf self.old.text plan start }
         requires formed { IsFormOf plan.wrap (line_going_on self.old.text plan) (piece_behind self.old.text plan piece.now) start formed }
         ensures ok { OnOk result (self.new ≡ record { text = self.old.text ++ piece.now; layout = layout }) }
-        ensures told { IfOk result (λ r. TellsPlan r self.old piece.now plan) }
+        ensures told { IfOk result (λ r. TellsPlan r None self.old piece.now plan) }
         ensures err { OnErr result (self.new ≡ self.old) }
     {
         let clean = attaches_nothing(self.finished, self.text.len(), plan);
@@ -472,7 +478,7 @@ impl Screen {
         self.finished = formed.finished;
         self.longest = formed.longest_behind(start);
         self.border = formed.border;
-        Ok(told(start, formed, clean))
+        Ok(told(alloc, start, formed, clean))
     }
 
     // Whether a push of this piece begins there, and forms this text so.
@@ -511,7 +517,7 @@ impl Screen {
         cols: usize,
     ) -> Result<FormatResult, MinusError>
         ensures ok { OnOk result (self.new ≡ pushed self.old text.now numbers cols) }
-        ensures told { IfOk result (λ r. TellsPush r self.old text.now numbers cols) }
+        ensures told { IfOk result (λ r. TellsPush r None self.old text.now numbers cols) }
         ensures err { OnErr result (self.new ≡ self.old) }
         ensures memory { IfErr result (λ e. e ≡ MinusError.Memory) }
     {
@@ -623,7 +629,7 @@ impl Screen {
         pending: PendingPush,
     ) -> Result<FormatResult, MinusError>
         ensures ok { OnOk result (self.new ≡ pushed self.old text.now pending.numbers pending.cols) }
-        ensures told { IfOk result (λ r. TellsPush r self.old text.now pending.numbers pending.cols) }
+        ensures told { IfOk result (λ r. TellsPush r None self.old text.now pending.numbers pending.cols) }
         ensures err { OnErr result (self.new ≡ self.old) }
         ensures memory { IfErr result (λ e. e ≡ MinusError.Memory) }
     {
@@ -642,7 +648,7 @@ impl Screen {
         if !is_formed {
             return Ok(self.push_by(alloc, text, layout, plan)?);
         }
-        Ok(self.place_formed(text, start, formed, layout, plan)?)
+        Ok(self.place_formed(alloc, text, start, formed, layout, plan)?)
     }
 
     /// Forms all rows anew in a layout.
@@ -652,7 +658,7 @@ impl Screen {
     /// [`MinusError::Memory`] where there is no memory for it. Nothing has changed then.
     pub fn reform(&mut self, alloc: Global, layout: Layout) -> Result<FormatResult, MinusError>
         ensures ok { OnOk result (self.new ≡ record self.old { layout = layout }) }
-        ensures told { IfOk result (λ r. Tells r (record { text = self.old.text; wrap = wrap_of layout (line_count self.old) }) 0 true) }
+        ensures told { IfOk result (λ r. Tells r None (record { text = self.old.text; wrap = wrap_of layout (line_count self.old) }) 0 true) }
         ensures err { OnErr result (self.new ≡ self.old) }
         ensures memory { IfErr result (λ e. e ≡ MinusError.Memory) }
     {
@@ -672,7 +678,7 @@ impl Screen {
         layout: Layout,
     ) -> Result<FormatResult, MinusError>
         ensures ok { OnOk result (self.new ≡ record { text = text.now; layout = layout }) }
-        ensures told { IfOk result (λ r. Tells r (record { text = text.now; wrap = wrap_of layout (length (lines text.now)) }) 0 true) }
+        ensures told { IfOk result (λ r. Tells r None (record { text = text.now; wrap = wrap_of layout (length (lines text.now)) }) 0 true) }
         ensures err { OnErr result (self.new ≡ self.old) }
         ensures memory { IfErr result (λ e. e ≡ MinusError.Memory) }
     {

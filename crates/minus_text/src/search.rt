@@ -1,12 +1,13 @@
 //! Search in texts.
 pub mod escapes;
-mod found;
+pub(crate) mod found;
 pub mod found_rows;
 pub mod highlight;
 pub mod matches;
 pub mod patterns;
 
 pub use escapes::strip_escapes;
+pub(crate) use found::Finder;
 pub use found_rows::{FoundRows, found_rows_go_on};
 pub use highlight::{
     HighlightMatchesArgs, highlight_line_matches, highlights_add_markers_alone,

@@ -4,6 +4,8 @@
 #[cfg(test)]
 mod counts;
 #[cfg(test)]
+mod formats;
+#[cfg(test)]
 mod found;
 #[cfg(test)]
 mod highlights;

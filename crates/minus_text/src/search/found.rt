@@ -21,8 +21,8 @@ pub(crate) struct FoundRow {
 // What searches rows for a term: made once for all of them.
 #[derive(Drop)]
 pub(crate) struct Finder<'p> {
-    escapes: Matcher<'p>,
-    term: Matcher<'p>,
+    pub(crate) escapes: Matcher<'p>,
+    pub(crate) term: Matcher<'p>,
     ghost escape_matches: { MatchesAs (matcher_pattern escapes) escape_sequence },
 }
 

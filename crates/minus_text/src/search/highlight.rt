@@ -1,12 +1,12 @@
 //! Lines with the matches of a pattern shown in reverse.
 ghost use Rattle.std.specs.Prelude.{◌≡◌, ◌++◌, ◌≤◌, map, length, drop, IfOk, OnOk, string_bytes};
 ghost use Rattle.minus_text.specs.Escapes.{insert_of, CutsText};
-ghost use Rattle.minus_text.specs.Highlight.{count_before, before, behind, moved, closed, of_match, ordered, highlighted, line_matches, StandIn, StandIn-prop, HighlightsAddMarkersAlone, OnlyMatchesAreHighlighted};
-ghost use Rattle.regex.specs.Strings.{regex_pattern};
+ghost use Rattle.minus_text.specs.Highlight.{count_before, before, behind, moved, closed, of_match, ordered, highlighted, line_matches, highlighted_text, matches_text, StandIn, StandIn-prop, HighlightsAddMarkersAlone, OnlyMatchesAreHighlighted};
+ghost use Rattle.regex.specs.Strings.{regex_pattern, matcher_pattern};
 
 use crate::search::escapes::{Insert, Parted, match_places, part_line};
 use crate::search::patterns::Patterns;
-use regex::Regex;
+use regex::{Matcher, Regex};
 use std::alloc::{AllocError, Global};
 use std::fmt;
 
@@ -129,9 +129,26 @@ impl<'l> HighlightMatchesArgs<'l> {
         ensures line { IfOk result (λ h. shown_line h ≡ highlighted (regex_pattern query.now) accurate line.now) }
         ensures matches { IfOk result (λ h. h.is_match ≡ line_matches (regex_pattern query.now) line.now) }
     {
-        let Parted { text, escapes } = part_line(alloc, patterns, line)?;
+        let parted = part_line(alloc, patterns, line)?;
         let mut matcher = query.matcher(alloc)?;
-        let matches = match_places(alloc, &mut matcher, &text)?;
+        let highlight = HighlightMatchesArgs::of_parted(alloc, &mut matcher, parted, accurate)?;
+        Ok(highlight)
+    }
+
+    // The same of a line that is parted, by what finds the matches.
+    pub(crate) fn of_parted(
+        alloc: Global,
+        matcher: &mut Matcher<'_>,
+        parted: Parted<'l>,
+        accurate: bool,
+    ) -> Result<Self, AllocError>
+        requires { StandIn (string_bytes parted.text) 0 (map insert_of parted.escapes.items) }
+        ensures line { IfOk result (λ h. shown_line h ≡ highlighted_text (matcher_pattern matcher.old) accurate (string_bytes parted.entry.text) (map insert_of parted.entry.escapes.items)) }
+        ensures matches { IfOk result (λ h. h.is_match ≡ matches_text (matcher_pattern matcher.old) (string_bytes parted.entry.text)) }
+        ensures same { matcher_pattern matcher.new ≡ matcher_pattern matcher.old }
+    {
+        let Parted { text, escapes } = parted;
+        let matches = match_places(alloc, matcher, &text)?;
         let puts = ordered(alloc, &matches, &escapes, accurate)?;
         Ok(HighlightMatchesArgs {
             text,

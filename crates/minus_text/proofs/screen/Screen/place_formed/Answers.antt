@@ -63,5 +63,5 @@ returns-clause-told c =
     let same : (string_bytes c.self.inside.text) ≡ c.args.self.now.text = ap (λ (x : Document). x.text) c.self.view_is in
     tells_push (string_bytes c.self.inside.text) c.args.piece.now (wrap_of c.self.inside.layout (length (lines (string_bytes c.self.inside.text)))) c.self.inside.rows.items c.self.inside.first_rows c.self.inside.finished c.self.inside.longest c.self.inside.border c.args.start c.args.formed _ c.args.self.now c.args.plan
     same c.self.invariant c.requires.keeps c.requires.start c.requires.formed
-    t.lines t.rows t.unfinished t.map t.longest
+    t.lines t.rows t.unfinished t.matches t.map t.longest
     (t.clean ∙ c.attaches_nothing-clean.ensures ∙ ap (λ n. cond c.args.plan.keeps (eqb c.self.inside.finished.bytes n) true) bytes)

@@ -1,0 +1,141 @@
+//! Calls that put the rows of a text into a buffer.
+ghost use Rattle.std.specs.Prelude.{◌≡◌, ◌^◌, ◌<◌, ◌++◌, map, true, option_map, string_bytes, IfOk, IfErr, OnOk, OnErr};
+ghost use Rattle.regex.specs.Strings.{regex_pattern};
+ghost use Rattle.minus_text.specs.Blocks.{block_rows, TellsBlock};
+ghost use Rattle.minus_text.specs.Formats.{block_with, block_of, term_of, attaches_none};
+
+use crate::block::{FormattedBlock, put_block};
+use crate::buffers::AppendableBuffer;
+use crate::layout::Layout;
+use crate::line_numbers::LineNumbers;
+use crate::screen::{FormatResult, Rows, TextBlock};
+use crate::search::Patterns;
+use minus_term::error::MinusError;
+use regex::Regex;
+use std::alloc::{AllocError, Global};
+
+/// A text that is to be formatted, and what takes its rows.
+pub struct FormatOpts<'a, B> {
+    /// The rows are put at the end of it.
+    pub buffer: &'a mut B,
+    pub text: TextBlock<'a>,
+    /// The line that the text goes on in, if a newline does not end the last one before it. It is
+    /// formatted again with the text.
+    pub attachment: Option<TextBlock<'a>>,
+    pub line_numbers: LineNumbers,
+    /// How many lines there are before the text, with the attachment. They are fewer than 2^63.
+    pub lines_count: usize,
+    /// How many rows these lines have. They are fewer than 2^63.
+    pub formatted_lines_count: usize,
+    /// The columns of a row.
+    pub cols: usize,
+    /// How many of those rows are the attachment's.
+    pub prev_unterminated: usize,
+    /// The patterns beside the term's, built once.
+    pub patterns: &'a Patterns,
+    /// The term whose matches are shown in reverse.
+    pub search_term: Option<&'a Regex>,
+    /// Whether a line that is too long for the columns fills several rows.
+    pub line_wrapping: bool,
+}
+
+// Forms a text behind so many lines and rows, with what is attached in front of it.
+fn form_with(
+    alloc: Global,
+    attachment: Option<&str>,
+    text: &str,
+    layout: Layout,
+    lines: usize,
+    rows: usize,
+    unterminated: usize,
+) -> Result<FormattedBlock, AllocError>
+    requires lines { lines < 2 ^ 63 }
+    requires rows { rows < 2 ^ 63 }
+    ensures { IfOk result (λ b. b ≡ block_with (option_map (λ a. a.now) attachment.entry) text.now layout lines rows unterminated) }
+{
+    let Some(front) = attachment else {
+        let whole = String::from_str(alloc, text)?;
+        let block = FormattedBlock::new(alloc, whole, layout, lines, rows)?;
+        return Ok(block);
+    };
+    let mut whole = String::from_str(alloc, front)?;
+    whole.push_str(text)?;
+    let lines_before = lines.saturating_sub(1);
+    let first_row = rows.saturating_sub(unterminated);
+    let block = FormattedBlock::new(alloc, whole, layout, lines_before, first_row)?;
+    Ok(block)
+}
+
+/// Puts the rows of a text at the end of a buffer, as they are stored: numbers before them where these
+/// are on, the matches of the term in reverse. The result tells of the attachment and the text.
+///
+/// # Errors
+///
+/// [`MinusError::Memory`] where there is no memory for it. The buffer has the rows then that it had.
+pub fn format_text_block<B: AppendableBuffer>(
+    alloc: Global,
+    opts: FormatOpts<'_, B>,
+) -> Result<FormatResult, MinusError>
+    requires lines { opts.lines_count < 2 ^ 63 }
+    requires rows { opts.formatted_lines_count < 2 ^ 63 }
+    ensures rows { OnOk result (B.rows opts.exit.0.now ≡ B.rows opts.entry.buffer.now ++ block_rows (term_of opts.entry) (block_of opts.entry)) }
+    ensures told { IfOk result (λ r. TellsBlock r (term_of opts.entry) (block_of opts.entry) (attaches_none opts.entry)) }
+    ensures err { OnErr result (B.rows opts.exit.0.now ≡ B.rows opts.entry.buffer.now) }
+    ensures memory { IfErr result (λ e. e ≡ MinusError.Memory) }
+{
+    let FormatOpts {
+        buffer,
+        text,
+        attachment,
+        line_numbers,
+        lines_count,
+        formatted_lines_count,
+        cols,
+        prev_unterminated,
+        patterns,
+        search_term,
+        line_wrapping,
+    } = opts;
+    let layout = Layout {
+        cols,
+        wrapping: line_wrapping,
+        numbers: line_numbers,
+    };
+    let clean = attachment.is_none();
+    let block = form_with(
+        alloc,
+        attachment,
+        text,
+        layout,
+        lines_count,
+        formatted_lines_count,
+        prev_unterminated,
+    )?;
+    let told = put_block(alloc, buffer, block, patterns, search_term, clean)?;
+    Ok(told)
+}
+
+/// Leaves in a buffer the rows of a text by itself, as they are stored, and no others.
+///
+/// # Errors
+///
+/// [`MinusError::Memory`] where there is no memory for it. Nothing has changed then.
+pub fn format_lines_into(
+    alloc: Global,
+    buffer: &mut Rows,
+    text: TextBlock<'_>,
+    layout: Layout,
+    patterns: &Patterns,
+    search_term: Option<&Regex>,
+) -> Result<FormatResult, MinusError>
+    ensures rows { OnOk result (map string_bytes buffer.new.items ≡ block_rows (option_map (λ r. regex_pattern r.now) search_term.entry) (record { text = text.now; layout = layout; lines_before = 0; first_row = 0 })) }
+    ensures told { IfOk result (λ r. TellsBlock r (option_map (λ t. regex_pattern t.now) search_term.entry) (record { text = text.now; layout = layout; lines_before = 0; first_row = 0 }) true) }
+    ensures err { OnErr result (buffer.new.items ≡ buffer.old.items) }
+    ensures memory { IfErr result (λ e. e ≡ MinusError.Memory) }
+{
+    let block = form_with(alloc, None, text, layout, 0, 0, 0)?;
+    let mut rows = Rows::new(alloc);
+    let told = put_block(alloc, &mut rows, block, patterns, search_term, true)?;
+    *buffer = rows;
+    Ok(told)
+}

@@ -1,0 +1,197 @@
+//! Rows that print as they are stored.
+ghost use Rattle.std.specs.Prelude.{◌≡◌, map, option_map, replicate, false, IfOk, Some};
+ghost use Rattle.regex.specs.Strings.{regex_pattern};
+ghost use Rattle.minus_text.specs.Prefixes.{prefix};
+ghost use Rattle.minus_text.specs.Highlight.{highlighted, line_matches};
+ghost use Rattle.minus_text.specs.Shown.{shown_line};
+ghost use Rattle.minus_text.specs.FoundRows.{finder_pattern};
+ghost use Rattle.minus_text.specs.Formatted.{prefix_of, printed_row, printed_under, printed_searched, row_matches};
+
+use crate::line_numbers::{digits, prefix_columns};
+use crate::search::escapes::{match_places, part};
+use crate::search::{Finder, HighlightMatchesArgs, Patterns};
+use regex::Regex;
+use std::alloc::{AllocError, Global};
+use std::fmt;
+
+// So many blanks.
+#[derive(Clone, Copy)]
+struct Blanks(usize);
+
+impl fmt::Display for Blanks {
+    ghost output = { λ b. Some (replicate b.0 32) };
+
+    fn fmt<W: fmt::Write>(&self, f: &mut fmt::Formatter<W>) -> fmt::Result {
+        for _i in 0..self.0 {
+            write!(f, " ")?;
+        }
+        Ok(())
+    }
+}
+
+// What stands before a row: as `push_prefix` adds it.
+#[derive(Clone, Copy)]
+pub(crate) struct RowPrefix {
+    pub(crate) numbers: bool,
+    pub(crate) line_count: usize,
+    pub(crate) line: usize,
+    pub(crate) is_first: bool,
+}
+
+impl fmt::Display for RowPrefix {
+    ghost output = { λ p. Some (prefix_of p) };
+
+    fn fmt<W: fmt::Write>(&self, f: &mut fmt::Formatter<W>) -> fmt::Result {
+        if !self.numbers {
+            return Ok(());
+        }
+        let columns = prefix_columns(true, self.line_count);
+        if self.is_first {
+            let line = self.line;
+            let before = Blanks(columns.saturating_sub(digits(line) + 2));
+            return write!(f, "{before}\x1b[1m{line}.\x1b[0m ");
+        }
+        let blanks = Blanks(columns);
+        write!(f, "{blanks}")
+    }
+}
+
+/// A row of a line. It prints what stands before it, and its own text.
+#[derive(Clone, Copy)]
+pub struct FormattedRow<'a> {
+    pub(crate) row: &'a str,
+    pub(crate) prefix: RowPrefix,
+}
+
+impl<'a> FormattedRow<'a> {
+    /// A row with this text of its own. Where numbers are on it has the number of its line before it,
+    /// counted from 1, if it is the first row of the line, and blanks otherwise; both are as wide as
+    /// `line_count`, the lines of the whole text, asks for.
+    pub fn new(
+        row: &'a str,
+        numbers: bool,
+        line_count: usize,
+        line: usize,
+        is_first: bool,
+    ) -> FormattedRow<'a>
+        ensures prefix { prefix_of result.prefix ≡ prefix numbers line_count line is_first }
+        ensures row { result.row.now ≡ row.now }
+    {
+        FormattedRow {
+            row,
+            prefix: RowPrefix {
+                numbers,
+                line_count,
+                line,
+                is_first,
+            },
+        }
+    }
+}
+
+impl fmt::Display for FormattedRow<'_> {
+    ghost output = { λ r. Some (printed_row r) };
+
+    fn fmt<W: fmt::Write>(&self, f: &mut fmt::Formatter<W>) -> fmt::Result {
+        let prefix = self.prefix;
+        let row = self.row;
+        write!(f, "{prefix}{row}")
+    }
+}
+
+/// A row in which a term was searched. It prints what stands before it, and its own text with the
+/// matches in reverse.
+#[derive(Drop)]
+pub struct SearchFormattedRow<'a> {
+    pub(crate) row: FormattedRow<'a>,
+    pub(crate) shown: Option<HighlightMatchesArgs<'a>>,
+}
+
+impl fmt::Display for SearchFormattedRow<'_> {
+    ghost output = { λ r. Some (printed_searched r) };
+
+    fn fmt<W: fmt::Write>(&self, f: &mut fmt::Formatter<W>) -> fmt::Result {
+        let prefix = self.row.prefix;
+        match &self.shown {
+            Some(shown) => write!(f, "{prefix}{shown}"),
+            None => {
+                let row = self.row.row;
+                write!(f, "{prefix}{row}")
+            }
+        }
+    }
+}
+
+// What searches rows for a term, if there is one.
+pub(crate) fn finder_of<'p>(
+    alloc: Global,
+    patterns: &'p Patterns,
+    term: Option<&'p Regex>,
+) -> Result<Option<Finder<'p>>, AllocError>
+    ensures { IfOk result (λ f. option_map finder_pattern f ≡ option_map (λ r. regex_pattern r.now) term.entry) }
+{
+    let Some(pattern) = term else {
+        return Ok(None);
+    };
+    let finder = Finder::new(alloc, patterns, pattern)?;
+    Ok(Some(finder))
+}
+
+// A line as what searches rows shows it.
+fn highlight_row<'l>(
+    alloc: Global,
+    finder: &mut Finder<'_>,
+    line: &'l str,
+) -> Result<HighlightMatchesArgs<'l>, AllocError>
+    ensures line { IfOk result (λ h. shown_line h ≡ highlighted (finder_pattern finder.old) false line.now) }
+    ensures matches { IfOk result (λ h. h.is_match ≡ line_matches (finder_pattern finder.old) line.now) }
+    ensures same { finder_pattern finder.new ≡ finder_pattern finder.old }
+{
+    let places = match_places(alloc, &mut finder.escapes, line)?;
+    let parted = part(alloc, line, &places)?;
+    let highlight = HighlightMatchesArgs::of_parted(alloc, &mut finder.term, parted, false)?;
+    Ok(highlight)
+}
+
+// A row as what searches it shows it, and whether it matches.
+pub(crate) fn search_row<'a>(
+    alloc: Global,
+    finder: &mut Option<Finder<'_>>,
+    row: FormattedRow<'a>,
+) -> Result<(SearchFormattedRow<'a>, bool), AllocError>
+    ensures printed { IfOk result (λ r. printed_searched r.0 ≡ printed_under (option_map finder_pattern finder.old) row.entry) }
+    ensures matches { IfOk result (λ r. r.1 ≡ row_matches (option_map finder_pattern finder.old) row.entry.row.now) }
+    ensures same { option_map finder_pattern finder.new ≡ option_map finder_pattern finder.old }
+{
+    let Some(search) = finder else {
+        return Ok((SearchFormattedRow { row, shown: None }, false));
+    };
+    let shown = highlight_row(alloc, search, row.row)?;
+    let matches = shown.is_match();
+    Ok((
+        SearchFormattedRow {
+            row,
+            shown: Some(shown),
+        },
+        matches,
+    ))
+}
+
+/// Each of these rows with the matches of a term in reverse, and whether it matches; as they are
+/// without a term. One search serves all rows.
+pub fn format_search_rows<'a>(
+    alloc: Global,
+    patterns: &Patterns,
+    rows: &[FormattedRow<'a>],
+    search_term: Option<&Regex>,
+) -> Result<Vec<(SearchFormattedRow<'a>, bool)>, AllocError>
+    ensures printed { IfOk result (λ found. map (λ r. printed_searched r.0) found.items ≡ map (printed_under (option_map (λ r. regex_pattern r.now) search_term.entry)) rows.now) }
+    ensures matches { IfOk result (λ found. map (λ r. r.1) found.items ≡ map (λ r. row_matches (option_map (λ t. regex_pattern t.now) search_term.entry) r.row.now) rows.now) }
+{
+    let mut finder = finder_of(alloc, patterns, search_term)?;
+    let mut found = Vec::new(alloc);
+    for row in rows {
+        found.push(search_row(alloc, &mut finder, *row)?)?;
+    }
+    Ok(found)
+}
