@@ -47,3 +47,5 @@ pub mod PushedLaws
 pub mod PendingLaws
 pub mod LineCountLaws
 pub mod StoredLaws
+pub mod FoundInLaws
+pub mod SearchedLaws

@@ -37,7 +37,7 @@ stored_off d off = ap (λ (b : Bool). stored_lines (wrap_in d) b (line_count d) 
 
 -- ---- as many as rows
 
-length-stored_line : (on : Bool) (count k : ℕ) (rows : List (List ℕ)) → length (stored_line on count k rows) ≡ length rows
+pub length-stored_line : (on : Bool) (count k : ℕ) (rows : List (List ℕ)) → length (stored_line on count k rows) ≡ length rows
 length-stored_line on count k [] = refl
 length-stored_line on count k (row ∷ more) = ap suc (length-map more (λ r. prefix on count k false ++ r))
 
@@ -46,7 +46,7 @@ length-stored_lines wrap on count k [] = refl
 length-stored_lines wrap on count k (x ∷ xs) =
     omega (arith, length-append (stored_line on count k (own_rows wrap x)) (stored_lines wrap on count (k + 1) xs), length-append (own_rows wrap x) (rows_of_lines wrap xs), length-stored_line on count k (own_rows wrap x), length-stored_lines wrap on count (k + 1) xs)
 
-none_alike : {X Y : Type 0} (xs : List X) (ys : List Y) (i : ℕ) → length xs ≡ length ys → slice_get xs i ≡ None → slice_get ys i ≡ None
+pub none_alike : {X Y : Type 0} (xs : List X) (ys : List Y) (i : ℕ) → length xs ≡ length ys → slice_get xs i ≡ None → slice_get ys i ≡ None
 none_alike xs [] i l e = refl
 none_alike [] (y ∷ ys) i l e = absurd (omega arith)
 none_alike (x ∷ xs) (y ∷ ys) zero l e = absurd cc
@@ -59,7 +59,7 @@ no_stored d i e = none_alike (rows_of_lines (wrap_in d) (lines d.text)) (stored_
 
 -- ---- a row with its number
 
-at_front : {X : Type 0} (xs ys : List X) (i : ℕ) → i < length xs → slice_get (xs ++ ys) i ≡ slice_get xs i
+pub at_front : {X : Type 0} (xs ys : List X) (i : ℕ) → i < length xs → slice_get (xs ++ ys) i ≡ slice_get xs i
 at_front [] ys i l = absurd (omega arith)
 at_front (x ∷ xs) ys zero l = refl
 at_front (x ∷ xs) ys (suc i) l = at_front xs ys i (omega arith)
@@ -70,7 +70,7 @@ some_within (y ∷ xs) zero x e = omega arith
 some_within (y ∷ xs) (suc i) x e = let more = some_within xs i x e in omega arith
 
 -- in its line
-row_in_line : (on : Bool) (count k : ℕ) (rows : List (List ℕ)) (i : ℕ) (row : List ℕ) → slice_get rows i ≡ Some row → slice_get (stored_line on count k rows) i ≡ Some (prefix on count k (eqb i 0) ++ row)
+pub row_in_line : (on : Bool) (count k : ℕ) (rows : List (List ℕ)) (i : ℕ) (row : List ℕ) → slice_get rows i ≡ Some row → slice_get (stored_line on count k rows) i ≡ Some (prefix on count k (eqb i 0) ++ row)
 row_in_line on count k [] i row e = absurd cc
 row_in_line on count k (r ∷ rs) zero row e =
     let same : r ≡ row = cc in

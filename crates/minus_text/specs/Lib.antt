@@ -33,3 +33,4 @@ pub mod Forms
 pub mod FormatResults
 pub mod Pending
 pub mod FoundBy
+pub mod Searched
