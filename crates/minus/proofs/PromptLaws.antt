@@ -1,12 +1,15 @@
 -- A prompt row that is another one than before, as bytes.
-use Rattle.std.proofs.Common.{◌≡◌, ℕ, List, [], ◌++◌, ap, ◌∙◌, refl}
+use Rattle.std.proofs.Common.{◌≡◌, ℕ, List, [], ◌++◌, Option, None, Some, true, false, String, Global, string_bytes, sym, ap, ◌∙◌, refl}
 use Rattle.std.specs.Prelude.{bytes_eq, if◌then◌else◌}
+use Rattle.std.specs.Option.{option_map, unwrap_or}
+use Rattle.minus_term.specs.Operations.{Op}
 use Rattle.minus_term.specs.FullRedraw.{prompt_ops}
 use Rattle.minus_term.specs.Written.{written_all}
 use Rattle.minus.specs.Control.{Control}
-use Rattle.minus.specs.Drawings.{changed_prompt, ops_between, ops_of_step}
+use Rattle.minus.specs.Drawings.{changed_prompt, draws_prompt, ops_between, ops_of_step}
+use Rattle.minus.specs.declared.commands.Drawing.{Drawing}
 use Rattle.minus.specs.PromptRow.{prompt_row}
-use Rattle.minus.specs.declared.commands.Drawing.TheVariants.{Append}
+use Rattle.minus.specs.declared.commands.Drawing.TheVariants.{Nothing, Full, Scroll, Append, Prompt}
 use Rattle.minus.proofs.DrawingLaws.{ops_added}
 
 pub changed_prompt_is : (out bytes : List ℕ) (old new : Control) (rows : ℕ) (prompt before : List ℕ) → rows ≡ new.rows → prompt ≡ prompt_row new → before ≡ prompt_row old → bytes ≡ out ++ written_all (if bytes_eq prompt before then [] else prompt_ops rows prompt) → bytes ≡ out ++ written_all (changed_prompt old new)
@@ -16,6 +19,32 @@ changed_prompt_is out bytes old new rows prompt before r p b e =
     ∙ ap (λ (x : List ℕ). out ++ written_all (if bytes_eq (prompt_row new) x then [] else prompt_ops rows (prompt_row new))) b
     ∙ ap (λ (n : ℕ). out ++ written_all (if bytes_eq (prompt_row new) (prompt_row old) then [] else prompt_ops n (prompt_row new))) r
 
-pub appended_prompt : (out mid bytes : List ℕ) (old new : Control) (rows : ℕ) (prompt before : List ℕ) → rows ≡ new.rows → prompt ≡ prompt_row new → before ≡ prompt_row old → mid ≡ out ++ written_all (ops_between Append old new) → bytes ≡ mid ++ written_all (if bytes_eq prompt before then [] else prompt_ops rows prompt)
-    → bytes ≡ out ++ written_all (ops_of_step Append old new)
-appended_prompt out mid bytes old new rows prompt before r p b d e = ops_added out mid bytes (ops_between Append old new) (changed_prompt old new) d (changed_prompt_is mid bytes old new rows prompt before r p b e)
+-- a drawing that draws the prompt row is all of a step's list
+pub all_of_step : (drawing : Drawing) (old new : Control) → draws_prompt drawing ≡ true → ops_of_step drawing old new ≡ ops_between drawing old new
+all_of_step Nothing old new e = absurd (cc)
+all_of_step Full old new e = refl
+all_of_step Scroll old new e = refl
+all_of_step Append old new e = absurd (cc)
+all_of_step Prompt old new e = refl
+
+-- one that does not is followed by the prompt row, where that is another one
+pub more_of_step : (drawing : Drawing) (old new : Control) → draws_prompt drawing ≡ false → ops_of_step drawing old new ≡ ops_between drawing old new ++ changed_prompt old new
+more_of_step Nothing old new e = refl
+more_of_step Full old new e = absurd (cc)
+more_of_step Scroll old new e = absurd (cc)
+more_of_step Append old new e = refl
+more_of_step Prompt old new e = absurd (cc)
+
+pub drawn_with_prompt : (drawing : Drawing) (old new : Control) (out bytes : List ℕ) → draws_prompt drawing ≡ true → bytes ≡ out ++ written_all (ops_between drawing old new) → bytes ≡ out ++ written_all (ops_of_step drawing old new)
+drawn_with_prompt drawing old new out bytes d e = e ∙ ap (λ (ops : List Op). out ++ written_all ops) (sym (all_of_step drawing old new d))
+
+pub drawn_before_prompt : (drawing : Drawing) (old new : Control) (out mid bytes : List ℕ) (rows : ℕ) (prompt before : List ℕ) → draws_prompt drawing ≡ false → rows ≡ new.rows → prompt ≡ prompt_row new → before ≡ prompt_row old → mid ≡ out ++ written_all (ops_between drawing old new)
+    → bytes ≡ mid ++ written_all (if bytes_eq prompt before then [] else prompt_ops rows prompt) → bytes ≡ out ++ written_all (ops_of_step drawing old new)
+drawn_before_prompt drawing old new out mid bytes rows prompt before d r p b e f =
+    ops_added out mid bytes (ops_between drawing old new) (changed_prompt old new) e (changed_prompt_is mid bytes old new rows prompt before r p b f)
+    ∙ ap (λ (ops : List Op). out ++ written_all ops) (sym (more_of_step drawing old new d))
+
+-- the prompt row that is kept: a new one, or else the one before
+pub row_kept : (row : Option (String Global)) (kept : String Global) → string_bytes (unwrap_or row kept) ≡ unwrap_or (option_map string_bytes row) (string_bytes kept)
+row_kept None kept = refl
+row_kept (Some row) kept = refl

@@ -1,8 +1,8 @@
 -- The rows of text on a page.
-use Rattle.std.proofs.Common.{◌≡◌, ℕ, zero, suc, ◌+◌, ◌-◌, ◌<◌, ◌≤◌, min, List, [], ◌∷◌, ◌++◌, length, map, take, drop, get_or, Some, None, sym, ap, ◌∙◌, arith}
+use Rattle.std.proofs.Common.{◌≡◌, ℕ, zero, suc, ◌+◌, ◌-◌, ◌<◌, ◌≤◌, min, List, [], ◌∷◌, ◌++◌, length, map, take, drop, get_or, Some, None, refl, sym, ap, ◌∙◌, arith}
 use Rattle.std.specs.List.{slice_get}
 use Rattle.std.proofs.Math.ListN.{drop_of_length-le}
-use Rattle.std.proofs.lemmas.List.{take_more, get_or-drop, length-drop, length-take, drop-append-le, take_min, map_push}
+use Rattle.std.proofs.lemmas.List.{take_more, get_or-drop, length-drop, length-take, drop-append-le, take_min, drop_min, map_push}
 
 get_some : {X : Type 0} (xs : List X) (i : ℕ) (x d : X) → Some x ≡ slice_get xs i → get_or xs i d ≡ x
 get_some [] i x d e = cc
@@ -46,3 +46,20 @@ shown_more_from f xs news x rows mark n i l there h e g =
     let left : i < length (drop mark rows) = omega (arith, length-drop mark rows) in
     let is : get_or (drop mark rows) i [] ≡ f x = get_or-drop mark rows i [] ∙ get_some rows (mark + i) (f x) [] e in
     more_from n i (map f xs) (map f news) (drop mark rows) (f x) l left is h (ap (map f) g ∙ map_push f xs x)
+
+front_of_front : {X : Type 0} (n k : ℕ) (xs : List X) → n ≤ k → take n (take k xs) ≡ take n xs
+front_of_front zero k xs l = refl
+front_of_front (suc n) zero xs l = absurd (omega (arith, l))
+front_of_front (suc n) (suc k) [] l = refl
+front_of_front (suc n) (suc k) (x ∷ xs) l = ap (λ ys. x ∷ ys) (front_of_front n k xs (omega (arith, l)))
+
+-- the rows that are shown from one on and before another
+pub shown_part : {X : Type 0} (xs : List X) (k first end n start i : ℕ) → n ≡ min (length (take k xs)) end → start ≡ min first n → i ≡ n → drop start (take i xs) ≡ drop first (take end (take k xs))
+shown_part xs k first end n start i e s h =
+    let page = take k xs in
+    let within : n ≤ k = omega (arith, e, length-take k xs) in
+    let least : n ≡ min end (length page) = omega (arith, e) in
+    let least_first : start ≡ min first (length (take end page)) = omega (arith, e, s, length-take end page) in
+    ap (λ j. drop start (take j xs)) h
+    ∙ ap (drop start) (sym (front_of_front n k xs within) ∙ ap (λ j. take j page) least ∙ take_min end page)
+    ∙ ap (λ j. drop j (take end page)) least_first ∙ drop_min first (take end page)

@@ -1,5 +1,5 @@
 -- How the page is drawn.
-use Rattle.std.specs.Prelude.{ℕ, ◌-◌, ◌++◌, nat_le, min, List, [], length, take, drop, bytes_eq, if◌then◌else◌}
+use Rattle.std.specs.Prelude.{ℕ, ◌-◌, ◌++◌, nat_le, min, List, [], length, take, drop, bytes_eq, Bool, true, false, if◌then◌else◌}
 use Rattle.minus_term.specs.Operations.{Op}
 use Rattle.minus_term.specs.FullRedraw.{full_ops, prompt_ops}
 use Rattle.minus_term.specs.Scroll.{scroll_ops}
@@ -43,6 +43,14 @@ ops_between Prompt old new = whole_prompt new
 -- the list that draws a prompt row which is another one than before
 abbrev pub changed_prompt : Control → Control → List Op
 changed_prompt old new = if bytes_eq (prompt_row new) (prompt_row old) then [] else whole_prompt new
+
+-- whether a drawing draws the prompt row
+abbrev pub draws_prompt : Drawing → Bool
+draws_prompt Nothing = false
+draws_prompt Full = true
+draws_prompt Scroll = true
+draws_prompt Append = false
+draws_prompt Prompt = true
 
 -- the list of a step: what does not draw the prompt row is followed by it where it is another one than before
 abbrev pub ops_of_step : Drawing → Control → Control → List Op

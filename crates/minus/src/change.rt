@@ -6,7 +6,7 @@ use crate::parts::Parts;
 use minus_text::{PendingPush, Screen};
 
 // The text that there will be: as it is, another one, or as a push leaves it.
-#[derive(Debug, Drop)]
+#[derive(Drop)]
 pub(crate) enum NextText {
     Same,
     Whole(Screen),
@@ -44,7 +44,7 @@ impl NextText {
 }
 
 // What there will be beside the text: all as it is, or one thing set anew.
-#[derive(Debug, Drop)]
+#[derive(Drop)]
 pub(crate) enum Setting {
     Same,
     Prompt(String),
@@ -113,7 +113,7 @@ impl Setting {
 
 // What a command leaves: the text, the mark, the size and what is set beside them; whether the typed prefix went before it;
 // and what of it is asked to be drawn.
-#[derive(Debug, Drop)]
+#[derive(Drop)]
 pub(crate) struct Change {
     pub(crate) text: NextText,
     pub(crate) mark: usize,

@@ -56,7 +56,7 @@ pub enum InputOf<P: Parts> {
 pub type Input = InputOf<StandIns>;
 
 /// What a command asks to be drawn.
-#[derive(Clone, Copy, Debug)]
+#[derive(Clone, Copy)]
 pub(crate) enum Redraw {
     /// Nothing: the page stays as it is.
     Stays,
@@ -71,7 +71,7 @@ pub(crate) enum Redraw {
 }
 
 /// How what comes of a command is drawn. What does not draw the prompt row is followed by it where it has changed.
-#[derive(Clone, Copy, Debug)]
+#[derive(Clone, Copy)]
 pub(crate) enum Drawing {
     /// Not at all: the page stays as it is.
     Nothing,
@@ -83,4 +83,19 @@ pub(crate) enum Drawing {
     Append,
     /// The prompt row.
     Prompt,
+}
+
+impl Drawing {
+    ghost use Rattle.std.specs.Prelude.{◌≡◌};
+    ghost use Rattle.minus.specs.Drawings.{draws_prompt};
+
+    // Whether it draws the prompt row.
+    pub(crate) fn draws_prompt(self) -> bool
+        ensures { result ≡ draws_prompt self }
+    {
+        match self {
+            Drawing::Nothing | Drawing::Append => false,
+            Drawing::Full | Drawing::Scroll | Drawing::Prompt => true,
+        }
+    }
 }

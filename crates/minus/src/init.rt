@@ -5,17 +5,17 @@ ghost use Rattle.minus_term.specs.Counts.{Stays, Rises};
 ghost use Rattle.minus_term.specs.Refusals.{refusal_of};
 ghost use Rattle.minus_term.specs.Terminal.{setup_bytes};
 ghost use Rattle.minus_term.specs.Written.{written_all};
-ghost use Rattle.minus.specs.Changes.{IsUnformedState};
+ghost use Rattle.minus.specs.Changes.{IsChange, IsUnformedState};
 ghost use Rattle.minus.specs.Control.{IsClamped};
 ghost use Rattle.minus.specs.Drawings.{whole_page};
 ghost use Rattle.minus.specs.Drawn.{StartLeavesItsPage};
-ghost use Rattle.minus.specs.PromptRow.{prompt_row_of};
+ghost use Rattle.minus.specs.PromptRow.{prompt_row, prompt_row_of};
 ghost use Rattle.minus.specs.Reads.{IsFormed, control_of, settings_of, wanted_of};
 ghost use Rattle.minus.specs.SessionStarts.{IsStart, IsRefusedStart};
 ghost use Rattle.minus.specs.Sizes.{IsSize};
 ghost use Rattle.minus.specs.Starts.{taken_all, first_control, IsShowRefused, ShowBreaksOff, IsStartFault};
 
-use crate::change::NextText;
+use crate::change::{Change, NextText};
 use crate::commands::{CommandOf, Drawing, Redraw};
 use crate::pager::{Pager, PagerOf};
 use crate::parts::Parts;
@@ -24,7 +24,7 @@ use crate::stand_in::{StandIn, StandIns};
 use crate::state::{PagerState, RunMode};
 use crate::status::Status;
 use minus_term::{MinusError, OutputSink, cleanup, draw_bytes, setup};
-use std::alloc::Global;
+use std::alloc::{AllocError, Global};
 
 /// A start that was refused, over the kinds of what the session would keep.
 #[derive(Drop)]
@@ -70,19 +70,58 @@ struct First {
     ghost drawn: { drawing.items ≡ written_all (whole_page (control_of state)) },
 }
 
+// The first state of a pager. A size that is none is refused.
+fn first_state<P: Parts>(
+    pager: &PagerOf<P>,
+    cols: usize,
+    rows: usize,
+) -> Result<PagerState, MinusError>
+    ensures control { IfOk result (λ s. control_of s ≡ first_control cols rows (map wanted_of pager.now.queue.items)) }
+    ensures formed { IfOk result IsFormed }
+    ensures clamped { IfOk result (λ s. IsClamped (control_of s)) }
+    ensures size { OnOk result (IsSize cols rows) }
+    ensures refused { IfErr result (λ e. IsUnformedState (refusal_of e) cols rows) }
+{
+    let mut state = PagerState::new(pager.alloc, cols, rows)?;
+    take_waiting(pager.alloc, &mut state, &pager.queue)?;
+    Ok(state)
+}
+
+// The prompt row of a state, and the bytes that draw its whole page, by a change that changes nothing.
+fn draw_unchanged(
+    alloc: Global,
+    state: &PagerState,
+    change: &Change,
+) -> Result<(String, Vec<u8>), AllocError>
+    requires formed { IsFormed state.now }
+    requires same { IsChange (control_of state.now) change.now (control_of state.now) }
+    ensures prompt { IfOk result (λ p. string_bytes p.0 ≡ prompt_row (control_of state.now)) }
+    ensures drawn { IfOk result (λ p. p.1.items ≡ written_all (whole_page (control_of state.now))) }
+{
+    let prompt_row = state.prompt_row_after(alloc, change)?;
+    let mut drawing = Vec::new(alloc);
+    state.draw_after(alloc, &mut drawing, Drawing::Full, change, &prompt_row)?;
+    Ok((prompt_row, drawing))
+}
+
+// The prompt row of a state, and the bytes that draw its whole page.
+fn draw_first(alloc: Global, state: &PagerState) -> Result<(String, Vec<u8>), AllocError>
+    requires { IsFormed state.now }
+    ensures prompt { IfOk result (λ p. string_bytes p.0 ≡ prompt_row (control_of state.now)) }
+    ensures drawn { IfOk result (λ p. p.1.items ≡ written_all (whole_page (control_of state.now))) }
+{
+    let change = state.change_to(NextText::Same, Redraw::Whole, false);
+    draw_unchanged(alloc, state, &change)
+}
+
 // The first state of a pager, with its page. A size that is none is refused.
 fn first_page<P: Parts>(pager: &PagerOf<P>, cols: usize, rows: usize) -> Result<First, MinusError>
     ensures control { IfOk result (λ f. control_of f.state ≡ first_control cols rows (map wanted_of pager.now.queue.items)) }
     ensures size { OnOk result (IsSize cols rows) }
     ensures refused { IfErr result (λ e. IsUnformedState (refusal_of e) cols rows) }
 {
-    let alloc = pager.alloc;
-    let mut state = PagerState::new(alloc, cols, rows)?;
-    take_waiting(alloc, &mut state, &pager.queue)?;
-    let change = state.change_to(NextText::Same, Redraw::Whole, false);
-    let prompt_row = state.prompt_row(alloc)?;
-    let mut drawing = Vec::new(alloc);
-    state.draw_after(alloc, &mut drawing, Drawing::Full, &change, &prompt_row)?;
+    let state = first_state(pager, cols, rows)?;
+    let (prompt_row, drawing) = draw_first(pager.alloc, &state)?;
     Ok(First {
         state,
         prompt_row,

@@ -3,6 +3,7 @@ ghost use Rattle.std.specs.Prelude.{◌≡◌, ◌<◌, ◌++◌, [], length, re
 ghost use Rattle.minus.specs.Page.{page_with};
 ghost use Rattle.minus.specs.Reads.{control_of};
 
+use crate::change::Change;
 use crate::state::PagerState;
 use minus_term::MinusError;
 use std::alloc::{AllocError, Global};
@@ -50,15 +51,13 @@ pub struct Page {
 
 impl Page {
     ghost use Rattle.std.specs.Prelude.{◌≡◌, ◌<◌, length, map, string_bytes, IfOk, IfErr};
+    ghost use Rattle.minus.specs.Changes.{shown_by};
+    ghost use Rattle.minus.specs.NextTexts.{IsNext};
     ghost use Rattle.minus.specs.Page.{page_with};
     ghost use Rattle.minus.specs.Reads.{control_of};
 
     // The page of a state that has these rows of text at its top.
-    pub(crate) fn form(
-        alloc: Global,
-        state: &PagerState,
-        shown: &[&str],
-    ) -> Result<Page, MinusError>
+    fn form(alloc: Global, state: &PagerState, shown: &[&str]) -> Result<Page, MinusError>
         requires { length shown.now < state.now.rows }
         ensures rows { IfOk result (λ p. map string_bytes p.rows.items ≡ (page_with (control_of state.now) (map (λ r. r.now) shown.now)).texts) }
         ensures cursor { IfOk result (λ p. p.cursor ≡ (page_with (control_of state.now) (map (λ r. r.now) shown.now)).cursor) }
@@ -68,5 +67,21 @@ impl Page {
             rows: page_rows(alloc, state, shown)?,
             cursor: None,
         })
+    }
+
+    // The page of a state, of whose rows of text a change leaves those that are shown.
+    pub(crate) fn of_change(
+        alloc: Global,
+        state: &PagerState,
+        change: &Change,
+    ) -> Result<Page, MinusError>
+        requires belongs { IsNext state.now.screen change.now.text }
+        requires rows { change.now.rows ≡ state.now.rows }
+        ensures rows { IfOk result (λ p. map string_bytes p.rows.items ≡ (page_with (control_of state.now) (shown_by state.now.screen change.now)).texts) }
+        ensures cursor { IfOk result (λ p. p.cursor ≡ (page_with (control_of state.now) (shown_by state.now.screen change.now)).cursor) }
+        ensures memory { IfErr result (λ e. e ≡ MinusError.Memory) }
+    {
+        let shown = state.shown_after(alloc, change, 0)?;
+        Page::form(alloc, state, &shown)
     }
 }

@@ -1,6 +1,6 @@
 //! A session: a pager over a sink.
 ghost use Rattle.std.specs.Prelude.{◌≡◌, string_bytes};
-ghost use Rattle.std.specs.Option.{unwrap_or};
+ghost use Rattle.std.specs.Option.{option_map, unwrap_or};
 ghost use Rattle.minus.specs.Control.{IsClamped};
 ghost use Rattle.minus.specs.PromptRow.{prompt_row_of};
 ghost use Rattle.minus.specs.Reads.{control_of, settings_of, IsFormed};
@@ -95,6 +95,16 @@ struct Progress {
     stopped: Option<MinusError>,
 }
 
+// The prompt row: a new one, or the one that is kept.
+fn row_of<'a>(new: &'a Option<String>, kept: &'a str) -> &'a str
+    ensures { result.now ≡ unwrap_or (option_map string_bytes new.now) kept.now }
+{
+    match new {
+        Some(row) => row.as_str(),
+        None => kept,
+    }
+}
+
 // Puts a value in the place of the one that is kept, if there is one.
 fn keep<T: Drop>(kept: &mut T, new: Option<T>)
     ensures { kept.new ≡ unwrap_or new kept.old }
@@ -106,6 +116,7 @@ fn keep<T: Drop>(kept: &mut T, new: Option<T>)
 
 impl<S, P: Parts> Core<S, P> {
     ghost use Rattle.std.specs.Prelude.{◌≡◌, map, None, OnOk, OnErr, IfOk, IfErr, string_bytes};
+    ghost use Rattle.std.specs.Option.{option_map, unwrap_or};
     ghost use Rattle.minus_term.specs.Refusals.{refusal_of};
     ghost use Rattle.minus.specs.Control.{Control, cleared};
     ghost use Rattle.minus.specs.Page.{page};
@@ -149,36 +160,29 @@ impl<S, P: Parts> Core<S, P> {
         ensures memory { IfErr result (λ e. e ≡ MinusError.Memory) }
     {
         let change = self.state.change_to(NextText::Same, Redraw::Stays, false);
-        let shown = self.state.shown_after(self.alloc, &change, 0)?;
-        let page = Page::form(self.alloc, &self.state, &shown)?;
-        Ok(page)
+        Page::of_change(self.alloc, &self.state, &change)
     }
 
-    // Draws the page that a change leads to, whose prompt row this is, into the buffer of drawings.
+    // Draws the page that a change leads to into the buffer of drawings: its prompt row is this one, or else the one drawn last.
     fn draw_change(
         &mut self,
         drawing: Drawing,
         change: &Change,
-        prompt: &str,
+        row: &Option<String>,
     ) -> Result<(), MinusError>
         requires belongs { IsNext self.old.state.screen change.now.text }
         requires running { self.old.status ≡ Status.Running }
-        ensures drawn { OnOk result ((new : Control) → IsChange (control_of self.old.state) change.now new → prompt.now ≡ prompt_row new →
-            DrawsBetween self.new drawing (control_of self.old.state) new) }
+        ensures drawn { OnOk result ((new : Control) → IsChange (control_of self.old.state) change.now new →
+            unwrap_or (option_map string_bytes row.now) (prompt_row (control_of self.old.state)) ≡ prompt_row new → DrawsBetween self.new drawing (control_of self.old.state) new) }
         ensures state { self.new.state ≡ self.old.state }
         ensures seen { seen_of self.new ≡ seen_of self.old }
         ensures sink { self.new.sink ≡ self.old.sink }
         ensures memory { IfErr result (λ e. e ≡ MinusError.Memory) }
     {
         self.drawing.clear();
-        self.state.draw_step(
-            self.alloc,
-            &mut self.drawing,
-            drawing,
-            change,
-            prompt,
-            &self.prompt_row,
-        )?;
+        let kept = self.prompt_row.as_str();
+        let prompt = row_of(row, kept);
+        self.state.draw_step(self.alloc, &mut self.drawing, drawing, change, prompt, kept)?;
         Ok(())
     }
 
@@ -196,11 +200,11 @@ impl<S, P: Parts> Core<S, P> {
         ensures unformed { IfErr result (λ e. IsUnformed (refusal_of e) (wanted_of command)) }
     {
         let prepared = self.state.prepare(self.alloc, command, clears)?;
-        let row = self.state.prompt_row_after(self.alloc, &prepared.change)?;
+        let row = self.state.new_prompt_row(self.alloc, &prepared.change)?;
         let drawing = prepared.change.drawing(self.state.upper_mark);
         self.draw_change(drawing, &prepared.change, &row)?;
         self.state.place(self.alloc, prepared.change)?;
-        self.prompt_row = row;
+        keep(&mut self.prompt_row, row);
         keep(&mut self.classifier, prepared.classifier);
         Ok(())
     }

@@ -1,5 +1,6 @@
 -- What was drawn is the page of the control that was reached.
-use Rattle.std.proofs.Common.{◌≡◌, string_bytes, sym, ap, subst, ◌∙◌}
+use Rattle.std.proofs.Common.{◌≡◌, ℕ, List, string_bytes, sym, ap, subst, ◌∙◌}
+use Rattle.std.specs.Option.{option_map, unwrap_or}
 use Rattle.minus_term.specs.Written.{written_all}
 use Rattle.minus.specs.Drawings.{ops_of_step}
 use Rattle.minus.specs.PromptRow.{prompt_row}
@@ -7,7 +8,10 @@ use Rattle.minus.specs.declared.commands.Drawing.{Drawing}
 use Rattle.minus.specs.Control.{Control, cleared}
 use Rattle.minus.specs.Table.{effect, changed_by}
 use Rattle.minus.specs.Reads.{control_of, wanted_of}
+use Rattle.minus.specs.Seen.{Seen}
+use Rattle.minus.specs.declared.state.PagerState.{PagerState}
 use Rattle.minus.proofs.ChangeLaws.{placed_after, drawn_as}
+use Rattle.minus.proofs.PromptLaws.{row_kept}
 use Rattle.minus.proofs.session.Core.take.Goals as goal
 
 pub returns-clause-drawn : goal.returns-clause-drawn
@@ -20,9 +24,8 @@ returns-clause-drawn g c =
     let placed = c.in_ok-place.ensures in
     let is = placed_after c.args.self.now.state c.draw_change.new.self.state c.place.new.self change new c.draw_change.ensures.state c.args.self.now.formed h placed.screen placed.mark placed.cols placed.rows placed.settings in
     let kind = c.drawing-drawing.ensures ∙ drawn_as taken (wanted_of c.args.command) change.redraw change.mark c.in_ok-prepared.ensures.redraw h.mark_is in
-    let row = c.deref.ensures ∙ c.in_ok-row.ensures new h in
     subst (λ (d : Drawing). c.draw_change.new.self.drawing.items ≡ written_all (ops_of_step d old (control_of c.place.new.self))) kind
-    (subst (λ (x : Control). c.draw_change.new.self.drawing.items ≡ written_all (ops_of_step c.drawing-drawing.result old x)) (sym is) (c.in_ok-draw_change.ensures.drawn new h row))
+    (subst (λ (x : Control). c.draw_change.new.self.drawing.items ≡ written_all (ops_of_step c.drawing-drawing.result old x)) (sym is) (c.in_ok-draw_change.ensures.drawn new h (c.in_ok-row.ensures new h)))
 
 pub invariant_of-self-2-clause-prompted : goal.invariant_of-self-2-clause-prompted
 invariant_of-self-2-clause-prompted g c running =
@@ -31,4 +34,9 @@ invariant_of-self-2-clause-prompted g c running =
     let h = c.in_ok-prepared.ensures.next in
     let placed = c.in_ok-place.ensures in
     let is = placed_after c.args.self.now.state c.draw_change.new.self.state c.place.new.self c.in_ok-prepared.prepared.change new c.draw_change.ensures.state c.args.self.now.formed h placed.screen placed.mark placed.cols placed.rows placed.settings in
-    c.in_ok-row.ensures new h ∙ ap prompt_row (sym is)
+    let drawn = c.draw_change.new.self in
+    let row = c.in_ok-row.row in
+    let kept = drawn.prompted (ap (λ (s : Seen _). s.status) c.draw_change.ensures.seen ∙ c.requires) ∙ ap (λ (s : PagerState). prompt_row (control_of s)) c.draw_change.ensures.state in
+    ap string_bytes c.keep.ensures ∙ row_kept row drawn.prompt_row
+    ∙ ap (λ (before : List ℕ). unwrap_or (option_map string_bytes row) before) kept
+    ∙ c.in_ok-row.ensures new h ∙ ap prompt_row (sym is)

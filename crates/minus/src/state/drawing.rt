@@ -1,0 +1,284 @@
+//! How what comes of a command is drawn.
+ghost use Rattle.std.specs.Prelude.{◌≡◌};
+
+use crate::change::{Change, NextText, Setting};
+use crate::commands::{Drawing, Redraw};
+use crate::display::{
+    draw_append_text, draw_full, draw_scroll, write_changed_prompt, write_prompt,
+};
+use crate::state::PagerState;
+use minus_state::{PromptRow, format_prompt};
+use std::alloc::{AllocError, Global};
+
+impl PagerState {
+    ghost use Rattle.std.specs.Prelude.{◌≡◌, true, ◌+◌, ◌-◌, ◌++◌, ◌^◌, ◌<◌, length, map, take, drop, string_bytes, false, if◌then◌else◌, OnOk, IfOk};
+    ghost use Rattle.std.specs.Option.{option_map, unwrap_or};
+    ghost use Rattle.minus.specs.Control.{Control, first_changed};
+    ghost use Rattle.minus.specs.PromptRow.{shown_in, prompt_row, prompt_row_of};
+    ghost use Rattle.minus_state.specs.PromptRow.{seen_prompt};
+    ghost use Rattle.minus_term.specs.Written.{written_all};
+    ghost use Rattle.minus.specs.Drawings.{rows_after, rows_newly, append_from, ops_between, ops_of_step};
+    ghost use Rattle.minus.specs.Reads.{control_of, settings_of, IsFormed};
+    ghost use Rattle.minus.specs.NextTexts.{IsNext};
+    ghost use Rattle.minus.specs.Changes.{IsChange, settings_after, shown_by};
+
+    // What the prompt row is formed of after a change.
+    fn prompt_after<'a>(&'a self, change: &'a Change) -> PromptRow<'a>
+        ensures { seen_prompt result ≡ shown_in change.now.cols (settings_after (settings_of self.now) change.now.clears change.now.setting) }
+    {
+        PromptRow {
+            is_shown: change.setting.is_shown(self.prompt_shown),
+            prompt: change.setting.prompt(self.prompt.as_str()),
+            message: change.setting.message(self.message_text()),
+            prefix: change.setting.prefix(self.prefix_after(change.clears)),
+            search_mark: 0,
+            match_count: 0,
+            follow: change.setting.follow(self.follow),
+            cols: change.cols,
+        }
+    }
+
+    // The prompt row after a change.
+    pub(crate) fn prompt_row_after(
+        &self,
+        alloc: Global,
+        change: &Change,
+    ) -> Result<String, AllocError>
+        ensures { IfOk result (λ row. (new : Control) → IsChange (control_of self.now) change.now new → string_bytes row ≡ prompt_row new) }
+    {
+        let row = self.prompt_after(change);
+        let text = format_prompt(alloc, &row)?;
+        Ok(text)
+    }
+
+    // The prompt row.
+    pub(crate) fn prompt_row(&self, alloc: Global) -> Result<String, AllocError>
+        ensures { IfOk result (λ row. string_bytes row ≡ prompt_row (control_of self.now)) }
+    {
+        let stays = self.change_to(NextText::Same, Redraw::Stays, false);
+        let row = self.prompt_row_after(alloc, &stays)?;
+        Ok(row)
+    }
+
+    // Whether a change leaves the prompt row as it is: the columns, the prefix and all that is set stay.
+    fn keeps_prompt_row(&self, change: &Change) -> bool
+        ensures { result ≡ true → prompt_row_of change.now.cols (settings_after (settings_of self.now) change.now.clears change.now.setting) ≡ prompt_row (control_of self.now) }
+    {
+        match change.setting {
+            Setting::Same => {
+                change.cols == self.cols
+                    && self.prefix_after(change.clears) == self.prefix_num.as_str()
+            }
+            _ => false,
+        }
+    }
+
+    // The prompt row after a change, where it may be another one.
+    pub(crate) fn new_prompt_row(
+        &self,
+        alloc: Global,
+        change: &Change,
+    ) -> Result<Option<String>, AllocError>
+        ensures { IfOk result (λ row. (new : Control) → IsChange (control_of self.now) change.now new →
+            unwrap_or (option_map string_bytes row) (prompt_row (control_of self.now)) ≡ prompt_row new) }
+    {
+        if self.keeps_prompt_row(change) {
+            return Ok(None);
+        }
+        let row = self.prompt_row_after(alloc, change)?;
+        Ok(Some(row))
+    }
+
+    // How many rows of text the page has that a change leads to.
+    fn count_after(&self, change: &Change) -> usize
+        requires { IsNext self.now.screen change.now.text }
+        ensures count { result ≡ length (shown_by self.now.screen change.now) }
+        ensures within { change.now.mark + result < 2 ^ 64 }
+    {
+        let left = change
+            .text
+            .rows_after(&self.screen)
+            .saturating_sub(change.mark);
+        left.min(change.rows - 1)
+    }
+
+    // The texts of the rows of text on the page that a change leads to, from one of them on and before another.
+    fn shown_between<'a>(
+        &'a self,
+        alloc: Global,
+        change: &'a Change,
+        first: usize,
+        end: usize,
+    ) -> Result<Vec<&'a str>, AllocError>
+        requires { IsNext self.now.screen change.now.text }
+        ensures { IfOk result (λ v. map (λ r. r.now) v.items ≡ drop first (take end (shown_by self.now.screen change.now))) }
+    {
+        let count = self.count_after(change).min(end);
+        let start = first.min(count);
+        let mut shown = Vec::with_capacity(alloc, count - start)?;
+        for i in start..count {
+            if let Some(row) = change.text.row_after(&self.screen, change.mark + i) {
+                shown.push(row)?;
+            }
+        }
+        Ok(shown)
+    }
+
+    // The texts of the rows of text on the page that a change leads to, from one of them on.
+    pub(crate) fn shown_after<'a>(
+        &'a self,
+        alloc: Global,
+        change: &'a Change,
+        first: usize,
+    ) -> Result<Vec<&'a str>, AllocError>
+        requires { IsNext self.now.screen change.now.text }
+        ensures { IfOk result (λ v. map (λ r. r.now) v.items ≡ drop first (shown_by self.now.screen change.now)) }
+    {
+        self.shown_between(alloc, change, first, change.rows - 1)
+    }
+
+    // The texts of the rows of text that come onto the page that a change leads to, where the mark was this one.
+    fn shown_newly<'a>(
+        &'a self,
+        alloc: Global,
+        change: &'a Change,
+        from: usize,
+    ) -> Result<Vec<&'a str>, AllocError>
+        requires { IsNext self.now.screen change.now.text }
+        ensures { IfOk result (λ v. map (λ r. r.now) v.items ≡ rows_newly change.now.rows from change.now.mark (shown_by self.now.screen change.now)) }
+    {
+        let most = change.rows - 1;
+        if from <= change.mark {
+            let k = (change.mark - from).min(most);
+            self.shown_after(alloc, change, most - k)
+        } else {
+            let k = (from - change.mark).min(most);
+            self.shown_between(alloc, change, 0, k)
+        }
+    }
+
+    // The first row that an append may change.
+    fn first_changed(&self) -> usize
+        requires { IsFormed self.now }
+        ensures { result ≡ first_changed (control_of self.now) }
+    {
+        self.screen
+            .formatted_lines_count()
+            .saturating_sub(self.screen.unterminated())
+    }
+
+    // Adds the bytes that draw the rows of the page that a change leads to, from one of them on, where so many were shown.
+    fn draw_rows_after<'a>(
+        &'a self,
+        alloc: Global,
+        out: &mut Vec<u8>,
+        change: &'a Change,
+        first: usize,
+        were: usize,
+    ) -> Result<(), AllocError>
+        requires belongs { IsNext self.now.screen change.now.text }
+        requires few { were < 2 ^ 16 }
+        ensures { OnOk result (out.new.items ≡ out.old.items ++ written_all (rows_after first were (shown_by self.now.screen change.now))) }
+    {
+        let count = self.count_after(change);
+        let texts = self.shown_after(alloc, change, first)?;
+        draw_append_text(
+            alloc,
+            out,
+            first.min(count),
+            were.saturating_sub(count),
+            &texts,
+        )?;
+        Ok(())
+    }
+
+    // Adds the bytes that draw the rows which an append has changed.
+    fn draw_append<'a>(
+        &'a self,
+        alloc: Global,
+        out: &mut Vec<u8>,
+        change: &'a Change,
+    ) -> Result<(), AllocError>
+        requires formed { IsFormed self.now }
+        requires belongs { IsNext self.now.screen change.now.text }
+        ensures { OnOk result ((new : Control) → IsChange (control_of self.now) change.now new →
+            out.new.items ≡ out.old.items ++ written_all (ops_between Drawing.Append (control_of self.now) new)) }
+    {
+        let rows = self.screen.formatted_lines_count();
+        let were = rows.saturating_sub(self.upper_mark).min(self.rows - 1);
+        let first = self.first_changed().saturating_sub(self.upper_mark);
+        self.draw_rows_after(alloc, out, change, first, were)
+    }
+
+    // Adds the bytes that draw the rows of text on the page from one row of the text on, where there were so many.
+    pub(crate) fn draw_rows_from(
+        &self,
+        alloc: Global,
+        out: &mut Vec<u8>,
+        first: usize,
+        old_count: usize,
+    ) -> Result<(), AllocError>
+        requires { IsFormed self.now }
+        ensures { OnOk result (out.new.items ≡ out.old.items ++ written_all (append_from (control_of self.now) first old_count)) }
+    {
+        let change = self.change_to(NextText::Same, Redraw::Stays, false);
+        let were = old_count.saturating_sub(self.upper_mark).min(self.rows - 1);
+        let first = first.saturating_sub(self.upper_mark);
+        self.draw_rows_after(alloc, out, &change, first, were)
+    }
+
+    // Adds the bytes that draw the page that a change leads to, whose prompt row this is, in this way.
+    pub(crate) fn draw_after<'a>(
+        &'a self,
+        alloc: Global,
+        out: &mut Vec<u8>,
+        drawing: Drawing,
+        change: &'a Change,
+        prompt: &str,
+    ) -> Result<(), AllocError>
+        requires formed { IsFormed self.now }
+        requires belongs { IsNext self.now.screen change.now.text }
+        ensures { OnOk result ((new : Control) → IsChange (control_of self.now) change.now new → prompt.now ≡ prompt_row new →
+            out.new.items ≡ out.old.items ++ written_all (ops_between drawing (control_of self.now) new)) }
+    {
+        match drawing {
+            Drawing::Nothing => Ok(()),
+            Drawing::Append => self.draw_append(alloc, out, change),
+            Drawing::Prompt => write_prompt(alloc, out, change.rows as u16, prompt),
+            Drawing::Full => {
+                let shown = self.shown_after(alloc, change, 0)?;
+                draw_full(alloc, out, change.rows as u16, &shown, prompt)
+            }
+            Drawing::Scroll => {
+                let (from, to) = (self.upper_mark, change.mark);
+                let shown = self.shown_newly(alloc, change, from)?;
+                let rows = change.rows as u16;
+                draw_scroll(alloc, out, rows, from, to, &shown, prompt)
+            }
+        }
+    }
+
+    // The same, and the prompt row where it was another one and is not drawn so.
+    pub(crate) fn draw_step<'a>(
+        &'a self,
+        alloc: Global,
+        out: &mut Vec<u8>,
+        drawing: Drawing,
+        change: &'a Change,
+        prompt: &str,
+        before: &str,
+    ) -> Result<(), AllocError>
+        requires formed { IsFormed self.now }
+        requires belongs { IsNext self.now.screen change.now.text }
+        requires before { before.now ≡ prompt_row (control_of self.now) }
+        ensures { OnOk result ((new : Control) → IsChange (control_of self.now) change.now new → prompt.now ≡ prompt_row new →
+            out.new.items ≡ out.old.items ++ written_all (ops_of_step drawing (control_of self.now) new)) }
+    {
+        self.draw_after(alloc, out, drawing, change, prompt)?;
+        if drawing.draws_prompt() {
+            return Ok(());
+        }
+        write_changed_prompt(alloc, out, change.rows as u16, prompt, before)?;
+        Ok(())
+    }
+}

@@ -1,0 +1,317 @@
+//! What comes of commands, formed beside the state.
+ghost use Rattle.std.specs.Prelude.{◌≡◌};
+ghost use Rattle.minus.specs.Table.{has_newline};
+
+use crate::change::{Change, NextText, Prepared, Setting};
+use crate::commands::{CommandOf, IoCommand, Redraw};
+use crate::input::InputEvent;
+use crate::parts::Parts;
+use crate::state::{ExitStrategy, PagerState, formed, is_size};
+use minus_term::MinusError;
+use minus_text::LineNumbers;
+use std::alloc::{AllocError, Global};
+
+// Whether a text has a newline.
+fn has_newline(text: &str) -> bool
+    ensures { result ≡ has_newline text.now }
+{
+    text.as_bytes().contains(&b'\n')
+}
+
+impl PagerState {
+    ghost use Rattle.std.specs.Prelude.{◌≡◌, ◌+◌, ◌-◌, ◌++◌, ◌<◌, [], length, encode_utf8, string_bytes, false, if◌then◌else◌, OnOk, IfOk, IfErr};
+    ghost use Rattle.minus.specs.Control.{cleared, top};
+    ghost use Rattle.minus.specs.Table.{appends, effect, handed, moved_by, moved_to, changed_by, IsPossible};
+    ghost use Rattle.minus_term.specs.Refusals.{refusal_of};
+    ghost use Rattle.minus.specs.Reads.{control_of, settings_of, event_wanted, io_wanted, wanted_of, IsFormed};
+    ghost use Rattle.minus_text.specs.Document.{rows_of};
+    ghost use Rattle.minus.specs.NextTexts.{next_document, IsNext};
+    ghost use Rattle.minus.specs.Changes.{IsChange, settings_after, IsUnformed};
+    ghost use Rattle.minus.specs.Sizes.{IsSize};
+
+    // How the program is to go on after a command that is an exit, and the code that it ends with.
+    pub(crate) fn exit_of<P: Parts>(&self, command: &CommandOf<P>) -> Option<(ExitStrategy, u8)>
+        ensures { result ≡ (effect (control_of self.now) (wanted_of command.now)).exits_by }
+    {
+        match command {
+            CommandOf::UserInput(InputEvent::Exit) => Some((ExitStrategy::ProcessQuit, 0)),
+            _ => None,
+        }
+    }
+
+    // The state as it is, but for the text, and without the typed prefix where that goes.
+    pub(crate) fn change_to(&self, text: NextText, redraw: Redraw, clears: bool) -> Change
+        ensures text { result.text ≡ text }
+        ensures mark { result.mark ≡ self.now.upper_mark }
+        ensures cols { result.cols ≡ self.now.cols }
+        ensures rows { result.rows ≡ self.now.rows }
+        ensures clears { result.clears ≡ clears }
+        ensures setting { result.setting ≡ Setting.Same }
+        ensures redraw { result.redraw ≡ redraw }
+    {
+        Change {
+            text,
+            mark: self.upper_mark,
+            cols: self.cols,
+            rows: self.rows,
+            clears,
+            setting: Setting::Same,
+            redraw,
+        }
+    }
+
+    // The state with one thing set beside its text.
+    fn set(&self, setting: Setting, clears: bool) -> Change
+        requires { IsFormed self.now }
+        ensures next { IsChange (control_of self.now) result
+            (record (control_of self.now) { settings = settings_after (settings_of self.now) clears setting }) }
+        ensures redraw { result.redraw ≡ Redraw.Stays }
+    {
+        Change {
+            text: NextText::Same,
+            mark: self.upper_mark,
+            cols: self.cols,
+            rows: self.rows,
+            clears,
+            setting,
+            redraw: Redraw::Stays,
+        }
+    }
+
+    // The state as it is, to be drawn so.
+    fn redrawn(&self, redraw: Redraw, clears: bool) -> Change
+        requires { IsFormed self.now }
+        ensures next { IsChange (control_of self.now) result (cleared clears (control_of self.now)) }
+        ensures redraw { result.redraw ≡ redraw }
+    {
+        self.change_to(NextText::Same, redraw, clears)
+    }
+
+    // The state at another mark, with one thing set beside its text.
+    fn moved(&self, mark: usize, setting: Setting, clears: bool) -> Change
+        requires { IsFormed self.now }
+        ensures next { IsChange (control_of self.now) result
+            (record (control_of self.now) { mark = mark; settings = settings_after (settings_of self.now) clears setting }) }
+        ensures redraw { result.redraw ≡ Redraw.Moved }
+    {
+        Change {
+            text: NextText::Same,
+            mark,
+            cols: self.cols,
+            rows: self.rows,
+            clears,
+            setting,
+            redraw: Redraw::Moved,
+        }
+    }
+
+    // The greatest mark.
+    fn top(&self) -> usize
+        requires { IsFormed self.now }
+        ensures { result ≡ top (control_of self.now) }
+    {
+        let rows = self.screen.formatted_lines_count();
+        rows.saturating_sub(self.rows - 1)
+    }
+
+    // The state with its mark moved, as far as the text goes.
+    pub(crate) fn moved_to(&self, mark: usize) -> Change
+        requires { IsFormed self.now }
+        ensures next { IsChange (control_of self.now) result (moved_to (control_of self.now) mark) }
+        ensures redraw { result.redraw ≡ Redraw.Moved }
+    {
+        self.moved(mark.min(self.top()), Setting::Same, false)
+    }
+
+    // The state in another size, for which the text is formed anew.
+    fn resized(
+        &self,
+        alloc: Global,
+        cols: usize,
+        rows: usize,
+        clears: bool,
+    ) -> Result<Change, MinusError>
+        requires formed { IsFormed self.now }
+        requires size { IsSize cols rows }
+        ensures next { IfOk result (λ c. IsChange (control_of self.now) c (record (cleared clears (control_of self.now)) { cols = cols; rows = rows })) }
+        ensures redraw { IfOk result (λ c. c.redraw ≡ Redraw.Whole) }
+        ensures memory { IfErr result (λ e. e ≡ MinusError.Memory) }
+    {
+        Ok(Change {
+            text: NextText::Whole(formed(alloc, self.screen.orig_text(), cols)?),
+            mark: self.upper_mark,
+            cols,
+            rows,
+            clears,
+            setting: Setting::Same,
+            redraw: Redraw::Whole,
+        })
+    }
+
+    // The state with another text.
+    fn with_text(&self, alloc: Global, text: &str, clears: bool) -> Result<Change, MinusError>
+        requires { IsFormed self.now }
+        ensures next { IfOk result (λ c. IsChange (control_of self.now) c (record (cleared clears (control_of self.now)) { text = text.now })) }
+        ensures redraw { IfOk result (λ c. c.redraw ≡ Redraw.Whole) }
+        ensures memory { IfErr result (λ e. e ≡ MinusError.Memory) }
+    {
+        let next = formed(alloc, text, self.cols)?;
+        Ok(self.change_to(NextText::Whole(next), Redraw::Whole, clears))
+    }
+
+    // Where an append leaves the mark: at the last page, where the page goes on with what is appended.
+    fn mark_after(&self, text: &NextText) -> usize
+        requires { IsNext self.now.screen text.now }
+        ensures { result ≡ (if self.now.follow then length (rows_of (next_document self.now.screen text.now)) - (self.now.rows - 1) else self.now.upper_mark) }
+    {
+        if self.follow {
+            return text.rows_after(&self.screen).saturating_sub(self.rows - 1);
+        }
+        self.upper_mark
+    }
+
+    // The state with a text added to its text.
+    fn appended(&self, alloc: Global, text: String, clears: bool) -> Result<Change, MinusError>
+        requires { IsFormed self.now }
+        ensures next { IfOk result (λ c. IsChange (control_of self.now) c
+            (moved_by (appends (cleared clears (control_of self.now)) (string_bytes text)))) }
+        ensures redraw { IfOk result (λ c. c.redraw ≡ Redraw.Appended) }
+        ensures memory { IfErr result (λ e. e ≡ MinusError.Memory) }
+    {
+        let pending = self
+            .screen
+            .prepare_push(alloc, &text, LineNumbers::Disabled, self.cols)?;
+        let next = NextText::Pushed(text, pending);
+        let mark = self.mark_after(&next);
+        Ok(Change {
+            text: next,
+            mark,
+            cols: self.cols,
+            rows: self.rows,
+            clears,
+            setting: Setting::Same,
+            redraw: Redraw::Appended,
+        })
+    }
+
+    // The same with one more character.
+    fn typed(&self, alloc: Global, character: char, clears: bool) -> Result<String, AllocError>
+        ensures { IfOk result (λ text. string_bytes text ≡ (if clears then [] else string_bytes self.now.prefix_num) ++ encode_utf8 character) }
+    {
+        let mut prefix = String::from_str(alloc, self.prefix_after(clears))?;
+        prefix.push(character)?;
+        Ok(prefix)
+    }
+
+    // What comes of an event's answer, before the mark is clamped.
+    fn next_of_event<P: Parts>(
+        &self,
+        alloc: Global,
+        event: InputEvent,
+        clears: bool,
+    ) -> Result<Change, MinusError>
+        requires { IsFormed self.now }
+        ensures next { IfOk result (λ c. IsChange (control_of self.now) c
+            (moved_by (effect {K = P.Classifier} (cleared clears (control_of self.now)) (event_wanted event)))) }
+        ensures redraw { IfOk result (λ c. c.redraw ≡ (effect {K = P.Classifier} (cleared clears (control_of self.now)) (event_wanted event)).redraw) }
+        ensures possible { OnOk result (IsPossible {K = P.Classifier} (event_wanted event)) }
+        ensures unformed { IfErr result (λ e. IsUnformed {K = P.Classifier} (refusal_of e) (event_wanted event)) }
+    {
+        match event {
+            InputEvent::UpdateUpperMark(mark) => Ok(self.moved(mark, Setting::Same, clears)),
+            InputEvent::UpdateTermArea(cols, rows) if is_size(cols, rows) => {
+                Ok(self.resized(alloc, cols, rows, clears)?)
+            }
+            InputEvent::UpdateTermArea(cols, rows) => Err(MinusError::BadSize(cols, rows)),
+            InputEvent::FollowOutput(follow) => {
+                Ok(self.moved(self.top(), Setting::Follow(follow), clears))
+            }
+            InputEvent::RestorePrompt => Ok(self.set(Setting::Message(None), clears)),
+            InputEvent::Number(character) => {
+                let prefix = self.typed(alloc, character, clears)?;
+                Ok(self.set(Setting::Prefix(prefix), clears))
+            }
+            InputEvent::Exit | InputEvent::Ignore => Ok(self.redrawn(Redraw::Stays, clears)),
+        }
+    }
+
+    // What comes of a command that asks for a drawing, before the mark is clamped.
+    fn next_of_io<P: Parts>(&self, io: IoCommand, clears: bool) -> Change
+        requires { IsFormed self.now }
+        ensures next { IsChange (control_of self.now) result
+            (moved_by (effect {K = P.Classifier} (cleared clears (control_of self.now)) (io_wanted io))) }
+        ensures redraw { result.redraw ≡ (effect {K = P.Classifier} (cleared clears (control_of self.now)) (io_wanted io)).redraw }
+    {
+        match io {
+            IoCommand::RedrawPrompt => self.redrawn(Redraw::PromptRow, clears),
+            IoCommand::RedrawDisplay => self.redrawn(Redraw::Whole, clears),
+            IoCommand::SetUpperMark(mark) => self.moved(mark, Setting::Same, clears),
+        }
+    }
+
+    // What comes of a command, before the mark is clamped.
+    fn next<P: Parts>(
+        &self,
+        alloc: Global,
+        command: CommandOf<P>,
+        clears: bool,
+    ) -> Result<Prepared<P>, MinusError>
+        requires { IsFormed self.now }
+        ensures next { IfOk result (λ p. IsChange (control_of self.now) p.change
+            (moved_by (effect (cleared clears (control_of self.now)) (wanted_of command)))) }
+        ensures redraw { IfOk result (λ p. p.change.redraw ≡ (effect (cleared clears (control_of self.now)) (wanted_of command)).redraw) }
+        ensures handed { IfOk result (λ p. p.classifier ≡ handed (wanted_of command)) }
+        ensures possible { OnOk result (IsPossible (wanted_of command)) }
+        ensures unformed { IfErr result (λ e. IsUnformed (refusal_of e) (wanted_of command)) }
+    {
+        match command {
+            CommandOf::SetData(text) => Ok(Prepared::of(self.with_text(alloc, &text, clears)?)),
+            CommandOf::AppendData(text) => Ok(Prepared::of(self.appended(alloc, text, clears)?)),
+            CommandOf::SetPrompt(text) if has_newline(&text) => Err(MinusError::NewlineInPrompt),
+            CommandOf::SetPrompt(text) => {
+                Ok(Prepared::of(self.set(Setting::Prompt(text), clears)))
+            }
+            CommandOf::SendMessage(text) if has_newline(&text) => Err(MinusError::NewlineInPrompt),
+            CommandOf::SendMessage(text) => {
+                Ok(Prepared::of(self.set(Setting::Message(Some(text)), clears)))
+            }
+            CommandOf::ShowPrompt(is_shown) => {
+                Ok(Prepared::of(self.set(Setting::Shown(is_shown), clears)))
+            }
+            CommandOf::FollowOutput(follow) => {
+                let event = InputEvent::FollowOutput(follow);
+                Ok(Prepared::of(self.next_of_event::<P>(alloc, event, clears)?))
+            }
+            CommandOf::UserInput(event) => {
+                Ok(Prepared::of(self.next_of_event::<P>(alloc, event, clears)?))
+            }
+            CommandOf::Io(io) => Ok(Prepared::of(self.next_of_io::<P>(io, clears))),
+            CommandOf::SetInputClassifier(classifier) => Ok(Prepared {
+                change: self.redrawn(Redraw::Stays, clears),
+                classifier: Some(classifier),
+            }),
+        }
+    }
+
+    // What comes of a command, formed beside the state; the typed prefix goes before it, or stays.
+    pub(crate) fn prepare<P: Parts>(
+        &self,
+        alloc: Global,
+        command: CommandOf<P>,
+        clears: bool,
+    ) -> Result<Prepared<P>, MinusError>
+        requires { IsFormed self.now }
+        ensures next { IfOk result (λ p. IsChange (control_of self.now) p.change
+            (changed_by (effect (cleared clears (control_of self.now)) (wanted_of command)))) }
+        ensures redraw { IfOk result (λ p. p.change.redraw ≡ (effect (cleared clears (control_of self.now)) (wanted_of command)).redraw) }
+        ensures handed { IfOk result (λ p. p.classifier ≡ handed (wanted_of command)) }
+        ensures possible { OnOk result (IsPossible (wanted_of command)) }
+        ensures unformed { IfErr result (λ e. IsUnformed (refusal_of e) (wanted_of command)) }
+    {
+        let mut prepared = self.next(alloc, command, clears)?;
+        let rows = prepared.change.text.rows_after(&self.screen);
+        let top = rows.saturating_sub(prepared.change.rows - 1);
+        prepared.change.mark = prepared.change.mark.min(top);
+        Ok(prepared)
+    }
+}
