@@ -49,3 +49,5 @@ pub mod LineCountLaws
 pub mod StoredLaws
 pub mod LinePlacesLaws
 pub mod BlockLaws
+pub mod FoundInLaws
+pub mod SearchedLaws

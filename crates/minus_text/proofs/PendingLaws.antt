@@ -125,7 +125,7 @@ map_after d piece numbers cols plan entries is m = ap (λ (p : Plan). first_rows
 pub prepared_pending : (d : Document) (piece tail : List ℕ) (numbers : LineNumbers) (cols : ℕ) (start : Restart) (plan : Plan) → plan ≡ plan_of d piece numbers cols → IsRestartOf d.text plan start
     → IsUtf8 (line_going_on d.text plan ++ piece_behind d.text plan piece) → tail ≡ drop start.bytes (line_going_on d.text plan) ++ piece_behind d.text plan piece
     → (f : Formed) → IsFormOf plan.wrap (line_going_on d.text plan) (piece_behind d.text plan piece) start f
-    → IsPending d piece numbers cols (record { kept_rows = start.finished.rows + start.rows; kept_lines = start.finished.lines; first_rows = f.first_rows; tail = record { text = tail; wrap = plan.wrap }; numbers = numbers; cols = cols })
+    → IsPending d piece numbers cols (record { kept_rows = start.finished.rows + start.rows; kept_lines = start.finished.lines; first_rows = f.first_rows; start = start; tail = record { text = tail; wrap = plan.wrap }; numbers = numbers; cols = cols })
 unfolding rows_of rows_in
 prepared_pending d piece tail numbers cols start plan is k u t f formed =
     let entries = entries_after d piece plan start f (plan_keeps d piece numbers cols plan is) k formed in
@@ -174,7 +174,7 @@ lines_pending d piece numbers cols p h =
 
 -- ---- a row after a push
 
-get_front : {X : Type 0} (xs ys : List X) (n i : ℕ) → i < n → n ≤ length xs → slice_get (take n xs ++ ys) i ≡ slice_get xs i
+pub get_front : {X : Type 0} (xs ys : List X) (n i : ℕ) → i < n → n ≤ length xs → slice_get (take n xs ++ ys) i ≡ slice_get xs i
 get_front xs ys zero i l w = absurd (omega arith)
 get_front [] ys (suc n) i l w = absurd (omega arith)
 get_front (x ∷ xs) ys (suc n) zero l w = refl

@@ -1,9 +1,9 @@
 -- What a term finds in rows.
-use Rattle.std.specs.Prelude.{ℕ, ◌+◌, List, [], ◌∷◌, ◌++◌, Option, None, Some, take, if◌then◌else◌, nat_le}
+use Rattle.std.specs.Prelude.{◌≡◌, ℕ, ◌+◌, ◌≤◌, ◌==◌, false, List, [], ◌∷◌, ◌++◌, Option, None, Some, take, slice_get, if◌then◌else◌, nat_le}
 use Rattle.std.specs.List.{position_or_len}
 use Rattle.regex.specs.Patterns.{Re}
-use Rattle.minus_text.specs.Escapes.{escape_places}
-use Rattle.minus_text.specs.Highlight.{line_matches, line_match_places}
+use Rattle.minus_text.specs.Escapes.{escape_places, outside, inside, CutsText}
+use Rattle.minus_text.specs.Highlight.{line_matches, line_match_places, ordered, put_in}
 
 -- a row that matches: its number, where its escape sequences stand in it, and where its matches stand in the row without these
 pub record RowMatches : Type 0 where
@@ -29,3 +29,35 @@ found_by (Some pattern) n rows = found_in_rows pattern n rows
 -- what was found in the rows before one
 abbrev pub found_above : ℕ → List RowMatches → List RowMatches
 found_above n found = take (position_or_len (λ f. nat_le n f.row) found) found
+
+-- what was found in the row with a number, if that is a row that matches
+abbrev pub found_of_row : ℕ → List RowMatches → Option RowMatches
+found_of_row n [] = None
+found_of_row n (r ∷ rs) = if r.row == n then Some r else found_of_row n rs
+
+-- a row with what was found in it shown in reverse, not accurately; a row in which nothing was found as it is
+abbrev pub marked : Option RowMatches → List ℕ → List ℕ
+marked None row = row
+marked (Some r) row = put_in (outside row 0 r.escapes) 0 (ordered false r.matches (inside row 0 0 r.escapes))
+
+-- these places stand in a row, and in the row without its escape sequences
+abbrev pub IsPlaced : List ℕ → RowMatches → Type 0
+IsPlaced row r = CutsText row 0 r.escapes × CutsText (outside row 0 r.escapes) 0 r.matches
+
+-- the same of the row with its number, among rows of which the first has a number
+abbrev pub IsPlacedIn : ℕ → List (List ℕ) → RowMatches → Type 0
+IsPlacedIn first rows r = (i : ℕ) (row : List ℕ) → r.row ≡ first + i → slice_get rows i ≡ Some row → IsPlaced row r
+
+abbrev pub ArePlaced : ℕ → List (List ℕ) → List RowMatches → Type 0
+ArePlaced first rows [] = Unit {0}
+ArePlaced first rows (r ∷ rs) = IsPlacedIn first rows r × ArePlaced first rows rs
+
+-- their numbers ascend, from one on
+abbrev pub Ascend : ℕ → List RowMatches → Type 0
+Ascend first [] = Unit {0}
+Ascend first (r ∷ rs) = (first ≤ r.row) × Ascend (r.row + 1) rs
+
+-- what was found stands in rows of which the first has a number
+pub record AreFoundIn (first : ℕ) (rows : List (List ℕ)) (found : List RowMatches) : Type 0 where
+  pub placed : ArePlaced first rows found
+  pub ascend : Ascend first found

@@ -1,14 +1,18 @@
 -- A push before it is made.
-use Rattle.std.specs.Prelude.{◌≡◌, ℕ, ◌≤◌, Bool, List, Option, Some, ◌++◌, length, take, slice_get}
+use Rattle.std.specs.Prelude.{◌≡◌, ℕ, ◌≤◌, Bool, List, Option, Some, ◌+◌, ◌++◌, length, take, drop, slice_get}
+use Rattle.std.specs.Str.{IsUtf8}
 use Rattle.minus_text.specs.declared.line_numbers.LineNumbers.{LineNumbers}
-use Rattle.minus_text.specs.Document.{Document, rows_of, stored_rows, line_map, pushed, GrowsByRow}
+use Rattle.minus_text.specs.declared.formed.Restart.{Restart}
+use Rattle.minus_text.specs.Document.{Document, rows_of, stored_rows, line_map, wrap_in, plan_of, pushed, GrowsByRow}
 use Rattle.minus_text.specs.Fragments.{Fragment, rows_in}
+use Rattle.minus_text.specs.Kept.{IsRestartOf}
 
--- how many rows and lines stay, the fragment whose rows follow them, the first rows of the lines that follow, and the numbers and columns of the push
+-- how many rows and lines stay, the first rows of the lines that follow, where that begins, the fragment whose rows follow, and the numbers and columns of the push
 pub record Pending : Type 0 where
   pub kept_rows : ℕ
   pub kept_lines : ℕ
   pub first_rows : List ℕ
+  pub start : Restart
   pub tail : Fragment
   pub numbers : LineNumbers
   pub cols : ℕ
@@ -22,6 +26,13 @@ pub record IsPending (d : Document) (piece : List ℕ) (numbers : LineNumbers) (
   pub its_numbers : p.numbers ≡ numbers
   pub its_cols : p.cols ≡ cols
 
+-- what was formed begins where a push of a piece begins to form, and is formed of what follows that place, as the push forms
+pub record IsPreparedFor (d : Document) (piece : List ℕ) (p : Pending) : Type 0 where
+  pub text : IsUtf8 d.text
+  pub begins : IsRestartOf d.text (plan_of d piece p.numbers p.cols) p.start
+  pub wrapping : p.tail.wrap ≡ wrap_in (pushed d piece p.numbers p.cols)
+  pub follows : p.tail.text ≡ drop (p.start.finished.bytes + p.start.bytes) d.text ++ piece
+
 -- a row with a number, if there is one, is the row that the push of whatever piece this belongs to would leave
 abbrev pub RowIsPending : Document → Pending → ℕ → Option (List ℕ) → Type 0
 RowIsPending d p i row = (piece : List ℕ) (numbers : LineNumbers) (cols : ℕ) → IsPending d piece numbers cols p → row ≡ slice_get (rows_of (pushed d piece numbers cols)) i
@@ -30,7 +41,3 @@ RowIsPending d p i row = (piece : List ℕ) (numbers : LineNumbers) (cols : ℕ)
 abbrev pub GrowsByPendingPrefix : Document → Pending → ℕ → List ℕ → List ℕ → Type 0
 GrowsByPendingPrefix d p i old new = (before : List ℕ) × (new ≡ old ++ before) × ((piece : List ℕ) (numbers : LineNumbers) (cols : ℕ) → IsPending d piece numbers cols p → (row : List ℕ)
     → slice_get (rows_of (pushed d piece numbers cols)) i ≡ Some row → slice_get (stored_rows (pushed d piece numbers cols)) i ≡ Some (before ++ row))
-
--- a text grew by the stored row with a number, if there is one, that the push of whatever piece this belongs to would leave
-abbrev pub GrowsByPendingRow : Document → Pending → ℕ → List ℕ → List ℕ → Bool → Type 0
-GrowsByPendingRow d p i old new found = (piece : List ℕ) (numbers : LineNumbers) (cols : ℕ) → IsPending d piece numbers cols p → GrowsByRow (slice_get (stored_rows (pushed d piece numbers cols)) i) old new found

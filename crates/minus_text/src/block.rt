@@ -12,10 +12,10 @@ ghost use Rattle.minus_text.specs.Blocks.{Block, fragment_of, block_rows, matchi
 use crate::buffers::AppendableBuffer;
 use crate::formatted::{FormattedRow, RowPrefix, finder_of, search_row};
 use crate::formed::{Border, Finished, Restart, form};
+use crate::formed_push::FormedPush;
 use crate::layout::{Layout, Wrap};
 use crate::line_numbers::{LineNumbers, prefix_columns};
 use crate::lines::newlines;
-use crate::pending::PendingPush;
 use crate::screen::FormatResult;
 use crate::search::{Finder, Patterns};
 use regex::Regex;
@@ -58,7 +58,7 @@ fn note(found: &mut BTreeSet<usize>, row: usize, matches: bool) -> Result<(), Al
 // columns of its longest line.
 #[derive(Drop)]
 pub(crate) struct FormattedBlock {
-    formed: PendingPush,
+    formed: FormedPush,
     layout: Layout,
     lines_before: usize,
     unfinished: usize,
@@ -105,7 +105,7 @@ impl FormattedBlock {
         let unfinished = first_row + formed.rows.len() - formed.finished.rows;
         let longest = formed.longest;
         Ok(FormattedBlock {
-            formed: PendingPush {
+            formed: FormedPush {
                 tail: text,
                 start,
                 formed,

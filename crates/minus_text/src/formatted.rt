@@ -9,7 +9,7 @@ ghost use Rattle.minus_text.specs.Formatted.{prefix_of, printed_row, printed_und
 
 use crate::line_numbers::{digits, prefix_columns};
 use crate::search::escapes::{match_places, part};
-use crate::search::{Finder, HighlightMatchesArgs, Patterns};
+use crate::search::{Finder, HighlightMatchesArgs, Patterns, Term};
 use regex::Regex;
 use std::alloc::{AllocError, Global};
 use std::fmt;
@@ -133,7 +133,7 @@ pub(crate) fn finder_of<'p>(
     let Some(pattern) = term else {
         return Ok(None);
     };
-    let finder = Finder::new(alloc, patterns, pattern)?;
+    let finder = Finder::new(alloc, Term { patterns, pattern })?;
     Ok(Some(finder))
 }
 

@@ -7,6 +7,7 @@ pub mod crop;
 mod format;
 mod formatted;
 mod formed;
+mod formed_push;
 pub mod layout;
 pub mod line_numbers;
 pub mod lines;
@@ -16,6 +17,7 @@ pub mod screen;
 mod seams;
 pub mod search;
 pub mod spaces;
+mod store;
 pub mod units;
 pub mod wrap;
 
@@ -31,7 +33,7 @@ pub use pending::PendingPush;
 pub use screen::{FormatResult, Line, OwnedTextBlock, Row, Rows, Screen, TextBlock};
 pub use seams::rows_go_on;
 pub use search::{
-    FoundRows, HighlightMatchesArgs, Patterns, found_rows_go_on, highlight_line_matches,
+    HighlightMatchesArgs, Patterns, Term, found_rows_go_on, highlight_line_matches,
     highlights_add_markers_alone, next_nth_match, only_matches_are_highlighted, strip_escapes,
 };
 pub use spaces::push_spaces;

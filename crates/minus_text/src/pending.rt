@@ -1,79 +1,25 @@
 //! A push before it is made.
-ghost use Rattle.std.specs.Prelude.{◌≡◌, ℕ, ◌^◌, ◌<◌, slice_get, option_map, length};
-ghost use Rattle.minus_text.specs.Fragments.{rows_in};
-
-use crate::formed::{Formed, Restart};
-use crate::layout::Wrap;
-use crate::line_numbers::LineNumbers;
-use crate::lines_row_map::LinesRowMap;
+use crate::formed_push::FormedPush;
+use crate::search::found_rows::FoundRows;
 use std::marker::Model;
 
-/// What a push would form, beside the rows that would stay: `Screen::prepare_push` makes it.
+/// What a push would form, beside the rows that would stay, and what a term finds in that:
+/// `Screen::prepare_push` makes it.
 #[derive(Debug, Drop)]
 pub struct PendingPush {
-    // What stands in the text from the restart on, followed by the pushed text.
-    pub(crate) tail: String,
-    pub(crate) start: Restart,
-    pub(crate) formed: Formed,
-    pub(crate) wrap: Wrap,
-    // The numbers and columns of the push.
-    pub(crate) numbers: LineNumbers,
-    pub(crate) cols: usize,
+    pub(crate) push: FormedPush,
+    pub(crate) found: FoundRows,
 }
 
 impl Model for PendingPush {
-    ghost use Rattle.std.specs.Prelude.{◌+◌, string_bytes};
-    ghost use Rattle.minus_text.specs.Pending.{Pending};
-    ghost use Rattle.minus_text.specs.Kept.{IsPreparedPush};
+    ghost use Rattle.minus_text.specs.Fragments.{rows_in};
+    ghost use Rattle.minus_text.specs.Found.{AreFoundIn};
+    ghost use Rattle.minus_text.specs.FoundBy.{found_rows};
+    ghost use Rattle.minus_text.specs.Searched.{SearchedPush};
 
-    ghost Value = { Pending };
+    ghost Value = { SearchedPush };
 
-    ghost view = { λ p. record { kept_rows = p.start.finished.rows + p.start.rows; kept_lines = p.start.finished.lines; first_rows = p.formed.first_rows; tail = record { text = string_bytes p.tail; wrap = p.wrap }; numbers = p.numbers; cols = p.cols } };
+    ghost view = { λ p. record { push = p.push; found = found_rows p.found } };
 
-    ghost invariant = { λ p. IsPreparedPush p.wrap (string_bytes p.tail) p.start p.formed };
-}
-
-impl PendingPush {
-    // The first row of each line that is formed.
-    pub(crate) fn first_rows(&self) -> &LinesRowMap
-        ensures { result.now ≡ self.now.first_rows }
-    {
-        &self.formed.first_rows
-    }
-
-    // The same for good.
-    pub(crate) fn into_first_rows(self) -> LinesRowMap
-        ensures { result ≡ self.first_rows }
-    {
-        let PendingPush { formed, .. } = self;
-        formed.first_rows
-    }
-
-    /// How many rows stay in front of what is formed.
-    pub fn kept_rows(&self) -> usize
-        ensures value { result ≡ self.now.kept_rows }
-        ensures few { result < 2 ^ 63 }
-    {
-        self.start.finished.rows + self.start.rows
-    }
-
-    // How many rows are formed.
-    pub(crate) fn formed_rows(&self) -> usize
-        ensures value { result ≡ length (rows_in self.now.tail) }
-        ensures few { result < 2 ^ 63 }
-    {
-        self.formed.rows.len()
-    }
-
-    // The text of a row that is formed, counted from 0.
-    pub(crate) fn row_text(&self, i: usize) -> Option<&str>
-        ensures { option_map (λ r. r.now) result ≡ slice_get (rows_in self.now.tail) i }
-    {
-        let at = self.start.finished.bytes + self.start.bytes;
-        let text = self.tail.as_str();
-        match self.formed.rows.get(i) {
-            Some(row) => Some(&text[row.start - at..row.end - at]),
-            None => None,
-        }
-    }
+    ghost invariant = { λ p. AreFoundIn p.push.kept_rows (rows_in p.push.tail) (found_rows p.found) };
 }

@@ -1,24 +1,26 @@
-//! A text and its rows.
-ghost use Rattle.std.specs.Prelude.{◌≡◌, ℕ, List, ◌+◌, ◌-◌, ◌^◌, ◌<◌, ◌≤◌, [], ◌++◌, length, take, drop, true, ◌==◌, ◌&&◌, if◌then◌else◌, IsTrue, IfOk, IfErr, OnOk, OnErr, false, slice_get, option_map, string_bytes, vec_len, vec_capacity};
-ghost use Rattle.std.specs.List.Sorted.{IsStrictlyIncreasing};
-ghost use Rattle.std.specs.Str.{IsUtf8, IsCharBoundary};
+//! A text and its rows, and what a term finds in them.
+ghost use Rattle.std.specs.Prelude.{◌≡◌, ℕ, List, [], length, OnOk, OnErr, IfOk, IfErr, Option, Some, None, slice_get, option_map, string_bytes, true, ◌^◌, ◌<◌};
 ghost use Rattle.std.specs.Str.Lines.{lines};
-ghost use Rattle.std.specs.String.{string_len, string_capacity};
-ghost use Rattle.minus_text.specs.Layouts.{margin, plain, wrap_of};
-ghost use Rattle.minus_text.specs.Document.{rows_of, stored_rows, GrowsByPrefix, GrowsByRow, line_map, line_count, longest, unfinished_rows, pushed, wrap_in, plan_of, PushesJoin, LineMapAscends};
+ghost use Rattle.minus_text.specs.Layouts.{plain, wrap_of};
+ghost use Rattle.minus_text.specs.Document.{rows_of, line_map, line_count, longest, unfinished_rows, pushed, PushesJoin, LineMapAscends};
 ghost use Rattle.minus_text.specs.Fragments.{rows_in};
 ghost use Rattle.minus_text.specs.LinePlaces.{row_places};
-ghost use Rattle.minus_text.specs.Kept.{IsFormOf, IsPrepared, IsRestartOf, GoesOnInSome, AscendsBehind, line_going_on, piece_behind};
-ghost use Rattle.minus_text.specs.Pending.{IsPending, RowIsPending, GrowsByPendingPrefix, GrowsByPendingRow};
-ghost use Rattle.minus_text.specs.FormatResults.{Tells, TellsPlan, TellsPush};
+ghost use Rattle.minus_text.specs.Pending.{IsPending, IsPreparedFor, RowIsPending};
+ghost use Rattle.minus_text.specs.FormatResults.{Tells, TellsPush};
+ghost use Rattle.minus_text.specs.Found.{AreFoundIn};
+ghost use Rattle.minus_text.specs.FoundRows.{pattern_of};
+ghost use Rattle.minus_text.specs.FoundBy.{found_rows};
+ghost use Rattle.minus_text.specs.Searched.{searched, IsFoundBy, IsFoundInPush, GrowsBySearchedRow, GrowsByPendingRow, GrowsByPendingText, stored_rows_for};
+ghost use Rattle.regex.specs.Patterns.{Re};
 
-use crate::formed::{Border, Finished, Formed, Plan, Restart, form};
-use crate::layout::{Layout, Wrap};
-use crate::line_numbers::{LineNumbers, prefix_columns, push_prefix};
-use crate::lines::newlines;
+use crate::formed_push::FormedPush;
+use crate::layout::Layout;
+use crate::line_numbers::LineNumbers;
 use crate::lines_row_map::LinesRowMap;
 use crate::pending::PendingPush;
-use crate::seams::last_seam;
+use crate::search::found_rows::FoundRows;
+use crate::search::term::Term;
+use crate::store::Store;
 use crate::wrap::Span;
 use minus_term::error::MinusError;
 use std::alloc::{AllocError, Global};
@@ -50,7 +52,8 @@ pub struct FormatResult {
     pub rows_formatted: usize,
     /// How many rows its last line has where no newline ends it, and 0 otherwise.
     pub num_unterminated: usize,
-    /// Those of its rows that match, numbered in the whole text from 0.
+    /// Those of its rows that match, numbered in the whole text from 0. A screen's own calls tell none:
+    /// `Screen::match_row` answers for the whole text.
     pub append_search_idx: BTreeSet<usize>,
     /// The first row of each of its lines, numbered in the whole text from 0.
     pub lines_to_row_map: LinesRowMap,
@@ -60,451 +63,172 @@ pub struct FormatResult {
     pub clean_append: bool,
 }
 
-/// A text that grows, with its rows in a layout.
+/// A text that grows, with its rows in a layout. Of a row in which a term was found it keeps the places
+/// of the matches and of the row's escape sequences; of the term it keeps nothing.
 #[derive(Debug, Drop)]
 pub struct Screen {
-    text: String,
-    layout: Layout,
-    rows: Vec<Span>,
-    first_rows: LinesRowMap,
-    // How far the lines go that a newline ends, the columns of the longest line of all, and how
-    // far the unfinished line is measured.
-    finished: Finished,
-    longest: usize,
-    border: Border,
+    store: Store,
+    found: FoundRows,
 }
 
 impl Model for Screen {
-    ghost use Rattle.std.specs.Prelude.{length, string_bytes};
-    ghost use Rattle.std.specs.Str.Lines.{lines};
-    ghost use Rattle.minus_text.specs.Layouts.{wrap_of};
-    ghost use Rattle.minus_text.specs.Document.{Document};
-    ghost use Rattle.minus_text.specs.Kept.{IsFormed};
+    ghost use Rattle.minus_text.specs.Document.{rows_of};
+    ghost use Rattle.minus_text.specs.Found.{AreFoundIn};
+    ghost use Rattle.minus_text.specs.FoundBy.{found_rows};
+    ghost use Rattle.minus_text.specs.Searched.{Searched};
 
-    ghost Value = { Document };
+    ghost Value = { Searched };
 
-    ghost view = { λ s. record { text = string_bytes s.text; layout = s.layout } };
+    ghost view = { λ s. record { document = s.store; found = found_rows s.found } };
 
-    ghost invariant = { λ s. IsFormed (string_bytes s.text) (wrap_of s.layout (length (lines (string_bytes s.text)))) s.rows.items s.first_rows s.finished s.longest s.border };
+    ghost invariant = { λ s. AreFoundIn 0 (rows_of s.store) (found_rows s.found) };
 }
 
-// Whether columns stay, and what numbers take of them.
-fn stay(cols: usize, old_cols: usize, margin: usize, old_margin: usize) -> bool
-    ensures { result ≡ ((cols == old_cols) && (margin == old_margin)) }
-{
-    cols == old_cols && margin == old_margin
-}
-
-// Whether the finished lines take all of the text, or the whole is formed anew.
-fn attaches_nothing(finished: Finished, len: usize, plan: Plan) -> bool
-    ensures { result ≡ (if plan.keeps then finished.bytes == len else true) }
-{
-    !plan.keeps || finished.bytes == len
-}
-
-// Puts rows at the end, for which there is room.
-fn push_reserved(rows: &mut Vec<Span>, fresh: &[Span])
-    requires { vec_len rows.old + length fresh.now ≤ vec_capacity rows.old }
-    ensures { rows.new.items ≡ rows.old.items ++ fresh.now }
-{
-    match rows.extend_from_slice(fresh) {
-        Ok(()) => {}
-        Err(_) => unreachable!(),
-    }
-}
-
-// Puts a text at the end, for which there is room.
-fn push_str_reserved(text: &mut String, piece: &str)
-    requires { string_len text.old + length piece.now ≤ string_capacity text.old }
-    ensures { string_bytes text.new ≡ string_bytes text.old ++ piece.now }
-{
-    match text.push_str(piece) {
-        Ok(()) => {}
-        Err(_) => unreachable!(),
-    }
-}
-
-// Puts rows and their lines' first rows behind those that stay. An `Err` changes nothing.
-fn replace_rows(
-    rows: &mut Vec<Span>,
-    first_rows: &mut LinesRowMap,
-    start: Restart,
-    formed: &Formed,
-) -> Result<(), AllocError>
-    requires rows { start.finished.rows + start.rows < 2 ^ 64 }
-    requires first_rows { IsStrictlyIncreasing (take start.finished.lines first_rows.old ++ formed.now.first_rows) }
-    ensures rows { OnOk result (rows.new.items ≡ take (start.finished.rows + start.rows) rows.old.items ++ formed.now.rows.items) }
-    ensures first_rows { OnOk result (first_rows.new ≡ take start.finished.lines first_rows.old ++ formed.now.first_rows) }
-    ensures rows_stay { OnErr result (rows.new.items ≡ rows.old.items) }
-    ensures first_rows_stay { OnErr result (first_rows.new ≡ first_rows.old) }
-{
-    rows.reserve(formed.rows.len())?;
-    first_rows.replace_behind(start.finished.lines, &formed.first_rows)?;
-    rows.truncate(start.finished.rows + start.rows);
-    push_reserved(rows, formed.rows.as_slice());
-    Ok(())
-}
-
-// Forms what follows a place of a text, and puts it behind the rows that stay. An `Err` changes
-// nothing.
-fn form_end(
+// A text in a layout, with what a term finds in it.
+fn formed(
     alloc: Global,
     text: &str,
-    rows: &mut Vec<Span>,
-    first_rows: &mut LinesRowMap,
-    start: Restart,
-    wrap: Wrap,
-) -> Result<Formed, AllocError>
-    requires place { IsCharBoundary text.now (start.finished.bytes + start.bytes) }
-    requires lines { start.finished.lines ≤ length text.now }
-    requires rows { start.finished.rows + start.rows < 2 ^ 63 }
-    requires start { GoesOnInSome wrap (drop (start.finished.bytes + start.bytes) text.now) start }
-    requires ascends { AscendsBehind wrap (drop (start.finished.bytes + start.bytes) text.now) start first_rows.old }
-    ensures formed { IfOk result (λ f. IsPrepared wrap (drop (start.finished.bytes + start.bytes) text.now) start f) }
-    ensures rows { IfOk result (λ f. rows.new.items ≡ take (start.finished.rows + start.rows) rows.old.items ++ f.rows.items) }
-    ensures first_rows { IfOk result (λ f. first_rows.new ≡ take start.finished.lines first_rows.old ++ f.first_rows) }
-    ensures rows_stay { OnErr result (rows.new.items ≡ rows.old.items) }
-    ensures first_rows_stay { OnErr result (first_rows.new ≡ first_rows.old) }
+    layout: Layout,
+    term: Option<Term<'_>>,
+) -> Result<(Screen, FormatResult), AllocError>
+    ensures ok { IfOk result (λ r. r.0 ≡ searched (pattern_of term.entry) (record { text = text.now; layout = layout })) }
+    ensures told { IfOk result (λ r. Tells r.1 None (record { text = text.now; wrap = wrap_of layout (length (lines text.now)) }) 0 true) }
 {
-    let end = &text[start.finished.bytes + start.bytes..];
-    let formed = form(alloc, end, start, wrap)?;
-    replace_rows(rows, first_rows, start, &formed)?;
-    Ok(formed)
-}
-
-// What a call tells that formed this.
-fn told(alloc: Global, start: Restart, formed: Formed, clean: bool) -> FormatResult
-    requires rows { start.finished.rows + (start.rows + length formed.rows.items) < 2 ^ 64 }
-    requires finished { formed.finished.rows ≤ start.finished.rows + (start.rows + length formed.rows.items) }
-    ensures lines { result.lines_formatted ≡ length formed.first_rows }
-    ensures rows { result.rows_formatted ≡ start.rows + length formed.rows.items }
-    ensures unfinished { result.num_unterminated ≡ (start.finished.rows + (start.rows + length formed.rows.items)) - formed.finished.rows }
-    ensures matches { result.append_search_idx.keys ≡ [] }
-    ensures map { result.lines_to_row_map ≡ formed.first_rows }
-    ensures longest { result.max_line_length ≡ formed.longest }
-    ensures clean { result.clean_append ≡ clean }
-{
-    let rows_formatted = start.rows + formed.rows.len();
-    FormatResult {
-        lines_formatted: formed.first_rows.len(),
-        rows_formatted,
-        num_unterminated: start.finished.rows + rows_formatted - formed.finished.rows,
-        append_search_idx: BTreeSet::new(alloc),
-        lines_to_row_map: formed.first_rows,
-        max_line_length: formed.longest,
-        clean_append: clean,
-    }
+    let mut store = Store::new(alloc);
+    let told = store.set_text(alloc, text, layout)?;
+    let found = FoundRows::of_store(alloc, term, &store)?;
+    Ok((Screen { store, found }, told))
 }
 
 impl Screen {
     /// A screen of no text, for no columns, with wrapping on and numbers off.
     pub fn new(alloc: Global) -> Self
-        ensures { result ≡ record { text = []; layout = plain 0 } }
+        ensures { result ≡ record { document = record { text = []; layout = plain 0 }; found = [] } }
     {
         Screen {
-            text: String::new(alloc),
-            layout: Layout::plain(0),
-            rows: Vec::new(alloc),
-            first_rows: LinesRowMap::new(alloc),
-            finished: Finished::START,
-            longest: 0,
-            border: Border::START,
+            store: Store::new(alloc),
+            found: FoundRows::new(alloc),
         }
     }
 
     /// How many rows there are.
     pub fn formatted_lines_count(&self) -> usize
-        ensures value { result ≡ length (rows_of self.now) }
+        ensures value { result ≡ length (rows_of self.now.document) }
         ensures few { result < 2 ^ 63 }
     {
-        self.rows.len()
+        self.store.formatted_lines_count()
     }
 
     /// How many lines there are.
     pub fn line_count(&self) -> usize
-        ensures { result ≡ line_count self.now }
+        ensures { result ≡ line_count self.now.document }
     {
-        self.first_rows.len()
+        self.store.line_count()
     }
 
     /// The columns of the longest line, 0 where there is no line.
     pub fn get_max_line_length(&self) -> usize
-        ensures { result ≡ longest self.now }
+        ensures { result ≡ longest self.now.document }
     {
-        self.longest
+        self.store.get_max_line_length()
     }
 
     /// How many rows the last line has where no newline ends it, and 0 otherwise.
     pub fn unterminated(&self) -> usize
-        ensures { result ≡ unfinished_rows self.now }
+        ensures { result ≡ unfinished_rows self.now.document }
     {
-        self.rows.len() - self.finished.rows
+        self.store.unterminated()
     }
 
     /// The layout that the rows were formed for.
     pub fn layout(&self) -> Layout
-        ensures { result ≡ self.now.layout }
+        ensures { result ≡ self.now.document.layout }
     {
-        self.layout
+        self.store.layout()
     }
 
     /// The text as it was given.
     pub fn orig_text(&self) -> &str
-        ensures { result.now ≡ self.now.text }
+        ensures { result.now ≡ self.now.document.text }
     {
-        self.text.as_str()
+        self.store.orig_text()
     }
 
     /// The number of the first row of each line.
     pub fn lines_to_row_map(&self) -> &LinesRowMap
-        ensures { result.now ≡ line_map self.now }
+        ensures { result.now ≡ line_map self.now.document }
     {
-        &self.first_rows
+        self.store.lines_to_row_map()
     }
 
-    /// The text of a row, counted from 0, without what stands before it. It takes no memory.
+    /// The text of a row, counted from 0, without what stands before it and without markers. It takes no
+    /// memory.
     pub fn row_text(&self, i: usize) -> Option<&str>
-        ensures { option_map (λ r. r.now) result ≡ slice_get (rows_of self.now) i }
+        ensures { option_map (λ r. r.now) result ≡ slice_get (rows_of self.now.document) i }
     {
-        let text = self.text.as_str();
-        match self.rows.get(i) {
-            Some(row) => Some(&text[row.start..row.end]),
+        match self.store.row_text(i) {
+            Some(row) => Some(row),
             None => None,
         }
     }
 
     /// The place of a row's own text, counted from 0, in the bytes of the text. It takes no memory.
     pub fn row_place(&self, i: usize) -> Option<Span>
-        ensures { result ≡ slice_get (row_places self.now) i }
+        ensures { result ≡ slice_get (row_places self.now.document) i }
     {
-        match self.rows.get(i) {
-            Some(place) => Some(*place),
-            None => None,
-        }
+        self.store.row_place(i)
     }
 
-    // Adds what stands before the text of a row, counted from 0.
-    fn push_row_prefix(&self, out: &mut String, i: usize) -> Result<(), AllocError>
-        ensures { OnOk result (GrowsByPrefix self.now i (string_bytes out.old) (string_bytes out.new)) }
+    /// How many rows match.
+    pub fn match_count(&self) -> usize
+        ensures { result ≡ length self.now.found }
     {
-        if !self.layout.numbers.is_on() {
-            return Ok(());
-        }
-        let Some(line) = self.first_rows.row_to_line(i) else {
-            return Ok(());
-        };
-        let is_first = self.first_rows.begins(line, i);
-        push_prefix(out, true, self.first_rows.len(), line + 1, is_first)?;
-        Ok(())
+        self.found.len()
     }
 
-    /// Adds a row as it is stored, counted from 0: what stands before its text, and its text. Answers
-    /// whether there is such a row, and adds nothing where there is none. An `Err` is for want of memory
-    /// alone; it may leave a part of the row behind.
-    pub fn push_row(&self, out: &mut String, i: usize) -> Result<bool, AllocError>
-        ensures { IfOk result (λ found. GrowsByRow (slice_get (stored_rows self.now) i) (string_bytes out.old) (string_bytes out.new) found) }
+    /// The number of a row that matches. Such rows are counted from 0 in their order.
+    pub fn match_row(&self, i: usize) -> Option<usize>
+        ensures { result ≡ option_map (λ f. f.row) (slice_get self.now.found i) }
     {
-        let Some(text) = self.row_text(i) else {
+        self.found.row(i)
+    }
+
+    /// Adds a row as it is stored, counted from 0: what stands before its text, and its text, with its
+    /// matches shown in reverse. Answers whether there is such a row, and adds nothing where there is
+    /// none. An `Err` is for want of memory alone; it may leave a part of the row behind.
+    pub fn push_row(&self, alloc: Global, out: &mut String, i: usize) -> Result<bool, AllocError>
+        ensures { IfOk result (λ found. GrowsBySearchedRow self.now i (string_bytes out.old) (string_bytes out.new) found) }
+    {
+        let Some(text) = self.store.row_text(i) else {
             return Ok(false);
         };
-        self.push_row_prefix(out, i)?;
-        out.push_str(text)?;
+        self.store.push_row_prefix(out, i)?;
+        self.found.push_marked(alloc, out, i, text)?;
         Ok(true)
     }
 
-    /// A copy of a row as it is stored, counted from 0: what stands before its text, and its text.
+    /// A copy of a row as it is stored, counted from 0: what stands before its text, and its text, with
+    /// its matches shown in reverse.
     ///
     /// # Errors
     ///
     /// [`MinusError::Memory`] where there is no memory for the copy.
     pub fn formatted_row(&self, alloc: Global, i: usize) -> Result<Option<Row>, MinusError>
-        ensures ok { IfOk result (λ row. option_map string_bytes row ≡ slice_get (stored_rows self.now) i) }
+        ensures ok { IfOk result (λ row. (term : Option Re) → IsFoundBy term self.now → option_map string_bytes row ≡ slice_get (stored_rows_for term self.now.document) i) }
         ensures memory { IfErr result (λ e. e ≡ MinusError.Memory) }
     {
         let mut row = String::new(alloc);
-        if self.push_row(&mut row, i)? {
+        if self.push_row(alloc, &mut row, i)? {
             return Ok(Some(row));
         }
         Ok(None)
     }
 
-    // How many lines there are with a piece behind the text.
-    fn lines_after(&self, piece: &str) -> usize
-        ensures { result ≡ length (lines (self.now.text ++ piece.now)) }
-    {
-        if piece.is_empty() {
-            return self.first_rows.len();
-        }
-        self.finished.lines + newlines(piece) + usize::from(!piece.ends_with('\n'))
-    }
-
-    // The columns that numbers take with a piece behind the text.
-    fn margin_after(&self, piece: &str, numbers: LineNumbers) -> usize
-        ensures value { result ≡ margin numbers (length (lines (self.now.text ++ piece.now))) }
-    {
-        if !numbers.is_on() {
-            return 0;
-        }
-        prefix_columns(true, self.lines_after(piece)) + 1
-    }
-
-    // How a push forms.
-    fn plan(&self, piece: &str, numbers: LineNumbers, cols: usize) -> Plan
-        ensures { result ≡ plan_of self.now piece.now numbers cols }
-    {
-        let margin = self.margin_after(piece, numbers);
-        let old_margin = self.margin_after("", self.layout.numbers);
-        Plan {
-            keeps: stay(cols, self.layout.cols, margin, old_margin),
-            wrap: Wrap::of(self.layout.wrapping, cols.saturating_sub(margin)),
-        }
-    }
-
-    // How all is formed anew in a layout, with a piece behind the text.
-    fn plan_anew(&self, piece: &str, layout: Layout) -> Plan
-        ensures { result ≡ record { keeps = false; wrap = wrap_of layout (length (lines (self.now.text ++ piece.now))) } }
-    {
-        let margin = self.margin_after(piece, layout.numbers);
-        Plan {
-            keeps: false,
-            wrap: Wrap::of(layout.wrapping, layout.cols.saturating_sub(margin)),
-        }
-    }
-
-    // Where a push begins to form.
-    fn restart(&self, plan: Plan) -> Restart
-        requires { plan.keeps ≡ true → plan.wrap ≡ wrap_in self.now }
-        ensures start { IsRestartOf self.now.text plan result }
-        ensures text { IsUtf8 self.now.text }
-        ensures small { length self.now.text < 2 ^ 63 }
-        ensures place { IsCharBoundary self.now.text (result.finished.bytes + result.bytes) }
-        ensures lines { result.finished.lines ≤ length self.now.text }
-        ensures rows { result.finished.rows + result.rows < 2 ^ 63 }
-    {
-        let finished = self.finished;
-        if !plan.keeps {
-            return Restart::START;
-        }
-        let line = &self.text[finished.bytes..];
-        let seam = last_seam(
-            line,
-            self.rows.as_slice(),
-            finished.rows,
-            finished.bytes,
-            self.border.bytes,
-        );
-        Restart {
-            finished,
-            rows: seam.rows,
-            bytes: seam.bytes,
-            border: self.border,
-        }
-    }
-
-    // What stands in the text from a place on, and a piece behind it.
-    fn tail(&self, alloc: Global, at: usize, piece: &str) -> Result<String, AllocError>
-        requires { IsCharBoundary self.now.text at }
-        ensures { IfOk result (λ t. string_bytes t ≡ drop at self.now.text ++ piece.now) }
-    {
-        let mut tail = String::from_str(alloc, &self.text[at..])?;
-        tail.push_str(piece)?;
-        Ok(tail)
-    }
-
-    // Puts a piece behind the text, and forms what it goes on beside what is kept. An `Err` changes
-    // nothing.
-    fn push_by(
-        &mut self,
-        alloc: Global,
-        piece: &str,
-        layout: Layout,
-        plan: Plan,
-    ) -> Result<FormatResult, AllocError>
-        requires wrap { plan.wrap ≡ wrap_of layout (length (lines (self.old.text ++ piece.now))) }
-        requires keeps { plan.keeps ≡ true → plan.wrap ≡ wrap_in self.old }
-        ensures ok { OnOk result (self.new ≡ record { text = self.old.text ++ piece.now; layout = layout }) }
-        ensures told { IfOk result (λ r. TellsPlan r None self.old piece.now plan) }
-        ensures err { OnErr result (self.new ≡ self.old) }
-    {
-        let start = self.restart(plan);
-        let len = self.text.len();
-        let clean = attaches_nothing(self.finished, len, plan);
-        self.text.push_str(piece)?;
-        let formed = match form_end(
-            alloc,
-            &self.text,
-            &mut self.rows,
-            &mut self.first_rows,
-            start,
-            plan.wrap,
-        ) {
-            Ok(formed) => formed,
-            Err(error) => {
-                self.text.truncate(len);
-                return Err(error);
-            }
-        };
-        self.layout = layout;
-        self.finished = formed.finished;
-        self.longest = formed.longest_behind(start);
-        self.border = formed.border;
-        Ok(told(alloc, start, formed, clean))
-    }
-
-    // Puts a piece, and what is formed of it and of what it goes on, behind what is kept. An `Err`
-    // changes nothing.
-    fn place_formed(
-        &mut self,
-        alloc: Global,
-        piece: &str,
-        start: Restart,
-        formed: Formed,
-        layout: Layout,
-        plan: Plan,
-    ) -> Result<FormatResult, AllocError>
-        requires wrap { plan.wrap ≡ wrap_of layout (length (lines (self.old.text ++ piece.now))) }
-        requires keeps { plan.keeps ≡ true → plan.wrap ≡ wrap_in self.old }
-        requires start { IsRestartOf self.old.text plan start }
-        requires formed { IsFormOf plan.wrap (line_going_on self.old.text plan) (piece_behind self.old.text plan piece.now) start formed }
-        ensures ok { OnOk result (self.new ≡ record { text = self.old.text ++ piece.now; layout = layout }) }
-        ensures told { IfOk result (λ r. TellsPlan r None self.old piece.now plan) }
-        ensures err { OnErr result (self.new ≡ self.old) }
-    {
-        let clean = attaches_nothing(self.finished, self.text.len(), plan);
-        self.text.reserve(piece.len())?;
-        replace_rows(&mut self.rows, &mut self.first_rows, start, &formed)?;
-        push_str_reserved(&mut self.text, piece);
-        self.layout = layout;
-        self.finished = formed.finished;
-        self.longest = formed.longest_behind(start);
-        self.border = formed.border;
-        Ok(told(alloc, start, formed, clean))
-    }
-
-    // Whether a push of this piece begins there, and forms this text so.
-    fn forms(&self, start: Restart, tail: &str, wrap: Wrap, piece: &str, plan: Plan) -> bool
-        requires { plan.keeps ≡ true → plan.wrap ≡ wrap_in self.now }
-        ensures text { IsUtf8 self.now.text }
-        ensures start { IsTrue result → IsRestartOf self.now.text plan start }
-        ensures wrap { IsTrue result → wrap ≡ plan.wrap }
-        ensures tail { IsTrue result → tail.now ≡ drop (start.finished.bytes + start.bytes) self.now.text ++ piece.now }
-    {
-        let own = self.restart(plan);
-        if !start.is_same(own) {
-            return false;
-        }
-        if !wrap.is_same(plan.wrap) {
-            return false;
-        }
-        match tail.strip_prefix(&self.text[own.finished.bytes + own.bytes..]) {
-            Some(rest) => rest == piece,
-            None => false,
-        }
-    }
-
     /// Puts a text at the end, with numbers and columns for all. Where the columns differ from those
     /// that the rows were last formed for, or those that numbers take do, all rows are formed anew, and
-    /// otherwise those of the unfinished line and the text. Wrapping stays as it is.
+    /// otherwise those of the unfinished line and the text. Wrapping stays as it is. The rows that are
+    /// formed lose what was found in them and are searched for the term, which is to be the one that the
+    /// other rows were searched for; without one nothing is kept as found.
     ///
     /// # Errors
     ///
@@ -515,19 +239,50 @@ impl Screen {
         text: TextBlock<'_>,
         numbers: LineNumbers,
         cols: usize,
+        term: Option<Term<'_>>,
     ) -> Result<FormatResult, MinusError>
-        ensures ok { OnOk result (self.new ≡ pushed self.old text.now numbers cols) }
-        ensures told { IfOk result (λ r. TellsPush r None self.old text.now numbers cols) }
+        ensures ok { OnOk result (self.new.document ≡ pushed self.old.document text.now numbers cols) }
+        ensures found { OnOk result (IsFoundBy (pattern_of term.entry) self.old → IsFoundBy (pattern_of term.entry) self.new) }
+        ensures told { IfOk result (λ r. TellsPush r None self.old.document text.now numbers cols) }
         ensures err { OnErr result (self.new ≡ self.old) }
         ensures memory { IfErr result (λ e. e ≡ MinusError.Memory) }
     {
-        let plan = self.plan(text, numbers, cols);
-        let layout = self.layout.relaid(numbers, cols);
-        Ok(self.push_by(alloc, text, layout, plan)?)
+        if term.is_none() {
+            let told = self.store.push(alloc, text, numbers, cols)?;
+            self.found.clear();
+            return Ok(told);
+        }
+        let push = self.store.prepare_push(alloc, text, numbers, cols)?;
+        let found = FoundRows::of_push(alloc, term, &push)?;
+        Ok(self.put(alloc, text, push, found)?)
     }
 
-    /// Forms what a push of this text would form, beside the rows that would stay. The screen stays
-    /// as it is; `rows_after` and `row_after` tell of it as the push would leave it.
+    // Puts a text, what was formed of it, and what was found in that, behind what stays. An `Err` changes
+    // nothing.
+    fn put(
+        &mut self,
+        alloc: Global,
+        text: &str,
+        push: FormedPush,
+        found: FoundRows,
+    ) -> Result<FormatResult, AllocError>
+        requires prepared { IsPreparedFor self.old.document text.now push }
+        requires stand { AreFoundIn push.kept_rows (rows_in push.tail) (found_rows found) }
+        ensures ok { OnOk result (self.new.document ≡ pushed self.old.document text.now push.numbers push.cols) }
+        ensures found { OnOk result ((term : Option Re) → IsFoundBy term self.old → IsFoundInPush term (record { push = push; found = found_rows found }) → IsFoundBy term self.new) }
+        ensures told { IfOk result (λ r. TellsPush r None self.old.document text.now push.numbers push.cols) }
+        ensures err { OnErr result (self.new ≡ self.old) }
+    {
+        let first = push.kept_rows();
+        self.found.reserve(&found)?;
+        let told = self.store.place_push(alloc, text, push)?;
+        self.found.replace_from(first, found);
+        Ok(told)
+    }
+
+    /// Forms what a push of this text would form, beside the rows that would stay, and searches that for
+    /// a term. The screen stays as it is; `rows_after` and `row_after` tell of it as the push would
+    /// leave it.
     ///
     /// # Errors
     ///
@@ -538,86 +293,84 @@ impl Screen {
         text: TextBlock<'_>,
         numbers: LineNumbers,
         cols: usize,
+        term: Option<Term<'_>>,
     ) -> Result<PendingPush, MinusError>
-        ensures ok { IfOk result (λ p. IsPending self.now text.now numbers cols p) }
+        ensures ok { IfOk result (λ p. IsPending self.now.document text.now numbers cols p.push) }
+        ensures found { IfOk result (IsFoundInPush (pattern_of term.entry)) }
         ensures memory { IfErr result (λ e. e ≡ MinusError.Memory) }
     {
-        let plan = self.plan(text, numbers, cols);
-        let start = self.restart(plan);
-        let tail = self.tail(alloc, start.finished.bytes + start.bytes, text)?;
-        let formed = form(alloc, &tail, start, plan.wrap)?;
-        Ok(PendingPush {
-            tail,
-            start,
-            formed,
-            wrap: plan.wrap,
-            numbers,
-            cols,
-        })
+        let push = self.store.prepare_push(alloc, text, numbers, cols)?;
+        let found = FoundRows::of_push(alloc, term, &push)?;
+        Ok(PendingPush { push, found })
     }
 
     /// How many rows there would be after the push. It takes no memory.
     pub fn rows_after(&self, pending: &PendingPush) -> usize
-        ensures { (piece : List ℕ) (numbers : LineNumbers) (cols : ℕ) → IsPending self.now piece numbers cols pending.now → result ≡ length (rows_of (pushed self.now piece numbers cols)) }
+        ensures { (piece : List ℕ) (numbers : LineNumbers) (cols : ℕ) → IsPending self.now.document piece numbers cols pending.now.push → result ≡ length (rows_of (pushed self.now.document piece numbers cols)) }
     {
-        let staying = pending.kept_rows().min(self.formatted_lines_count());
-        staying + pending.formed_rows()
+        self.store.rows_after(&pending.push)
     }
 
     /// The own text of a row, counted from 0, as it would be after the push. It takes no memory.
     pub fn row_after<'a>(&'a self, pending: &'a PendingPush, i: usize) -> Option<&'a str>
-        ensures { RowIsPending self.now pending.now i (option_map (λ r. r.now) result) }
+        ensures { RowIsPending self.now.document pending.now.push i (option_map (λ r. r.now) result) }
     {
-        let kept = pending.kept_rows();
-        if i < kept {
-            self.row_text(i)
-        } else {
-            pending.row_text(i - kept)
+        match self.store.row_after(&pending.push, i) {
+            Some(row) => Some(row),
+            None => None,
         }
     }
 
-    // Adds what would stand before the text of a row, counted from 0, after the push.
-    fn push_prefix_after(
+    // Adds the text of a row, if there is one, as it would be after the push, with its matches shown in
+    // reverse.
+    fn push_text_after(
         &self,
+        alloc: Global,
         pending: &PendingPush,
         out: &mut String,
         i: usize,
     ) -> Result<(), AllocError>
-        ensures { OnOk result (GrowsByPendingPrefix self.now pending.now i (string_bytes out.old) (string_bytes out.new)) }
+        ensures { OnOk result (GrowsByPendingText self.now pending.now i (string_bytes out.old) (string_bytes out.new)) }
     {
-        if !pending.numbers.is_on() {
+        let kept = pending.push.kept_rows();
+        if i < kept {
+            let Some(text) = self.store.row_text(i) else {
+                return Ok(());
+            };
+            self.found.push_marked(alloc, out, i, text)?;
             return Ok(());
         }
-        let behind = &pending.formed.first_rows;
-        let kept = pending.start.finished.lines.min(self.first_rows.len());
-        let Some((line, is_first)) = self.first_rows.line_in(kept, behind, i) else {
+        let Some(text) = pending.push.row_text(i - kept) else {
             return Ok(());
         };
-        push_prefix(out, true, kept + behind.len(), line + 1, is_first)?;
+        pending.found.push_marked(alloc, out, i, text)?;
         Ok(())
     }
 
     /// Adds a row as it would be stored after the push, counted from 0: what stands before its text, and
-    /// its text. Answers whether there would be such a row, and adds nothing where there would be none. An
-    /// `Err` is for want of memory alone; it may leave a part of the row behind.
+    /// its text, with its matches shown in reverse. Answers whether there would be such a row, and adds
+    /// nothing where there would be none. An `Err` is for want of memory alone; it may leave a part of
+    /// the row behind.
     pub fn push_row_after(
         &self,
+        alloc: Global,
         pending: &PendingPush,
         out: &mut String,
         i: usize,
     ) -> Result<bool, AllocError>
         ensures { IfOk result (λ found. GrowsByPendingRow self.now pending.now i (string_bytes out.old) (string_bytes out.new) found) }
     {
-        let Some(text) = self.row_after(pending, i) else {
+        let Some(_) = self.store.row_after(&pending.push, i) else {
             return Ok(false);
         };
-        self.push_prefix_after(pending, out, i)?;
-        out.push_str(text)?;
+        self.store.push_prefix_after(&pending.push, out, i)?;
+        self.push_text_after(alloc, pending, out, i)?;
         Ok(true)
     }
 
-    /// Pushes a text for the numbers and columns of a push that was prepared. What was formed then is
-    /// put in place as it is; where it is not what this push forms, the push is formed anew.
+    /// Pushes a text for the numbers and columns of a push that was prepared, with the term that it was
+    /// searched for. What was formed and found then is put in place as it is; where it is not what this
+    /// push forms, that is formed and searched anew.
     ///
     /// # Errors
     ///
@@ -627,46 +380,51 @@ impl Screen {
         alloc: Global,
         text: TextBlock<'_>,
         pending: PendingPush,
+        term: Option<Term<'_>>,
     ) -> Result<FormatResult, MinusError>
-        ensures ok { OnOk result (self.new ≡ pushed self.old text.now pending.numbers pending.cols) }
-        ensures told { IfOk result (λ r. TellsPush r None self.old text.now pending.numbers pending.cols) }
+        ensures ok { OnOk result (self.new.document ≡ pushed self.old.document text.now pending.push.numbers pending.push.cols) }
+        ensures found { OnOk result (IsFoundBy (pattern_of term.entry) self.old → IsFoundInPush (pattern_of term.entry) pending → IsFoundBy (pattern_of term.entry) self.new) }
+        ensures told { IfOk result (λ r. TellsPush r None self.old.document text.now pending.push.numbers pending.push.cols) }
         ensures err { OnErr result (self.new ≡ self.old) }
         ensures memory { IfErr result (λ e. e ≡ MinusError.Memory) }
     {
-        let PendingPush {
-            tail,
-            start,
-            formed,
-            wrap,
-            numbers,
-            cols,
-        } = pending;
-        let plan = self.plan(text, numbers, cols);
-        let layout = self.layout.relaid(numbers, cols);
-        let is_formed = self.forms(start, &tail, wrap, text, plan);
-        drop(tail);
-        if !is_formed {
-            return Ok(self.push_by(alloc, text, layout, plan)?);
+        let PendingPush { push, found } = pending;
+        if self.store.is_prepared(text, &push) {
+            return Ok(self.put(alloc, text, push, found)?);
         }
-        Ok(self.place_formed(alloc, text, start, formed, layout, plan)?)
+        let (numbers, cols) = (push.numbers, push.cols);
+        drop(push);
+        drop(found);
+        self.push_screen_buf(alloc, text, numbers, cols, term)
     }
 
-    /// Forms all rows anew in a layout.
+    /// Forms all rows anew in a layout, and searches them for a term.
     ///
     /// # Errors
     ///
     /// [`MinusError::Memory`] where there is no memory for it. Nothing has changed then.
-    pub fn reform(&mut self, alloc: Global, layout: Layout) -> Result<FormatResult, MinusError>
-        ensures ok { OnOk result (self.new ≡ record self.old { layout = layout }) }
-        ensures told { IfOk result (λ r. Tells r None (record { text = self.old.text; wrap = wrap_of layout (line_count self.old) }) 0 true) }
+    pub fn reform(
+        &mut self,
+        alloc: Global,
+        layout: Layout,
+        term: Option<Term<'_>>,
+    ) -> Result<FormatResult, MinusError>
+        ensures ok { OnOk result (self.new ≡ searched (pattern_of term.entry) (record self.old.document { layout = layout })) }
+        ensures told { IfOk result (λ r. Tells r None (record { text = self.old.document.text; wrap = wrap_of layout (line_count self.old.document) }) 0 true) }
         ensures err { OnErr result (self.new ≡ self.old) }
         ensures memory { IfErr result (λ e. e ≡ MinusError.Memory) }
     {
-        let plan = self.plan_anew("", layout);
-        Ok(self.push_by(alloc, "", layout, plan)?)
+        if term.is_none() {
+            let told = self.store.reform(alloc, layout)?;
+            self.found.clear();
+            return Ok(told);
+        }
+        let (fresh, told) = formed(alloc, self.store.orig_text(), layout, term)?;
+        *self = fresh;
+        Ok(told)
     }
 
-    /// Puts a text in the place of all that there is, in a layout.
+    /// Puts a text in the place of all that there is, in a layout, and searches its rows for a term.
     ///
     /// # Errors
     ///
@@ -676,15 +434,14 @@ impl Screen {
         alloc: Global,
         text: TextBlock<'_>,
         layout: Layout,
+        term: Option<Term<'_>>,
     ) -> Result<FormatResult, MinusError>
-        ensures ok { OnOk result (self.new ≡ record { text = text.now; layout = layout }) }
+        ensures ok { OnOk result (self.new ≡ searched (pattern_of term.entry) (record { text = text.now; layout = layout })) }
         ensures told { IfOk result (λ r. Tells r None (record { text = text.now; wrap = wrap_of layout (length (lines text.now)) }) 0 true) }
         ensures err { OnErr result (self.new ≡ self.old) }
         ensures memory { IfErr result (λ e. e ≡ MinusError.Memory) }
     {
-        let mut fresh = Screen::new(alloc);
-        let plan = fresh.plan_anew(text, layout);
-        let told = fresh.push_by(alloc, text, layout, plan)?;
+        let (fresh, told) = formed(alloc, text, layout, term)?;
         *self = fresh;
         Ok(told)
     }

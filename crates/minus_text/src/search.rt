@@ -1,17 +1,19 @@
 //! Search in texts.
 pub mod escapes;
 pub(crate) mod found;
-pub mod found_rows;
+pub(crate) mod found_rows;
 pub mod highlight;
 pub mod matches;
 pub mod patterns;
+pub mod term;
 
 pub use escapes::strip_escapes;
 pub(crate) use found::Finder;
-pub use found_rows::{FoundRows, found_rows_go_on};
+pub use found_rows::found_rows_go_on;
 pub use highlight::{
     HighlightMatchesArgs, highlight_line_matches, highlights_add_markers_alone,
     only_matches_are_highlighted,
 };
 pub use matches::next_nth_match;
 pub use patterns::Patterns;
+pub use term::Term;

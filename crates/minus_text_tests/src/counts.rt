@@ -17,7 +17,7 @@ fn unfinished_told(alloc: Global, pieces: &str) -> Result<usize, MinusError> {
     let mut rows = 0;
     for piece in pieces.split('|') {
         rows = screen
-            .push_screen_buf(alloc, piece, LineNumbers::Disabled, 20)?
+            .push_screen_buf(alloc, piece, LineNumbers::Disabled, 20, None)?
             .num_unterminated;
     }
     Ok(rows)
@@ -83,8 +83,8 @@ fn unfinished_rows_are_told(rt: HostRuntime) -> Result<(), Fail> {
 #[test]
 fn a_result_tells_of_the_text_formed(rt: HostRuntime) -> Result<(), Fail> {
     let mut screen = Screen::new(rt.alloc());
-    let set = screen.set_text(rt.alloc(), "ab\r\ncd", Layout::plain(80))?;
-    let pushed = screen.push_screen_buf(rt.alloc(), "e\nfg\n", LineNumbers::Disabled, 80)?;
+    let set = screen.set_text(rt.alloc(), "ab\r\ncd", Layout::plain(80), None)?;
+    let pushed = screen.push_screen_buf(rt.alloc(), "e\nfg\n", LineNumbers::Disabled, 80, None)?;
     let set_told = told(&set) == (2, 2, 1, 2, true);
     let pushed_told = told(&pushed) == (2, 2, 0, 3, false);
     assert!(rt; set_told && pushed_told && pushed.lines_to_row_map.get(1) == Some(2));
@@ -125,9 +125,9 @@ fn is_seen_made(screen: &Screen, answer: &FormatResult) -> bool {
 #[test]
 fn a_push_is_seen_before_it_is_made(rt: HostRuntime) -> Result<(), Fail> {
     let mut screen = screen_of(rt.alloc(), "one\ntwo thr", 5)?;
-    let pending = screen.prepare_push(rt.alloc(), "ee\nfour", LineNumbers::Disabled, 5)?;
+    let pending = screen.prepare_push(rt.alloc(), "ee\nfour", LineNumbers::Disabled, 5, None)?;
     let seen = is_seen_before(&screen, &pending);
-    let result = screen.place_push(rt.alloc(), "ee\nfour", pending)?;
+    let result = screen.place_push(rt.alloc(), "ee\nfour", pending, None)?;
     assert!(rt; seen && is_seen_made(&screen, &result));
     Ok(())
 }

@@ -32,7 +32,7 @@ fn stores_all(alloc: Global, screen: &Screen, rows: &str) -> Result<bool, MinusE
 fn store_the_same(alloc: Global, a: &Screen, b: &Screen) -> Result<bool, MinusError> {
     for i in 0..a.formatted_lines_count() {
         let mut row = String::new(alloc);
-        if !b.push_row(&mut row, i)? || !stores(alloc, a, i, &row)? {
+        if !b.push_row(alloc, &mut row, i)? || !stores(alloc, a, i, &row)? {
             return Ok(false);
         }
     }
@@ -46,7 +46,7 @@ fn numbered(alloc: Global, text: &str, size: usize, cols: usize) -> Result<Scree
     for i in 1..text.len() + 1 {
         let is_piece = i.saturating_sub(start) >= size || i == text.len();
         if let (true, Some(piece)) = (is_piece, text.get(start..i)) {
-            let _ = screen.push_screen_buf(alloc, piece, LineNumbers::Enabled, cols)?;
+            let _ = screen.push_screen_buf(alloc, piece, LineNumbers::Enabled, cols, None)?;
             start = i;
         }
     }
@@ -65,7 +65,7 @@ fn the_first_row_of_a_line_has_its_number(rt: HostRuntime) -> Result<(), Fail> {
 fn makes_room(alloc: Global) -> Result<bool, MinusError> {
     let mut screen = numbered(alloc, "a\na\na\na\na\na\na\na\na\n", 2, 30)?;
     let before = stores(alloc, &screen, 0, "     \x1b[1m1.\x1b[0m a")?;
-    let _ = screen.push_screen_buf(alloc, "a\n", LineNumbers::Enabled, 30)?;
+    let _ = screen.push_screen_buf(alloc, "a\n", LineNumbers::Enabled, 30, None)?;
     let after = stores(alloc, &screen, 0, "      \x1b[1m1.\x1b[0m a")?;
     Ok(before && after && stores(alloc, &screen, 9, "     \x1b[1m10.\x1b[0m a")?)
 }
@@ -79,11 +79,11 @@ fn numbers_make_room_for_one_more_digit(rt: HostRuntime) -> Result<(), Fail> {
 // Whether a push shows numbers, and another takes them away.
 fn exchanges_numbers(alloc: Global) -> Result<bool, MinusError> {
     let mut screen = Screen::new(alloc);
-    let _ = screen.set_text(alloc, "one two", Layout::plain(12))?;
-    let told = screen.push_screen_buf(alloc, "\nx", LineNumbers::AlwaysOn, 12)?;
+    let _ = screen.set_text(alloc, "one two", Layout::plain(12), None)?;
+    let told = screen.push_screen_buf(alloc, "\nx", LineNumbers::AlwaysOn, 12, None)?;
     let on = "     \x1b[1m1.\x1b[0m one|        two|     \x1b[1m2.\x1b[0m x";
     let shown = told.rows_formatted == 3 && told.clean_append && stores_all(alloc, &screen, on)?;
-    let _ = screen.push_screen_buf(alloc, "", LineNumbers::Disabled, 12)?;
+    let _ = screen.push_screen_buf(alloc, "", LineNumbers::Disabled, 12, None)?;
     Ok(shown && stores_all(alloc, &screen, "one two|x")?)
 }
 
@@ -98,10 +98,10 @@ fn is_one_row(alloc: Global) -> Result<bool, MinusError> {
     let mut screen = Screen::new(alloc);
     let mut layout = Layout::plain(4);
     layout.wrapping = false;
-    let _ = screen.set_text(alloc, "abcdefghij\nk", layout)?;
-    let _ = screen.push_screen_buf(alloc, "l m n o", LineNumbers::Disabled, 4)?;
+    let _ = screen.set_text(alloc, "abcdefghij\nk", layout, None)?;
+    let _ = screen.push_screen_buf(alloc, "l m n o", LineNumbers::Disabled, 4, None)?;
     let whole = stores_all(alloc, &screen, "abcdefghij|kl m n o")?;
-    let _ = screen.reform(alloc, Layout::plain(4))?;
+    let _ = screen.reform(alloc, Layout::plain(4), None)?;
     Ok(whole && stores_all(alloc, &screen, "abcd|efgh|ij|kl m|n o")?)
 }
 
@@ -133,10 +133,10 @@ fn seen_as_stored(alloc: Global, text: &str, i: usize, cols: usize) -> Result<bo
     };
     let screen = numbered(alloc, first, i, cols)?;
     let whole = numbered(alloc, text, text.len(), cols)?;
-    let pending = screen.prepare_push(alloc, piece, LineNumbers::Enabled, cols)?;
+    let pending = screen.prepare_push(alloc, piece, LineNumbers::Enabled, cols, None)?;
     for row in 0..whole.formatted_lines_count() {
         let mut seen = String::new(alloc);
-        if !screen.push_row_after(&pending, &mut seen, row)?
+        if !screen.push_row_after(alloc, &pending, &mut seen, row)?
             || !stores(alloc, &whole, row, &seen)?
         {
             return Ok(false);

@@ -38,7 +38,7 @@ fn same(a: &Screen, b: &Screen) -> bool {
 // A screen of a text that is pushed whole.
 fn whole(alloc: Global, text: &str, cols: usize) -> Result<Screen, MinusError> {
     let mut screen = Screen::new(alloc);
-    let _ = screen.push_screen_buf(alloc, text, LineNumbers::Disabled, cols)?;
+    let _ = screen.push_screen_buf(alloc, text, LineNumbers::Disabled, cols, None)?;
     Ok(screen)
 }
 
@@ -50,7 +50,7 @@ fn push_part(
     cols: usize,
 ) -> Result<(), MinusError> {
     if let Some(piece) = part {
-        let _ = screen.push_screen_buf(alloc, piece, LineNumbers::Disabled, cols)?;
+        let _ = screen.push_screen_buf(alloc, piece, LineNumbers::Disabled, cols, None)?;
     }
     Ok(())
 }
@@ -117,9 +117,9 @@ fn pushed_as(
     cols: usize,
     all: &Screen,
 ) -> Result<bool, MinusError> {
-    let pending = screen.prepare_push(alloc, piece, LineNumbers::Disabled, cols)?;
+    let pending = screen.prepare_push(alloc, piece, LineNumbers::Disabled, cols, None)?;
     let before = shows_before(&screen, &pending, all);
-    let _ = screen.place_push(alloc, piece, pending)?;
+    let _ = screen.place_push(alloc, piece, pending, None)?;
     Ok(before && same(&screen, all))
 }
 
@@ -199,8 +199,8 @@ fn a_prepared_push_has_the_rows_of_the_whole(rt: HostRuntime) -> Result<(), Fail
 // A screen of a text, after a push of another text than was prepared.
 fn after_another_push(alloc: Global, text: &str) -> Result<Screen, MinusError> {
     let mut screen = whole(alloc, "one two th", 5)?;
-    let pending = screen.prepare_push(alloc, "ree", LineNumbers::Disabled, 5)?;
-    let _ = screen.place_push(alloc, text, pending)?;
+    let pending = screen.prepare_push(alloc, "ree", LineNumbers::Disabled, 5, None)?;
+    let _ = screen.place_push(alloc, text, pending, None)?;
     Ok(screen)
 }
 

@@ -7,7 +7,7 @@ use std::alloc::Global;
 pub(crate) fn screen_of(alloc: Global, pieces: &str, cols: usize) -> Result<Screen, MinusError> {
     let mut screen = Screen::new(alloc);
     for piece in pieces.split('|') {
-        let _ = screen.push_screen_buf(alloc, piece, LineNumbers::Disabled, cols)?;
+        let _ = screen.push_screen_buf(alloc, piece, LineNumbers::Disabled, cols, None)?;
     }
     Ok(screen)
 }

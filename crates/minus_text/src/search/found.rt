@@ -1,13 +1,13 @@
 //! What a term finds in rows.
-ghost use Rattle.std.specs.Prelude.{◌≡◌, ◌++◌, map, IfOk, OnOk};
+ghost use Rattle.std.specs.Prelude.{◌≡◌, ℕ, ◌+◌, List, Some, slice_get, ◌++◌, map, IfOk, OnOk};
 ghost use Rattle.regex.specs.Strings.{regex_pattern, matcher_pattern};
 ghost use Rattle.minus_text.specs.Escapes.{escape_places, outside, CutsText};
 ghost use Rattle.minus_text.specs.FixedPatterns.{escape_sequence, match_places, MatchesAs};
 ghost use Rattle.minus_text.specs.Highlight.{line_match_places};
 
 use crate::search::escapes::{match_places, part};
-use crate::search::patterns::Patterns;
-use regex::{Matcher, Regex};
+use crate::search::term::Term;
+use regex::Matcher;
 use std::alloc::{AllocError, Global};
 
 // A row, the places of its escape sequences, and those of matches in the row without these.
@@ -35,6 +35,7 @@ fn outside_matches(
 ) -> Result<Vec<(usize, usize)>, AllocError>
     requires { CutsText row.now 0 places.now }
     ensures found { IfOk result (λ found. found.items ≡ match_places (matcher_pattern matcher.old) (outside row.now 0 places.now)) }
+    ensures cuts { IfOk result (λ found. CutsText (outside row.now 0 places.now) 0 found.items) }
     ensures same { matcher_pattern matcher.new ≡ matcher_pattern matcher.old }
 {
     if places.is_empty() {
@@ -47,18 +48,14 @@ fn outside_matches(
 
 impl<'p> Finder<'p> {
     ghost use Rattle.minus_text.specs.FoundRows.{finder_pattern, matches_of};
-    ghost use Rattle.minus_text.specs.Found.{found_in_row};
+    ghost use Rattle.minus_text.specs.Found.{found_in_row, IsPlaced, ArePlaced};
 
-    pub(crate) fn new(
-        alloc: Global,
-        patterns: &'p Patterns,
-        term: &'p Regex,
-    ) -> Result<Self, AllocError>
-        ensures { IfOk result (λ f. finder_pattern f ≡ regex_pattern term.now) }
+    pub(crate) fn new(alloc: Global, term: Term<'p>) -> Result<Self, AllocError>
+        ensures { IfOk result (λ f. finder_pattern f ≡ regex_pattern term.entry.pattern.now) }
     {
         Ok(Finder {
-            escapes: patterns.escape.matcher(alloc)?,
-            term: term.matcher(alloc)?,
+            escapes: term.patterns.escape.matcher(alloc)?,
+            term: term.pattern.matcher(alloc)?,
         })
     }
 
@@ -67,6 +64,7 @@ impl<'p> Finder<'p> {
         ensures row { IfOk result (λ f. f.row ≡ n) }
         ensures escapes { IfOk result (λ f. f.escapes.items ≡ escape_places row.now) }
         ensures matches { IfOk result (λ f. f.matches.items ≡ line_match_places (finder_pattern self.old) row.now) }
+        ensures placed { IfOk result (λ f. IsPlaced row.now (matches_of f)) }
         ensures same { finder_pattern self.new ≡ finder_pattern self.old }
     {
         let escapes = match_places(alloc, &mut self.escapes, row)?;
@@ -87,6 +85,7 @@ impl<'p> Finder<'p> {
         row: &str,
     ) -> Result<(), AllocError>
         ensures found { OnOk result (map matches_of found.new.items ≡ map matches_of found.old.items ++ found_in_row (finder_pattern self.old) n row.now) }
+        ensures placed { OnOk result ((first : ℕ) (rows : List (List ℕ)) (i : ℕ) → n ≡ first + i → slice_get rows i ≡ Some row.now → ArePlaced first rows (map matches_of found.old.items) → ArePlaced first rows (map matches_of found.new.items)) }
         ensures same { finder_pattern self.new ≡ finder_pattern self.old }
     {
         let here = self.find(alloc, n, row)?;

@@ -1,24 +1,24 @@
 //! The rows of a text that a term matches.
-ghost use Rattle.std.specs.Prelude.{◌≡◌, [], ◌++◌, length, map, option_map, nat_le, slice_get, IfOk, OnOk, OnErr};
+ghost use Rattle.std.specs.Prelude.{◌≡◌, ℕ, ◌+◌, List, [], ◌++◌, length, map, option_map, nat_le, slice_get, string_bytes, IfOk, IfSome, OnOk};
 ghost use Rattle.std.specs.List.{position_or_len};
 ghost use Rattle.regex.specs.Strings.{regex_pattern};
 ghost use Rattle.minus_text.specs.Document.{rows_of};
 ghost use Rattle.minus_text.specs.Fragments.{rows_in};
-ghost use Rattle.minus_text.specs.Found.{found_in_rows, found_by, found_above};
-ghost use Rattle.minus_text.specs.FoundRows.{finder_pattern, matches_of};
+ghost use Rattle.minus_text.specs.Found.{found_in_rows, found_by, found_above, found_of_row, marked, IsPlaced, ArePlaced, Ascend, AreFoundIn};
+ghost use Rattle.minus_text.specs.FoundRows.{finder_pattern, matches_of, pattern_of};
 ghost use Rattle.minus_text.specs.FoundBy.{found_rows, found_in_some, HasRoomFor, FoundGoesOn};
 
-use crate::pending::PendingPush;
-use crate::screen::Screen;
+use crate::formed_push::FormedPush;
 use crate::search::found::{Finder, FoundRow};
-use crate::search::patterns::Patterns;
-use regex::Regex;
+use crate::search::highlight::HighlightMatchesArgs;
+use crate::search::term::Term;
+use crate::store::Store;
 use std::alloc::{AllocError, Global};
 
-/// The rows of a text that a term matches, in order, each with the places of its escape sequences and
-/// of its matches. No pattern is kept.
+// The rows of a text that a term matches, in order, each with the places of its escape sequences and
+// of its matches. No pattern is kept.
 #[derive(Debug, Drop)]
-pub struct FoundRows {
+pub(crate) struct FoundRows {
     rows: Vec<FoundRow>,
 }
 
@@ -31,6 +31,7 @@ fn note_some(
     row: Option<&str>,
 ) -> Result<(), AllocError>
     ensures found { OnOk result (map matches_of found.new.items ≡ map matches_of found.old.items ++ found_in_some (finder_pattern finder.old) n (option_map (λ r. r.now) row.entry)) }
+    ensures placed { OnOk result ((first : ℕ) (rows : List (List ℕ)) (i : ℕ) → n ≡ first + i → option_map (λ r. r.now) row.entry ≡ slice_get rows i → ArePlaced first rows (map matches_of found.old.items) → ArePlaced first rows (map matches_of found.new.items)) }
     ensures same { finder_pattern finder.new ≡ finder_pattern finder.old }
 {
     let Some(row) = row else {
@@ -40,33 +41,29 @@ fn note_some(
     Ok(())
 }
 
-// What a pattern finds in the rows of a screen.
-fn find_in_screen(
-    alloc: Global,
-    patterns: &Patterns,
-    term: &Regex,
-    screen: &Screen,
-) -> Result<FoundRows, AllocError>
-    ensures { IfOk result (λ f. found_rows f ≡ found_in_rows (regex_pattern term.now) 0 (rows_of screen.now)) }
+// What a term finds in the rows of a text.
+fn find_in_store(alloc: Global, term: Term<'_>, store: &Store) -> Result<FoundRows, AllocError>
+    ensures found { IfOk result (λ f. found_rows f ≡ found_in_rows (regex_pattern term.entry.pattern.now) 0 (rows_of store.now)) }
+    ensures placed { IfOk result (λ f. ArePlaced 0 (rows_of store.now) (found_rows f)) }
 {
-    let mut finder = Finder::new(alloc, patterns, term)?;
+    let mut finder = Finder::new(alloc, term)?;
     let mut rows = Vec::new(alloc);
-    for i in 0..screen.formatted_lines_count() {
-        note_some(alloc, &mut finder, &mut rows, i, screen.row_text(i))?;
+    for i in 0..store.formatted_lines_count() {
+        note_some(alloc, &mut finder, &mut rows, i, store.row_text(i))?;
     }
     Ok(FoundRows { rows })
 }
 
-// What a pattern finds in the rows that a push forms.
+// What a term finds in the rows that a push forms.
 fn find_in_push(
     alloc: Global,
-    patterns: &Patterns,
-    term: &Regex,
-    pending: &PendingPush,
+    term: Term<'_>,
+    pending: &FormedPush,
 ) -> Result<FoundRows, AllocError>
-    ensures { IfOk result (λ f. found_rows f ≡ found_in_rows (regex_pattern term.now) pending.now.kept_rows (rows_in pending.now.tail)) }
+    ensures found { IfOk result (λ f. found_rows f ≡ found_in_rows (regex_pattern term.entry.pattern.now) pending.now.kept_rows (rows_in pending.now.tail)) }
+    ensures placed { IfOk result (λ f. ArePlaced pending.now.kept_rows (rows_in pending.now.tail) (found_rows f)) }
 {
-    let mut finder = Finder::new(alloc, patterns, term)?;
+    let mut finder = Finder::new(alloc, term)?;
     let mut rows = Vec::new(alloc);
     let first = pending.kept_rows();
     for i in 0..pending.formed_rows() {
@@ -83,17 +80,15 @@ fn find_in_push(
 
 // How many of these rows stand above one.
 fn count_above(found: &[FoundRow], row: usize) -> usize
+    requires { Ascend 0 (map matches_of found.now) }
     ensures { result ≡ position_or_len (λ f. nat_le row f.row) (map matches_of found.now) }
 {
-    found
-        .iter()
-        .position(|f| f.row >= row)
-        .unwrap_or(found.len())
+    found.partition_point(|f| f.row < row)
 }
 
 impl FoundRows {
-    /// No row.
-    pub fn new(alloc: Global) -> Self
+    // No row.
+    pub(crate) fn new(alloc: Global) -> Self
         ensures { found_rows result ≡ [] }
     {
         FoundRows {
@@ -101,50 +96,51 @@ impl FoundRows {
         }
     }
 
-    /// What a term finds in the rows of a screen; nothing without a term. One search serves all rows.
-    pub fn of_screen(
+    // What a term finds in the rows of a text; nothing without a term. One search serves all rows.
+    pub(crate) fn of_store(
         alloc: Global,
-        patterns: &Patterns,
-        term: Option<&Regex>,
-        screen: &Screen,
+        term: Option<Term<'_>>,
+        store: &Store,
     ) -> Result<Self, AllocError>
-        ensures { IfOk result (λ f. found_rows f ≡ found_by (option_map (λ r. regex_pattern r.now) term.entry) 0 (rows_of screen.now)) }
+        ensures found { IfOk result (λ f. found_rows f ≡ found_by (pattern_of term.entry) 0 (rows_of store.now)) }
+        ensures stand { IfOk result (λ f. AreFoundIn 0 (rows_of store.now) (found_rows f)) }
     {
-        let Some(pattern) = term else {
+        let Some(term) = term else {
             return Ok(FoundRows::new(alloc));
         };
-        let found = find_in_screen(alloc, patterns, pattern, screen)?;
+        let found = find_in_store(alloc, term, store)?;
         Ok(found)
     }
 
-    /// What a term finds in the rows that a push forms, with the numbers that they have after it.
-    pub fn of_push(
+    // What a term finds in the rows that a push forms, with the numbers that they have after it.
+    pub(crate) fn of_push(
         alloc: Global,
-        patterns: &Patterns,
-        term: Option<&Regex>,
-        pending: &PendingPush,
+        term: Option<Term<'_>>,
+        pending: &FormedPush,
     ) -> Result<Self, AllocError>
-        ensures { IfOk result (λ f. found_rows f ≡ found_by (option_map (λ r. regex_pattern r.now) term.entry) pending.now.kept_rows (rows_in pending.now.tail)) }
+        ensures found { IfOk result (λ f. found_rows f ≡ found_by (pattern_of term.entry) pending.now.kept_rows (rows_in pending.now.tail)) }
+        ensures stand { IfOk result (λ f. AreFoundIn pending.now.kept_rows (rows_in pending.now.tail) (found_rows f)) }
     {
-        let Some(pattern) = term else {
+        let Some(term) = term else {
             return Ok(FoundRows::new(alloc));
         };
-        let found = find_in_push(alloc, patterns, pattern, pending)?;
+        let found = find_in_push(alloc, term, pending)?;
         Ok(found)
     }
 
-    /// Makes room for others, so that these can take them in.
-    pub fn reserve(&mut self, fresh: &FoundRows) -> Result<(), AllocError>
+    // Makes room for others, so that these can take them in.
+    pub(crate) fn reserve(&mut self, fresh: &FoundRows) -> Result<(), AllocError>
         ensures room { OnOk result (HasRoomFor self.new fresh.now) }
         ensures same { found_rows self.new ≡ found_rows self.old }
     {
         self.rows.reserve(fresh.rows.len())
     }
 
-    /// Puts others, for which there is room, behind those that stand above a row, in the place of all
-    /// that follow. It takes no memory.
-    pub fn replace_from(&mut self, row: usize, fresh: FoundRows)
-        requires { HasRoomFor self.old fresh }
+    // Puts others, for which there is room, behind those that stand above a row, in the place of all
+    // that follow. It takes no memory.
+    pub(crate) fn replace_from(&mut self, row: usize, fresh: FoundRows)
+        requires room { HasRoomFor self.old fresh }
+        requires ascend { Ascend 0 (found_rows self.old) }
         ensures { found_rows self.new ≡ found_above row (found_rows self.old) ++ found_rows fresh }
     {
         let FoundRows { mut rows } = fresh;
@@ -156,21 +152,65 @@ impl FoundRows {
         }
     }
 
-    /// How many rows match.
-    pub fn len(&self) -> usize
+    // Forgets all. It takes no memory.
+    pub(crate) fn clear(&mut self)
+        ensures { found_rows self.new ≡ [] }
+    {
+        self.rows.clear();
+    }
+
+    // How many rows match.
+    pub(crate) fn len(&self) -> usize
         ensures { result ≡ length (found_rows self.now) }
     {
         self.rows.len()
     }
 
-    /// The number of one of them, which are counted from 0.
-    pub fn row(&self, i: usize) -> Option<usize>
+    // The number of one of them, which are counted from 0.
+    pub(crate) fn row(&self, i: usize) -> Option<usize>
         ensures { result ≡ option_map (λ f. f.row) (slice_get (found_rows self.now) i) }
     {
         match self.rows.get(i) {
             Some(found) => Some(found.row),
             None => None,
         }
+    }
+
+    // What was found in the row with a number.
+    fn of_row(&self, n: usize) -> Option<&FoundRow>
+        requires { Ascend 0 (found_rows self.now) }
+        ensures { option_map (λ f. matches_of f.now) result ≡ found_of_row n (found_rows self.now) }
+    {
+        let at = count_above(self.rows.as_slice(), n);
+        let Some(found) = self.rows.get(at) else {
+            return None;
+        };
+        if found.row == n {
+            return Some(found);
+        }
+        None
+    }
+
+    // Adds the text of the row with a number, with its matches shown in reverse.
+    pub(crate) fn push_marked(
+        &self,
+        alloc: Global,
+        out: &mut String,
+        n: usize,
+        row: &str,
+    ) -> Result<(), AllocError>
+        requires ascend { Ascend 0 (found_rows self.now) }
+        requires placed { IfSome (found_of_row n (found_rows self.now)) (λ r. IsPlaced row.now r) }
+        ensures { OnOk result (string_bytes out.new ≡ string_bytes out.old ++ marked (found_of_row n (found_rows self.now)) row.now) }
+    {
+        let Some(found) = self.of_row(n) else {
+            out.push_str(row)?;
+            return Ok(());
+        };
+        let shown = HighlightMatchesArgs::of_places(alloc, row, &found.escapes, &found.matches)?;
+        let text = shown.to_string(alloc)?;
+        out.push_str(&text)?;
+        Ok(())
     }
 }
 

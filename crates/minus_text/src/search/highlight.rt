@@ -1,10 +1,10 @@
 //! Lines with the matches of a pattern shown in reverse.
-ghost use Rattle.std.specs.Prelude.{◌≡◌, ◌++◌, ◌≤◌, map, length, drop, IfOk, OnOk, string_bytes};
-ghost use Rattle.minus_text.specs.Escapes.{insert_of, CutsText};
-ghost use Rattle.minus_text.specs.Highlight.{count_before, before, behind, moved, closed, of_match, ordered, highlighted, line_matches, highlighted_text, matches_text, StandIn, StandIn-prop, HighlightsAddMarkersAlone, OnlyMatchesAreHighlighted};
+ghost use Rattle.std.specs.Prelude.{◌≡◌, false, ◌++◌, ◌≤◌, map, length, drop, IfOk, OnOk, string_bytes};
+ghost use Rattle.minus_text.specs.Escapes.{insert_of, outside, inside, CutsText};
+ghost use Rattle.minus_text.specs.Highlight.{count_before, before, behind, moved, closed, of_match, ordered, put_in, highlighted, line_matches, highlighted_text, matches_text, StandIn, StandIn-prop, HighlightsAddMarkersAlone, OnlyMatchesAreHighlighted};
 ghost use Rattle.regex.specs.Strings.{regex_pattern, matcher_pattern};
 
-use crate::search::escapes::{Insert, Parted, match_places, part_line};
+use crate::search::escapes::{Insert, Parted, match_places, part, part_line};
 use crate::search::patterns::Patterns;
 use regex::{Matcher, Regex};
 use std::alloc::{AllocError, Global};
@@ -154,6 +154,26 @@ impl<'l> HighlightMatchesArgs<'l> {
             text,
             puts,
             is_match: !matches.is_empty(),
+        })
+    }
+
+    // A row in which matches and escape sequences were found at these places, not accurately.
+    pub(crate) fn of_places(
+        alloc: Global,
+        row: &'l str,
+        escape_places: &[(usize, usize)],
+        matches: &[(usize, usize)],
+    ) -> Result<Self, AllocError>
+        requires escapes { CutsText row.now 0 escape_places.now }
+        requires matches { CutsText (outside row.now 0 escape_places.now) 0 matches.now }
+        ensures { IfOk result (λ h. shown_line h ≡ put_in (outside row.now 0 escape_places.now) 0 (ordered false matches.now (inside row.now 0 0 escape_places.now))) }
+    {
+        let Parted { text, escapes } = part(alloc, row, escape_places)?;
+        let puts = ordered(alloc, matches, &escapes, false)?;
+        Ok(HighlightMatchesArgs {
+            text,
+            puts,
+            is_match: true,
         })
     }
 

@@ -1,14 +1,34 @@
--- What stands before the row's text, and its text.
-use Rattle.std.proofs.Common.{◌≡◌, ◌++◌, refl, sym, ap, ◌∙◌, append_assoc}
+-- What stands before the row's text, and its text with what was found in it.
+use Rattle.std.proofs.Common.{◌≡◌, ◌+◌, ◌++◌, Some, true, false, refl, sym, ap, subst, arith, ◌∙◌, append_assoc}
+use Rattle.std.specs.List.{slice_get}
 use Rattle.std.specs.String.{string_bytes}
-use Rattle.minus_text.proofs.StoredLaws.{no_stored}
+use Rattle.minus_text.specs.Document.{rows_of}
+use Rattle.minus_text.specs.FoundBy.{found_rows}
+use Rattle.minus_text.specs.Searched.{Searched, shown_for, GrowsBySearchedRow}
+use Rattle.minus_text.proofs.FoundInLaws.{placed_of}
+use Rattle.minus_text.proofs.SearchedLaws.{none_for, stored_for, marked_is}
 use Rattle.minus_text.proofs.screen.Screen.push_row.Goals as goal
 
 pub returns-in_default : goal.returns-in_default
-returns-in_default c = rw (no_stored c.args.self.now c.args.i c.in_default.ensures) (refl, refl)
+returns-in_default c =
+    subst (λ (s : Searched). GrowsBySearchedRow s c.args.i (string_bytes c.args.out.now) (string_bytes c.args.out.now) false) c.self.view_is
+    (λ term h. rw (none_for term c.self.inside.store c.args.i c.in_default.ensures) (refl, refl))
+
+pub push_marked-requires-clause-placed : goal.push_marked-requires-clause-placed
+push_marked-requires-clause-placed c =
+    let here : c.args.i ≡ 0 + c.args.i = omega arith in
+    placed_of 0 (rows_of c.self.inside.store) (found_rows c.self.inside.found) c.args.i c.args.i c.in-Some.text.now c.self.invariant.placed here (sym c.in-Some.ensures)
 
 pub returns : goal.returns
 returns c =
+    let d = c.self.inside.store in
+    let row = c.in-Some.text.now in
+    let there : slice_get (rows_of d) c.args.i ≡ Some row = sym c.in-Some.ensures in
+    let here : c.args.i ≡ 0 + c.args.i = omega arith in
     let grown = c.in_ok-push_row_prefix.ensures in
-    let stored = grown.2 c.in-Some.text.now (sym c.in-Some.ensures) in
-    rw stored (refl, c.in_ok-push_str.ensures.bytes ∙ ap (λ t. t ++ c.in-Some.text.now) grown.1 ∙ append_assoc (string_bytes c.args.out.now) grown.0 c.in-Some.text.now)
+    subst (λ (s : Searched). GrowsBySearchedRow s c.args.i (string_bytes c.args.out.now) (string_bytes c.push_marked.new.out) true) c.self.view_is (λ term h.
+    let shown = marked_is term (rows_of d) 0 c.args.i c.args.i row (found_rows c.self.inside.found) h here there in
+    rw (stored_for term d c.args.i row grown.0 there (grown.2 row there)) (
+      refl,
+      c.in_ok-push_marked.ensures ∙ ap (λ t. (string_bytes c.push_row_prefix.new.out) ++ t) shown ∙ ap (λ t. t ++ shown_for term row) grown.1 ∙ append_assoc (string_bytes c.args.out.now) grown.0 (shown_for term row),
+    ))

@@ -1,13 +1,12 @@
-use Rattle.std.proofs.Common.{rules, ◌≡◌, position, length, nat_le, ap, ◌∙◌}
-use Rattle.std.proofs.lemmas.Iterator.Search.{position_from_yields_List}
-use Rattle.std.proofs.lemmas.Iterator.{YieldsList-from_slice}
-use Rattle.std.specs.Option.{unwrap_or}
+use Rattle.std.proofs.Common.{arith, rules, ltb}
+use Rattle.std.proofs.lemmas.List.Sorted.{IsPartitionPoint-from_clause, IsPartitionedBy-ltb}
 use Rattle.minus_text.specs.declared.search.found.FoundRow.{FoundRow}
-use Rattle.minus_text.proofs.FoundByLaws.{above_is}
+use Rattle.minus_text.proofs.FoundInLaws.{rows_rise, place_above}
 use Rattle.minus_text.proofs.search.found_rows.count_above.Goals as goal
 
 pub returns : goal.returns
 returns c =
-    let found : c.position.result ≡ position (λ (f : FoundRow). nat_le c.args.row f.row) c.args.found.now =
-    position_from_yields_List (λ (f : FoundRow). nat_le c.args.row f.row) _ _ c.position.result c.position.ensures.ran (YieldsList-from_slice _ c.iter.ensures.rest) (λ x b q k. search rules) in
-    c.unwrap_or.ensures ∙ ap (λ at. unwrap_or at (length c.args.found.now)) found ∙ above_is c.args.row c.args.found.now
+    let fs = c.args.found.now in
+    let parted = IsPartitionedBy-ltb (λ (f : FoundRow). f.row) fs c.args.row (rows_rise 0 fs c.requires) in
+    let point = IsPartitionPoint-from_clause (λ (f : FoundRow). ltb f.row c.args.row) fs c.partition_point.result c.partition_point.ensures.partitioned parted (λ a r q k. search rules) in
+    place_above c.args.row fs c.partition_point.result c.partition_point.ensures.bound (λ k d l. point.0 k d (omega arith) l) (λ k d l m. point.1 k d l m)

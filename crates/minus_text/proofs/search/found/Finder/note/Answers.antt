@@ -2,6 +2,7 @@ use Rattle.std.proofs.Common.{◌≡◌, true, false, eqb, [], ◌∷◌, ◌++�
 use Rattle.std.proofs.lemmas.List.{append-nil, map-append}
 use Rattle.minus_text.specs.FoundRows.{finder_pattern, matches_of}
 use Rattle.minus_text.proofs.FoundLaws.{not_noted, noted}
+use Rattle.minus_text.proofs.FoundInLaws.{note_placed}
 use Rattle.minus_text.proofs.search.found.Finder.note.Goals as goal
 
 pub returns-then-is_empty-clause-found : goal.returns-then-is_empty-clause-found
@@ -20,3 +21,8 @@ returns-clause-found c =
     let e = c.in_ok-here.ensures in
     ap (map matches_of) c.in_ok-push.ensures.items ∙ map-append matches_of c.args.found.now.items (f ∷ [])
     ∙ ap (λ l. old ++ l) (noted (finder_pattern c.args.self.now) c.args.n c.args.row.now f e.row e.escapes e.matches some)
+
+pub returns-clause-placed : goal.returns-clause-placed
+returns-clause-placed c = λ first rows i at here h.
+    let e = c.in_ok-here.ensures in
+    note_placed first rows i c.args.n c.args.row.now c.args.found.now.items _ c.in_ok-here.here c.in_ok-push.ensures.items e.row at here e.placed h

@@ -1,8 +1,0 @@
-use Rattle.std.proofs.Common.{rules}
-use Rattle.minus_text.proofs.screen.Screen.forms.Goals as goal
-
-pub returns-in-Some-clause-start : goal.returns-in-Some-clause-start
-returns-in-Some-clause-start c = search rules
-
-pub returns-in-Some-clause-tail : goal.returns-in-Some-clause-tail
-returns-in-Some-clause-tail c = search rules

@@ -1,5 +1,0 @@
-use Rattle.std.proofs.Common.{rules}
-use Rattle.minus_text.proofs.screen.told.Goals as goal
-
-pub returns-clause-unfinished : goal.returns-clause-unfinished
-returns-clause-unfinished c = search rules

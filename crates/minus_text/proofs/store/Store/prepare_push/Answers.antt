@@ -1,0 +1,47 @@
+-- What is formed beside is what a push of the text forms.
+use Rattle.std.proofs.Common.{◌+◌, length, drop, ap, refl, subst, arith, ◌∙◌}
+use Rattle.std.specs.String.{string_bytes}
+use Rattle.std.proofs.lemmas.List.{length-append, length-drop}
+use Rattle.minus_text.specs.declared.formed.Plan.{Plan}
+use Rattle.minus_text.specs.Kept.{IsRestartOf, line_going_on, piece_behind}
+use Rattle.minus_text.proofs.ScreenLaws.{push_start}
+use Rattle.minus_text.proofs.PendingLaws.{prepared_pending, plan_keeps}
+use Rattle.minus_text.proofs.store.Store.prepare_push.Goals as goal
+
+pub restart-start-requires : goal.restart-start-requires
+restart-start-requires c = plan_keeps c.args.self.now c.args.text.now c.args.numbers c.args.cols c.plan-plan.result c.plan-plan.ensures
+
+pub form-requires-clause-bytes : goal.form-requires-clause-bytes
+form-requires-clause-bytes c =
+    let r = c.restart-start.ensures in
+    let tail = c.deref.ensures ∙ c.in_ok-tail.ensures in
+    omega (arith, r.place.0, r.small, ap length tail, length-append (drop (c.restart-start.result.finished.bytes + c.restart-start.result.bytes) c.args.self.now.text) c.args.text.now, length-drop (c.restart-start.result.finished.bytes + c.restart-start.result.bytes) c.args.self.now.text)
+
+pub form-requires-clause-lines : goal.form-requires-clause-lines
+form-requires-clause-lines c =
+    let r = c.restart-start.ensures in
+    omega (arith, r.lines, r.small, c.deref.type_inv.1)
+
+pub form-requires-clause-start : goal.form-requires-clause-start
+form-requires-clause-start c =
+    let r = c.restart-start.ensures in
+    let h = push_start c.args.self.now.text c.plan-plan.result c.restart-start.result c.args.text.now r.text c.utf8.text r.start in
+    (line_going_on c.args.self.now.text c.plan-plan.result, piece_behind c.args.self.now.text c.plan-plan.result c.args.text.now, r.start.restarts, h.0, c.deref.ensures ∙ c.in_ok-tail.ensures ∙ h.1)
+
+pub returns-clause-pending : goal.returns-clause-pending
+returns-clause-pending c =
+    let r = c.restart-start.ensures in
+    let h = push_start c.args.self.now.text c.plan-plan.result c.restart-start.result c.args.text.now r.text c.utf8.text r.start in
+    let tail = c.in_ok-tail.ensures ∙ h.1 in
+    let formed = c.in_ok-formed.ensures.its_form (line_going_on c.args.self.now.text c.plan-plan.result) (piece_behind c.args.self.now.text c.plan-plan.result c.args.text.now) r.start.restarts h.0 (c.deref.ensures ∙ tail) in
+    prepared_pending c.args.self.now c.args.text.now (string_bytes c.in_ok-tail.tail) c.args.numbers c.args.cols c.restart-start.result c.plan-plan.result c.plan-plan.ensures r.start h.0 tail c.in_ok-formed.formed formed
+
+pub returns-clause-prepared : goal.returns-clause-prepared
+returns-clause-prepared c =
+    let r = c.restart-start.ensures in
+    record {
+      text = r.text;
+      begins = subst (λ (p : Plan). IsRestartOf c.args.self.now.text p c.restart-start.result) c.plan-plan.ensures r.start;
+      wrapping = ap (λ (p : Plan). p.wrap) c.plan-plan.ensures;
+      follows = c.in_ok-tail.ensures;
+    }

@@ -1,0 +1,62 @@
+-- A document as a function of a term: what that finds in its rows, and its rows with that shown in reverse.
+use Rattle.std.specs.Prelude.{◌≡◌, ℕ, ◌+◌, Bool, false, List, [], ◌∷◌, ◌++◌, map, Option, None, Some, slice_get}
+use Rattle.std.specs.Str.Lines.{lines}
+use Rattle.regex.specs.Patterns.{Re}
+use Rattle.minus_text.specs.declared.layout.Wrap.{Wrap}
+use Rattle.minus_text.specs.declared.line_numbers.LineNumbers.{LineNumbers}
+use Rattle.minus_text.specs.Prefixes.{is_on}
+use Rattle.minus_text.specs.Layouts.{own_rows}
+use Rattle.minus_text.specs.Document.{Document, rows_of, wrap_in, line_count, stored_line, pushed, GrowsByRow}
+use Rattle.minus_text.specs.Fragments.{rows_in}
+use Rattle.minus_text.specs.Pending.{Pending, IsPending}
+use Rattle.minus_text.specs.Highlight.{highlighted}
+use Rattle.minus_text.specs.Found.{RowMatches, found_by}
+
+-- a document, and what was found in its rows
+pub record Searched : Type 0 where
+  pub document : Document
+  pub found : List RowMatches
+
+-- a push, and what was found in the rows that it forms
+pub record SearchedPush : Type 0 where
+  pub push : Pending
+  pub found : List RowMatches
+
+-- a document with what a term finds in it, if there is one
+abbrev pub searched : Option Re → Document → Searched
+searched term d = record { document = d; found = found_by term 0 (rows_of d) }
+
+-- what was found is what a term finds
+abbrev pub IsFoundBy : Option Re → Searched → Type 0
+IsFoundBy term s = s.found ≡ found_by term 0 (rows_of s.document)
+
+abbrev pub IsFoundInPush : Option Re → SearchedPush → Type 0
+IsFoundInPush term p = p.found ≡ found_by term p.push.kept_rows (rows_in p.push.tail)
+
+-- a row with the matches of a term shown in reverse, not accurately
+abbrev pub shown_for : Option Re → List ℕ → List ℕ
+shown_for None row = row
+shown_for (Some pattern) row = highlighted pattern false row
+
+-- the stored rows of lines under a term, of which the first has a number
+abbrev pub stored_lines_for : Option Re → Wrap → Bool → ℕ → ℕ → List (List ℕ) → List (List ℕ)
+stored_lines_for term wrap numbers count line [] = []
+stored_lines_for term wrap numbers count line (x ∷ xs) = stored_line numbers count line (map (shown_for term) (own_rows wrap x)) ++ stored_lines_for term wrap numbers count (line + 1) xs
+
+-- the stored rows of a document under a term: what stands before each row, and the row with its matches shown in reverse
+unfoldable pub stored_rows_for : Option Re → Document → List (List ℕ)
+stored_rows_for term d = stored_lines_for term (wrap_in d) (is_on d.layout.numbers) (line_count d) 1 (lines d.text)
+
+-- a text grew by a stored row, if there is one, under whatever term the rows were searched for
+abbrev pub GrowsBySearchedRow : Searched → ℕ → List ℕ → List ℕ → Bool → Type 0
+GrowsBySearchedRow s i old new found = (term : Option Re) → IsFoundBy term s → GrowsByRow (slice_get (stored_rows_for term s.document) i) old new found
+
+-- the same of a row that the push of whatever piece this belongs to would leave
+abbrev pub GrowsByPendingRow : Searched → SearchedPush → ℕ → List ℕ → List ℕ → Bool → Type 0
+GrowsByPendingRow s p i old new found = (term : Option Re) (piece : List ℕ) (numbers : LineNumbers) (cols : ℕ) → IsFoundBy term s → IsFoundInPush term p
+    → IsPending s.document piece numbers cols p.push → GrowsByRow (slice_get (stored_rows_for term (pushed s.document piece numbers cols)) i) old new found
+
+-- a text grew by the own text of a row that the push would leave
+abbrev pub GrowsByPendingText : Searched → SearchedPush → ℕ → List ℕ → List ℕ → Type 0
+GrowsByPendingText s p i old new = (term : Option Re) (piece : List ℕ) (numbers : LineNumbers) (cols : ℕ) → IsFoundBy term s → IsFoundInPush term p
+    → IsPending s.document piece numbers cols p.push → (row : List ℕ) → slice_get (rows_of (pushed s.document piece numbers cols)) i ≡ Some row → new ≡ old ++ shown_for term row
