@@ -113,6 +113,7 @@ pub use minus_text::fitted_texts_fill;
 pub use minus_text::format_line;
 pub use minus_text::last_line_end;
 pub use minus_text::numbers_toggle_twice;
+pub use minus_text::parts_are_of_lines;
 pub use minus_text::pieces_join;
 pub use minus_text::prefix_columns;
 pub use minus_text::push_fitted;

@@ -48,3 +48,4 @@ pub mod PendingLaws
 pub mod LineCountLaws
 pub mod StoredLaws
 pub mod LinePlacesLaws
+pub mod LinePartsLaws

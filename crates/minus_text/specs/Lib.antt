@@ -34,3 +34,4 @@ pub mod FormatResults
 pub mod Pending
 pub mod FoundBy
 pub mod LinePlaces
+pub mod LineParts

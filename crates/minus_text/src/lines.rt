@@ -4,6 +4,7 @@ ghost use Rattle.std.specs.Str.{IsCharBoundary};
 ghost use Rattle.std.specs.Str.Lines.{strip_carriage_return};
 ghost use Rattle.minus_text.specs.Lines.{cut, whole, behind, LinesAreCut};
 ghost use Rattle.minus_text.specs.LinePlaces.{joined_lines, last_line_end};
+ghost use Rattle.minus_text.specs.LineParts.{PartsAreOfLines};
 
 use std::alloc::AllocError;
 
@@ -72,4 +73,10 @@ pub fn last_line_end(text: &str) -> usize
 /// follows the last newline if that is not empty.
 pub fn lines_are_cut()
     ensures { LinesAreCut }
+{}
+
+/// The part of a text between two places in its lines, its lines joined by newlines, is the part of the
+/// lines between these places.
+pub fn parts_are_of_lines()
+    ensures { PartsAreOfLines }
 {}
