@@ -123,6 +123,7 @@ pub use minus_text::push_spaces;
 pub use minus_text::rows_are_determined;
 pub use minus_text::rows_fit;
 pub use minus_text::rows_go_on;
+pub use minus_text::rows_stand_in_lines;
 pub use minus_text::words_are_cut_at_joints;
 pub use minus_text::wrap_line;
 pub use page::Page;

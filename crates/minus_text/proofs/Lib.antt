@@ -49,3 +49,4 @@ pub mod LineCountLaws
 pub mod StoredLaws
 pub mod LinePlacesLaws
 pub mod LinePartsLaws
+pub mod RowHomesLaws

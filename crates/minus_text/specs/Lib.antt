@@ -35,3 +35,4 @@ pub mod Pending
 pub mod FoundBy
 pub mod LinePlaces
 pub mod LineParts
+pub mod RowHomes

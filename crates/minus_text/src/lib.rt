@@ -18,7 +18,7 @@ pub mod wrap;
 pub use crop::{Window, crop_columns, cropped_texts_fit, fitted_texts_fill, push_fitted};
 pub use layout::Layout;
 pub use line_numbers::{LineNumbers, digits, numbers_toggle_twice, prefix_columns, push_prefix};
-pub use lines::{last_line_end, parts_are_of_lines, push_lines};
+pub use lines::{last_line_end, parts_are_of_lines, push_lines, rows_stand_in_lines};
 pub use lines_row_map::LinesRowMap;
 pub use pending::PendingPush;
 pub use screen::{FormatResult, Line, OwnedTextBlock, Row, Rows, Screen, TextBlock};

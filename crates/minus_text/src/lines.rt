@@ -5,6 +5,7 @@ ghost use Rattle.std.specs.Str.Lines.{strip_carriage_return};
 ghost use Rattle.minus_text.specs.Lines.{cut, whole, behind, LinesAreCut};
 ghost use Rattle.minus_text.specs.LinePlaces.{joined_lines, last_line_end};
 ghost use Rattle.minus_text.specs.LineParts.{PartsAreOfLines};
+ghost use Rattle.minus_text.specs.RowHomes.{RowsStandInLines};
 
 use std::alloc::AllocError;
 
@@ -79,4 +80,9 @@ pub fn lines_are_cut()
 /// lines between these places.
 pub fn parts_are_of_lines()
     ensures { PartsAreOfLines }
+{}
+
+/// The place of a row in a text is its place in its line, behind where the line begins.
+pub fn rows_stand_in_lines()
+    ensures { RowsStandInLines }
 {}
