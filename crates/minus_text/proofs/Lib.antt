@@ -51,3 +51,5 @@ pub mod LinePlacesLaws
 pub mod BlockLaws
 pub mod FoundInLaws
 pub mod SearchedLaws
+pub mod LinePartsLaws
+pub mod RowHomesLaws

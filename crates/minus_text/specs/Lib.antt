@@ -39,3 +39,5 @@ pub mod Pending
 pub mod FoundBy
 pub mod LinePlaces
 pub mod Searched
+pub mod LineParts
+pub mod RowHomes

@@ -4,6 +4,8 @@ ghost use Rattle.std.specs.Str.{IsCharBoundary};
 ghost use Rattle.std.specs.Str.Lines.{strip_carriage_return};
 ghost use Rattle.minus_text.specs.Lines.{cut, whole, behind, LinesAreCut};
 ghost use Rattle.minus_text.specs.LinePlaces.{joined_lines, last_line_end};
+ghost use Rattle.minus_text.specs.LineParts.{PartsAreOfLines};
+ghost use Rattle.minus_text.specs.RowHomes.{RowsStandInLines};
 
 use std::alloc::AllocError;
 
@@ -72,4 +74,15 @@ pub fn last_line_end(text: &str) -> usize
 /// follows the last newline if that is not empty.
 pub fn lines_are_cut()
     ensures { LinesAreCut }
+{}
+
+/// The part of a text between two places in its lines, its lines joined by newlines, is the part of the
+/// lines between these places.
+pub fn parts_are_of_lines()
+    ensures { PartsAreOfLines }
+{}
+
+/// The place of a row in a text is its place in its line, behind where the line begins.
+pub fn rows_stand_in_lines()
+    ensures { RowsStandInLines }
 {}

@@ -1,6 +1,5 @@
 -- With a newline at the end, and without.
 use Rattle.std.proofs.Common.{◌≡◌, ◌++◌, ◌∷◌, [], length, ap, sym, ◌∙◌, lit<}
-use Rattle.std.specs.Str.{IsCharBoundary}
 use Rattle.std.proofs.lemmas.Str.{IsCharBoundary-end}
 use Rattle.std.proofs.lemmas.Str.Pattern.{strip_suffix_char}
 use Rattle.minus_text.proofs.LinePlacesLaws.{end_of_finished, end_of_unfinished, boundary_of_finished}
