@@ -54,7 +54,8 @@ pub record IsBlockFormed (p : Pending) (layout : Layout) (lines_before unfinishe
 
 -- this stands before a row of a block
 abbrev pub IsPrefixIn : Block → ℕ → List ℕ → Type 0
-IsPrefixIn b i before = (row : List ℕ) → slice_get (rows_in (fragment_of b)) i ≡ Some row → (term : Option Re) → slice_get (block_rows term b) i ≡ Some (before ++ shown_row term row)
+IsPrefixIn b i before = (row : List ℕ) → slice_get (rows_in (fragment_of b)) i ≡ Some row → (term : Option Re)
+    → slice_get (block_rows term b) i ≡ Some (before ++ shown_row term row)
 
 -- a row of a block by its number, if there is one
 abbrev pub IsRowIn : Block → ℕ → Option FormattedRow → Type 0
@@ -73,6 +74,10 @@ keys_noted matches n keys = if matches then insert_key nat_cmp keys n else keys
 abbrev pub keys_with : Option Re → ℕ → Option (List ℕ) → List ℕ → List ℕ
 keys_with term n None keys = keys
 keys_with term n (Some row) keys = keys_noted (row_matches term row) n keys
+
+-- what is noted of a row of a block
+abbrev pub noted_in : Option Re → Block → ℕ → List ℕ → List ℕ
+noted_in term b i keys = keys_with term (b.first_row + i) (slice_get (rows_in (fragment_of b)) i) keys
 
 -- rows were added alone
 abbrev pub GrowsByRows : List (List ℕ) → List (List ℕ) → Type 0

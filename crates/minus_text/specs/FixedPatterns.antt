@@ -1,6 +1,6 @@
 -- The two patterns that a pager searches with beside its user's.
-use Rattle.std.specs.Prelude.{◌≡◌, ◌≢◌, ◌⊎◌, ◌<◌, List, [], ◌∷◌, ℕ, Some, None, true, codes, map, slice_index}
-use Rattle.regex.specs.Patterns.{Re, literal, char_in, cat, default_config, optional, repeat, find_all_str, span}
+use Rattle.std.specs.Prelude.{◌≡◌, ◌≢◌, ◌⊎◌, ◌<◌, ◌==◌, ◌&&◌, ◌||◌, Bool, not, nat_le, List, [], ◌∷◌, ℕ, Some, None, true, codes, map, slice_index}
+use Rattle.regex.specs.Patterns.{Re, literal, char_in, cat, alt, group, plus, members, is_word_char, default_config, optional, repeat, find_all_str, span}
 use Rattle.regex.specs.Strings.{regex_source, regex_config, IsReadFromSource}
 use Rattle.regex.specs.Sources.{IsRefusal}
 use Rattle.regex.specs.Failures.{IsRightKind}
@@ -45,6 +45,25 @@ final = char_in ((48, 57) ∷ (65, 79) ∷ (82, 82) ∷ (90, 90) ∷ (99, 99) �
 -- An escape sequence: what the grammar of patterns reads in the text above.
 unfoldable pub escape_sequence : Re
 escape_sequence = cat introducer (cat (literal (codes "[")) (cat marks (cat (optional true numbers) final)))
+
+-- a letter, a digit or a mark of words as the Unicode standard has them, or `_`; a character that is none of the former
+abbrev pub word_character : ℕ → Bool
+word_character c = is_word_char c || (c == 95)
+
+abbrev pub no_word_character : ℕ → Bool
+no_word_character c = nat_le c 0x10_FFFF && not (is_word_char c)
+
+-- a mark of ASCII that words do not have: each but the backquote
+abbrev pub punctuation : Re
+punctuation =
+    char_in ((45, 45) ∷ (63, 63) ∷ (126, 126) ∷ (64, 64) ∷ (35, 35) ∷ (33, 33) ∷ (36, 36) ∷ (37, 37) ∷ (94, 94) ∷ (38, 38) ∷
+    (42, 42) ∷ (40, 40) ∷ (41, 43) ∷ (61, 61) ∷ (123, 123) ∷ (125, 125) ∷ (91, 91) ∷ (93, 93) ∷ (58, 58) ∷ (59, 59) ∷
+    (92, 92) ∷ (124, 124) ∷ (39, 39) ∷ (47, 47) ∷ (63, 63) ∷ (60, 60) ∷ (62, 62) ∷ (46, 46) ∷ (44, 44) ∷ (34, 34) ∷
+    [])
+
+-- A word of a query: word characters, or marks, or one other character. It is what the grammar reads in the text above.
+unfoldable pub query_word : Re
+query_word = alt (group 1 (plus true (char_in (members word_character)))) (alt (group 2 (plus true punctuation)) (char_in (members no_word_character)))
 
 -- a pattern is what the grammar reads in a text
 pub record IsBuiltOf (source : List ℕ) (built : Regex) : Type 0 where

@@ -2,12 +2,11 @@
 ghost use Rattle.std.specs.Prelude.{◌≡◌, ◌+◌, ◌^◌, ◌<◌, ◌≤◌, ◌++◌, length, Option, option_map, slice_get, string_bytes, IfOk, OnOk, OnErr};
 ghost use Rattle.std.specs.Str.Lines.{lines};
 ghost use Rattle.regex.specs.Patterns.{Re};
-ghost use Rattle.regex.specs.Strings.{regex_pattern};
 ghost use Rattle.minus_text.specs.Layouts.{margin};
 ghost use Rattle.minus_text.specs.Fragments.{rows_in};
 ghost use Rattle.minus_text.specs.FoundRows.{finder_pattern};
-ghost use Rattle.minus_text.specs.Formatted.{prefix_of};
-ghost use Rattle.minus_text.specs.Blocks.{Block, fragment_of, block_rows, matching_rows, TellsBlock, IsPrefixIn, IsRowIn, one, keys_noted, keys_with, GrowsByRows};
+ghost use Rattle.minus_text.specs.Formatted.{pattern_of, prefix_of};
+ghost use Rattle.minus_text.specs.Blocks.{Block, fragment_of, block_rows, matching_rows, TellsBlock, IsPrefixIn, IsRowIn, one, keys_noted, noted_in, GrowsByRows};
 
 use crate::buffers::AppendableBuffer;
 use crate::formatted::{FormattedRow, RowPrefix, finder_of, search_row};
@@ -210,7 +209,7 @@ fn put_row<B: AppendableBuffer>(
 ) -> Result<(), AllocError>
     requires { i < 2 ^ 63 }
     ensures rows { OnOk result (B.rows buffer.new ≡ B.rows buffer.old ++ one (slice_get (block_rows (option_map finder_pattern finder.old) block.now) i)) }
-    ensures found { OnOk result (found.new.keys ≡ keys_with (option_map finder_pattern finder.old) (block.now.first_row + i) (slice_get (rows_in (fragment_of block.now)) i) found.old.keys) }
+    ensures found { OnOk result (found.new.keys ≡ noted_in (option_map finder_pattern finder.old) block.now i found.old.keys) }
     ensures same { option_map finder_pattern finder.new ≡ option_map finder_pattern finder.old }
     ensures err { OnErr result (B.rows buffer.new ≡ B.rows buffer.old) }
 {
@@ -232,8 +231,8 @@ fn put_rows<B: AppendableBuffer>(
     patterns: &Patterns,
     term: Option<&Regex>,
 ) -> Result<BTreeSet<usize>, AllocError>
-    ensures rows { OnOk result (B.rows buffer.new ≡ B.rows buffer.old ++ block_rows (option_map (λ r. regex_pattern r.now) term.entry) block.now) }
-    ensures found { IfOk result (λ found. found.keys ≡ matching_rows (option_map (λ r. regex_pattern r.now) term.entry) block.now) }
+    ensures rows { OnOk result (B.rows buffer.new ≡ B.rows buffer.old ++ block_rows (pattern_of term.entry) block.now) }
+    ensures found { IfOk result (λ found. found.keys ≡ matching_rows (pattern_of term.entry) block.now) }
     ensures grows { GrowsByRows (B.rows buffer.old) (B.rows buffer.new) }
 {
     let mut finder = finder_of(alloc, patterns, term)?;
@@ -253,8 +252,8 @@ pub(crate) fn put_block<B: AppendableBuffer>(
     term: Option<&Regex>,
     clean: bool,
 ) -> Result<FormatResult, AllocError>
-    ensures rows { OnOk result (B.rows buffer.new ≡ B.rows buffer.old ++ block_rows (option_map (λ r. regex_pattern r.now) term.entry) block) }
-    ensures told { IfOk result (λ r. TellsBlock r (option_map (λ t. regex_pattern t.now) term.entry) block clean) }
+    ensures rows { OnOk result (B.rows buffer.new ≡ B.rows buffer.old ++ block_rows (pattern_of term.entry) block) }
+    ensures told { IfOk result (λ r. TellsBlock r (pattern_of term.entry) block clean) }
     ensures err { OnErr result (B.rows buffer.new ≡ B.rows buffer.old) }
 {
     let len = buffer.rows_len();

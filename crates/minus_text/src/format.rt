@@ -1,6 +1,6 @@
 //! Calls that put the rows of a text into a buffer.
 ghost use Rattle.std.specs.Prelude.{◌≡◌, ◌^◌, ◌<◌, ◌++◌, map, true, option_map, string_bytes, IfOk, IfErr, OnOk, OnErr};
-ghost use Rattle.regex.specs.Strings.{regex_pattern};
+ghost use Rattle.minus_text.specs.Formatted.{pattern_of};
 ghost use Rattle.minus_text.specs.Blocks.{block_rows, TellsBlock};
 ghost use Rattle.minus_text.specs.Formats.{block_with, block_of, term_of, attaches_none};
 
@@ -128,8 +128,8 @@ pub fn format_lines_into(
     patterns: &Patterns,
     search_term: Option<&Regex>,
 ) -> Result<FormatResult, MinusError>
-    ensures rows { OnOk result (map string_bytes buffer.new.items ≡ block_rows (option_map (λ r. regex_pattern r.now) search_term.entry) (record { text = text.now; layout = layout; lines_before = 0; first_row = 0 })) }
-    ensures told { IfOk result (λ r. TellsBlock r (option_map (λ t. regex_pattern t.now) search_term.entry) (record { text = text.now; layout = layout; lines_before = 0; first_row = 0 }) true) }
+    ensures rows { OnOk result (map string_bytes buffer.new.items ≡ block_rows (pattern_of search_term.entry) (block_with None text.now layout 0 0 0)) }
+    ensures told { IfOk result (λ r. TellsBlock r (pattern_of search_term.entry) (block_with None text.now layout 0 0 0) true) }
     ensures err { OnErr result (buffer.new.items ≡ buffer.old.items) }
     ensures memory { IfErr result (λ e. e ≡ MinusError.Memory) }
 {

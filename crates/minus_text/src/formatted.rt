@@ -1,11 +1,10 @@
 //! Rows that print as they are stored.
 ghost use Rattle.std.specs.Prelude.{◌≡◌, map, option_map, replicate, false, IfOk, Some};
-ghost use Rattle.regex.specs.Strings.{regex_pattern};
 ghost use Rattle.minus_text.specs.Prefixes.{prefix};
 ghost use Rattle.minus_text.specs.Highlight.{highlighted, line_matches};
 ghost use Rattle.minus_text.specs.Shown.{shown_line};
 ghost use Rattle.minus_text.specs.FoundRows.{finder_pattern};
-ghost use Rattle.minus_text.specs.Formatted.{prefix_of, printed_row, printed_under, printed_searched, row_matches};
+ghost use Rattle.minus_text.specs.Formatted.{pattern_of, prefix_of, printed_row, printed_under, printed_searched, row_matches};
 
 use crate::line_numbers::{digits, prefix_columns};
 use crate::search::escapes::{match_places, part};
@@ -128,7 +127,7 @@ pub(crate) fn finder_of<'p>(
     patterns: &'p Patterns,
     term: Option<&'p Regex>,
 ) -> Result<Option<Finder<'p>>, AllocError>
-    ensures { IfOk result (λ f. option_map finder_pattern f ≡ option_map (λ r. regex_pattern r.now) term.entry) }
+    ensures { IfOk result (λ f. option_map finder_pattern f ≡ pattern_of term.entry) }
 {
     let Some(pattern) = term else {
         return Ok(None);
@@ -185,8 +184,8 @@ pub fn format_search_rows<'a>(
     rows: &[FormattedRow<'a>],
     search_term: Option<&Regex>,
 ) -> Result<Vec<(SearchFormattedRow<'a>, bool)>, AllocError>
-    ensures printed { IfOk result (λ found. map (λ r. printed_searched r.0) found.items ≡ map (printed_under (option_map (λ r. regex_pattern r.now) search_term.entry)) rows.now) }
-    ensures matches { IfOk result (λ found. map (λ r. r.1) found.items ≡ map (λ r. row_matches (option_map (λ t. regex_pattern t.now) search_term.entry) r.row.now) rows.now) }
+    ensures printed { IfOk result (λ found. map (λ r. printed_searched r.0) found.items ≡ map (printed_under (pattern_of search_term.entry)) rows.now) }
+    ensures matches { IfOk result (λ found. map (λ r. r.1) found.items ≡ map (λ r. row_matches (pattern_of search_term.entry) r.row.now) rows.now) }
 {
     let mut finder = finder_of(alloc, patterns, search_term)?;
     let mut found = Vec::new(alloc);

@@ -114,7 +114,7 @@ pub struct HighlightMatchesArgs<'l> {
 }
 
 impl<'l> HighlightMatchesArgs<'l> {
-    ghost use Rattle.minus_text.specs.Shown.{shown_line};
+    ghost use Rattle.minus_text.specs.Shown.{shown_line, highlighted_parted};
 
     /// Finds the matches of a pattern in a line, which are those of the line without its escape
     /// sequences. These stay where they stand if the highlight is to be accurate; else those inside
@@ -143,7 +143,7 @@ impl<'l> HighlightMatchesArgs<'l> {
         accurate: bool,
     ) -> Result<Self, AllocError>
         requires { StandIn (string_bytes parted.text) 0 (map insert_of parted.escapes.items) }
-        ensures line { IfOk result (λ h. shown_line h ≡ highlighted_text (matcher_pattern matcher.old) accurate (string_bytes parted.entry.text) (map insert_of parted.entry.escapes.items)) }
+        ensures line { IfOk result (λ h. shown_line h ≡ highlighted_parted (matcher_pattern matcher.old) accurate parted.entry) }
         ensures matches { IfOk result (λ h. h.is_match ≡ matches_text (matcher_pattern matcher.old) (string_bytes parted.entry.text)) }
         ensures same { matcher_pattern matcher.new ≡ matcher_pattern matcher.old }
     {

@@ -1,7 +1,7 @@
 //! The patterns that a pager searches with beside its user's.
 ghost use Rattle.std.specs.Prelude.{◌≡◌, IfOk, IfErr};
 ghost use Rattle.regex.specs.Strings.{regex_pattern};
-ghost use Rattle.minus_text.specs.FixedPatterns.{escape_sequence, word_source, MatchesAs, IsBuiltOf, IsPatternText, IsPatternRefusal};
+ghost use Rattle.minus_text.specs.FixedPatterns.{escape_sequence, query_word, MatchesAs, IsBuiltOf, IsPatternText, IsPatternRefusal};
 
 use minus_term::error::{MinusError, RegexError};
 use regex::{Error, Regex};
@@ -18,7 +18,7 @@ pub struct Patterns {
     pub(crate) escape: Regex,
     pub(crate) word: Regex,
     ghost escape_matches: { MatchesAs (regex_pattern escape) escape_sequence },
-    ghost word_built: { ∥ IsBuiltOf word_source word ∥₁ },
+    ghost word_matches: { MatchesAs (regex_pattern word) query_word },
 }
 
 // A pattern built of its text.
