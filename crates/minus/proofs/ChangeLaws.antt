@@ -2,6 +2,7 @@
 use Rattle.std.proofs.Common.{◌≡◌, ℕ, ◌-◌, List, take, drop, Bool, false, refl, ap, ◌∙◌}
 use Rattle.minus_text.specs.Layouts.{plain}
 use Rattle.minus_text.specs.Document.{Document, rows_of}
+use Rattle.minus_text.specs.Searched.{Searched}
 use Rattle.minus.specs.declared.state.PagerState.{PagerState}
 use Rattle.minus.specs.declared.change.Change.{Change}
 use Rattle.minus.specs.declared.change.NextText.{NextText}
@@ -24,21 +25,21 @@ same_control a b t c r m s =
     ∙ ap (λ (x : Settings). let k : Control = record { text = b.text; cols = b.cols; rows = b.rows; mark = b.mark; settings = x } in k) s
 
 -- the state holds the control that the change leads to
-pub placed : (s t : PagerState) (change : Change) (new : Control) → IsFormed s → IsChange (control_of s) change new → t.screen ≡ next_document s.screen change.text → t.upper_mark ≡ change.mark → t.cols ≡ change.cols → t.rows ≡ change.rows → settings_of t ≡ settings_after (settings_of s) change.clears change.setting → control_of t ≡ new
+pub placed : (s t : PagerState) (change : Change) (new : Control) → IsFormed s → IsChange (control_of s) change new → t.screen.document ≡ next_document s.screen.document change.text → t.upper_mark ≡ change.mark → t.cols ≡ change.cols → t.rows ≡ change.rows → settings_of t ≡ settings_after (settings_of s) change.clears change.setting → control_of t ≡ new
 placed s t change new f h e m c r q =
-    let document : t.screen ≡ document_of new = e ∙ ap (λ (d : Document). next_document d change.text) f.document ∙ h.document in
+    let document : t.screen.document ≡ document_of new = e ∙ ap (λ (d : Document). next_document d change.text) f.document ∙ h.document in
     same_control (control_of t) new (ap (λ (d : Document). d.text) document) (c ∙ h.cols_are) (r ∙ h.rows_are) (m ∙ h.mark_is) (q ∙ h.settings_are)
 
 -- the same where the state was drawn from between
-pub placed_after : (s d t : PagerState) (change : Change) (new : Control) → d ≡ s → IsFormed s → IsChange (control_of s) change new → t.screen ≡ next_document d.screen change.text → t.upper_mark ≡ change.mark → t.cols ≡ change.cols → t.rows ≡ change.rows → settings_of t ≡ settings_after (settings_of d) change.clears change.setting → control_of t ≡ new
+pub placed_after : (s d t : PagerState) (change : Change) (new : Control) → d ≡ s → IsFormed s → IsChange (control_of s) change new → t.screen.document ≡ next_document d.screen.document change.text → t.upper_mark ≡ change.mark → t.cols ≡ change.cols → t.rows ≡ change.rows → settings_of t ≡ settings_after (settings_of d) change.clears change.setting → control_of t ≡ new
 placed_after s d t change new same f h e m c r q =
-    placed s t change new f h (e ∙ ap (λ (x : PagerState). next_document x.screen change.text) same) m c r (q ∙ ap (λ (x : PagerState). settings_after (settings_of x) change.clears change.setting) same)
+    placed s t change new f h (e ∙ ap (λ (x : PagerState). next_document x.screen.document change.text) same) m c r (q ∙ ap (λ (x : PagerState). settings_after (settings_of x) change.clears change.setting) same)
 
 abbrev pub document : List ℕ → ℕ → Document
 document text cols = record { text = text; layout = plain cols }
 
 -- a change to a text that was formed anew
-pub change_anew : (s : PagerState) (change : Change) (next : Document) (text : List ℕ) (cols : ℕ) (new : Control) → change.text ≡ Whole next → next ≡ document text cols → text ≡ new.text → cols ≡ new.cols → change.mark ≡ new.mark → change.cols ≡ new.cols → change.rows ≡ new.rows → settings_after (settings_of s) change.clears change.setting ≡ new.settings → IsChange (control_of s) change new
+pub change_anew : (s : PagerState) (change : Change) (next : Searched) (text : List ℕ) (cols : ℕ) (new : Control) → change.text ≡ Whole next → next.document ≡ document text cols → text ≡ new.text → cols ≡ new.cols → change.mark ≡ new.mark → change.cols ≡ new.cols → change.rows ≡ new.rows → settings_after (settings_of s) change.clears change.setting ≡ new.settings → IsChange (control_of s) change new
 change_anew s change next text cols new is formed t k m c r q = record {
   belongs = rw is tt;
   document = ap (λ (n : NextText). next_document (document_of (control_of s)) n) is ∙ formed ∙ ap (λ (x : List ℕ). document x cols) t ∙ ap (λ (x : ℕ). document new.text x) k;
@@ -49,9 +50,9 @@ change_anew s change next text cols new is formed t k m c r q = record {
 }
 
 -- the rows of text on the page that a change leads to
-pub shown_is : (s : PagerState) (change : Change) (new : Control) → IsFormed s → IsChange (control_of s) change new → shown_by s.screen change ≡ shown new
+pub shown_is : (s : PagerState) (change : Change) (new : Control) → IsFormed s → IsChange (control_of s) change new → shown_by s.screen.document change ≡ shown new
 shown_is s change new f h =
-    let document : next_document s.screen change.text ≡ document_of new = ap (λ (d : Document). next_document d change.text) f.document ∙ h.document in
+    let document : next_document s.screen.document change.text ≡ document_of new = ap (λ (d : Document). next_document d change.text) f.document ∙ h.document in
     ap (λ (d : Document). take (change.rows - 1) (drop change.mark (rows_of d))) document
     ∙ ap (λ (n : ℕ). take (n - 1) (drop change.mark (text_rows new))) h.rows_are
     ∙ ap (λ (m : ℕ). take (new.rows - 1) (drop m (text_rows new))) h.mark_is

@@ -20,11 +20,11 @@ settings_of s = record { prompt = string_bytes s.prompt; message = option_map st
 
 -- the control that a state holds
 abbrev pub control_of : PagerState → Control
-control_of s = record { text = s.screen.text; cols = s.cols; rows = s.rows; mark = s.upper_mark; settings = settings_of s }
+control_of s = record { text = s.screen.document.text; cols = s.cols; rows = s.rows; mark = s.upper_mark; settings = settings_of s }
 
 -- the stored rows are those of the control's document
 pub record IsFormed (s : PagerState) : Type 0 where
-  pub document : s.screen ≡ document_of (control_of s)
+  pub document : s.screen.document ≡ document_of (control_of s)
 
 -- what an event of the pager asks for
 abbrev pub event_wanted : {K : Type 0} → InputEvent → Wanted K

@@ -20,8 +20,8 @@ impl NextText {
 
     // How many rows there will be.
     pub(crate) fn rows_after(&self, screen: &Screen) -> usize
-        requires { IsNext screen.now self.now }
-        ensures { result ≡ length (rows_of (next_document screen.now self.now)) }
+        requires { IsNext screen.now.document self.now }
+        ensures { result ≡ length (rows_of (next_document screen.now.document self.now)) }
     {
         match self {
             NextText::Same => screen.formatted_lines_count(),
@@ -32,8 +32,8 @@ impl NextText {
 
     // The text of a row, counted from 0, as it will be.
     pub(crate) fn row_after<'a>(&'a self, screen: &'a Screen, i: usize) -> Option<&'a str>
-        requires { IsNext screen.now self.now }
-        ensures { option_map (λ r. r.now) result ≡ slice_get (rows_of (next_document screen.now self.now)) i }
+        requires { IsNext screen.now.document self.now }
+        ensures { option_map (λ r. r.now) result ≡ slice_get (rows_of (next_document screen.now.document self.now)) i }
     {
         match self {
             NextText::Same => screen.row_text(i),

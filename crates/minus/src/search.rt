@@ -1,5 +1,5 @@
 //! Search in texts.
 pub use minus_text::search::{
-    FoundRows, HighlightMatchesArgs, Patterns, found_rows_go_on, highlight_line_matches,
+    HighlightMatchesArgs, Patterns, Term, found_rows_go_on, highlight_line_matches,
     highlights_add_markers_alone, next_nth_match, only_matches_are_highlighted, strip_escapes,
 };

@@ -27,11 +27,11 @@ const PROMPT: &str = "minus";
 
 // A text with its rows for so many columns.
 fn formed(alloc: Global, text: &str, cols: usize) -> Result<Screen, MinusError>
-    ensures ok { IfOk result (λ s. s ≡ record { text = text.now; layout = plain cols }) }
+    ensures ok { IfOk result (λ s. s.document ≡ record { text = text.now; layout = plain cols }) }
     ensures memory { IfErr result (λ e. e ≡ MinusError.Memory) }
 {
     let mut screen = Screen::new(alloc);
-    match screen.set_text(alloc, text, Layout::plain(cols)) {
+    match screen.set_text(alloc, text, Layout::plain(cols), None) {
         Ok(_) => Ok(screen),
         Err(cause) => Err(cause),
     }
@@ -39,8 +39,8 @@ fn formed(alloc: Global, text: &str, cols: usize) -> Result<Screen, MinusError>
 
 // Puts a text that was formed in its place. An `Err` changes nothing.
 fn place_text(alloc: Global, screen: &mut Screen, text: NextText) -> Result<(), MinusError>
-    requires { IsNext screen.old text }
-    ensures ok { OnOk result (screen.new ≡ next_document screen.old text) }
+    requires { IsNext screen.old.document text }
+    ensures ok { OnOk result (screen.new.document ≡ next_document screen.old.document text) }
     ensures err { OnErr result (screen.new ≡ screen.old) }
     ensures memory { IfErr result (λ e. e ≡ MinusError.Memory) }
 {
@@ -51,7 +51,7 @@ fn place_text(alloc: Global, screen: &mut Screen, text: NextText) -> Result<(), 
             Ok(())
         }
         NextText::Pushed(piece, pending) => {
-            let _ = screen.place_push(alloc, &piece, pending)?;
+            let _ = screen.place_push(alloc, &piece, pending, None)?;
             Ok(())
         }
     }
@@ -162,12 +162,12 @@ impl PagerState {
         match command {
             CommandOf::SetData(text) => {
                 let layout = Layout::plain(self.cols);
-                let _ = self.screen.set_text(alloc, text, layout)?;
+                let _ = self.screen.set_text(alloc, text, layout, None)?;
             }
             CommandOf::AppendData(text) => {
                 let _ = self
                     .screen
-                    .push_screen_buf(alloc, text, LineNumbers::Disabled, self.cols)?;
+                    .push_screen_buf(alloc, text, LineNumbers::Disabled, self.cols, None)?;
             }
             CommandOf::SetPrompt(_)
             | CommandOf::SendMessage(_)
@@ -235,8 +235,8 @@ impl PagerState {
 
     // Puts what was formed in its place. An `Err` changes nothing.
     pub(crate) fn place(&mut self, alloc: Global, change: Change) -> Result<(), MinusError>
-        requires { IsNext self.old.screen change.text }
-        ensures screen { OnOk result (self.new.screen ≡ next_document self.old.screen change.text) }
+        requires { IsNext self.old.screen.document change.text }
+        ensures screen { OnOk result (self.new.screen.document ≡ next_document self.old.screen.document change.text) }
         ensures mark { OnOk result (self.new.upper_mark ≡ change.mark) }
         ensures cols { OnOk result (self.new.cols ≡ change.cols) }
         ensures rows { OnOk result (self.new.rows ≡ change.rows) }

@@ -91,8 +91,8 @@ impl PagerState {
 
     // How many rows of text the page has that a change leads to.
     fn count_after(&self, change: &Change) -> usize
-        requires { IsNext self.now.screen change.now.text }
-        ensures count { result ≡ length (shown_by self.now.screen change.now) }
+        requires { IsNext self.now.screen.document change.now.text }
+        ensures count { result ≡ length (shown_by self.now.screen.document change.now) }
         ensures within { change.now.mark + result < 2 ^ 64 }
     {
         let left = change
@@ -110,8 +110,8 @@ impl PagerState {
         first: usize,
         end: usize,
     ) -> Result<Vec<&'a str>, AllocError>
-        requires { IsNext self.now.screen change.now.text }
-        ensures { IfOk result (λ v. map (λ r. r.now) v.items ≡ drop first (take end (shown_by self.now.screen change.now))) }
+        requires { IsNext self.now.screen.document change.now.text }
+        ensures { IfOk result (λ v. map (λ r. r.now) v.items ≡ drop first (take end (shown_by self.now.screen.document change.now))) }
     {
         let count = self.count_after(change).min(end);
         let start = first.min(count);
@@ -131,8 +131,8 @@ impl PagerState {
         change: &'a Change,
         first: usize,
     ) -> Result<Vec<&'a str>, AllocError>
-        requires { IsNext self.now.screen change.now.text }
-        ensures { IfOk result (λ v. map (λ r. r.now) v.items ≡ drop first (shown_by self.now.screen change.now)) }
+        requires { IsNext self.now.screen.document change.now.text }
+        ensures { IfOk result (λ v. map (λ r. r.now) v.items ≡ drop first (shown_by self.now.screen.document change.now)) }
     {
         self.shown_between(alloc, change, first, change.rows - 1)
     }
@@ -144,8 +144,8 @@ impl PagerState {
         change: &'a Change,
         from: usize,
     ) -> Result<Vec<&'a str>, AllocError>
-        requires { IsNext self.now.screen change.now.text }
-        ensures { IfOk result (λ v. map (λ r. r.now) v.items ≡ rows_newly change.now.rows from change.now.mark (shown_by self.now.screen change.now)) }
+        requires { IsNext self.now.screen.document change.now.text }
+        ensures { IfOk result (λ v. map (λ r. r.now) v.items ≡ rows_newly change.now.rows from change.now.mark (shown_by self.now.screen.document change.now)) }
     {
         let most = change.rows - 1;
         if from <= change.mark {
@@ -176,9 +176,9 @@ impl PagerState {
         first: usize,
         were: usize,
     ) -> Result<(), AllocError>
-        requires belongs { IsNext self.now.screen change.now.text }
+        requires belongs { IsNext self.now.screen.document change.now.text }
         requires few { were < 2 ^ 16 }
-        ensures { OnOk result (out.new.items ≡ out.old.items ++ written_all (rows_after first were (shown_by self.now.screen change.now))) }
+        ensures { OnOk result (out.new.items ≡ out.old.items ++ written_all (rows_after first were (shown_by self.now.screen.document change.now))) }
     {
         let count = self.count_after(change);
         let texts = self.shown_after(alloc, change, first)?;
@@ -200,7 +200,7 @@ impl PagerState {
         change: &'a Change,
     ) -> Result<(), AllocError>
         requires formed { IsFormed self.now }
-        requires belongs { IsNext self.now.screen change.now.text }
+        requires belongs { IsNext self.now.screen.document change.now.text }
         ensures { OnOk result ((new : Control) → IsChange (control_of self.now) change.now new →
             out.new.items ≡ out.old.items ++ written_all (ops_between Drawing.Append (control_of self.now) new)) }
     {
@@ -237,7 +237,7 @@ impl PagerState {
         prompt: &str,
     ) -> Result<(), AllocError>
         requires formed { IsFormed self.now }
-        requires belongs { IsNext self.now.screen change.now.text }
+        requires belongs { IsNext self.now.screen.document change.now.text }
         ensures { OnOk result ((new : Control) → IsChange (control_of self.now) change.now new → prompt.now ≡ prompt_row new →
             out.new.items ≡ out.old.items ++ written_all (ops_between drawing (control_of self.now) new)) }
     {
@@ -269,7 +269,7 @@ impl PagerState {
         before: &str,
     ) -> Result<(), AllocError>
         requires formed { IsFormed self.now }
-        requires belongs { IsNext self.now.screen change.now.text }
+        requires belongs { IsNext self.now.screen.document change.now.text }
         requires before { before.now ≡ prompt_row (control_of self.now) }
         ensures { OnOk result ((new : Control) → IsChange (control_of self.now) change.now new → prompt.now ≡ prompt_row new →
             out.new.items ≡ out.old.items ++ written_all (ops_of_step drawing (control_of self.now) new)) }

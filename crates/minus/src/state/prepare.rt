@@ -161,8 +161,8 @@ impl PagerState {
 
     // Where an append leaves the mark: at the last page, where the page goes on with what is appended.
     fn mark_after(&self, text: &NextText) -> usize
-        requires { IsNext self.now.screen text.now }
-        ensures { result ≡ (if self.now.follow then length (rows_of (next_document self.now.screen text.now)) - (self.now.rows - 1) else self.now.upper_mark) }
+        requires { IsNext self.now.screen.document text.now }
+        ensures { result ≡ (if self.now.follow then length (rows_of (next_document self.now.screen.document text.now)) - (self.now.rows - 1) else self.now.upper_mark) }
     {
         if self.follow {
             return text.rows_after(&self.screen).saturating_sub(self.rows - 1);
@@ -178,9 +178,10 @@ impl PagerState {
         ensures redraw { IfOk result (λ c. c.redraw ≡ Redraw.Appended) }
         ensures memory { IfErr result (λ e. e ≡ MinusError.Memory) }
     {
+        let numbers = LineNumbers::Disabled;
         let pending = self
             .screen
-            .prepare_push(alloc, &text, LineNumbers::Disabled, self.cols)?;
+            .prepare_push(alloc, &text, numbers, self.cols, None)?;
         let next = NextText::Pushed(text, pending);
         let mark = self.mark_after(&next);
         Ok(Change {

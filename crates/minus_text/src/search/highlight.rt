@@ -1,7 +1,7 @@
 //! Lines with the matches of a pattern shown in reverse.
 ghost use Rattle.std.specs.Prelude.{◌≡◌, false, ◌++◌, ◌≤◌, map, length, drop, IfOk, OnOk, string_bytes};
 ghost use Rattle.minus_text.specs.Escapes.{insert_of, outside, inside, CutsText};
-ghost use Rattle.minus_text.specs.Highlight.{count_before, before, behind, moved, closed, of_match, ordered, put_in, highlighted, line_matches, highlighted_text, matches_text, StandIn, StandIn-prop, HighlightsAddMarkersAlone, OnlyMatchesAreHighlighted};
+ghost use Rattle.minus_text.specs.Highlight.{count_before, before, behind, moved, closed, of_match, ordered, put_in, highlighted, line_matches, matches_text, StandIn, StandIn-prop, HighlightsAddMarkersAlone, OnlyMatchesAreHighlighted};
 ghost use Rattle.regex.specs.Strings.{regex_pattern, matcher_pattern};
 
 use crate::search::escapes::{Insert, Parted, match_places, part, part_line};

@@ -9,7 +9,7 @@ use Rattle.minus.proofs.state.PagerState.shown_between.Goals.{in-Some+in_ok-push
 
 pub loop-i-preserved : goal.loop-i-preserved
 loop-i-preserved c =
-    let rows : List (List ℕ) = rows_of (next_document c.args.self.now.screen c.args.change.now.text) in
+    let rows : List (List ℕ) = rows_of (next_document c.args.self.now.screen.document c.args.change.now.text) in
     let mark : ℕ = c.args.change.now.mark in
     let count = c.count_after.ensures.count in
     let cut = c.min-count.ensures in
@@ -24,7 +24,7 @@ loop-i-preserved c =
 
 pub returns : goal.returns
 returns c =
-    let shown : List (List ℕ) = drop c.args.change.now.mark (rows_of (next_document c.args.self.now.screen c.args.change.now.text)) in
+    let shown : List (List ℕ) = drop c.args.change.now.mark (rows_of (next_document c.args.self.now.screen.document c.args.change.now.text)) in
     let count : c.min-count.result ≡ min (length (take (c.args.change.now.rows - 1) shown)) c.args.end = c.min-count.ensures ∙ ap (λ n. min n c.args.end) c.count_after.ensures.count in
     let start = c.min-start.ensures in
     let end : c.loop-i.i ≡ c.min-count.result = omega (arith, start, c.loop-i-test.false, c.loop-i.auto.i-end) in
