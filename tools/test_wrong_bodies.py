@@ -67,9 +67,10 @@ class Places(unittest.TestCase):
         self.assertFalse(place("Fault::Six").is_of("krate::m::FaultFromIoError::from"))
 
     def test_a_check_is_asked_for_what_bodies_turn(self):
-        bodies = [Body(mark, [], {place(mark)}) for mark in ("else", "5")]
-        self.assertEqual(paths_of(bodies, []), ["CursorSink::put", "m::free"])
-        self.assertEqual(paths_of(bodies, ["krate::m::CursorU8Sink::put"]), ["m::CursorU8Sink::put", "m::free"])
+        bodies = [Body(mark, [], {place(mark)}) for mark in ("else", "5", "Fault::Six")]
+        self.assertEqual(paths_of(bodies, []), ["CursorSink::put", "FaultFromFmtError::from", "m::free"])
+        known = ["krate::m::CursorU8Sink::settle", "krate::m::FaultFrom::from", "krate::other::free"]
+        self.assertEqual(paths_of(bodies, known), ["m::CursorU8Sink::put", "m::FaultFrom::from", "m::free"])
         self.assertEqual(paths_of([Body("LIMIT", [], {place("LIMIT")})], []), ["m"])
         self.assertEqual(paths_of([*bodies, Body("top", [], {Place()})], []), [])
 

@@ -28,7 +28,7 @@ import subprocess
 import sys
 import tempfile
 from concurrent.futures import ThreadPoolExecutor
-from dataclasses import dataclass, field
+from dataclasses import dataclass, field, replace
 
 TAKEN_AWAY = re.compile(r"has no `|has no field|is not in scope|was not admitted")
 
@@ -55,10 +55,12 @@ class Place:
         return bool(above and re.fullmatch(pattern, above[-1]))
 
     def path(self, proofs):
-        """Returns its path below the crate, or the end of it, as a check takes it; the functions with files of proofs, whose paths are given, are known."""
-        known = [it.partition("::")[2] for it in proofs if self.is_of(it)]
-        words = [self.of_type + self.of_trait, self.name] if self.of_type else [self.module, self.name]
-        return known[0] if known and self.name else "::".join(it for it in words if it)
+        """Returns its path below the crate, or the end of it, as a check takes it; an impl's name is one of these functions', or guessed."""
+        if not self.name:
+            return self.module
+        above = [it.partition("::")[2].rpartition("::") for it in proofs if replace(self, name=it.rpartition("::")[2]).is_of(it)]
+        guess = self.of_type + self.of_trait + self.argument if self.of_type else self.module
+        return "::".join(it for it in (above[0][0] if above else guess, self.name) if it)
 
 
 @dataclass
