@@ -276,8 +276,8 @@ def paths_of(bodies, proofs):
 
 def try_crate(rt, crate, files, is_proved):
     """Tries wrong bodies of a crate, which stands on a copy, and returns how many passed and how many failed."""
-    plain = "" if is_proved else call(["rt", "check", "--jobs", "1"], crate.folder)
-    if plain and not re.search(r"^logic=proved", plain, re.M):
+    plain = "logic=proved" if is_proved else call(["rt", "check", "--jobs", "1"], crate.folder)
+    if not re.search(r"^logic=proved", plain, re.M):
         print(f"{crate.name}: the crate as it stands is not proved\n{plain[-2000:]}", flush=True)
         return 0, len(files)
     proofs, passed = proofs_of(crate), 0
