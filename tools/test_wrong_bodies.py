@@ -6,7 +6,7 @@ import tempfile
 import unittest
 
 sys.path.insert(0, os.path.dirname(os.path.abspath(__file__)))
-from wrong_bodies import Body, Place, judge, next_round, place_of, read_body, texts_of, try_all, verdicts_of
+from wrong_bodies import Body, Place, judge, next_round, paths_of, place_of, read_body, texts_of, try_all, verdicts_of
 
 SOURCE = """const LIMIT: usize = 3;
 
@@ -66,9 +66,17 @@ class Places(unittest.TestCase):
         self.assertTrue(place("Fault::Six").is_of("krate::m::FaultFromFmtError::from"))
         self.assertFalse(place("Fault::Six").is_of("krate::m::FaultFromIoError::from"))
 
+    def test_a_check_is_asked_for_what_bodies_turn(self):
+        bodies = [Body(mark, [], {place(mark)}) for mark in ("else", "5", "Fault::Six")]
+        self.assertEqual(paths_of(bodies, []), ["CursorSink::put", "FaultFromFmtError::from", "m::free"])
+        known = ["krate::m::CursorU8Sink::settle", "krate::m::FaultFrom::from", "krate::other::free"]
+        self.assertEqual(paths_of(bodies, known), ["m::CursorU8Sink::put", "m::FaultFrom::from", "m::free"])
+        self.assertEqual(paths_of([Body("LIMIT", [], {place("LIMIT")})], []), ["m"])
+        self.assertEqual(paths_of([*bodies, Body("top", [], {Place()})], []), [])
+
     def test_constants_and_defaults_stand_in_no_function(self):
         for mark in ("LIMIT", "4;", "7"):
-            self.assertEqual(place(mark), Place())
+            self.assertEqual(place(mark), Place("m"))
 
 
 class Rounds(unittest.TestCase):
@@ -77,7 +85,7 @@ class Rounds(unittest.TestCase):
         self.assertEqual(next_round([first, again, other]), [first, other])
 
     def test_a_body_outside_a_function_is_alone(self):
-        constant = Body("a", [("src/m.rt", 0, 1, "x")], {Place()})
+        constant = Body("a", [("src/m.rt", 0, 1, "x")], {Place("m")})
         self.assertEqual(next_round([constant, body("b", "f", 3)]), [constant])
         self.assertEqual(next_round([body("b", "f", 3), constant]), [body("b", "f", 3)])
 

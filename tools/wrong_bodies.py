@@ -4,17 +4,23 @@
 usage, at the top of the repository:
     tools/wrong_bodies.py                     every crate, side by side
     tools/wrong_bodies.py NAME [FILE.edit ..] one crate, or these files of it
+    tools/wrong_bodies.py --proved [NAME ..]  the same, right after an rt ci that proved them all
 
 A wrong body has the lines of a must-fail edit: `file: src/F.rt`, and pairs of `old: TEXT` and `new: TEXT`, where each old
-text stands once in its file. The bodies of a crate go into rounds in which each function is turned at most once, and one
-`rt check` tries a round. A body passes where each function that it turns is refused for goals of its own: not only since
-it calls a function that is refused, and not since a proof file names what the body took away. Where a body's goals wait
-for a function that another body of the round turned, it is tried again in a later round, at last alone. A body outside a
-function with a path of its own (a constant, a trait's default) is tried alone, and something must be refused for itself.
+text stands once in its file. The bodies of a crate go into rounds in which each function is turned at most once, and one check
+of the turned functions, and of what they call, tries a round. A body passes where each function that it turns is refused
+for goals of its own: not only since it calls a function that is refused, and not since a proof file names what the body
+took away. Where a body's goals wait for a function that another body of the round turned, it is tried again in a later
+round, at last alone. A body outside a function with a path of its own (a constant, a trait's default) is tried alone, and
+something in its module must be refused for itself.
 
-All this happens on a copy of the repository, over the work that `rt check` kept in out/, where there is some; the crate as
-it stands must be proved there first. The last line is `wrong-bodies: N passed, M failed`.
+All this happens on a copy of the repository, over the work that `rt check` kept in out/, where there is some. The crate as
+it stands must be proved there first. With --proved that is taken from the caller, in a repository where nothing is kept: the
+rounds then stand on the libraries that rt ci built, and prove again only what the turned functions call. The last line is
+`wrong-bodies: N passed, M failed`.
 """
+import importlib.machinery
+import importlib.util
 import os
 import re
 import shutil
@@ -22,14 +28,14 @@ import subprocess
 import sys
 import tempfile
 from concurrent.futures import ThreadPoolExecutor
-from dataclasses import dataclass, field
+from dataclasses import dataclass, field, replace
 
 TAKEN_AWAY = re.compile(r"has no `|has no field|is not in scope|was not admitted")
 
 
 @dataclass(frozen=True)
 class Place:
-    """Where a text stands: in a function of a module, perhaps inside an impl; or, with no name, in none."""
+    """Where a text stands: in a function of a module, perhaps inside an impl; or, with no name, in no function of the module."""
 
     module: str = ""
     of_type: str = ""
@@ -48,6 +54,14 @@ class Place:
         pattern = rf"{self.of_type}\w*{self.of_trait}({self.argument})?" if self.of_trait else self.of_type
         return bool(above and re.fullmatch(pattern, above[-1]))
 
+    def path(self, proofs):
+        """Returns its path below the crate, or the end of it, as a check takes it; an impl's name is one of these functions', or guessed."""
+        if not self.name:
+            return self.module
+        above = [it.partition("::")[2].rpartition("::") for it in proofs if replace(self, name=it.rpartition("::")[2]).is_of(it)]
+        guess = self.of_type + self.of_trait + self.argument if self.of_type else self.module
+        return "::".join(it for it in (above[0][0] if above else guess, self.name) if it)
+
 
 @dataclass
 class Body:
@@ -59,7 +73,7 @@ class Body:
     fault: str = ""
 
     def stands_alone(self):
-        return Place() in self.places
+        return any(not it.name for it in self.places)
 
     def is_beside(self, other):
         """Returns whether both can be tried in one round."""
@@ -97,7 +111,7 @@ def place_of(text, at, module):
             inside, name = function[1] or "", function[2]
         elif line[0] == inside + "}":
             name = ""
-    return Place(module, of_type, of_trait, argument, name) if name and of_type is not None else Place()
+    return Place(module, of_type, of_trait, argument, name) if name and of_type is not None else Place(module)
 
 
 def module_of(path):
@@ -191,7 +205,7 @@ def judge(body, verdicts, is_alone):
 def tried(bodies, check):
     """Tries bodies by one check, and yields each with whether it is refused (None: it has to be tried again), and why."""
     said = check(bodies)
-    if re.search(r"^logic=(not-)?proved", said, re.M):
+    if re.search(r"^(logic=(not-)?proved|only=\d+ proved=)", said, re.M):
         verdicts = verdicts_of(said)
         yield from ((body, *judge(body, verdicts, len(bodies) == 1)) for body in bodies)
     elif len(bodies) == 1:
@@ -215,49 +229,72 @@ def try_all(bodies, check):
                 yield body, is_refused, why
 
 
+def load_rt():
+    """Returns the program rt as a module, which knows how to check a crate with other texts in place of its own."""
+    sys.dont_write_bytecode = True
+    loader = importlib.machinery.SourceFileLoader("rt", shutil.which("rt"))
+    made = importlib.util.module_from_spec(importlib.util.spec_from_loader("rt", loader))
+    loader.exec_module(made)
+    # (its first call sets a signal's handler, which only the main thread may)
+    made.rtlib.guarded()
+    return made
+
+
 def call(words, folder):
     ran = subprocess.run(words, cwd=folder, capture_output=True, text=True, errors="replace", check=False)
     return ran.stdout + ran.stderr
 
 
-def copy_of(top, to, out_of):
-    """Copies a repository, with what `rt check` kept: of each crate the parts of its out/ that out_of gives."""
+def copy_of(top, to):
+    """Copies a repository, with what `rt check` and `rt ci` kept."""
     os.makedirs(f"{to}/.git")
     shutil.copyfile(f"{top}/crates.txt", f"{to}/crates.txt")
     for name in os.listdir(f"{top}/crates"):
-        for part in ("src", "specs", "proofs", *(f"out/{it}" for it in out_of(name))):
+        for part in ("src", "specs", "proofs", "out/incremental", "out/rlib"):
             if os.path.isdir(f"{top}/crates/{name}/{part}"):
                 shutil.copytree(f"{top}/crates/{name}/{part}", f"{to}/crates/{name}/{part}", copy_function=shutil.copy2)
 
 
-def try_crate(base, room, name, files):
-    """Tries wrong bodies of a crate on a copy of its own, and returns how many passed and how many failed."""
-    copy_of(base, f"{room}/{name}", lambda it: ("incremental", "rlib") if it == name else ("rlib",))
-    folder, passed = f"{room}/{name}/crates/{name}", 0
-    plain = call(["rt", "check", "--jobs", "1"], folder)
+def has_kept(top):
+    """Returns whether an `rt check` kept work, beside which what `rt ci` built is not there or does not fit."""
+    kept = [f"{top}/crates/{name}/out/{it}" for name in os.listdir(f"{top}/crates") for it in ("incremental", "rlib/stamp")]
+    return any(os.path.exists(it) for it in kept)
+
+
+def proofs_of(crate):
+    """Returns the paths of the crate's functions that have files of proofs."""
+    top = f"{crate.folder}/proofs"
+    found = [os.path.relpath(at, top) for at, _, files in os.walk(top) if {"Answers.antt", "Invariants.antt", "Proof.antt"} & {*files}]
+    return ["::".join([crate.name, *it.split("/")]) for it in found]
+
+
+def paths_of(bodies, proofs):
+    """Returns the paths of what the bodies turn, or none where that may be anything in the crate."""
+    paths = sorted({place.path(proofs) for body in bodies for place in body.places})
+    return paths if all(paths) else []
+
+
+def try_crate(rt, crate, files, is_proved):
+    """Tries wrong bodies of a crate, which stands on a copy, and returns how many passed and how many failed."""
+    plain = "logic=proved" if is_proved else call(["rt", "check", "--jobs", "1"], crate.folder)
     if not re.search(r"^logic=proved", plain, re.M):
-        print(f"{name}: the crate as it stands is not proved\n{plain[-2000:]}", flush=True)
+        print(f"{crate.name}: the crate as it stands is not proved\n{plain[-2000:]}", flush=True)
         return 0, len(files)
+    proofs, passed = proofs_of(crate), 0
 
     def check(bodies):
-        texts = texts_of(bodies, folder)
-        kept = {path: read(f"{folder}/{path}") for path in texts}
-        write_all(folder, texts)
-        said = call(["rt", "check", "--jobs", "1"], folder)
-        write_all(folder, kept)
-        return said
+        texts, kept, jobs = texts_of(bodies, crate.folder), f"{crate.folder}/out/incremental", ["--jobs", "1"]
+        only = [f"--only={it}" for it in paths_of(bodies, proofs)]
+        said = rt.checked(crate, texts, [*jobs, *only], kept).stdout
+        # (an impl's name may need arguments that only a whole check tells)
+        is_unnamed = re.search(r"has no function|several functions are named", said)
+        return rt.checked(crate, texts, jobs, kept).stdout if is_unnamed else said
 
-    for body, is_refused, why in try_all([read_body(it, folder) for it in files], check):
-        print(f"{name}/{body.label}: {'refused: ' if is_refused else 'FAILED: '}{' '.join(why.split())[:160]}", flush=True)
+    for body, is_refused, why in try_all([read_body(it, crate.folder) for it in files], check):
+        print(f"{crate.name}/{body.label}: {'refused: ' if is_refused else 'FAILED: '}{' '.join(why.split())[:160]}", flush=True)
         passed += is_refused
-    shutil.rmtree(f"{room}/{name}")
+    shutil.rmtree(f"{crate.folder}/out/incremental", ignore_errors=True)
     return passed, len(files) - passed
-
-
-def write_all(folder, texts):
-    for path, text in texts.items():
-        with open(f"{folder}/{path}", "w", encoding="utf-8") as it:
-            it.write(text)
 
 
 def files_of(top, name):
@@ -269,20 +306,21 @@ def main(words):
     top, lanes = os.getcwd(), max(1, (os.cpu_count() or 1))
     if not os.path.isfile(f"{top}/crates.txt"):
         sys.exit("wrong_bodies.py runs at the top of the repository, where crates.txt stands")
+    is_proved = "--proved" in words and not has_kept(top)
+    words = [it for it in words if it != "--proved"]
     names = words[:1] or sorted(os.listdir(f"{top}/crates"))
     given = {it: words[1:] or files_of(top, it) for it in names}
     given = {it: [os.path.abspath(file) for file in files] for it, files in given.items() if files}
-    with tempfile.TemporaryDirectory(prefix="wrong-bodies-") as room:
-        base = top
-        if not words:
-            # (each crate is proved here, over what was kept, and the libraries below the others are built)
-            base = f"{room}/base"
-            copy_of(top, base, lambda _: ("incremental", "rlib"))
+    rt = load_rt()
+    with tempfile.TemporaryDirectory(prefix="wrong-bodies-") as base:
+        copy_of(top, base)
+        if not words and not is_proved:
+            # (the crates are proved side by side, and the libraries below the others are built)
             call(["rt", "all", "check", "--jobs", str(lanes)], base)
         # (the crate with the most bodies goes first)
-        order = sorted(given, key=lambda it: -len(given[it]))
+        crates = sorted((it for it in rt.rtlib.crates_below(base) if it.name in given), key=lambda it: -len(given[it.name]))
         with ThreadPoolExecutor(lanes) as pool:
-            counts = [*pool.map(lambda it: try_crate(base, room, it, given[it]), order)]
+            counts = [*pool.map(lambda it: try_crate(rt, it, given[it.name], is_proved), crates)]
     print(f"wrong-bodies: {sum(it[0] for it in counts)} passed, {sum(it[1] for it in counts)} failed")
     return 1 if any(it[1] for it in counts) else 0
 

@@ -5,10 +5,14 @@ use minus_text::{FormatResult, Layout, LineNumbers, LinesRowMap, PendingPush, Sc
 use std::alloc::Global;
 use std::test::Fail;
 
-// A screen's number of lines and the columns of its longest line, after these pieces.
-fn counted(alloc: Global, pieces: &str) -> Result<(usize, usize), MinusError> {
+// A screen's number of lines and of rows, and the columns of its longest line, after these pieces.
+fn counted(alloc: Global, pieces: &str) -> Result<(usize, usize, usize), MinusError> {
     let screen = screen_of(alloc, pieces, 80)?;
-    Ok((screen.line_count(), screen.get_max_line_length()))
+    Ok((
+        screen.line_count(),
+        screen.formatted_lines_count(),
+        screen.get_max_line_length(),
+    ))
 }
 
 // How many unfinished rows the last push of these pieces tells, for 20 columns.
@@ -37,21 +41,14 @@ fn told(answer: &FormatResult) -> (usize, usize, usize, usize, bool) {
 #[test]
 fn lines_and_the_longest_are_counted(rt: HostRuntime) -> Result<(), Fail> {
     let table = [
-        ("", (0, 0)),
-        ("abc\r", (1, 3)),
-        ("abc\r|\n", (1, 3)),
-        ("one\ntwo|", (2, 3)),
+        ("", (0, 0, 0)),
+        ("abc\r", (1, 1, 3)),
+        ("abc\r|\n", (1, 1, 3)),
+        ("one\ntwo|", (2, 2, 3)),
     ];
     for (pieces, counts) in table {
         assert!(rt; counted(rt.alloc(), pieces)? == counts, "at {pieces}");
     }
-    Ok(())
-}
-
-#[test]
-fn an_empty_text_has_no_row(rt: HostRuntime) -> Result<(), Fail> {
-    let screen = screen_of(rt.alloc(), "", 80)?;
-    assert_eq!(rt; screen.formatted_lines_count(), 0);
     Ok(())
 }
 
@@ -80,29 +77,52 @@ fn unfinished_rows_are_told(rt: HostRuntime) -> Result<(), Fail> {
     Ok(())
 }
 
+// Whether a text that is set, and a push onto it, tell what they formed.
+fn tells_both(alloc: Global) -> Result<bool, MinusError> {
+    let mut screen = Screen::new(alloc);
+    let set = told(&screen.set_text(alloc, "ab\r\ncd", Layout::plain(80), None)?);
+    let pushed = screen.push_screen_buf(alloc, "e\nfg\n", LineNumbers::Disabled, 80, None)?;
+    let pushed_told = told(&pushed) == (2, 2, 0, 3, false);
+    Ok(set == (2, 2, 1, 2, true) && pushed_told && pushed.lines_to_row_map.get(1) == Some(2))
+}
+
 #[test]
 fn a_result_tells_of_the_text_formed(rt: HostRuntime) -> Result<(), Fail> {
-    let mut screen = Screen::new(rt.alloc());
-    let set = screen.set_text(rt.alloc(), "ab\r\ncd", Layout::plain(80), None)?;
-    let pushed = screen.push_screen_buf(rt.alloc(), "e\nfg\n", LineNumbers::Disabled, 80, None)?;
-    let set_told = told(&set) == (2, 2, 1, 2, true);
-    let pushed_told = told(&pushed) == (2, 2, 0, 3, false);
-    assert!(rt; set_told && pushed_told && pushed.lines_to_row_map.get(1) == Some(2));
+    assert!(rt; tells_both(rt.alloc())?);
     Ok(())
+}
+
+// Whether a screen copies its second row so, after these pieces.
+fn copies(alloc: Global, pieces: &str, wanted: &str) -> Result<bool, MinusError> {
+    let screen = screen_of(alloc, pieces, 80)?;
+    Ok(match screen.formatted_row(alloc, 1)? {
+        Some(row) => row.as_str() == wanted,
+        None => false,
+    })
 }
 
 #[test]
 fn a_row_is_copied(rt: HostRuntime) -> Result<(), Fail> {
-    let screen = screen_of(rt.alloc(), "ab\r\ncd|e\nfg\n", 80)?;
-    let row = screen.formatted_row(rt.alloc(), 1)?.ok_or("no row")?;
-    assert!(rt; row.as_str() == "cde" && screen.orig_text() == "ab\r\ncde\nfg\n");
+    assert!(rt; copies(rt.alloc(), "ab\r\ncd|e\nfg\n", "cde")?);
     Ok(())
 }
 
+// Whether a screen keeps this text, after these pieces.
+fn keeps(alloc: Global, pieces: &str, text: &str) -> Result<bool, MinusError> {
+    let screen = screen_of(alloc, pieces, 80)?;
+    Ok(screen.orig_text() == text)
+}
+
 #[test]
-fn a_push_of_nothing_keeps_the_text(rt: HostRuntime) -> Result<(), Fail> {
-    let screen = screen_of(rt.alloc(), "one\ntwo|", 80)?;
-    assert_eq!(rt; screen.orig_text(), "one\ntwo");
+fn the_text_is_kept(rt: HostRuntime) -> Result<(), Fail> {
+    let table = [
+        ("ab\r\ncd|e\nfg\n", "ab\r\ncde\nfg\n"),
+        // a push of nothing changes nothing
+        ("one\ntwo|", "one\ntwo"),
+    ];
+    for (pieces, text) in table {
+        assert!(rt; keeps(rt.alloc(), pieces, text)?, "at {pieces}");
+    }
     Ok(())
 }
 
@@ -122,18 +142,23 @@ fn is_seen_made(screen: &Screen, answer: &FormatResult) -> bool {
         && screen.lines_to_row_map().row_to_line(3) == Some(2)
 }
 
+// Whether a push is seen before it is made, and when it is.
+fn is_seen_twice(alloc: Global) -> Result<bool, MinusError> {
+    let mut screen = screen_of(alloc, "one\ntwo thr", 5)?;
+    let pending = screen.prepare_push(alloc, "ee\nfour", LineNumbers::Disabled, 5, None)?;
+    let seen = is_seen_before(&screen, &pending);
+    let result = screen.place_push(alloc, "ee\nfour", pending, None)?;
+    Ok(seen && is_seen_made(&screen, &result))
+}
+
 #[test]
 fn a_push_is_seen_before_it_is_made(rt: HostRuntime) -> Result<(), Fail> {
-    let mut screen = screen_of(rt.alloc(), "one\ntwo thr", 5)?;
-    let pending = screen.prepare_push(rt.alloc(), "ee\nfour", LineNumbers::Disabled, 5, None)?;
-    let seen = is_seen_before(&screen, &pending);
-    let result = screen.place_push(rt.alloc(), "ee\nfour", pending, None)?;
-    assert!(rt; seen && is_seen_made(&screen, &result));
+    assert!(rt; is_seen_twice(rt.alloc())?);
     Ok(())
 }
 
-// A map of three lines, and the one emptied into it.
-fn maps(alloc: Global) -> Result<(LinesRowMap, LinesRowMap), MinusError> {
+// Whether a map of three lines has their rows, and the one emptied into it has none.
+fn maps_three(alloc: Global) -> Result<bool, MinusError> {
     let mut map = LinesRowMap::new(alloc);
     map.insert(0, true)?;
     map.insert(3, true)?;
@@ -141,13 +166,12 @@ fn maps(alloc: Global) -> Result<(LinesRowMap, LinesRowMap), MinusError> {
     let mut other = LinesRowMap::new(alloc);
     other.insert(6, true)?;
     map.append(&mut other, true)?;
-    Ok((map, other))
+    let has_three = map.len() == 3 && map.get(1) == Some(4) && map.row_to_line(5) == Some(1);
+    Ok(has_three && other.len() == 0)
 }
 
 #[test]
 fn a_map_of_lines(rt: HostRuntime) -> Result<(), Fail> {
-    let (map, other) = maps(rt.alloc())?;
-    let has_three = map.len() == 3 && map.get(1) == Some(4) && map.row_to_line(5) == Some(1);
-    assert!(rt; has_three && other.len() == 0);
+    assert!(rt; maps_three(rt.alloc())?);
     Ok(())
 }

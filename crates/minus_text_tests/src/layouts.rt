@@ -53,11 +53,15 @@ fn numbered(alloc: Global, text: &str, size: usize, cols: usize) -> Result<Scree
     Ok(screen)
 }
 
+// Whether the first row of a line has its number.
+fn numbers_first_row(alloc: Global) -> Result<bool, MinusError> {
+    let screen = numbered(alloc, "ab", 2, 1)?;
+    stores_all(alloc, &screen, "     \x1b[1m1.\x1b[0m a|        b")
+}
+
 #[test]
 fn the_first_row_of_a_line_has_its_number(rt: HostRuntime) -> Result<(), Fail> {
-    let screen = numbered(rt.alloc(), "ab", 2, 1)?;
-    let rows = "     \x1b[1m1.\x1b[0m a|        b";
-    assert!(rt; stores_all(rt.alloc(), &screen, rows)?);
+    assert!(rt; numbers_first_row(rt.alloc())?);
     Ok(())
 }
 
@@ -111,14 +115,19 @@ fn a_line_that_is_not_wrapped_is_one_row(rt: HostRuntime) -> Result<(), Fail> {
     Ok(())
 }
 
+// Whether numbered lines that come in pieces of so many characters are stored as the whole.
+fn stores_pieces(alloc: Global, size: usize, cols: usize) -> Result<bool, MinusError> {
+    let pieces = numbered(alloc, LINES, size, cols)?;
+    let whole = numbered(alloc, LINES, LINES.len(), cols)?;
+    store_the_same(alloc, &pieces, &whole)
+}
+
 #[test]
 fn numbered_lines_in_pieces_store_the_rows_of_the_whole(rt: HostRuntime) -> Result<(), Fail> {
     for cols in [3, 12, 14] {
         for size in [1, 3, 7] {
-            let pieces = numbered(rt.alloc(), LINES, size, cols)?;
-            let whole = numbered(rt.alloc(), LINES, LINES.len(), cols)?;
             assert!(rt;
-                store_the_same(rt.alloc(), &pieces, &whole)?,
+                stores_pieces(rt.alloc(), size, cols)?,
                 "at {size} in {cols}"
             );
         }

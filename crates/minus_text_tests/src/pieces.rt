@@ -204,10 +204,15 @@ fn after_another_push(alloc: Global, text: &str) -> Result<Screen, MinusError> {
     Ok(screen)
 }
 
+// Whether that screen shows the same as the whole text.
+fn same_after_another_push(alloc: Global) -> Result<bool, MinusError> {
+    let screen = after_another_push(alloc, "ird one")?;
+    let all = whole(alloc, "one two third one", 5)?;
+    Ok(same(&screen, &all) && screen.orig_text() == "one two third one")
+}
+
 #[test]
 fn a_push_of_another_text_than_prepared_is_formed_anew(rt: HostRuntime) -> Result<(), Fail> {
-    let screen = after_another_push(rt.alloc(), "ird one")?;
-    let all = whole(rt.alloc(), "one two third one", 5)?;
-    assert!(rt; same(&screen, &all) && screen.orig_text() == "one two third one");
+    assert!(rt; same_after_another_push(rt.alloc())?);
     Ok(())
 }

@@ -1,6 +1,8 @@
 //! Worked texts and their rows.
 use crate::screens::fill;
+use minus_term::error::MinusError;
 use minus_text::{digits, format_line};
+use std::alloc::Global;
 use std::test::Fail;
 
 #[test]
@@ -56,10 +58,14 @@ fn pushes_go_on_in_the_unfinished_line(rt: HostRuntime) -> Result<(), Fail> {
     Ok(())
 }
 
+// Whether a line of two words has a row for each.
+fn has_two_rows(alloc: Global) -> Result<bool, MinusError> {
+    let rows = format_line(alloc, "one two", 4)?;
+    Ok(rows.len() == 2 && rows[0].as_str() == "one" && rows[1].as_str() == "two")
+}
+
 #[test]
 fn a_line_is_formatted(rt: HostRuntime) -> Result<(), Fail> {
-    let rows = format_line(rt.alloc(), "one two", 4)?;
-    let has_both = rows.len() == 2 && rows[0].as_str() == "one" && rows[1].as_str() == "two";
-    assert!(rt; has_both && digits(120) == 3);
+    assert!(rt; has_two_rows(rt.alloc())? && digits(120) == 3);
     Ok(())
 }

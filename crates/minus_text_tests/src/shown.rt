@@ -39,6 +39,13 @@ fn a_text_is_cropped_by_columns(rt: HostRuntime) -> Result<(), Fail> {
     Ok(())
 }
 
+// Whether a text is cut or filled so.
+fn fits(alloc: Global, text: &str, cols: usize, fitted: &str) -> Result<bool, AllocError> {
+    let mut row = String::new(alloc);
+    push_fitted(&mut row, text, cols)?;
+    Ok(row.as_str() == fitted)
+}
+
 #[test]
 fn a_text_is_cut_or_filled(rt: HostRuntime) -> Result<(), Fail> {
     let table = [
@@ -48,21 +55,24 @@ fn a_text_is_cut_or_filled(rt: HostRuntime) -> Result<(), Fail> {
         ("Help: q:quit | j/k:scroll", 17, "Help: q:quit | j/"),
     ];
     for (text, cols, fitted) in table {
-        let mut row = String::new(rt.alloc());
-        push_fitted(&mut row, text, cols)?;
-        assert!(rt; row.as_str() == fitted, "at {text}");
+        assert!(rt; fits(rt.alloc(), text, cols, fitted)?, "at {text}");
     }
     Ok(())
 }
 
-#[test]
-fn rows_begin_with_numbers(rt: HostRuntime) -> Result<(), Fail> {
-    let mut rows = String::new(rt.alloc());
+// Whether a first row has its number, one without numbers has nothing, and one that goes on has blanks.
+fn begins_with_numbers(alloc: Global) -> Result<bool, AllocError> {
+    let mut rows = String::new(alloc);
     push_prefix(&mut rows, true, 1, 1, true)?;
     push_prefix(&mut rows, false, 1, 1, true)?;
     push_prefix(&mut rows, true, 10, 9, false)?;
-    let formed = rows.as_str() == "     \x1b[1m1.\x1b[0m          ";
-    assert!(rt; formed && prefix_columns(true, 10) == 9 && prefix_columns(false, 10) == 0);
+    Ok(rows.as_str() == "     \x1b[1m1.\x1b[0m          ")
+}
+
+#[test]
+fn rows_begin_with_numbers(rt: HostRuntime) -> Result<(), Fail> {
+    let has_columns = prefix_columns(true, 10) == 9 && prefix_columns(false, 10) == 0;
+    assert!(rt; begins_with_numbers(rt.alloc())? && has_columns);
     Ok(())
 }
 
