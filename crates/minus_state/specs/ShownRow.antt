@@ -61,5 +61,6 @@ ShownRowsFit = (d : Document) (left i : ℕ) (row : List ℕ) → d.layout.wrapp
 
 -- a shown row without the two marks of a selection is the row without a selection, or it has none
 abbrev pub SelectionAddsMarkersAlone : Type 0
-SelectionAddsMarkersAlone = (d : Document) (left i : ℕ) (ends : Selection × Selection) (row shown : List ℕ) → IsUtf8 row → shown_row d left None i ≡ Some row → shown_row d left (Some ends) i ≡ Some shown
+SelectionAddsMarkersAlone = (d : Document) (left i : ℕ) (ends : Selection × Selection) (row shown : List ℕ)
+    → IsUtf8 row → shown_row d left None i ≡ Some row → shown_row d left (Some ends) i ≡ Some shown
     → (shown ≡ row) ⊎ HasMarks row shown

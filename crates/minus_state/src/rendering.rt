@@ -102,7 +102,8 @@ fn with_marks(
 // A shown row, counted from 0, if there is one.
 fn shown_row(alloc: Global, rendering: &Rendering<'_>, i: usize) -> Result<Option<Row>, AllocError>
     requires { i < 2 ^ 63 }
-    ensures { IfOk result (λ row. option_map string_bytes row ≡ shown_row rendering.now.screen.now rendering.now.left_mark (ends_in_order rendering.now.ends) i) }
+    ensures { IfOk result (λ row. option_map string_bytes row
+        ≡ shown_row rendering.now.screen.now rendering.now.left_mark (ends_in_order rendering.now.ends) i) }
 {
     match unmarked_row(alloc, rendering.screen, rendering.left_mark, i)? {
         Some(row) => Ok(Some(with_marks(alloc, row, selected_range(rendering, i))?)),
@@ -133,7 +134,8 @@ pub fn render_rows_for_display(
     start: usize,
     end: usize,
 ) -> Result<Rows, AllocError>
-    ensures { IfOk result (λ rows. map string_bytes rows.items ≡ shown_rows rendering.now.screen.now rendering.now.left_mark (ends_in_order rendering.now.ends) start end) }
+    ensures { IfOk result (λ rows. map string_bytes rows.items
+        ≡ shown_rows rendering.now.screen.now rendering.now.left_mark (ends_in_order rendering.now.ends) start end) }
 {
     let count = rendering.screen.formatted_lines_count();
     let mut rows = Vec::new(alloc);

@@ -21,6 +21,13 @@ fn is_copied(
     }
 }
 
+// Whether nothing is copied of a selection.
+fn is_nothing(alloc: Global, text: &str, ends: SelectionEnds) -> Result<bool, MinusError> {
+    let screen = formed(alloc, text, Layout::plain(20))?;
+    let copy = extract_selection(alloc, &screen, ends)?;
+    Ok(copy.is_none())
+}
+
 #[test]
 fn what_is_selected_is_copied(rt: HostRuntime) -> Result<(), Fail> {
     let table = [
@@ -63,16 +70,14 @@ fn columns_behind_the_left_mark_are_copied(rt: HostRuntime) -> Result<(), Fail> 
 }
 
 #[test]
-fn without_both_ends_nothing_is_copied(rt: HostRuntime) -> Result<(), Fail> {
-    let screen = formed(rt.alloc(), "ab", Layout::plain(20))?;
-    let none = formed(rt.alloc(), "", Layout::plain(20))?;
+fn without_both_ends_or_a_line_nothing_is_copied(rt: HostRuntime) -> Result<(), Fail> {
     let both = ends((0, 0), (0, 1));
     let one = SelectionEnds {
         anchor: None,
         ..both
     };
-    let nothing = extract_selection(rt.alloc(), &screen, one)?.is_none()
-        && extract_selection(rt.alloc(), &none, both)?.is_none();
-    assert!(rt; nothing);
+    for (text, ends) in [("ab", one), ("", both)] {
+        assert!(rt; is_nothing(rt.alloc(), text, ends)?, "of {text}");
+    }
     Ok(())
 }

@@ -33,4 +33,5 @@ row_homes d = homes_from (wrap_in d) 0 (finished_lines d.text) ++ open_homes (wr
 -- the place of a row in the text is its place in its line, behind where the line begins
 abbrev pub RowsStandInLines : Type 0
 RowsStandInLines = (d : Document) (i : ℕ) (s : Span) → slice_get (row_places d) i ≡ Some s
-    → (h : RowHome) × (slice_get (row_homes d) i ≡ Some h) × (s.start ≡ line_start d.text h.line + h.place.start) × (s.end ≡ line_start d.text h.line + h.place.end)
+    → (h : RowHome) × (slice_get (row_homes d) i ≡ Some h)
+    × (s.start ≡ line_start d.text h.line + h.place.start) × (s.end ≡ line_start d.text h.line + h.place.end)
