@@ -29,6 +29,12 @@ where
     }
 }
 
+impl<T: Sink> Sink for &mut T {
+    fn put(&mut self) -> usize {
+        8
+    }
+}
+
 impl From<fmt::Error> for Fault {
     fn from(cause: fmt::Error) -> Fault {
         Fault::Six(cause)
@@ -61,6 +67,9 @@ class Places(unittest.TestCase):
         self.assertEqual(place("5"), Place("m", "Cursor", "Sink", "", "put"))
         self.assertTrue(place("5").is_of("krate::m::CursorSink::put"))
         self.assertFalse(place("5").is_of("krate::m::BoxSink::put"))
+
+    def test_a_lent_value_has_a_name(self):
+        self.assertTrue(place("8").is_of("krate::m::RefMutSink::put"))
 
     def test_an_argument_tells_impls_apart(self):
         self.assertTrue(place("Fault::Six").is_of("krate::m::FaultFromFmtError::from"))

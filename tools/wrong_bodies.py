@@ -93,7 +93,8 @@ def head_of(line):
     *of_trait, of_type = re.split(r"\bfor\b", re.split(r"\bwhere\b|\{", text)[0])
     last = lambda path: path.partition("<")[0].split("::")[-1].strip("& \n")
     argument = "".join(it[0].upper() + it[1:] for it in re.findall(r"\w+", "".join(of_trait).partition("<")[2]))
-    return last(of_type), last("".join(of_trait)), argument
+    lent = of_type.strip().startswith("&mut ")
+    return "RefMut" if lent else last(of_type), last("".join(of_trait)), argument
 
 
 def place_of(text, at, module):

@@ -83,7 +83,7 @@ fn formatted(
     term: &str,
 ) -> Result<String, MinusError> {
     let mut rows = Rows::new(alloc);
-    let told = format_behind(alloc, &mut rows, attachment, text, term)?;
+    let told = format_behind(alloc, &mut &mut rows, attachment, text, term)?;
     Ok(summary(alloc, &rows, &told)?)
 }
 
