@@ -33,8 +33,8 @@ impl Side {
 
 // A side of the character at an end of a selection, as a place in the bytes of the text.
 fn place_in_text(screen: &Screen, side: Side, end: Selection) -> usize
-    ensures value { result ≡ place_in_text screen.now side end }
-    ensures boundary { IsCharBoundary screen.now.text result }
+    ensures value { result ≡ place_in_text screen.now.document side end }
+    ensures boundary { IsCharBoundary screen.now.document.text result }
 {
     let text = screen.orig_text();
     let row = end.absolute_row;
@@ -54,7 +54,7 @@ pub fn extract_selection(
     screen: &Screen,
     ends: SelectionEnds,
 ) -> Result<Option<String>, AllocError>
-    ensures { IfOk result (λ text. option_map string_bytes text ≡ copied screen.now (ends_in_order ends)) }
+    ensures { IfOk result (λ text. option_map string_bytes text ≡ copied screen.now.document (ends_in_order ends)) }
 {
     let Some((first, last)) = ends.in_order() else {
         return Ok(None);

@@ -18,14 +18,14 @@ pub struct View {
 
 // The columns that stand before the text of each row.
 pub(crate) fn prefix_of(screen: &Screen) -> usize
-    ensures { result ≡ prefix_in screen.now }
+    ensures { result ≡ prefix_in screen.now.document }
 {
     prefix_columns(screen.layout().numbers.is_on(), screen.line_count())
 }
 
 // The columns of the text that are cut off at the left mark.
 pub(crate) fn cut_of(screen: &Screen, left_mark: usize) -> usize
-    ensures { result ≡ cut_in screen.now left_mark }
+    ensures { result ≡ cut_in screen.now.document left_mark }
 {
     if screen.layout().wrapping {
         return 0;
@@ -38,7 +38,7 @@ pub(crate) fn cut_of(screen: &Screen, left_mark: usize) -> usize
 /// row, and a column in the number of a line for the first column behind it. Where lines are not wrapped, the
 /// left mark is added to the column. Sums go no further than the greatest number. It takes no memory.
 pub fn selection_from_coordinates(screen: &Screen, view: View, x: u16, y: u16) -> Option<Selection>
-    ensures { result ≡ selected_at screen.now view x y }
+    ensures { result ≡ selected_at screen.now.document view x y }
 {
     let count = screen.formatted_lines_count();
     let row = usize::from(y);

@@ -7,7 +7,7 @@ use std::alloc::Global;
 // A text in a layout.
 pub(crate) fn formed(alloc: Global, text: &str, layout: Layout) -> Result<Screen, MinusError> {
     let mut screen = Screen::new(alloc);
-    let _ = screen.set_text(alloc, text, layout)?;
+    let _ = screen.set_text(alloc, text, layout, None)?;
     Ok(screen)
 }
 
