@@ -26,7 +26,7 @@ use Rattle.minus_text.specs.Highlight.{line_matches}
 use Rattle.minus_text.specs.Found.{RowMatches, found_in_row, found_in_rows, found_by}
 use Rattle.minus_text.specs.FoundBy.{found_in_some}
 use Rattle.minus_text.specs.Pending.{Pending}
-use Rattle.minus_text.specs.Formatted.{shown_row, shown_lines}
+use Rattle.minus_text.specs.Searched.{shown_for, stored_lines_for}
 use Rattle.minus_text.specs.Blocks.{Block, all_lines, fragment_of, block_rows, matching_rows, TellsBlock, IsBlockFormed, IsPrefixIn, one, keys_noted, keys_with}
 use Rattle.minus_text.proofs.ScreenLaws.{restart_anew, form-unfinished}
 use Rattle.minus_text.proofs.FormatResultLaws.{same_part}
@@ -37,17 +37,17 @@ use Rattle.minus_text.proofs.StoredLaws.{length-stored_line, none_alike, at_fron
 
 -- ---- as many as rows
 
-length-shown : (term : Option Re) (on : Bool) (count k : ℕ) (wrap : Wrap) (x : List ℕ) → length (stored_line on count k (map (shown_row term) (own_rows wrap x))) ≡ length (own_rows wrap x)
-length-shown term on count k wrap x = length-stored_line on count k (map (shown_row term) (own_rows wrap x)) ∙ length-map (own_rows wrap x) (shown_row term)
+length-shown : (term : Option Re) (on : Bool) (count k : ℕ) (wrap : Wrap) (x : List ℕ) → length (stored_line on count k (map (shown_for term) (own_rows wrap x))) ≡ length (own_rows wrap x)
+length-shown term on count k wrap x = length-stored_line on count k (map (shown_for term) (own_rows wrap x)) ∙ length-map (own_rows wrap x) (shown_for term)
 
-length-shown_lines : (term : Option Re) (wrap : Wrap) (on : Bool) (count k : ℕ) (ls : List (List ℕ)) → length (shown_lines term wrap on count k ls) ≡ length (rows_of_lines wrap ls)
-length-shown_lines term wrap on count k [] = refl
-length-shown_lines term wrap on count k (x ∷ xs) =
-    omega (arith, length-append (stored_line on count k (map (shown_row term) (own_rows wrap x))) (shown_lines term wrap on count (k + 1) xs), length-append (own_rows wrap x) (rows_of_lines wrap xs), length-shown term on count k wrap x, length-shown_lines term wrap on count (k + 1) xs)
+length-stored_lines_for : (term : Option Re) (wrap : Wrap) (on : Bool) (count k : ℕ) (ls : List (List ℕ)) → length (stored_lines_for term wrap on count k ls) ≡ length (rows_of_lines wrap ls)
+length-stored_lines_for term wrap on count k [] = refl
+length-stored_lines_for term wrap on count k (x ∷ xs) =
+    omega (arith, length-append (stored_line on count k (map (shown_for term) (own_rows wrap x))) (stored_lines_for term wrap on count (k + 1) xs), length-append (own_rows wrap x) (rows_of_lines wrap xs), length-shown term on count k wrap x, length-stored_lines_for term wrap on count (k + 1) xs)
 
 pub length-block_rows : (term : Option Re) (b : Block) → length (block_rows term b) ≡ length (rows_in (fragment_of b))
 unfolding block_rows rows_in
-length-block_rows term b = length-shown_lines term (fragment_of b).wrap (is_on b.layout.numbers) (all_lines b) (b.lines_before + 1) (lines b.text)
+length-block_rows term b = length-stored_lines_for term (fragment_of b).wrap (is_on b.layout.numbers) (all_lines b) (b.lines_before + 1) (lines b.text)
 
 -- past the last row there is none
 pub none_shown : (term : Option Re) (b : Block) (i : ℕ) → slice_get (rows_in (fragment_of b)) i ≡ None → slice_get (block_rows term b) i ≡ None
@@ -56,20 +56,20 @@ none_shown term b i e = none_alike (rows_in (fragment_of b)) (block_rows term b)
 -- ---- a row with its number
 
 row_shown : (term : Option Re) (wrap : Wrap) (on : Bool) (count k n : ℕ) (ls : List (List ℕ)) (i line : ℕ) (row : List ℕ) → slice_get (rows_of_lines wrap ls) i ≡ Some row → IsLineOfRow (first_rows wrap n ls) (n + i) line
-    → slice_get (shown_lines term wrap on count k ls) i ≡ Some (prefix on count (k + line) (eqb (get_or (first_rows wrap n ls) line 0) (n + i)) ++ shown_row term row)
+    → slice_get (stored_lines_for term wrap on count k ls) i ≡ Some (prefix on count (k + line) (eqb (get_or (first_rows wrap n ls) line 0) (n + i)) ++ shown_for term row)
 row_shown term wrap on count k n [] i line row e h = absurd cc
 row_shown term wrap on count k n (x ∷ xs) i zero row e h =
     let rows : List (List ℕ) = own_rows wrap x in
-    let shown : List (List ℕ) = map (shown_row term) rows in
+    let shown : List (List ℕ) = map (shown_for term) rows in
     let lt : i < length rows = in_first wrap n x xs i row e h in
-    let here : slice_get shown i ≡ Some (shown_row term row) = slice_get-map (shown_row term) rows i ∙ ap (option_map (shown_row term)) (sym (at_front rows (rows_of_lines wrap xs) i lt) ∙ e) in
+    let here : slice_get shown i ≡ Some (shown_for term row) = slice_get-map (shown_for term) rows i ∙ ap (option_map (shown_for term)) (sym (at_front rows (rows_of_lines wrap xs) i lt) ∙ e) in
     let same : k ≡ k + 0 = omega arith in
     let first : eqb n (n + i) ≡ eqb i 0 = same_part n i (n + i) refl in
-    at_front (stored_line on count k shown) (shown_lines term wrap on count (k + 1) xs) i (omega (arith, lt, length-shown term on count k wrap x)) ∙ row_in_line on count k shown i (shown_row term row) here
-    ∙ ap (λ m. Some (prefix on count m (eqb i 0) ++ shown_row term row)) same ∙ ap (λ (b : Bool). Some (prefix on count (k + 0) b ++ shown_row term row)) (sym first)
+    at_front (stored_line on count k shown) (stored_lines_for term wrap on count (k + 1) xs) i (omega (arith, lt, length-shown term on count k wrap x)) ∙ row_in_line on count k shown i (shown_for term row) here
+    ∙ ap (λ m. Some (prefix on count m (eqb i 0) ++ shown_for term row)) same ∙ ap (λ (b : Bool). Some (prefix on count (k + 0) b ++ shown_for term row)) (sym first)
 row_shown term wrap on count k n (x ∷ xs) i (suc line) row e h =
     let rows : List (List ℕ) = own_rows wrap x in
-    let shown : List (List ℕ) = map (shown_row term) rows in
+    let shown : List (List ℕ) = map (shown_for term) rows in
     let m : ℕ = length rows in
     let within : suc line < length (first_rows wrap n (x ∷ xs)) = h.within in
     let begins : get_or (first_rows wrap (n + m) xs) line 0 ≤ n + i = h.begins (omega arith) in
@@ -85,9 +85,9 @@ row_shown term wrap on count k n (x ∷ xs) i (suc line) row e h =
     let ih = row_shown term wrap on count (k + 1) (n + m) xs (i - m) line row there more in
     let many : length (stored_line on count k shown) ≡ m = length-shown term on count k wrap x in
     let number : (k + 1) + line ≡ k + suc line = omega arith in
-    get_behind (stored_line on count k shown) (shown_lines term wrap on count (k + 1) xs) i (omega (arith, past, many)) ∙ ap (λ l. slice_get (shown_lines term wrap on count (k + 1) xs) (i - l)) many ∙ ih
-    ∙ ap (λ l. Some (prefix on count l (eqb (get_or (first_rows wrap (n + m) xs) line 0) ((n + m) + (i - m))) ++ shown_row term row)) number
-    ∙ ap (λ l. Some (prefix on count (k + suc line) (eqb (get_or (first_rows wrap (n + m) xs) line 0) l) ++ shown_row term row)) sum
+    get_behind (stored_line on count k shown) (stored_lines_for term wrap on count (k + 1) xs) i (omega (arith, past, many)) ∙ ap (λ l. slice_get (stored_lines_for term wrap on count (k + 1) xs) (i - l)) many ∙ ih
+    ∙ ap (λ l. Some (prefix on count l (eqb (get_or (first_rows wrap (n + m) xs) line 0) ((n + m) + (i - m))) ++ shown_for term row)) number
+    ∙ ap (λ l. Some (prefix on count (k + suc line) (eqb (get_or (first_rows wrap (n + m) xs) line 0) l) ++ shown_for term row)) sum
 
 -- what stands before a row is that of its line
 pub prefix_in : (b : Block) (entries : List ℕ) (i row line count number : ℕ) (on first : Bool) → entries ≡ first_rows (fragment_of b).wrap b.first_row (lines b.text) → row ≡ b.first_row + i → IsLineOfRow entries row line
@@ -99,10 +99,10 @@ prefix_in b entries i row line count number on first m r h o c k f = λ text e t
     let same : (b.lines_before + 1) + line ≡ number = omega (arith, k) in
     let begins : eqb (get_or (first_rows wrap b.first_row (lines b.text)) line 0) (b.first_row + i) ≡ first = ap (λ j. eqb (get_or (first_rows wrap b.first_row (lines b.text)) line 0) j) (sym r) ∙ ap (λ es. eqb (get_or es line 0) row) (sym m) ∙ sym f in
     row_shown term wrap (is_on b.layout.numbers) (all_lines b) (b.lines_before + 1) b.first_row (lines b.text) i line text e is
-    ∙ ap (λ l. Some (prefix (is_on b.layout.numbers) (all_lines b) l (eqb (get_or (first_rows wrap b.first_row (lines b.text)) line 0) (b.first_row + i)) ++ shown_row term text)) same
-    ∙ ap (λ (x : Bool). Some (prefix (is_on b.layout.numbers) (all_lines b) number x ++ shown_row term text)) begins
-    ∙ ap (λ n. Some (prefix (is_on b.layout.numbers) n number first ++ shown_row term text)) (sym c)
-    ∙ ap (λ (x : Bool). Some (prefix x count number first ++ shown_row term text)) (sym o)
+    ∙ ap (λ l. Some (prefix (is_on b.layout.numbers) (all_lines b) l (eqb (get_or (first_rows wrap b.first_row (lines b.text)) line 0) (b.first_row + i)) ++ shown_for term text)) same
+    ∙ ap (λ (x : Bool). Some (prefix (is_on b.layout.numbers) (all_lines b) number x ++ shown_for term text)) begins
+    ∙ ap (λ n. Some (prefix (is_on b.layout.numbers) n number first ++ shown_for term text)) (sym c)
+    ∙ ap (λ (x : Bool). Some (prefix x count number first ++ shown_for term text)) (sym o)
 
 -- without a line there is no row
 pub no_line_in : (b : Block) (before : List ℕ) (entries : List ℕ) (i : ℕ) → entries ≡ first_rows (fragment_of b).wrap b.first_row (lines b.text) → entries ≡ [] → IsPrefixIn b i before

@@ -15,7 +15,8 @@ use Rattle.minus_text.specs.Fragments.{Fragment, rows_in}
 use Rattle.minus_text.specs.Pending.{Pending}
 use Rattle.minus_text.specs.Found.{found_by}
 use Rattle.minus_text.specs.FormatResults.{Tells}
-use Rattle.minus_text.specs.Formatted.{shown_row, row_matches, prefix_of, shown_lines}
+use Rattle.minus_text.specs.Formatted.{row_matches, prefix_of}
+use Rattle.minus_text.specs.Searched.{shown_for, stored_lines_for}
 
 -- a text, the layout of its rows, how many lines stand before it, and the number of its first row
 pub record Block : Type 0 where
@@ -34,7 +35,7 @@ fragment_of b = record { text = b.text; wrap = wrap_of b.layout (all_lines b) }
 
 -- its rows as they are stored, under a term
 unfoldable pub block_rows : Option Re → Block → List (List ℕ)
-block_rows term b = shown_lines term (fragment_of b).wrap (is_on b.layout.numbers) (all_lines b) (b.lines_before + 1) (lines b.text)
+block_rows term b = stored_lines_for term (fragment_of b).wrap (is_on b.layout.numbers) (all_lines b) (b.lines_before + 1) (lines b.text)
 
 -- the numbers of those of its rows that match a term
 abbrev pub matching_rows : Option Re → Block → List ℕ
@@ -55,7 +56,7 @@ pub record IsBlockFormed (p : Pending) (layout : Layout) (lines_before unfinishe
 -- this stands before a row of a block
 abbrev pub IsPrefixIn : Block → ℕ → List ℕ → Type 0
 IsPrefixIn b i before = (row : List ℕ) → slice_get (rows_in (fragment_of b)) i ≡ Some row → (term : Option Re)
-    → slice_get (block_rows term b) i ≡ Some (before ++ shown_row term row)
+    → slice_get (block_rows term b) i ≡ Some (before ++ shown_for term row)
 
 -- a row of a block by its number, if there is one
 abbrev pub IsRowIn : Block → ℕ → Option FormattedRow → Type 0

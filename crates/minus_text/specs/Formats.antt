@@ -3,7 +3,7 @@ use Rattle.std.specs.Prelude.{ℕ, ◌-◌, Bool, List, ◌++◌, Option, None, 
 use Rattle.regex.specs.Patterns.{Re}
 use Rattle.minus_text.specs.declared.layout.Layout.{Layout}
 use Rattle.minus_text.specs.declared.format.FormatOpts.{FormatOpts}
-use Rattle.minus_text.specs.Formatted.{pattern_of}
+use Rattle.minus_text.specs.FoundRows.{pattern_of}
 use Rattle.minus_text.specs.Blocks.{Block}
 
 -- The block that a text makes behind so many lines and rows. What is attached in front of it is the last of these lines, which

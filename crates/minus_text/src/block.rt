@@ -4,8 +4,8 @@ ghost use Rattle.std.specs.Str.Lines.{lines};
 ghost use Rattle.regex.specs.Patterns.{Re};
 ghost use Rattle.minus_text.specs.Layouts.{margin};
 ghost use Rattle.minus_text.specs.Fragments.{rows_in};
-ghost use Rattle.minus_text.specs.FoundRows.{finder_pattern};
-ghost use Rattle.minus_text.specs.Formatted.{pattern_of, prefix_of};
+ghost use Rattle.minus_text.specs.FoundRows.{finder_pattern, pattern_of};
+ghost use Rattle.minus_text.specs.Formatted.{prefix_of};
 ghost use Rattle.minus_text.specs.Blocks.{Block, fragment_of, block_rows, matching_rows, TellsBlock, IsPrefixIn, IsRowIn, one, keys_noted, noted_in, GrowsByRows};
 
 use crate::buffers::AppendableBuffer;
@@ -16,8 +16,7 @@ use crate::layout::{Layout, Wrap};
 use crate::line_numbers::{LineNumbers, prefix_columns};
 use crate::lines::newlines;
 use crate::screen::FormatResult;
-use crate::search::{Finder, Patterns};
-use regex::Regex;
+use crate::search::{Finder, Term};
 use std::alloc::{AllocError, Global};
 use std::collections::BTreeSet;
 use std::marker::Model;
@@ -228,14 +227,13 @@ fn put_rows<B: AppendableBuffer>(
     alloc: Global,
     buffer: &mut B,
     block: &FormattedBlock,
-    patterns: &Patterns,
-    term: Option<&Regex>,
+    term: Option<Term<'_>>,
 ) -> Result<BTreeSet<usize>, AllocError>
     ensures rows { OnOk result (B.rows buffer.new ≡ B.rows buffer.old ++ block_rows (pattern_of term.entry) block.now) }
     ensures found { IfOk result (λ found. found.keys ≡ matching_rows (pattern_of term.entry) block.now) }
     ensures grows { GrowsByRows (B.rows buffer.old) (B.rows buffer.new) }
 {
-    let mut finder = finder_of(alloc, patterns, term)?;
+    let mut finder = finder_of(alloc, term)?;
     let mut found = BTreeSet::new(alloc);
     for i in 0..block.rows_len() {
         put_row(alloc, buffer, &mut found, &mut finder, block, i)?;
@@ -248,8 +246,7 @@ pub(crate) fn put_block<B: AppendableBuffer>(
     alloc: Global,
     buffer: &mut B,
     block: FormattedBlock,
-    patterns: &Patterns,
-    term: Option<&Regex>,
+    term: Option<Term<'_>>,
     clean: bool,
 ) -> Result<FormatResult, AllocError>
     ensures rows { OnOk result (B.rows buffer.new ≡ B.rows buffer.old ++ block_rows (pattern_of term.entry) block) }
@@ -257,7 +254,7 @@ pub(crate) fn put_block<B: AppendableBuffer>(
     ensures err { OnErr result (B.rows buffer.new ≡ B.rows buffer.old) }
 {
     let len = buffer.rows_len();
-    let found = match put_rows(alloc, buffer, &block, patterns, term) {
+    let found = match put_rows(alloc, buffer, &block, term) {
         Ok(found) => found,
         Err(error) => {
             buffer.truncate_rows(len);

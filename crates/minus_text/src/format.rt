@@ -1,6 +1,6 @@
 //! Calls that put the rows of a text into a buffer.
 ghost use Rattle.std.specs.Prelude.{◌≡◌, ◌^◌, ◌<◌, ◌++◌, map, true, option_map, string_bytes, IfOk, IfErr, OnOk, OnErr};
-ghost use Rattle.minus_text.specs.Formatted.{pattern_of};
+ghost use Rattle.minus_text.specs.FoundRows.{pattern_of};
 ghost use Rattle.minus_text.specs.Blocks.{block_rows, TellsBlock};
 ghost use Rattle.minus_text.specs.Formats.{block_with, block_of, term_of, attaches_none};
 
@@ -9,9 +9,8 @@ use crate::buffers::AppendableBuffer;
 use crate::layout::Layout;
 use crate::line_numbers::LineNumbers;
 use crate::screen::{FormatResult, Rows, TextBlock};
-use crate::search::Patterns;
+use crate::search::Term;
 use minus_term::error::MinusError;
-use regex::Regex;
 use std::alloc::{AllocError, Global};
 
 /// A text that is to be formatted, and what takes its rows.
@@ -31,10 +30,8 @@ pub struct FormatOpts<'a, B> {
     pub cols: usize,
     /// How many of those rows are the attachment's.
     pub prev_unterminated: usize,
-    /// The patterns beside the term's, built once.
-    pub patterns: &'a Patterns,
     /// The term whose matches are shown in reverse.
-    pub search_term: Option<&'a Regex>,
+    pub search_term: Option<Term<'a>>,
     /// Whether a line that is too long for the columns fills several rows.
     pub line_wrapping: bool,
 }
@@ -92,7 +89,6 @@ pub fn format_text_block<B: AppendableBuffer>(
         formatted_lines_count,
         cols,
         prev_unterminated,
-        patterns,
         search_term,
         line_wrapping,
     } = opts;
@@ -111,7 +107,7 @@ pub fn format_text_block<B: AppendableBuffer>(
         formatted_lines_count,
         prev_unterminated,
     )?;
-    let told = put_block(alloc, buffer, block, patterns, search_term, clean)?;
+    let told = put_block(alloc, buffer, block, search_term, clean)?;
     Ok(told)
 }
 
@@ -125,8 +121,7 @@ pub fn format_lines_into(
     buffer: &mut Rows,
     text: TextBlock<'_>,
     layout: Layout,
-    patterns: &Patterns,
-    search_term: Option<&Regex>,
+    search_term: Option<Term<'_>>,
 ) -> Result<FormatResult, MinusError>
     ensures rows { OnOk result (map string_bytes buffer.new.items ≡ block_rows (pattern_of search_term.entry) (block_with None text.now layout 0 0 0)) }
     ensures told { IfOk result (λ r. TellsBlock r (pattern_of search_term.entry) (block_with None text.now layout 0 0 0) true) }
@@ -135,7 +130,7 @@ pub fn format_lines_into(
 {
     let block = form_with(alloc, None, text, layout, 0, 0, 0)?;
     let mut rows = Rows::new(alloc);
-    let told = put_block(alloc, &mut rows, block, patterns, search_term, true)?;
+    let told = put_block(alloc, &mut rows, block, search_term, true)?;
     *buffer = rows;
     Ok(told)
 }

@@ -3,13 +3,12 @@ ghost use Rattle.std.specs.Prelude.{◌≡◌, map, option_map, replicate, false
 ghost use Rattle.minus_text.specs.Prefixes.{prefix};
 ghost use Rattle.minus_text.specs.Highlight.{highlighted, line_matches};
 ghost use Rattle.minus_text.specs.Shown.{shown_line};
-ghost use Rattle.minus_text.specs.FoundRows.{finder_pattern};
-ghost use Rattle.minus_text.specs.Formatted.{pattern_of, prefix_of, printed_row, printed_under, printed_searched, row_matches};
+ghost use Rattle.minus_text.specs.FoundRows.{finder_pattern, pattern_of};
+ghost use Rattle.minus_text.specs.Formatted.{prefix_of, printed_row, printed_under, printed_searched, row_matches};
 
 use crate::line_numbers::{digits, prefix_columns};
 use crate::search::escapes::{match_places, part};
-use crate::search::{Finder, HighlightMatchesArgs, Patterns, Term};
-use regex::Regex;
+use crate::search::{Finder, HighlightMatchesArgs, Term};
 use std::alloc::{AllocError, Global};
 use std::fmt;
 
@@ -124,15 +123,14 @@ impl fmt::Display for SearchFormattedRow<'_> {
 // What searches rows for a term, if there is one.
 pub(crate) fn finder_of<'p>(
     alloc: Global,
-    patterns: &'p Patterns,
-    term: Option<&'p Regex>,
+    term: Option<Term<'p>>,
 ) -> Result<Option<Finder<'p>>, AllocError>
     ensures { IfOk result (λ f. option_map finder_pattern f ≡ pattern_of term.entry) }
 {
-    let Some(pattern) = term else {
+    let Some(term) = term else {
         return Ok(None);
     };
-    let finder = Finder::new(alloc, Term { patterns, pattern })?;
+    let finder = Finder::new(alloc, term)?;
     Ok(Some(finder))
 }
 
@@ -180,14 +178,13 @@ pub(crate) fn search_row<'a>(
 /// without a term. One search serves all rows.
 pub fn format_search_rows<'a>(
     alloc: Global,
-    patterns: &Patterns,
     rows: &[FormattedRow<'a>],
-    search_term: Option<&Regex>,
+    search_term: Option<Term<'_>>,
 ) -> Result<Vec<(SearchFormattedRow<'a>, bool)>, AllocError>
     ensures printed { IfOk result (λ found. map (λ r. printed_searched r.0) found.items ≡ map (printed_under (pattern_of search_term.entry)) rows.now) }
     ensures matches { IfOk result (λ found. map (λ r. r.1) found.items ≡ map (λ r. row_matches (pattern_of search_term.entry) r.row.now) rows.now) }
 {
-    let mut finder = finder_of(alloc, patterns, search_term)?;
+    let mut finder = finder_of(alloc, search_term)?;
     let mut found = Vec::new(alloc);
     for row in rows {
         found.push(search_row(alloc, &mut finder, *row)?)?;

@@ -2,7 +2,7 @@
 use minus_term::error::{MinusError, RegexError};
 use minus_text::{
     AppendableBuffer, FormatOpts, FormatResult, FormattedRow, Layout, LineNumbers, Patterns,
-    ReusableRows, Rows, format_lines_into, format_search_rows, format_text_block,
+    ReusableRows, Rows, Term, format_lines_into, format_search_rows, format_text_block,
 };
 use regex::Regex;
 use std::alloc::{AllocError, Global};
@@ -58,7 +58,11 @@ fn format_behind<B: AppendableBuffer>(
     term: &str,
 ) -> Result<FormatResult, MinusError> {
     let patterns = Patterns::new(alloc)?;
-    let term = pattern(alloc, term)?;
+    let query = pattern(alloc, term)?;
+    let term = Some(Term {
+        patterns: &patterns,
+        pattern: &query,
+    });
     let opts = FormatOpts {
         buffer,
         text,
@@ -68,8 +72,7 @@ fn format_behind<B: AppendableBuffer>(
         formatted_lines_count: 7,
         cols: 20,
         prev_unterminated: 2,
-        patterns: &patterns,
-        search_term: Some(&term),
+        search_term: term,
         line_wrapping: true,
     };
     format_text_block(alloc, opts)
@@ -116,14 +119,18 @@ fn a_text_is_formatted_behind_others(rt: HostRuntime) -> Result<(), Fail> {
 // What a buffer with a row holds after the rows of a text by itself were put into it, and what is told.
 fn formatted_alone(alloc: Global, text: &str, term: &str) -> Result<String, MinusError> {
     let patterns = Patterns::new(alloc)?;
-    let term = pattern(alloc, term)?;
+    let query = pattern(alloc, term)?;
+    let term = Some(Term {
+        patterns: &patterns,
+        pattern: &query,
+    });
     let mut rows = rows_with(alloc, &["old"])?;
     let layout = Layout {
         cols: 1,
         wrapping: true,
         numbers: LineNumbers::Enabled,
     };
-    let told = format_lines_into(alloc, &mut rows, text, layout, &patterns, Some(&term))?;
+    let told = format_lines_into(alloc, &mut rows, text, layout, term)?;
     Ok(summary(alloc, &rows, &told)?)
 }
 
@@ -161,13 +168,17 @@ fn rows_are_written_over(rt: HostRuntime) -> Result<(), Fail> {
 // What two rows print under a term, and whether they match.
 fn searched(alloc: Global, term: &str) -> Result<String, MinusError> {
     let patterns = Patterns::new(alloc)?;
-    let term = pattern(alloc, term)?;
+    let query = pattern(alloc, term)?;
+    let term = Some(Term {
+        patterns: &patterns,
+        pattern: &query,
+    });
     let rows = [
         FormattedRow::new("ab", true, 10, 1, true),
         FormattedRow::new("c", true, 10, 1, false),
     ];
     let mut all = String::new(alloc);
-    for found in &format_search_rows(alloc, &patterns, &rows, Some(&term))? {
+    for found in &format_search_rows(alloc, &rows, term)? {
         let (row, matches) = (&found.0, found.1);
         write!(all, "{row}|{matches}|")?;
     }

@@ -2,7 +2,7 @@
 use Rattle.std.proofs.Common.{◌+◌, ◌<◌, ◌≤◌, ◌++◌, length, map, option_map, refl, sym, ap, ◌∙◌, arith, append_assoc}
 use Rattle.std.specs.List.{slice_get}
 use Rattle.std.proofs.lemmas.List.{take_all}
-use Rattle.regex.specs.Strings.{regex_pattern}
+use Rattle.minus_text.specs.FoundRows.{pattern_of}
 use Rattle.minus_text.specs.Fragments.{rows_in}
 use Rattle.minus_text.specs.Found.{found_by}
 use Rattle.minus_text.specs.Blocks.{fragment_of, block_rows, one, keys_with}
@@ -11,7 +11,7 @@ use Rattle.minus_text.proofs.block.put_rows.Goals as goal
 
 pub loop-i-preserved : goal.loop-i-preserved
 loop-i-preserved g c =
-    let term = option_map (λ r. regex_pattern r.now) c.args.term in
+    let term = pattern_of c.args.term in
     let b = c.args.block.now in
     let i = c.loop-i.i in
     let shown = block_rows term b in
@@ -29,14 +29,14 @@ loop-i-preserved g c =
 
 pub returns-clause-rows : goal.returns-clause-rows
 returns-clause-rows g c =
-    let term = option_map (λ r. regex_pattern r.now) c.args.term in
+    let term = pattern_of c.args.term in
     let b = c.args.block.now in
     let past : length (block_rows term b) ≤ c.loop-i.i = omega (arith, c.rows_len-i-end.ensures.value, c.loop-i-test.false, length-block_rows term b) in
     c.loop-i.invariant.rows ∙ ap (λ l. g.B.AppendableBuffer.rows c.args.buffer.now ++ l) (take_all c.loop-i.i (block_rows term b) past)
 
 pub returns-clause-found : goal.returns-clause-found
 returns-clause-found g c =
-    let term = option_map (λ r. regex_pattern r.now) c.args.term in
+    let term = pattern_of c.args.term in
     let b = c.args.block.now in
     let rows = rows_in (fragment_of b) in
     let past : length rows ≤ c.loop-i.i = omega (arith, c.rows_len-i-end.ensures.value, c.loop-i-test.false) in
