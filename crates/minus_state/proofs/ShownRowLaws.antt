@@ -4,10 +4,12 @@ use Rattle.std.specs.List.{slice_get, concat}
 use Rattle.std.specs.Str.{IsUtf8, encode_utf8_all}
 use Rattle.minus_text.specs.Crop.{cropped, shown_units, columns_of}
 use Rattle.minus_text.specs.TextUnits.{text_units}
+use Rattle.regex.specs.Patterns.{Re}
 use Rattle.minus_text.specs.Document.{Document, rows_of}
+use Rattle.minus_text.specs.Searched.{shown_for}
 use Rattle.minus_text.proofs.ShownColumnsLaws.{shown_columns_fit}
 use Rattle.minus_state.specs.declared.selection.Selection.{Selection}
-use Rattle.minus_state.specs.ShownRow.{columns_for_text, line_prefix, cropped_row, unmarked_row, selected_range, with_marks, shown_row, before_rows, rows_from, ShownRowsFit, SelectionAddsMarkersAlone}
+use Rattle.minus_state.specs.ShownRow.{columns_for_text, line_prefix, cropped_line, cropped_row, unmarked_row, selected_range, with_marks, shown_row, before_rows, rows_from, ShownRowsFit, SelectionAddsMarkersAlone}
 use Rattle.minus_state.specs.VisibleCharacters.{HasMarks}
 use Rattle.std.proofs.lemmas.List.{append-nil}
 use Rattle.minus_state.proofs.VisibleLaws.{marks_alone}
@@ -18,18 +20,18 @@ before_more : (o : Option (List ℕ)) (rows more : List (List ℕ)) → (rows ++
 before_more None rows more = ap (λ rs. rs ++ more) (append-nil rows)
 before_more (Some row) rows more = append_assoc rows (row ∷ []) more
 
-pub one_row_more : (d : Document) (left : ℕ) (ends : Option (Selection × Selection)) (i n m : ℕ) (o : Option (List ℕ)) (rows more total : List (List ℕ)) → m ≡ suc n → o ≡ shown_row d left ends i → rows ++ rows_from d left ends i m ≡ total → more ≡ rows ++ before_rows o []
-    → more ++ rows_from d left ends (i + 1) n ≡ total
-one_row_more d left ends i n m o rows more total e f t a =
-    let rest : List (List ℕ) = rows_from d left ends (i + 1) n in
-    ap (λ rs. rs ++ rest) a ∙ before_more o rows rest ∙ ap (λ (x : Option (List ℕ)). rows ++ before_rows x rest) f ∙ ap (λ k. rows ++ rows_from d left ends i k) (sym e) ∙ t
+pub one_row_more : (term : Option Re) (d : Document) (left : ℕ) (ends : Option (Selection × Selection)) (i n m : ℕ) (o : Option (List ℕ)) (rows more total : List (List ℕ)) → m ≡ suc n → o ≡ shown_row term d left ends i
+    → rows ++ rows_from term d left ends i m ≡ total → more ≡ rows ++ before_rows o [] → more ++ rows_from term d left ends (i + 1) n ≡ total
+one_row_more term d left ends i n m o rows more total e f t a =
+    let rest : List (List ℕ) = rows_from term d left ends (i + 1) n in
+    ap (λ rs. rs ++ rest) a ∙ before_more o rows rest ∙ ap (λ (x : Option (List ℕ)). rows ++ before_rows x rest) f ∙ ap (λ k. rows ++ rows_from term d left ends i k) (sym e) ∙ t
 
-pub all_rows : (d : Document) (left : ℕ) (ends : Option (Selection × Selection)) (i m : ℕ) (rows total : List (List ℕ)) → m ≡ 0 → rows ++ rows_from d left ends i m ≡ total → rows ≡ total
-all_rows d left ends i m rows total e t = sym (append-nil rows) ∙ ap (λ k. rows ++ rows_from d left ends i k) (sym e) ∙ t
+pub all_rows : (term : Option Re) (d : Document) (left : ℕ) (ends : Option (Selection × Selection)) (i m : ℕ) (rows total : List (List ℕ)) → m ≡ 0 → rows ++ rows_from term d left ends i m ≡ total → rows ≡ total
+all_rows term d left ends i m rows total e t = sym (append-nil rows) ∙ ap (λ k. rows ++ rows_from term d left ends i k) (sym e) ∙ t
 
 -- ---- shown rows fit
 
-fits : (d : Document) (left i : ℕ) (row : List ℕ) (o : Option (List ℕ)) → option_map (with_marks None) (option_map (λ text. line_prefix d i ++ cropped left (columns_for_text d) text) o) ≡ Some row
+fits : (d : Document) (left i : ℕ) (row : List ℕ) (o : Option (List ℕ)) → option_map (with_marks None) (option_map (cropped_line d left i) o) ≡ Some row
     → (units : List (List ℕ)) × (row ≡ line_prefix d i ++ encode_utf8_all (concat units)) × (columns_of units ≤ columns_for_text d)
 unfolding cropped
 fits d left i row None e = absurd cc
@@ -38,9 +40,9 @@ fits d left i row (Some text) e =
     (shown_units left (columns_for_text d) [] (text_units (chars text)), sym is, shown_columns_fit left (columns_for_text d) (chars text))
 
 pub rows_fit : ShownRowsFit
-rows_fit d left i row off e =
-    let cropped_is : unmarked_row d left i ≡ cropped_row d left i = rw off refl in
-    fits d left i row (slice_get (rows_of d) i) (sym (ap (option_map (with_marks None)) cropped_is) ∙ e)
+rows_fit term d left i row off e =
+    let cropped_is : unmarked_row term d left i ≡ cropped_row term d left i = rw off refl in
+    fits d left i row (option_map (shown_for term) (slice_get (rows_of d) i)) (sym (ap (option_map (with_marks None)) cropped_is) ∙ e)
 
 -- ---- marks
 
@@ -56,7 +58,7 @@ same_row range (Some text) row shown e f =
     ap (with_marks range) (sym one) ∙ two
 
 pub markers_alone : SelectionAddsMarkersAlone
-markers_alone d left i ends row shown u e f =
+markers_alone term d left i ends row shown u e f =
     let range : Option (ℕ × Option ℕ) = selected_range d left (Some ends) i in
-    let is : with_marks range row ≡ shown = same_row range (unmarked_row d left i) row shown e f in
+    let is : with_marks range row ≡ shown = same_row range (unmarked_row term d left i) row shown e f in
     subst (λ (s : List ℕ). (s ≡ row) ⊎ HasMarks row s) is (alone range row u)

@@ -1,10 +1,12 @@
--- What is shown of the rows of a document: from the left mark on, and with what is selected marked.
+-- What is shown of the rows of a document under a term: from the left mark on, with what matches and what is selected marked.
 use Rattle.std.specs.Prelude.{◌≡◌, ℕ, ◌+◌, ◌-◌, ◌≤◌, ◌⊎◌, true, false, zero, suc, min, Option, None, Some, option_map, unwrap_or, List, [], ◌∷◌, ◌++◌, length, slice_get, if◌then◌else◌}
 use Rattle.std.specs.List.{concat}
 use Rattle.std.specs.Str.{IsUtf8, encode_utf8_all}
 use Rattle.minus_text.specs.Crop.{cropped, columns_of}
 use Rattle.minus_text.specs.Prefixes.{is_on, prefix}
-use Rattle.minus_text.specs.Document.{Document, rows_of, stored_rows, line_count}
+use Rattle.regex.specs.Patterns.{Re}
+use Rattle.minus_text.specs.Document.{Document, rows_of, line_count}
+use Rattle.minus_text.specs.Searched.{shown_for, stored_rows_for}
 use Rattle.minus_state.specs.declared.selection.Selection.{Selection}
 use Rattle.minus_state.specs.Selection.{marked_range}
 use Rattle.minus_state.specs.View.{prefix_in, cut_in}
@@ -18,13 +20,17 @@ columns_for_text d = d.layout.cols - prefix_in d
 abbrev pub line_prefix : Document → ℕ → List ℕ
 line_prefix d i = prefix (is_on d.layout.numbers) (line_count d) (i + 1) true
 
--- what is shown of it: its prefix, and the columns of its text from the left mark on
-abbrev pub cropped_row : Document → ℕ → ℕ → Option (List ℕ)
-cropped_row d left i = option_map (λ text. line_prefix d i ++ cropped left (columns_for_text d) text) (slice_get (rows_of d) i)
+-- what is shown of it with a text: its prefix, and the columns of the text from the left mark on
+abbrev pub cropped_line : Document → ℕ → ℕ → List ℕ → List ℕ
+cropped_line d left i text = line_prefix d i ++ cropped left (columns_for_text d) text
+
+-- what is shown of it under a term, with the markers of its matches in its text
+abbrev pub cropped_row : Option Re → Document → ℕ → ℕ → Option (List ℕ)
+cropped_row term d left i = option_map (cropped_line d left i) (option_map (shown_for term) (slice_get (rows_of d) i))
 
 -- a row without a selection: as it is stored, or, where lines are not wrapped, what is shown of its line
-abbrev pub unmarked_row : Document → ℕ → ℕ → Option (List ℕ)
-unmarked_row d left i = if d.layout.wrapping then slice_get (stored_rows d) i else cropped_row d left i
+abbrev pub unmarked_row : Option Re → Document → ℕ → ℕ → Option (List ℕ)
+unmarked_row term d left i = if d.layout.wrapping then slice_get (stored_rows_for term d) i else cropped_row term d left i
 
 -- the visible characters of a row that are selected, if some may be
 abbrev pub selected_range : Document → ℕ → Option (Selection × Selection) → ℕ → Option (ℕ × Option ℕ)
@@ -37,8 +43,8 @@ with_marks None row = row
 with_marks (Some range) row = marked range.0 (unwrap_or range.1 (length row)) row
 
 -- the shown row
-abbrev pub shown_row : Document → ℕ → Option (Selection × Selection) → ℕ → Option (List ℕ)
-shown_row d left ends i = option_map (with_marks (selected_range d left ends i)) (unmarked_row d left i)
+abbrev pub shown_row : Option Re → Document → ℕ → Option (Selection × Selection) → ℕ → Option (List ℕ)
+shown_row term d left ends i = option_map (with_marks (selected_range d left ends i)) (unmarked_row term d left i)
 
 -- a row before others, if there is one
 abbrev pub before_rows : Option (List ℕ) → List (List ℕ) → List (List ℕ)
@@ -46,21 +52,21 @@ before_rows None rows = rows
 before_rows (Some row) rows = row ∷ rows
 
 -- so many shown rows from one on
-abbrev pub rows_from : Document → ℕ → Option (Selection × Selection) → ℕ → ℕ → List (List ℕ)
-rows_from d left ends i zero = []
-rows_from d left ends i (suc n) = before_rows (shown_row d left ends i) (rows_from d left ends (i + 1) n)
+abbrev pub rows_from : Option Re → Document → ℕ → Option (Selection × Selection) → ℕ → ℕ → List (List ℕ)
+rows_from term d left ends i zero = []
+rows_from term d left ends i (suc n) = before_rows (shown_row term d left ends i) (rows_from term d left ends (i + 1) n)
 
 -- the shown rows from one on up to but without another, as far as there are rows
-unfoldable pub shown_rows : Document → ℕ → Option (Selection × Selection) → ℕ → ℕ → List (List ℕ)
-shown_rows d left ends start end = rows_from d left ends start (min end (length (rows_of d)) - start)
+unfoldable pub shown_rows : Option Re → Document → ℕ → Option (Selection × Selection) → ℕ → ℕ → List (List ℕ)
+shown_rows term d left ends start end = rows_from term d left ends start (min end (length (rows_of d)) - start)
 
 -- where lines are not wrapped, a row without a selection takes no more columns behind its prefix than are left for its text
 abbrev pub ShownRowsFit : Type 0
-ShownRowsFit = (d : Document) (left i : ℕ) (row : List ℕ) → d.layout.wrapping ≡ false → shown_row d left None i ≡ Some row
+ShownRowsFit = (term : Option Re) (d : Document) (left i : ℕ) (row : List ℕ) → d.layout.wrapping ≡ false → shown_row term d left None i ≡ Some row
     → (units : List (List ℕ)) × (row ≡ line_prefix d i ++ encode_utf8_all (concat units)) × (columns_of units ≤ columns_for_text d)
 
 -- a shown row without the two marks of a selection is the row without a selection, or it has none
 abbrev pub SelectionAddsMarkersAlone : Type 0
-SelectionAddsMarkersAlone = (d : Document) (left i : ℕ) (ends : Selection × Selection) (row shown : List ℕ)
-    → IsUtf8 row → shown_row d left None i ≡ Some row → shown_row d left (Some ends) i ≡ Some shown
+SelectionAddsMarkersAlone = (term : Option Re) (d : Document) (left i : ℕ) (ends : Selection × Selection) (row shown : List ℕ)
+    → IsUtf8 row → shown_row term d left None i ≡ Some row → shown_row term d left (Some ends) i ≡ Some shown
     → (shown ≡ row) ⊎ HasMarks row shown

@@ -1,5 +1,5 @@
 -- A document as a function of a term: what that finds in its rows, and its rows with that shown in reverse.
-use Rattle.std.specs.Prelude.{◌≡◌, ℕ, ◌+◌, Bool, false, List, [], ◌∷◌, ◌++◌, map, Option, None, Some, slice_get}
+use Rattle.std.specs.Prelude.{◌≡◌, ℕ, ◌+◌, Bool, false, List, [], ◌∷◌, ◌++◌, map, Option, None, Some, option_map, slice_get}
 use Rattle.std.specs.Str.Lines.{lines}
 use Rattle.regex.specs.Patterns.{Re}
 use Rattle.minus_text.specs.declared.layout.Wrap.{Wrap}
@@ -51,7 +51,11 @@ stored_rows_for term d = stored_lines_for term (wrap_in d) (is_on d.layout.numbe
 abbrev pub GrowsBySearchedRow : Searched → ℕ → List ℕ → List ℕ → Bool → Type 0
 GrowsBySearchedRow s i old new found = (term : Option Re) → IsFoundBy term s → GrowsByRow (slice_get (stored_rows_for term s.document) i) old new found
 
--- the same of a row that the push of whatever piece this belongs to would leave
+-- the same of the own text of a row, without what stands before it
+abbrev pub GrowsBySearchedText : Searched → ℕ → List ℕ → List ℕ → Bool → Type 0
+GrowsBySearchedText s i old new found = (term : Option Re) → IsFoundBy term s → GrowsByRow (option_map (shown_for term) (slice_get (rows_of s.document) i)) old new found
+
+-- the same of a stored row that the push of whatever piece this belongs to would leave
 abbrev pub GrowsByPendingRow : Searched → SearchedPush → ℕ → List ℕ → List ℕ → Bool → Type 0
 GrowsByPendingRow s p i old new found = (term : Option Re) (piece : List ℕ) (numbers : LineNumbers) (cols : ℕ) → IsFoundBy term s → IsFoundInPush term p
     → IsPending s.document piece numbers cols p.push → GrowsByRow (slice_get (stored_rows_for term (pushed s.document piece numbers cols)) i) old new found

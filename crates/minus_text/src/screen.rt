@@ -10,7 +10,7 @@ ghost use Rattle.minus_text.specs.FormatResults.{Tells, TellsPush};
 ghost use Rattle.minus_text.specs.Found.{AreFoundIn};
 ghost use Rattle.minus_text.specs.FoundRows.{pattern_of};
 ghost use Rattle.minus_text.specs.FoundBy.{found_rows};
-ghost use Rattle.minus_text.specs.Searched.{searched, IsFoundBy, IsFoundInPush, GrowsBySearchedRow, GrowsByPendingRow, GrowsByPendingText, stored_rows_for};
+ghost use Rattle.minus_text.specs.Searched.{searched, IsFoundBy, IsFoundInPush, GrowsBySearchedRow, GrowsBySearchedText, GrowsByPendingRow, GrowsByPendingText, stored_rows_for};
 ghost use Rattle.regex.specs.Patterns.{Re};
 
 use crate::formed_push::FormedPush;
@@ -204,6 +204,24 @@ impl Screen {
         };
         self.store.push_row_prefix(out, i)?;
         self.found.push_marked(alloc, out, i, text)?;
+        Ok(true)
+    }
+
+    /// Adds the own text of a row, counted from 0, with its matches shown in reverse and nothing before
+    /// it. Answers whether there is such a row, and adds nothing where there is none. An `Err` is for
+    /// want of memory alone; it may leave a part of the text behind.
+    pub fn push_row_text(
+        &self,
+        alloc: Global,
+        out: &mut String,
+        i: usize,
+    ) -> Result<bool, AllocError>
+        ensures { IfOk result (λ found. GrowsBySearchedText self.now i (string_bytes out.old) (string_bytes out.new) found) }
+    {
+        let Some(own) = self.store.row_text(i) else {
+            return Ok(false);
+        };
+        self.found.push_marked(alloc, out, i, own)?;
         Ok(true)
     }
 
