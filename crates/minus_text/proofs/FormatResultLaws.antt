@@ -1,29 +1,39 @@
 -- What the result of a push tells.
-use Rattle.std.proofs.Common.{◌≡◌, ℕ, ◌+◌, ◌-◌, ◌≤◌, true, false, eqb, cond, Option, None, List, [], ◌++◌, length, refl, sym, subst, ap, ◌∙◌, arith, inl, inr}
+use Rattle.std.proofs.Common.{◌≡◌, ℕ, ◌+◌, ◌-◌, ◌≤◌, Bool, true, false, eqb, cond, Option, None, List, [], ◌++◌, length, refl, sym, subst, ap, ◌∙◌, arith, inl, inr}
 use Rattle.std.specs.List.{sum_by}
 use Rattle.std.specs.Str.Lines.{lines}
+use Rattle.std.specs.BTreeSet.{BTreeSet}
+use Rattle.regex.specs.Patterns.{Re}
 use Rattle.std.proofs.lemmas.Bool.{cases_Bool, eqb-true, eq-eqb}
 use Rattle.std.proofs.lemmas.Bool.Decides.{nat_tests}
 use Rattle.std.proofs.lemmas.List.{length-drop}
+use Rattle.std.proofs.lemmas.List.Concat.{flat_map-append}
 use Rattle.minus_text.specs.declared.wrap.Span.{Span}
 use Rattle.minus_text.specs.declared.formed.Finished.{Finished}
 use Rattle.minus_text.specs.declared.formed.Border.{Border}
 use Rattle.minus_text.specs.declared.formed.Restart.{Restart}
 use Rattle.minus_text.specs.declared.formed.Formed.{Formed}
 use Rattle.minus_text.specs.declared.screen.FormatResult.{FormatResult}
-use Rattle.minus_text.specs.Lines.{cut, unfinished_line}
+use Rattle.minus_text.specs.declared.line_numbers.LineNumbers.{LineNumbers}
+use Rattle.minus_text.specs.declared.layout.Layout.{Layout}
+use Rattle.minus_text.specs.Layouts.{own_rows, wrap_of}
+use Rattle.minus_text.specs.Lines.{cut, unfinished_line, finished_lines}
 use Rattle.minus_text.specs.declared.formed.Plan.{Plan}
 use Rattle.minus_text.specs.declared.layout.Wrap.{Wrap}
-use Rattle.minus_text.specs.Document.{Document, rows_of_lines, first_rows, open_rows, longest_of, rows_of, unfinished_rows, wrap_in}
-use Rattle.minus_text.specs.Fragments.{rows_in}
+use Rattle.minus_text.specs.Document.{Document, rows_of_lines, first_rows, open_rows, longest_of, rows_of, unfinished_rows, wrap_in, pushed, plan_of}
+use Rattle.minus_text.specs.Fragments.{Fragment, rows_in}
+use Rattle.minus_text.specs.Found.{RowMatches, found_by, found_from, row_numbers}
 use Rattle.minus_text.specs.Kept.{bytes_of, IsFormOf, IsFormed, IsRestartOf, line_going_on, piece_behind}
-use Rattle.minus_text.specs.FormatResults.{Tells, TellsPlan, formed_by, first_formed, is_clean}
+use Rattle.minus_text.specs.Searched.{Searched, IsFoundBy}
+use Rattle.minus_text.specs.FormatResults.{Tells, TellsWith, TellsPlan, TellsPush, TellsFound, formed_by, first_formed, is_clean}
 use Rattle.minus_text.proofs.LinesLaws.{open_at}
+use Rattle.minus_text.proofs.PushedLaws.{lines_pushed, keeps_wrap}
+use Rattle.minus_text.proofs.FoundFromLaws.{from_behind}
 use Rattle.minus_text.proofs.DocumentLaws.{length-rows_of_lines, length-first_rows}
 use Rattle.minus_text.proofs.ScreenLaws.{form-unfinished}
 
 -- the rows behind which a push forms
-first_is : (d : Document) (plan : Plan) (start : Restart) → (plan.keeps ≡ true → plan.wrap ≡ wrap_in d) → IsRestartOf d.text plan start → start.finished.rows ≡ first_formed d plan
+pub first_is : (d : Document) (plan : Plan) (start : Restart) → (plan.keeps ≡ true → plan.wrap ≡ wrap_in d) → IsRestartOf d.text plan start → start.finished.rows ≡ first_formed d plan
 unfolding rows_of unfinished_rows
 first_is d plan start w k = elim (cases_Bool plan.keeps) [
   | inl t ↦
@@ -83,3 +93,71 @@ tells_anew r d piece plan all wrap e t h =
     let anew : Plan = record { keeps = false; wrap = wrap } in
     let told : TellsPlan r None d piece anew = subst (λ (p : Plan). TellsPlan r None d piece p) e h in
     subst (λ x. Tells r None (record { text = x; wrap = wrap }) 0 true) t told
+
+-- ---- the rows that match
+
+-- what tells no row that matches, with some told
+pub tells_matches : (r : FormatResult) (rows : BTreeSet ℕ) (formed : Fragment) (n : ℕ) (clean : Bool) → Tells r None formed n clean → TellsWith (record r { append_search_idx = rows }) rows.keys formed n clean
+tells_matches r rows formed n clean h = record {
+  lines_told = h.lines_told;
+  rows_told = h.rows_told;
+  unfinished_told = h.unfinished_told;
+  matches_told = refl;
+  map_told = h.map_told;
+  longest_told = h.longest_told;
+  clean_told = h.clean_told;
+}
+
+-- the rows of the text that a push forms follow the others
+rows_behind : (d : Document) (piece : List ℕ) (numbers : LineNumbers) (cols : ℕ) → (front : List (List ℕ)) × (rows_of (pushed d piece numbers cols) ≡ front ++ rows_in (formed_by d.text piece (plan_of d piece numbers cols))) × (length front ≡ first_formed d (plan_of d piece numbers cols))
+unfolding rows_of rows_in unfinished_rows
+rows_behind d piece numbers cols =
+    let plan = plan_of d piece numbers cols in
+    elim (cases_Bool plan.keeps) [
+      | inl t ↦
+          let front : List (List ℕ) = rows_of_lines plan.wrap (finished_lines d.text) in
+          let same : plan.wrap ≡ wrap_in d = keeps_wrap d piece numbers cols t in
+          let all = length-rows_of_lines d.text (wrap_in d) in (
+            front,
+            ap (rows_of_lines plan.wrap) (lines_pushed d.text piece) ∙ flat_map-append (own_rows plan.wrap) (finished_lines d.text) (lines (unfinished_line d.text ++ piece)) ∙ rw t refl,
+            ap (λ w. length (rows_of_lines w (finished_lines d.text))) same ∙ rw t (omega (arith, all)),
+          )
+      | inr f ↦ ([], rw f refl, rw f refl)
+    ]
+
+-- the rows told are those that are kept as found
+pub tells_found : (r told : FormatResult) (rows : BTreeSet ℕ) (n : ℕ) (found : List RowMatches) (d : Document) (piece : List ℕ) (numbers : LineNumbers) (cols : ℕ) → r ≡ record told { append_search_idx = rows } → rows.keys ≡ row_numbers (found_from n found)
+    → n ≡ first_formed d (plan_of d piece numbers cols) → TellsPush told None d piece numbers cols → TellsFound r found d piece numbers cols
+tells_found r told rows n found d piece numbers cols is keys at h =
+    let plan = plan_of d piece numbers cols in
+    let f : Fragment = formed_by d.text piece plan in
+    let m : ℕ = first_formed d plan in
+    let clean : Bool = is_clean d.text plan in
+    subst (λ x. TellsWith x (row_numbers (found_from m found)) f m clean) (sym is)
+    (subst (λ ks. TellsWith (record told { append_search_idx = rows }) ks f m clean) (keys ∙ ap (λ k. row_numbers (found_from k found)) at) (tells_matches told rows f m clean h))
+
+-- the same of all rows
+pub tells_formed : (r told : FormatResult) (rows : BTreeSet ℕ) (term : Option Re) (found : List RowMatches) (d : Document) (text : List ℕ) (layout : Layout) → r ≡ record told { append_search_idx = rows } → rows.keys ≡ row_numbers found
+    → found ≡ found_by term 0 (rows_of d) → d ≡ record { text = text; layout = layout } → Tells told None (record { text = text; wrap = wrap_of layout (length (lines text)) }) 0 true → Tells r term (record { text = text; wrap = wrap_of layout (length (lines text)) }) 0 true
+unfolding rows_of rows_in
+tells_formed r told rows term found d text layout is keys by same h =
+    let f : Fragment = record { text = text; wrap = wrap_of layout (length (lines text)) } in
+    let all : rows.keys ≡ row_numbers (found_by term 0 (rows_in f)) = keys ∙ ap row_numbers (by ∙ ap (λ (e : Document). found_by term 0 (rows_of e)) same) in
+    subst (λ x. TellsWith x (row_numbers (found_by term 0 (rows_in f))) f 0 true) (sym is)
+    (subst (λ ks. TellsWith (record told { append_search_idx = rows }) ks f 0 true) all (tells_matches told rows f 0 true h))
+
+-- what is kept as found is what a term finds, and so is what is told
+pub tells_pushed : (r : FormatResult) (term : Option Re) (s : Searched) (d : Document) (piece : List ℕ) (numbers : LineNumbers) (cols : ℕ) → IsFoundBy term s → s.document ≡ pushed d piece numbers cols
+    → TellsFound r s.found d piece numbers cols → TellsPush r term d piece numbers cols
+tells_pushed r term s d piece numbers cols is left h =
+    let plan = plan_of d piece numbers cols in
+    let behind = rows_behind d piece numbers cols in
+    let same : found_from (first_formed d plan) s.found ≡ found_by term (first_formed d plan) (rows_in (formed_by d.text piece plan)) =
+    ap (found_from (first_formed d plan)) (is ∙ ap (λ (e : Document). found_by term 0 (rows_of e)) left ∙ ap (found_by term 0) behind.1) ∙ from_behind term (first_formed d plan) behind.0 (rows_in (formed_by d.text piece plan)) behind.2 in
+    subst (λ l. TellsWith r (row_numbers l) (formed_by d.text piece plan) (first_formed d plan) (is_clean d.text plan)) same h
+
+-- where nothing is kept as found, none is told
+pub tells_none : (r : FormatResult) (found : List RowMatches) (d : Document) (piece : List ℕ) (numbers : LineNumbers) (cols : ℕ) → found ≡ [] → TellsPush r None d piece numbers cols → TellsFound r found d piece numbers cols
+tells_none r found d piece numbers cols is h =
+    let plan = plan_of d piece numbers cols in
+    subst (λ l. TellsWith r (row_numbers (found_from (first_formed d plan) l)) (formed_by d.text piece plan) (first_formed d plan) (is_clean d.text plan)) (sym is) h

@@ -1,5 +1,5 @@
 -- What was found ascends, stands in its rows, and is found again by its number.
-use Rattle.std.proofs.Common.{inl, inr, ◌≡◌, ℕ, zero, suc, ◌+◌, ◌-◌, ◌<◌, ◌≤◌, Bool, true, false, cond, not, nat_le, eqb, ltb, List, [], ◌∷◌, ◌++◌, map, length, take, get_or, Option, None, Some, option_map, IfSome, refl, sym, subst, ap, ◌∙◌, arith}
+use Rattle.std.proofs.Common.{inl, inr, ◌≡◌, ℕ, zero, suc, ◌+◌, ◌-◌, ◌<◌, ◌≤◌, true, false, cond, nat_le, eqb, ltb, List, [], ◌∷◌, ◌++◌, map, length, take, get_or, Option, None, Some, option_map, IfSome, refl, sym, subst, ap, ◌∙◌, arith}
 use Rattle.std.specs.List.{position_or_len, slice_get}
 use Rattle.std.proofs.lemmas.Bool.{cases_Bool, cases_lt, eqb-true, eq-eqb, ne_eqb}
 use Rattle.std.proofs.lemmas.Bool.Decides.{nat_tests}
@@ -13,7 +13,7 @@ use Rattle.minus_text.specs.Fragments.{rows_in}
 use Rattle.minus_text.specs.Pending.{Pending, IsPending}
 use Rattle.minus_text.specs.Highlight.{line_matches, line_match_places}
 use Rattle.minus_text.specs.Escapes.{escape_places}
-use Rattle.minus_text.specs.Found.{RowMatches, found_in_row, found_in_rows, found_by, found_above, found_of_row, IsPlaced, IsPlacedIn, ArePlaced, Ascend, AreFoundIn}
+use Rattle.minus_text.specs.Found.{RowMatches, found_in_rows, found_by, found_above, found_of_row, IsPlaced, IsPlacedIn, ArePlaced, Ascend, AreFoundIn}
 use Rattle.minus_text.specs.FoundRows.{matches_of}
 use Rattle.minus_text.proofs.PendingLaws.{get_front, get_behind}
 use Rattle.std.proofs.lemmas.List.{length-take-le}
@@ -24,7 +24,7 @@ pub weaker : (m n : ℕ) (found : List RowMatches) → m ≤ n → Ascend n foun
 weaker m n [] le h = tt
 weaker m n (r ∷ rs) le h = (omega (arith, le, h.0), h.1)
 
-rows_ascend : (re : Re) (n : ℕ) (rows : List (List ℕ)) → Ascend n (found_in_rows re n rows)
+pub rows_ascend : (re : Re) (n : ℕ) (rows : List (List ℕ)) → Ascend n (found_in_rows re n rows)
 rows_ascend re n [] = tt
 rows_ascend re n (row ∷ rows) =
     let later = rows_ascend re (n + 1) rows in
@@ -37,7 +37,7 @@ pub found_ascend : (term : Option Re) (n : ℕ) (rows : List (List ℕ)) → Asc
 found_ascend None n rows = tt
 found_ascend (Some re) n rows = rows_ascend re n rows
 
-put_ascend : (m n : ℕ) (found fresh : List RowMatches) → m ≤ n → Ascend m found → Ascend n fresh → Ascend m (found_above n found ++ fresh)
+pub put_ascend : (m n : ℕ) (found fresh : List RowMatches) → m ≤ n → Ascend m found → Ascend n fresh → Ascend m (found_above n found ++ fresh)
 put_ascend m n [] fresh le h k = weaker m n fresh le k
 put_ascend m n (r ∷ rs) fresh le h k = elim (cases_lt r.row n) [
   | inl lt ↦

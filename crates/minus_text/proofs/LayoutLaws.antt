@@ -1,6 +1,5 @@
 -- Laws on the rows of a line by itself.
-use Rattle.std.proofs.Common.{◌≡◌, ℕ, ◌-◌, ◌<◌, List, [], ◌∷◌, length, take, drop, arith, refl, ap}
-use Rattle.std.specs.List.{slice_range}
+use Rattle.std.proofs.Common.{ℕ, ◌-◌, ◌<◌, List, length, arith}
 use Rattle.std.specs.Str.{IsUtf8}
 use Rattle.std.proofs.lemmas.List.{take_all}
 use Rattle.std.proofs.lemmas.Str.{IsCharBoundary-start, IsCharBoundary-end}

@@ -21,6 +21,7 @@ pub mod EscapePatternLaws
 pub mod MarkersLaws
 pub mod FoundLaws
 pub mod FoundByLaws
+pub mod FoundFromLaws
 pub mod StandLaws
 pub mod GoesOnLaws
 pub mod FewColumnsLaws

@@ -10,7 +10,7 @@ use Rattle.minus_text.specs.declared.wrap.Span.{Span}
 use Rattle.minus_text.specs.declared.layout.Wrap.{Wrap}
 use Rattle.minus_text.specs.Lines.{Cut, cut, finished_lines}
 use Rattle.minus_text.specs.Layouts.{own_places}
-use Rattle.minus_text.specs.Document.{Document, wrap_in}
+use Rattle.minus_text.specs.Document.{wrap_in}
 use Rattle.minus_text.specs.Kept.{moved, bytes_of, line_stored, closed_stored, open_stored}
 use Rattle.minus_text.specs.LinePlaces.{row_places}
 use Rattle.minus_text.specs.LineParts.{line_start}

@@ -10,8 +10,6 @@ use Rattle.minus_text.specs.Prefixes.{is_on, prefix}
 use Rattle.minus_text.specs.Layouts.{own_rows}
 use Rattle.minus_text.specs.LineMaps.{IsLineOfRow}
 use Rattle.minus_text.specs.Document.{Document, rows_of_lines, first_rows, rows_of, line_map, line_count, wrap_in, stored_line, stored_lines, stored_rows, GrowsByRow}
-use Rattle.minus_text.proofs.LayoutLaws.{own_rows-some}
-use Rattle.minus_text.proofs.DocumentLaws.{length-first_rows}
 use Rattle.minus_text.proofs.FormatResultLaws.{same_part}
 use Rattle.minus_text.proofs.PendingLaws.{get_behind}
 

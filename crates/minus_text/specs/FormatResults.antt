@@ -1,5 +1,5 @@
 -- What a FormatResult tells.
-use Rattle.std.specs.Prelude.{◌≡◌, ℕ, ◌-◌, ◌==◌, Bool, true, List, ◌++◌, length, map, Option, if◌then◌else◌}
+use Rattle.std.specs.Prelude.{◌≡◌, ℕ, ◌-◌, ◌==◌, Bool, true, List, ◌++◌, length, Option, if◌then◌else◌}
 use Rattle.std.specs.Str.Lines.{lines}
 use Rattle.regex.specs.Patterns.{Re}
 use Rattle.minus_text.specs.declared.screen.FormatResult.{FormatResult}
@@ -8,17 +8,21 @@ use Rattle.minus_text.specs.declared.line_numbers.LineNumbers.{LineNumbers}
 use Rattle.minus_text.specs.Lines.{unfinished_line}
 use Rattle.minus_text.specs.Document.{Document, rows_of, first_rows, open_rows, longest_of, unfinished_rows, plan_of}
 use Rattle.minus_text.specs.Fragments.{Fragment, rows_in}
-use Rattle.minus_text.specs.Found.{found_by}
+use Rattle.minus_text.specs.Found.{RowMatches, found_by, found_from, row_numbers}
 
--- a result tells of a fragment formed: its counts of lines and rows, its unfinished rows, the rows that match a term and the first row of each line where its first row has a number, its longest line, and whether nothing was attached
-pub record Tells (result : FormatResult) (term : Option Re) (formed : Fragment) (first_row : ℕ) (clean : Bool) : Type 0 where
+-- a result tells of a fragment formed: its counts of lines and rows, its unfinished rows, these rows as those that match, the first row of each line where its first row has a number, its longest line, and whether nothing was attached
+pub record TellsWith (result : FormatResult) (matches : List ℕ) (formed : Fragment) (first_row : ℕ) (clean : Bool) : Type 0 where
   pub lines_told : result.lines_formatted ≡ length (lines formed.text)
   pub rows_told : result.rows_formatted ≡ length (rows_in formed)
   pub unfinished_told : result.num_unterminated ≡ length (open_rows formed.wrap (unfinished_line formed.text))
-  pub matches_told : result.append_search_idx.keys ≡ map (λ f. f.row) (found_by term first_row (rows_in formed))
+  pub matches_told : result.append_search_idx.keys ≡ matches
   pub map_told : result.lines_to_row_map ≡ first_rows formed.wrap first_row (lines formed.text)
   pub longest_told : result.max_line_length ≡ longest_of (lines formed.text)
   pub clean_told : result.clean_append ≡ clean
+
+-- the same, and the rows are those that match a term
+abbrev pub Tells : FormatResult → Option Re → Fragment → ℕ → Bool → Type 0
+Tells result term formed first_row clean = TellsWith result (row_numbers (found_by term first_row (rows_in formed))) formed first_row clean
 
 -- what a push forms: the unfinished line and the piece, or the whole text and the piece where all is formed anew
 abbrev pub formed_by : List ℕ → List ℕ → Plan → Fragment
@@ -39,3 +43,8 @@ TellsPlan result term d piece plan = Tells result term (formed_by d.text piece p
 -- a result tells of a push
 abbrev pub TellsPush : FormatResult → Option Re → Document → List ℕ → LineNumbers → ℕ → Type 0
 TellsPush result term d piece numbers cols = TellsPlan result term d piece (plan_of d piece numbers cols)
+
+-- a result tells of a push, and of the rows that it forms those in which something was found
+abbrev pub TellsFound : FormatResult → List RowMatches → Document → List ℕ → LineNumbers → ℕ → Type 0
+TellsFound result found d piece numbers cols =
+    (let plan = plan_of d piece numbers cols in TellsWith result (row_numbers (found_from (first_formed d plan) found)) (formed_by d.text piece plan) (first_formed d plan) (is_clean d.text plan))

@@ -1,5 +1,5 @@
 -- What a term finds in rows.
-use Rattle.std.specs.Prelude.{◌≡◌, ℕ, ◌+◌, ◌≤◌, ◌==◌, false, List, [], ◌∷◌, ◌++◌, Option, None, Some, take, slice_get, if◌then◌else◌, nat_le}
+use Rattle.std.specs.Prelude.{◌≡◌, ℕ, ◌+◌, ◌≤◌, ◌==◌, false, List, [], ◌∷◌, ◌++◌, map, Option, None, Some, take, drop, slice_get, if◌then◌else◌, nat_le}
 use Rattle.std.specs.List.{position_or_len}
 use Rattle.regex.specs.Patterns.{Re}
 use Rattle.minus_text.specs.Escapes.{escape_places, outside, inside, CutsText}
@@ -29,6 +29,14 @@ found_by (Some pattern) n rows = found_in_rows pattern n rows
 -- what was found in the rows before one
 abbrev pub found_above : ℕ → List RowMatches → List RowMatches
 found_above n found = take (position_or_len (λ f. nat_le n f.row) found) found
+
+-- what was found in the row with a number and in those behind it
+abbrev pub found_from : ℕ → List RowMatches → List RowMatches
+found_from n found = drop (position_or_len (λ f. nat_le n f.row) found) found
+
+-- the numbers of rows that match
+abbrev pub row_numbers : List RowMatches → List ℕ
+row_numbers found = map (λ f. f.row) found
 
 -- what was found in the row with a number, if that is a row that matches
 abbrev pub found_of_row : ℕ → List RowMatches → Option RowMatches

@@ -1,5 +1,7 @@
 -- What a term finds in the rows of a document, and how a push goes on with it.
-use Rattle.std.specs.Prelude.{◌≡◌, ℕ, ◌+◌, ◌≤◌, List, [], ◌++◌, Option, None, Some, map, vec_len, vec_capacity}
+use Rattle.std.specs.Prelude.{◌≡◌, ℕ, ◌+◌, ◌≤◌, List, [], ◌∷◌, ◌++◌, Option, None, Some, map, vec_len, vec_capacity}
+use Rattle.std.specs.Ordering.{nat_cmp}
+use Rattle.std.specs.BTreeSet.{insert_key}
 use Rattle.regex.specs.Patterns.{Re}
 use Rattle.minus_text.specs.declared.search.found_rows.FoundRows.{FoundRows}
 use Rattle.minus_text.specs.declared.line_numbers.LineNumbers.{LineNumbers}
@@ -21,6 +23,11 @@ HasRoomFor f more = vec_len f.rows + vec_len more.rows ≤ vec_capacity f.rows
 abbrev pub found_in_some : Re → ℕ → Option (List ℕ) → List RowMatches
 found_in_some pattern n None = []
 found_in_some pattern n (Some row) = found_in_row pattern n row
+
+-- numbers of rows, and those of rows that were found
+abbrev pub numbers_with : List RowMatches → List ℕ → List ℕ
+numbers_with [] keys = keys
+numbers_with (f ∷ fs) keys = numbers_with fs (insert_key nat_cmp keys f.row)
 
 -- what a term finds in the rows that a push leaves: what it found in those that stay, and what it finds in those that are formed
 abbrev pub FoundGoesOn : Type 0

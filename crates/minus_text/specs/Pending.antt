@@ -1,9 +1,9 @@
 -- A push before it is made.
-use Rattle.std.specs.Prelude.{◌≡◌, ℕ, ◌≤◌, Bool, List, Option, Some, ◌+◌, ◌++◌, length, take, drop, slice_get}
+use Rattle.std.specs.Prelude.{◌≡◌, ℕ, ◌≤◌, List, Option, Some, ◌+◌, ◌++◌, length, take, drop, slice_get}
 use Rattle.std.specs.Str.{IsUtf8}
 use Rattle.minus_text.specs.declared.line_numbers.LineNumbers.{LineNumbers}
 use Rattle.minus_text.specs.declared.formed.Restart.{Restart}
-use Rattle.minus_text.specs.Document.{Document, rows_of, stored_rows, line_map, wrap_in, plan_of, pushed, GrowsByRow}
+use Rattle.minus_text.specs.Document.{Document, rows_of, stored_rows, line_map, wrap_in, plan_of, pushed}
 use Rattle.minus_text.specs.Fragments.{Fragment, rows_in}
 use Rattle.minus_text.specs.Kept.{IsRestartOf}
 

@@ -1,5 +1,5 @@
 //! What a push forms, before it is made.
-ghost use Rattle.std.specs.Prelude.{◌≡◌, ℕ, ◌^◌, ◌<◌, slice_get, option_map, length};
+ghost use Rattle.std.specs.Prelude.{◌≡◌, ℕ, ◌^◌, ◌<◌, ◌≤◌, slice_get, option_map, length};
 ghost use Rattle.minus_text.specs.Fragments.{rows_in};
 
 use crate::formed::{Formed, Restart};
@@ -55,6 +55,15 @@ impl FormedPush {
         ensures few { result < 2 ^ 63 }
     {
         self.start.finished.rows + self.start.rows
+    }
+
+    // The number of the first row of the text that the push forms: the unfinished line or the whole, and
+    // what is pushed.
+    pub(crate) fn first_row(&self) -> usize
+        ensures value { result ≡ self.now.start.finished.rows }
+        ensures few { result ≤ self.now.kept_rows }
+    {
+        self.start.finished.rows
     }
 
     // How many rows are formed.

@@ -6,7 +6,7 @@ ghost use Rattle.minus_text.specs.Document.{rows_of, line_map, line_count, longe
 ghost use Rattle.minus_text.specs.Fragments.{rows_in};
 ghost use Rattle.minus_text.specs.LinePlaces.{row_places};
 ghost use Rattle.minus_text.specs.Pending.{IsPending, IsPreparedFor, RowIsPending};
-ghost use Rattle.minus_text.specs.FormatResults.{Tells, TellsPush};
+ghost use Rattle.minus_text.specs.FormatResults.{Tells, TellsPush, TellsFound};
 ghost use Rattle.minus_text.specs.Found.{AreFoundIn};
 ghost use Rattle.minus_text.specs.FoundRows.{pattern_of};
 ghost use Rattle.minus_text.specs.FoundBy.{found_rows};
@@ -52,8 +52,7 @@ pub struct FormatResult {
     pub rows_formatted: usize,
     /// How many rows its last line has where no newline ends it, and 0 otherwise.
     pub num_unterminated: usize,
-    /// Those of its rows that match, numbered in the whole text from 0. A screen's own calls tell none:
-    /// `Screen::match_row` answers for the whole text.
+    /// Those of its rows that match, numbered in the whole text from 0; none without a term.
     pub append_search_idx: BTreeSet<usize>,
     /// The first row of each of its lines, numbered in the whole text from 0.
     pub lines_to_row_map: LinesRowMap,
@@ -61,6 +60,18 @@ pub struct FormatResult {
     pub max_line_length: usize,
     /// Whether nothing was attached in front of the text given.
     pub clean_append: bool,
+}
+
+impl FormatResult {
+    // The same, with these rows told to match.
+    fn with_matches(self, rows: BTreeSet<usize>) -> Self
+        ensures { result ≡ record self { append_search_idx = rows } }
+    {
+        FormatResult {
+            append_search_idx: rows,
+            ..self
+        }
+    }
 }
 
 /// A text that grows, with its rows in a layout. Of a row in which a term was found it keeps the places
@@ -92,12 +103,13 @@ fn formed(
     term: Option<Term<'_>>,
 ) -> Result<(Screen, FormatResult), AllocError>
     ensures ok { IfOk result (λ r. r.0 ≡ searched (pattern_of term.entry) (record { text = text.now; layout = layout })) }
-    ensures told { IfOk result (λ r. Tells r.1 None (record { text = text.now; wrap = wrap_of layout (length (lines text.now)) }) 0 true) }
+    ensures told { IfOk result (λ r. Tells r.1 (pattern_of term.entry) (record { text = text.now; wrap = wrap_of layout (length (lines text.now)) }) 0 true) }
 {
     let mut store = Store::new(alloc);
     let told = store.set_text(alloc, text, layout)?;
     let found = FoundRows::of_store(alloc, term, &store)?;
-    Ok((Screen { store, found }, told))
+    let matches = found.numbers(alloc)?;
+    Ok((Screen { store, found }, told.with_matches(matches)))
 }
 
 impl Screen {
@@ -261,7 +273,9 @@ impl Screen {
     ) -> Result<FormatResult, MinusError>
         ensures ok { OnOk result (self.new.document ≡ pushed self.old.document text.now numbers cols) }
         ensures found { OnOk result (IsFoundBy (pattern_of term.entry) self.old → IsFoundBy (pattern_of term.entry) self.new) }
-        ensures told { IfOk result (λ r. TellsPush r None self.old.document text.now numbers cols) }
+        ensures without { OnOk result (term.entry ≡ None → self.new.found ≡ []) }
+        ensures told { IfOk result (λ r. IsFoundBy (pattern_of term.entry) self.old → TellsPush r (pattern_of term.entry) self.old.document text.now numbers cols) }
+        ensures kept { IfOk result (λ r. TellsFound r self.new.found self.old.document text.now numbers cols) }
         ensures err { OnErr result (self.new ≡ self.old) }
         ensures memory { IfErr result (λ e. e ≡ MinusError.Memory) }
     {
@@ -288,14 +302,17 @@ impl Screen {
         requires stand { AreFoundIn push.kept_rows (rows_in push.tail) (found_rows found) }
         ensures ok { OnOk result (self.new.document ≡ pushed self.old.document text.now push.numbers push.cols) }
         ensures found { OnOk result ((term : Option Re) → IsFoundBy term self.old → IsFoundInPush term (record { push = push; found = found_rows found }) → IsFoundBy term self.new) }
-        ensures told { IfOk result (λ r. TellsPush r None self.old.document text.now push.numbers push.cols) }
+        ensures told { IfOk result (λ r. TellsFound r self.new.found self.old.document text.now push.numbers push.cols) }
         ensures err { OnErr result (self.new ≡ self.old) }
     {
         let first = push.kept_rows();
+        let matches = self
+            .found
+            .numbers_from(alloc, push.first_row(), first, &found)?;
         self.found.reserve(&found)?;
         let told = self.store.place_push(alloc, text, push)?;
         self.found.replace_from(first, found);
-        Ok(told)
+        Ok(told.with_matches(matches))
     }
 
     /// Forms what a push of this text would form, beside the rows that would stay, and searches that for
@@ -402,7 +419,8 @@ impl Screen {
     ) -> Result<FormatResult, MinusError>
         ensures ok { OnOk result (self.new.document ≡ pushed self.old.document text.now pending.push.numbers pending.push.cols) }
         ensures found { OnOk result (IsFoundBy (pattern_of term.entry) self.old → IsFoundInPush (pattern_of term.entry) pending → IsFoundBy (pattern_of term.entry) self.new) }
-        ensures told { IfOk result (λ r. TellsPush r None self.old.document text.now pending.push.numbers pending.push.cols) }
+        ensures told { IfOk result (λ r. IsFoundBy (pattern_of term.entry) self.old → IsFoundInPush (pattern_of term.entry) pending → TellsPush r (pattern_of term.entry) self.old.document text.now pending.push.numbers pending.push.cols) }
+        ensures kept { IfOk result (λ r. TellsFound r self.new.found self.old.document text.now pending.push.numbers pending.push.cols) }
         ensures err { OnErr result (self.new ≡ self.old) }
         ensures memory { IfErr result (λ e. e ≡ MinusError.Memory) }
     {
@@ -428,7 +446,7 @@ impl Screen {
         term: Option<Term<'_>>,
     ) -> Result<FormatResult, MinusError>
         ensures ok { OnOk result (self.new ≡ searched (pattern_of term.entry) (record self.old.document { layout = layout })) }
-        ensures told { IfOk result (λ r. Tells r None (record { text = self.old.document.text; wrap = wrap_of layout (line_count self.old.document) }) 0 true) }
+        ensures told { IfOk result (λ r. Tells r (pattern_of term.entry) (record { text = self.old.document.text; wrap = wrap_of layout (line_count self.old.document) }) 0 true) }
         ensures err { OnErr result (self.new ≡ self.old) }
         ensures memory { IfErr result (λ e. e ≡ MinusError.Memory) }
     {
@@ -455,7 +473,7 @@ impl Screen {
         term: Option<Term<'_>>,
     ) -> Result<FormatResult, MinusError>
         ensures ok { OnOk result (self.new ≡ searched (pattern_of term.entry) (record { text = text.now; layout = layout })) }
-        ensures told { IfOk result (λ r. Tells r None (record { text = text.now; wrap = wrap_of layout (length (lines text.now)) }) 0 true) }
+        ensures told { IfOk result (λ r. Tells r (pattern_of term.entry) (record { text = text.now; wrap = wrap_of layout (length (lines text.now)) }) 0 true) }
         ensures err { OnErr result (self.new ≡ self.old) }
         ensures memory { IfErr result (λ e. e ≡ MinusError.Memory) }
     {

@@ -1,12 +1,12 @@
 //! The rows of a text that a term matches.
-ghost use Rattle.std.specs.Prelude.{◌≡◌, ℕ, ◌+◌, List, [], ◌++◌, length, map, option_map, nat_le, slice_get, string_bytes, IfOk, IfSome, OnOk};
+ghost use Rattle.std.specs.Prelude.{◌≡◌, ℕ, ◌+◌, ◌≤◌, List, [], ◌++◌, length, map, option_map, nat_le, slice_get, string_bytes, IfOk, IfSome, OnOk};
 ghost use Rattle.std.specs.List.{position_or_len};
 ghost use Rattle.regex.specs.Strings.{regex_pattern};
 ghost use Rattle.minus_text.specs.Document.{rows_of};
 ghost use Rattle.minus_text.specs.Fragments.{rows_in};
-ghost use Rattle.minus_text.specs.Found.{found_in_rows, found_by, found_above, found_of_row, marked, IsPlaced, ArePlaced, Ascend, AreFoundIn};
+ghost use Rattle.minus_text.specs.Found.{found_in_rows, found_by, found_above, found_from, row_numbers, found_of_row, marked, IsPlaced, ArePlaced, Ascend, AreFoundIn};
 ghost use Rattle.minus_text.specs.FoundRows.{finder_pattern, matches_of, pattern_of};
-ghost use Rattle.minus_text.specs.FoundBy.{found_rows, found_in_some, HasRoomFor, FoundGoesOn};
+ghost use Rattle.minus_text.specs.FoundBy.{found_rows, found_in_some, numbers_with, HasRoomFor, FoundGoesOn};
 
 use crate::formed_push::FormedPush;
 use crate::search::found::{Finder, FoundRow};
@@ -14,6 +14,7 @@ use crate::search::highlight::HighlightMatchesArgs;
 use crate::search::term::Term;
 use crate::store::Store;
 use std::alloc::{AllocError, Global};
+use std::collections::BTreeSet;
 
 // The rows of a text that a term matches, in order, each with the places of its escape sequences and
 // of its matches. No pattern is kept.
@@ -86,6 +87,16 @@ fn count_above(found: &[FoundRow], row: usize) -> usize
     found.partition_point(|f| f.row < row)
 }
 
+// Adds the numbers of rows that were found.
+fn add_numbers(numbers: &mut BTreeSet<usize>, found: &[FoundRow]) -> Result<(), AllocError>
+    ensures { OnOk result (numbers.new.keys ≡ numbers_with (map matches_of found.now) numbers.old.keys) }
+{
+    for row in found {
+        numbers.insert(row.row)?;
+    }
+    Ok(())
+}
+
 impl FoundRows {
     // No row.
     pub(crate) fn new(alloc: Global) -> Self
@@ -150,6 +161,38 @@ impl FoundRows {
             Ok(()) => {}
             Err(_) => unreachable!(),
         }
+    }
+
+    // The numbers of the rows from a first one on, where others stand behind those above another row.
+    pub(crate) fn numbers_from(
+        &self,
+        alloc: Global,
+        first: usize,
+        row: usize,
+        fresh: &FoundRows,
+    ) -> Result<BTreeSet<usize>, AllocError>
+        requires order { first ≤ row }
+        requires ascend { Ascend 0 (found_rows self.now) }
+        requires behind { Ascend row (found_rows fresh.now) }
+        ensures { IfOk result (λ s. s.keys ≡ row_numbers (found_from first (found_above row (found_rows self.now) ++ found_rows fresh.now))) }
+    {
+        let rows = self.rows.as_slice();
+        let from = count_above(rows, first);
+        let staying = count_above(rows, row);
+        let mut numbers = BTreeSet::new(alloc);
+        add_numbers(&mut numbers, &rows[from..staying])?;
+        add_numbers(&mut numbers, fresh.rows.as_slice())?;
+        Ok(numbers)
+    }
+
+    // The numbers of all.
+    pub(crate) fn numbers(&self, alloc: Global) -> Result<BTreeSet<usize>, AllocError>
+        requires { Ascend 0 (found_rows self.now) }
+        ensures { IfOk result (λ s. s.keys ≡ row_numbers (found_rows self.now)) }
+    {
+        let mut numbers = BTreeSet::new(alloc);
+        add_numbers(&mut numbers, self.rows.as_slice())?;
+        Ok(numbers)
     }
 
     // Forgets all. It takes no memory.

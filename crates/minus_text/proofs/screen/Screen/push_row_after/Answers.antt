@@ -1,5 +1,5 @@
 -- What stands before the row's text, and its text with what was found in it.
-use Rattle.std.proofs.Common.{◌≡◌, ◌++◌, Some, true, false, refl, sym, ap, subst, ◌∙◌, append_assoc}
+use Rattle.std.proofs.Common.{◌++◌, true, false, refl, sym, ap, subst, ◌∙◌, append_assoc}
 use Rattle.std.specs.String.{string_bytes}
 use Rattle.minus_text.specs.Document.{pushed}
 use Rattle.minus_text.specs.FoundBy.{found_rows}

@@ -1,5 +1,5 @@
 -- The lines that newlines end, and one more unless the piece ends with one.
-use Rattle.std.proofs.Common.{◌≡◌, ◌≢◌, ◌+◌, ◌++◌, not, [], length, ap, sym, arith, lit<, ◌∙◌}
+use Rattle.std.proofs.Common.{◌≡◌, ◌≢◌, ◌++◌, not, [], length, ap, sym, arith, lit<, ◌∙◌}
 use Rattle.std.specs.Str.Lines.{lines}
 use Rattle.std.specs.String.{string_bytes}
 use Rattle.std.proofs.lemmas.Bool.{eqb-true, eqb-false}

@@ -1,5 +1,5 @@
 -- What is formed beside is what a push of the text forms.
-use Rattle.std.proofs.Common.{◌+◌, length, drop, ap, refl, subst, arith, ◌∙◌}
+use Rattle.std.proofs.Common.{◌+◌, length, drop, ap, subst, arith, ◌∙◌}
 use Rattle.std.specs.String.{string_bytes}
 use Rattle.std.proofs.lemmas.List.{length-append, length-drop}
 use Rattle.minus_text.specs.declared.formed.Plan.{Plan}

@@ -1,12 +1,11 @@
 -- Nothing where numbers are off, and else what the row's line has then.
-use Rattle.std.proofs.Common.{◌≡◌, ◌+◌, ◌≤◌, ◌++◌, min, Bool, true, false, ℕ, List, [], Some, length, take, ap, sym, subst, ◌∙◌, arith}
+use Rattle.std.proofs.Common.{◌≡◌, ◌+◌, ◌++◌, Bool, true, false, [], Some, length, take, ap, sym, subst, ◌∙◌, arith}
 use Rattle.std.specs.List.{slice_get}
 use Rattle.std.specs.String.{string_bytes}
 use Rattle.std.proofs.lemmas.List.{append-nil}
 use Rattle.minus_text.specs.declared.line_numbers.LineNumbers.{LineNumbers}
 use Rattle.minus_text.specs.Prefixes.{is_on, prefix}
-use Rattle.minus_text.specs.LineMaps.{IsLineIn}
-use Rattle.minus_text.specs.Document.{Document, line_count, line_map, pushed}
+use Rattle.minus_text.specs.Document.{line_count, line_map, pushed}
 use Rattle.minus_text.specs.Pending.{Pending}
 use Rattle.minus_text.proofs.ScreenLaws.{formed-map}
 use Rattle.minus_text.proofs.PendingLaws.{lines_pending}

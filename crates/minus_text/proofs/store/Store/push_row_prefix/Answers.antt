@@ -1,10 +1,10 @@
 -- Nothing where numbers are off, and else what the row's line has.
-use Rattle.std.proofs.Common.{◌≡◌, ◌+◌, ◌++◌, Bool, true, false, ℕ, List, [], Some, ap, sym, subst, ◌∙◌, arith}
+use Rattle.std.proofs.Common.{◌≡◌, ◌+◌, ◌++◌, Bool, true, false, [], Some, ap, sym, subst, ◌∙◌}
 use Rattle.std.specs.List.{slice_get}
 use Rattle.std.specs.String.{string_bytes}
 use Rattle.std.proofs.lemmas.List.{append-nil}
 use Rattle.minus_text.specs.Prefixes.{is_on, prefix}
-use Rattle.minus_text.specs.Document.{Document, rows_of, line_count}
+use Rattle.minus_text.specs.Document.{Document, line_count}
 use Rattle.minus_text.proofs.ScreenLaws.{formed-map, formed-lines}
 use Rattle.minus_text.proofs.StoredLaws.{stored_off, stored_row, no_line}
 use Rattle.minus_text.proofs.store.Store.push_row_prefix.Goals as goal

@@ -1,5 +1,5 @@
 -- The first row that stands not above one is that one, or there is none.
-use Rattle.std.proofs.Common.{◌≡◌, nat_le, true, false, eqb, map, option_map, Some, None, refl, sym, ap, subst, ◌∙◌, length}
+use Rattle.std.proofs.Common.{◌≡◌, nat_le, true, false, eqb, map, Some, None, refl, ap, ◌∙◌, length}
 use Rattle.std.specs.List.{position_or_len, slice_get}
 use Rattle.std.proofs.lemmas.Bool.{eq-eqb, ne_eqb}
 use Rattle.std.proofs.lemmas.Option.{slice_get_read, slice_get_past}

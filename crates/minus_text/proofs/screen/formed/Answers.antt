@@ -1,0 +1,10 @@
+-- All rows are formed, and all that was found is told.
+use Rattle.minus_text.specs.FoundRows.{pattern_of}
+use Rattle.minus_text.specs.FoundBy.{found_rows}
+use Rattle.minus_text.proofs.FormatResultLaws.{tells_formed}
+use Rattle.minus_text.proofs.screen.formed.Goals as goal
+
+pub returns-clause-told : goal.returns-clause-told
+returns-clause-told c =
+    tells_formed c.with_matches.result c.in_ok-told.told c.in_ok-matches.matches (pattern_of c.args.term) (found_rows c.in_ok-found.found) c.set_text.new.self c.args.text.now c.args.layout
+    c.with_matches.ensures c.in_ok-matches.ensures c.in_ok-found.ensures.found c.in_ok-told.ensures.ok c.in_ok-told.ensures.told
