@@ -1,8 +1,8 @@
 //! Worked shown rows.
-use crate::texts::{ends, formed};
+use crate::texts::{ends, formed, searched};
 use minus_state::{Rendering, SelectionEnds, render_rows_for_display};
 use minus_term::MinusError;
-use minus_text::{Layout, LineNumbers};
+use minus_text::{Layout, LineNumbers, Screen};
 use std::alloc::Global;
 use std::test::Fail;
 
@@ -20,7 +20,27 @@ fn unwrapped(cols: usize, numbers: LineNumbers) -> Layout {
     }
 }
 
-// Whether the first row of a text is shown so, and is all that is shown up to the second.
+// Whether the first row of a screen is shown so, and is all that is shown up to the second.
+fn shows(
+    alloc: Global,
+    screen: &Screen,
+    left_mark: usize,
+    ends: SelectionEnds,
+    row: &str,
+) -> Result<bool, MinusError> {
+    let rendering = Rendering {
+        screen,
+        left_mark,
+        ends,
+    };
+    let rows = render_rows_for_display(alloc, &rendering, 0, 1)?;
+    match rows.as_slice() {
+        [shown] => Ok(shown.as_str() == row),
+        _ => Ok(false),
+    }
+}
+
+// The same of the first row of a text.
 fn is_shown(
     alloc: Global,
     text: &str,
@@ -30,16 +50,20 @@ fn is_shown(
     row: &str,
 ) -> Result<bool, MinusError> {
     let screen = formed(alloc, text, layout)?;
-    let rendering = Rendering {
-        screen: &screen,
-        left_mark,
-        ends,
-    };
-    let rows = render_rows_for_display(alloc, &rendering, 0, 1)?;
-    match rows.as_slice() {
-        [shown] => Ok(shown.as_str() == row),
-        _ => Ok(false),
-    }
+    shows(alloc, &screen, left_mark, ends, row)
+}
+
+// The same of the first row of a text that was searched for a term.
+fn is_found_shown(
+    alloc: Global,
+    (text, term): (&str, &str),
+    layout: Layout,
+    left_mark: usize,
+    ends: SelectionEnds,
+    row: &str,
+) -> Result<bool, MinusError> {
+    let screen = searched(alloc, text, layout, term)?;
+    shows(alloc, &screen, left_mark, ends, row)
 }
 
 #[test]
@@ -109,6 +133,36 @@ fn the_left_mark_is_taken_from_what_is_selected(rt: HostRuntime) -> Result<(), F
             row
         )?
     );
+    Ok(())
+}
+
+#[test]
+fn a_cropped_row_keeps_the_markers_of_its_matches(rt: HostRuntime) -> Result<(), Fail> {
+    let layout = unwrapped(3, LineNumbers::Disabled);
+    let table = [
+        // the left mark stands in the match, or behind it
+        ("abcdef", "cd", 3, "\x1b[7md\x1b[27mef"),
+        ("abcdef", "cd", 4, "\x1b[7m\x1b[27mef"),
+        // the match stands behind what is shown
+        ("abcdef", "e", 0, "abc\x1b[7m\x1b[27m"),
+        // half of the match's character is shown
+        ("日本", "日", 1, "\x1b[7m \x1b[27m本"),
+    ];
+    for (text, term, left_mark, row) in table {
+        assert!(rt;
+            is_found_shown(rt.alloc(), (text, term), layout, left_mark, NOTHING, row)?,
+            "of {text} from {left_mark}"
+        );
+    }
+    Ok(())
+}
+
+#[test]
+fn a_selection_is_marked_beside_a_match(rt: HostRuntime) -> Result<(), Fail> {
+    let layout = Layout::plain(20);
+    let ends = ends((0, 0), (0, 0));
+    let row = "\x1b[7ma\x1b[7m\x1b[27mb\x1b[27m";
+    assert!(rt; is_found_shown(rt.alloc(), ("ab", "b"), layout, 0, ends, row)?);
     Ok(())
 }
 
