@@ -77,7 +77,8 @@ impl Page {
     ) -> Result<Page, MinusError>
         requires belongs { IsNext state.now.screen.document change.now.text }
         requires rows { change.now.rows ≡ state.now.rows }
-        ensures rows { IfOk result (λ p. map string_bytes p.rows.items ≡ (page_with (control_of state.now) (shown_by state.now.screen.document change.now)).texts) }
+        ensures rows { IfOk result (λ p. map string_bytes p.rows.items
+            ≡ (page_with (control_of state.now) (shown_by state.now.screen.document change.now)).texts) }
         ensures cursor { IfOk result (λ p. p.cursor ≡ (page_with (control_of state.now) (shown_by state.now.screen.document change.now)).cursor) }
         ensures memory { IfErr result (λ e. e ≡ MinusError.Memory) }
     {

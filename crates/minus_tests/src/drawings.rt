@@ -122,7 +122,9 @@ fn a_resize_draws_the_whole_page(rt: HostRuntime) -> Result<(), Fail> {
 // the last on, and given another prompt.
 fn drawn_by_itself(alloc: Global) -> Result<Vec<u8>, Fail> {
     let mut state = PagerState::new(alloc, 20, 4)?;
-    let _ = state.screen.set_text(alloc, LINES, Layout::plain(20), None)?;
+    let _ = state
+        .screen
+        .set_text(alloc, LINES, Layout::plain(20), None)?;
     let mut sink = Vec::new(alloc);
     let mut mark = 9;
     draw_full(alloc, &mut sink, &mut state)?;

@@ -244,7 +244,8 @@ impl Screen {
     ///
     /// [`MinusError::Memory`] where there is no memory for the copy.
     pub fn formatted_row(&self, alloc: Global, i: usize) -> Result<Option<Row>, MinusError>
-        ensures ok { IfOk result (λ row. (term : Option Re) → IsFoundBy term self.now → option_map string_bytes row ≡ slice_get (stored_rows_for term self.now.document) i) }
+        ensures ok { IfOk result (λ row. (term : Option Re) → IsFoundBy term self.now →
+            option_map string_bytes row ≡ slice_get (stored_rows_for term self.now.document) i) }
         ensures memory { IfErr result (λ e. e ≡ MinusError.Memory) }
     {
         let mut row = String::new(alloc);
@@ -274,7 +275,8 @@ impl Screen {
         ensures ok { OnOk result (self.new.document ≡ pushed self.old.document text.now numbers cols) }
         ensures found { OnOk result (IsFoundBy (pattern_of term.entry) self.old → IsFoundBy (pattern_of term.entry) self.new) }
         ensures without { OnOk result (term.entry ≡ None → self.new.found ≡ []) }
-        ensures told { IfOk result (λ r. IsFoundBy (pattern_of term.entry) self.old → TellsPush r (pattern_of term.entry) self.old.document text.now numbers cols) }
+        ensures told { IfOk result (λ r. IsFoundBy (pattern_of term.entry) self.old →
+            TellsPush r (pattern_of term.entry) self.old.document text.now numbers cols) }
         ensures kept { IfOk result (λ r. TellsFound r self.new.found self.old.document text.now numbers cols) }
         ensures err { OnErr result (self.new ≡ self.old) }
         ensures memory { IfErr result (λ e. e ≡ MinusError.Memory) }
@@ -301,7 +303,8 @@ impl Screen {
         requires prepared { IsPreparedFor self.old.document text.now push }
         requires stand { AreFoundIn push.kept_rows (rows_in push.tail) (found_rows found) }
         ensures ok { OnOk result (self.new.document ≡ pushed self.old.document text.now push.numbers push.cols) }
-        ensures found { OnOk result ((term : Option Re) → IsFoundBy term self.old → IsFoundInPush term (record { push = push; found = found_rows found }) → IsFoundBy term self.new) }
+        ensures found { OnOk result ((term : Option Re) → IsFoundBy term self.old →
+            IsFoundInPush term (record { push = push; found = found_rows found }) → IsFoundBy term self.new) }
         ensures told { IfOk result (λ r. TellsFound r self.new.found self.old.document text.now push.numbers push.cols) }
         ensures err { OnErr result (self.new ≡ self.old) }
     {
@@ -341,7 +344,8 @@ impl Screen {
 
     /// How many rows there would be after the push. It takes no memory.
     pub fn rows_after(&self, pending: &PendingPush) -> usize
-        ensures { (piece : List ℕ) (numbers : LineNumbers) (cols : ℕ) → IsPending self.now.document piece numbers cols pending.now.push → result ≡ length (rows_of (pushed self.now.document piece numbers cols)) }
+        ensures { (piece : List ℕ) (numbers : LineNumbers) (cols : ℕ) → IsPending self.now.document piece numbers cols pending.now.push →
+            result ≡ length (rows_of (pushed self.now.document piece numbers cols)) }
     {
         self.store.rows_after(&pending.push)
     }
@@ -418,8 +422,10 @@ impl Screen {
         term: Option<Term<'_>>,
     ) -> Result<FormatResult, MinusError>
         ensures ok { OnOk result (self.new.document ≡ pushed self.old.document text.now pending.push.numbers pending.push.cols) }
-        ensures found { OnOk result (IsFoundBy (pattern_of term.entry) self.old → IsFoundInPush (pattern_of term.entry) pending → IsFoundBy (pattern_of term.entry) self.new) }
-        ensures told { IfOk result (λ r. IsFoundBy (pattern_of term.entry) self.old → IsFoundInPush (pattern_of term.entry) pending → TellsPush r (pattern_of term.entry) self.old.document text.now pending.push.numbers pending.push.cols) }
+        ensures found { OnOk result (IsFoundBy (pattern_of term.entry) self.old → IsFoundInPush (pattern_of term.entry) pending →
+            IsFoundBy (pattern_of term.entry) self.new) }
+        ensures told { IfOk result (λ r. IsFoundBy (pattern_of term.entry) self.old → IsFoundInPush (pattern_of term.entry) pending →
+            TellsPush r (pattern_of term.entry) self.old.document text.now pending.push.numbers pending.push.cols) }
         ensures kept { IfOk result (λ r. TellsFound r self.new.found self.old.document text.now pending.push.numbers pending.push.cols) }
         ensures err { OnErr result (self.new ≡ self.old) }
         ensures memory { IfErr result (λ e. e ≡ MinusError.Memory) }
@@ -446,7 +452,11 @@ impl Screen {
         term: Option<Term<'_>>,
     ) -> Result<FormatResult, MinusError>
         ensures ok { OnOk result (self.new ≡ searched (pattern_of term.entry) (record self.old.document { layout = layout })) }
-        ensures told { IfOk result (λ r. Tells r (pattern_of term.entry) (record { text = self.old.document.text; wrap = wrap_of layout (line_count self.old.document) }) 0 true) }
+        ensures told { IfOk result (λ r. Tells r (pattern_of term.entry) (record {
+          text = self.old.document.text;
+          wrap = wrap_of layout (line_count
+              self.old.document);
+        }) 0 true) }
         ensures err { OnErr result (self.new ≡ self.old) }
         ensures memory { IfErr result (λ e. e ≡ MinusError.Memory) }
     {

@@ -481,7 +481,8 @@ impl Store {
 
     // How many rows there would be after the push. It takes no memory.
     pub(crate) fn rows_after(&self, pending: &FormedPush) -> usize
-        ensures { (piece : List ℕ) (numbers : LineNumbers) (cols : ℕ) → IsPending self.now piece numbers cols pending.now → result ≡ length (rows_of (pushed self.now piece numbers cols)) }
+        ensures { (piece : List ℕ) (numbers : LineNumbers) (cols : ℕ) → IsPending self.now piece numbers cols pending.now →
+            result ≡ length (rows_of (pushed self.now piece numbers cols)) }
     {
         let staying = pending.kept_rows().min(self.formatted_lines_count());
         staying + pending.formed_rows()

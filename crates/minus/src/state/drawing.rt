@@ -62,7 +62,8 @@ impl PagerState {
 
     // Whether a change leaves the prompt row as it is: the columns, the prefix and all that is set stay.
     fn keeps_prompt_row(&self, change: &Change) -> bool
-        ensures { result ≡ true → prompt_row_of change.now.cols (settings_after (settings_of self.now) change.now.clears change.now.setting) ≡ prompt_row (control_of self.now) }
+        ensures { result ≡ true → prompt_row_of change.now.cols (settings_after (settings_of self.now) change.now.clears change.now.setting)
+            ≡ prompt_row (control_of self.now) }
     {
         match change.setting {
             Setting::Same => {

@@ -162,7 +162,8 @@ impl PagerState {
     // Where an append leaves the mark: at the last page, where the page goes on with what is appended.
     fn mark_after(&self, text: &NextText) -> usize
         requires { IsNext self.now.screen.document text.now }
-        ensures { result ≡ (if self.now.follow then length (rows_of (next_document self.now.screen.document text.now)) - (self.now.rows - 1) else self.now.upper_mark) }
+        ensures { result ≡ (if self.now.follow
+            then length (rows_of (next_document self.now.screen.document text.now)) - (self.now.rows - 1) else self.now.upper_mark) }
     {
         if self.follow {
             return text.rows_after(&self.screen).saturating_sub(self.rows - 1);

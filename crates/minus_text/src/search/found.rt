@@ -85,7 +85,8 @@ impl<'p> Finder<'p> {
         row: &str,
     ) -> Result<(), AllocError>
         ensures found { OnOk result (map matches_of found.new.items ≡ map matches_of found.old.items ++ found_in_row (finder_pattern self.old) n row.now) }
-        ensures placed { OnOk result ((first : ℕ) (rows : List (List ℕ)) (i : ℕ) → n ≡ first + i → slice_get rows i ≡ Some row.now → ArePlaced first rows (map matches_of found.old.items) → ArePlaced first rows (map matches_of found.new.items)) }
+        ensures placed { OnOk result ((first : ℕ) (rows : List (List ℕ)) (i : ℕ) → n ≡ first + i → slice_get rows i ≡ Some row.now →
+            ArePlaced first rows (map matches_of found.old.items) → ArePlaced first rows (map matches_of found.new.items)) }
         ensures same { finder_pattern self.new ≡ finder_pattern self.old }
     {
         let here = self.find(alloc, n, row)?;

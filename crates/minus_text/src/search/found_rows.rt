@@ -31,8 +31,11 @@ fn note_some(
     n: usize,
     row: Option<&str>,
 ) -> Result<(), AllocError>
-    ensures found { OnOk result (map matches_of found.new.items ≡ map matches_of found.old.items ++ found_in_some (finder_pattern finder.old) n (option_map (λ r. r.now) row.entry)) }
-    ensures placed { OnOk result ((first : ℕ) (rows : List (List ℕ)) (i : ℕ) → n ≡ first + i → option_map (λ r. r.now) row.entry ≡ slice_get rows i → ArePlaced first rows (map matches_of found.old.items) → ArePlaced first rows (map matches_of found.new.items)) }
+    ensures found { OnOk result (map matches_of found.new.items
+        ≡ map matches_of found.old.items ++ found_in_some (finder_pattern finder.old) n (option_map (λ r. r.now) row.entry)) }
+    ensures placed { OnOk result ((first : ℕ) (rows : List (List ℕ)) (i : ℕ) → n ≡ first + i →
+        option_map (λ r. r.now) row.entry ≡ slice_get rows i → ArePlaced first rows (map matches_of found.old.items) →
+        ArePlaced first rows (map matches_of found.new.items)) }
     ensures same { finder_pattern finder.new ≡ finder_pattern finder.old }
 {
     let Some(row) = row else {
