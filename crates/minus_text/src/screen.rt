@@ -452,11 +452,8 @@ impl Screen {
         term: Option<Term<'_>>,
     ) -> Result<FormatResult, MinusError>
         ensures ok { OnOk result (self.new ≡ searched (pattern_of term.entry) (record self.old.document { layout = layout })) }
-        ensures told { IfOk result (λ r. Tells r (pattern_of term.entry) (record {
-          text = self.old.document.text;
-          wrap = wrap_of layout (line_count
-              self.old.document);
-        }) 0 true) }
+        ensures told { IfOk result (λ r. Tells r (pattern_of term.entry)
+            (record { text = self.old.document.text; wrap = wrap_of layout (line_count self.old.document) }) 0 true) }
         ensures err { OnErr result (self.new ≡ self.old) }
         ensures memory { IfErr result (λ e. e ≡ MinusError.Memory) }
     {

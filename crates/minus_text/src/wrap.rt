@@ -306,8 +306,8 @@ fn is_joint(before: bool, c: char, after: &str) -> bool
 
 // The first part of a word's body, and the rest, where it is cut.
 fn split_part(body: &str) -> Option<(&str, &str)>
-    ensures part { MatchOption result (part_len_after false (chars body.now)
-        ≡ length (chars body.now)) (λ x. SplitsPart (chars body.now) (chars x.0.now) (chars x.1.now)) }
+    ensures part { MatchOption result (part_len_after false (chars body.now) ≡ length (chars body.now))
+        (λ x. SplitsPart (chars body.now) (chars x.0.now) (chars x.1.now)) }
     ensures less { IfSome result (λ x. length x.1.now < length body.now) }
 {
     let mut before = false;

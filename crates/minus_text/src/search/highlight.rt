@@ -72,8 +72,8 @@ fn put_match<'l>(
     place: (usize, usize),
 ) -> Result<usize, AllocError>
     ensures puts { OnOk result (map insert_of puts.new.items ≡ map insert_of puts.old.items ++ of_match accurate place (map insert_of escapes.now)) }
-    ensures rest { IfOk result (λ count. (count ≤ length escapes.now) × (drop count (map insert_of escapes.now)
-        ≡ behind place.1 (behind place.0 (map insert_of escapes.now)))) }
+    ensures rest { IfOk result (λ count. (count ≤ length escapes.now)
+        × (drop count (map insert_of escapes.now) ≡ behind place.1 (behind place.0 (map insert_of escapes.now)))) }
 {
     let (outer, rest) = escapes.split_at(count_before(escapes, place.0));
     let count = count_before(rest, place.1);
@@ -167,8 +167,8 @@ impl<'l> HighlightMatchesArgs<'l> {
     ) -> Result<Self, AllocError>
         requires escapes { CutsText row.now 0 escape_places.now }
         requires matches { CutsText (outside row.now 0 escape_places.now) 0 matches.now }
-        ensures { IfOk result (λ h. shown_line h ≡ put_in (outside row.now 0 escape_places.now) 0 (ordered false matches.now (inside row.now 0 0
-            escape_places.now))) }
+        ensures { IfOk result (λ h. shown_line h
+            ≡ put_in (outside row.now 0 escape_places.now) 0 (ordered false matches.now (inside row.now 0 0 escape_places.now))) }
     {
         let Parted { text, escapes } = part(alloc, row, escape_places)?;
         let puts = ordered(alloc, matches, &escapes, false)?;
