@@ -29,71 +29,74 @@ fn shows(
 }
 
 #[test]
-fn matches_are_shown_in_reverse(rt: HostRuntime) -> Result<(), Fail> {
-    let table = [
-        // an escape cuts a match
-        (
-            "this \x1b[34mis a te\x1b[0mst",
-            "test",
-            "this \x1b[34mis a \x1b[7mte\x1b[0mst\x1b[27m",
-            "this \x1b[34mis a \x1b[7mtest\x1b[27m\x1b[0m",
-        ),
-        // two stand inside a match
-        (
-            "this is a t\x1b[34mes\x1b[0mt again",
-            "test",
-            "this is a \x1b[7mt\x1b[34mes\x1b[0mt\x1b[27m again",
-            "this is a \x1b[7mtest\x1b[27m\x1b[34m\x1b[0m again",
-        ),
-        // one stands before a match
-        (
-            "\x1b[34mtest",
-            "test",
-            "\x1b[7m\x1b[34mtest\x1b[27m",
-            "\x1b[7mtest\x1b[27m\x1b[34m",
-        ),
-        // a match takes the blanks beside a word
-        (
+fn an_escape_cuts_a_match(rt: HostRuntime) -> Result<(), Fail> {
+    let line = "this \x1b[34mis a te\x1b[0mst";
+    let accurate = "this \x1b[34mis a \x1b[7mte\x1b[0mst\x1b[27m";
+    let plain = "this \x1b[34mis a \x1b[7mtest\x1b[27m\x1b[0m";
+    assert!(rt; shows(rt.alloc(), line, "test", accurate, plain)?);
+    Ok(())
+}
+
+#[test]
+fn two_escapes_stand_inside_a_match(rt: HostRuntime) -> Result<(), Fail> {
+    let line = "this is a t\x1b[34mes\x1b[0mt again";
+    let accurate = "this is a \x1b[7mt\x1b[34mes\x1b[0mt\x1b[27m again";
+    let plain = "this is a \x1b[7mtest\x1b[27m\x1b[34m\x1b[0m again";
+    assert!(rt; shows(rt.alloc(), line, "test", accurate, plain)?);
+    Ok(())
+}
+
+#[test]
+fn an_escape_stands_before_a_match(rt: HostRuntime) -> Result<(), Fail> {
+    let accurate = "\x1b[7m\x1b[34mtest\x1b[27m";
+    let plain = "\x1b[7mtest\x1b[27m\x1b[34m";
+    assert!(rt; shows(rt.alloc(), "\x1b[34mtest", "test", accurate, plain)?);
+    Ok(())
+}
+
+#[test]
+fn a_match_takes_the_blanks_beside_a_word(rt: HostRuntime) -> Result<(), Fail> {
+    let shown = "nisl.\x1b[7m placerat \x1b[27mnon";
+    assert!(rt;
+        shows(
+            rt.alloc(),
             "nisl. placerat non",
             "\\W\\w+t\\W",
-            "nisl.\x1b[7m placerat \x1b[27mnon",
-            "nisl.\x1b[7m placerat \x1b[27mnon",
-        ),
-        // a match has no characters
-        (
-            "ab",
-            "x*",
-            "\x1b[7m\x1b[27ma\x1b[7m\x1b[27mb\x1b[7m\x1b[27m",
-            "\x1b[7m\x1b[27ma\x1b[7m\x1b[27mb\x1b[7m\x1b[27m",
-        ),
-        // a match stands at the end of a row
-        (
-            "a\x1b[31mb\x1b[0m",
-            "b$",
-            "a\x1b[7m\x1b[31mb\x1b[27m\x1b[0m",
-            "a\x1b[7mb\x1b[27m\x1b[31m\x1b[0m",
-        ),
-        // one character begins an escape
-        (
-            "\u{9b}[31mred",
-            "red",
-            "\x1b[7m\u{9b}[31mred\x1b[27m",
-            "\x1b[7mred\x1b[27m\u{9b}[31m",
-        ),
-        // an escape ends with a digit
-        (
-            "\x1b[31ab",
-            "ab",
-            "\x1b[7m\x1b[31ab\x1b[27m",
-            "\x1b[7mab\x1b[27m\x1b[31",
-        ),
-    ];
-    for (line, query, accurate, plain) in table {
-        assert!(rt;
-            shows(rt.alloc(), line, query, accurate, plain)?,
-            "at {line}"
-        );
-    }
+            shown,
+            shown
+        )?
+    );
+    Ok(())
+}
+
+#[test]
+fn a_match_of_no_characters(rt: HostRuntime) -> Result<(), Fail> {
+    let shown = "\x1b[7m\x1b[27ma\x1b[7m\x1b[27mb\x1b[7m\x1b[27m";
+    assert!(rt; shows(rt.alloc(), "ab", "x*", shown, shown)?);
+    Ok(())
+}
+
+#[test]
+fn a_match_at_the_end_of_a_row(rt: HostRuntime) -> Result<(), Fail> {
+    let accurate = "a\x1b[7m\x1b[31mb\x1b[27m\x1b[0m";
+    let plain = "a\x1b[7mb\x1b[27m\x1b[31m\x1b[0m";
+    assert!(rt; shows(rt.alloc(), "a\x1b[31mb\x1b[0m", "b$", accurate, plain)?);
+    Ok(())
+}
+
+#[test]
+fn the_one_character_that_begins_an_escape(rt: HostRuntime) -> Result<(), Fail> {
+    let accurate = "\x1b[7m\u{9b}[31mred\x1b[27m";
+    let plain = "\x1b[7mred\x1b[27m\u{9b}[31m";
+    assert!(rt; shows(rt.alloc(), "\u{9b}[31mred", "red", accurate, plain)?);
+    Ok(())
+}
+
+#[test]
+fn an_escape_that_ends_with_a_digit(rt: HostRuntime) -> Result<(), Fail> {
+    let accurate = "\x1b[7m\x1b[31ab\x1b[27m";
+    let plain = "\x1b[7mab\x1b[27m\x1b[31";
+    assert!(rt; shows(rt.alloc(), "\x1b[31ab", "ab", accurate, plain)?);
     Ok(())
 }
 

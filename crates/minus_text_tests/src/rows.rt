@@ -15,12 +15,6 @@ fn a_text_fills_rows(rt: HostRuntime) -> Result<(), Fail> {
         ("well-known fact", 12, "well-known|fact"),
         // a wide character has a row that is too narrow for it
         ("日本", 1, "日|本"),
-        // each newline ends a row of its own
-        (
-            "This\n\n\nhas many\n newlines\n",
-            80,
-            "This|||has many| newlines",
-        ),
     ];
     for (text, cols, rows) in table {
         assert!(rt; fill(rt.alloc(), text, cols, rows)?, "at {text}");
@@ -36,12 +30,6 @@ fn pushes_go_on_in_the_unfinished_line(rt: HostRuntime) -> Result<(), Fail> {
             15,
             "this is a|normal line|with no|newlinethis is|an appended|line with a|newline|and this is a|third line",
         ),
-        // lines end with a newline or both characters
-        (
-            "hello,\n|this is |a test\r\n|of weird line endings",
-            80,
-            "hello,|this is a test|of weird line endings",
-        ),
         // a push of nothing changes nothing
         ("one\ntwo|", 80, "one|two"),
         // an escape sequence in two pushes takes no columns
@@ -55,6 +43,27 @@ fn pushes_go_on_in_the_unfinished_line(rt: HostRuntime) -> Result<(), Fail> {
     for (pieces, cols, rows) in table {
         assert!(rt; fill(rt.alloc(), pieces, cols, rows)?, "at {pieces}");
     }
+    Ok(())
+}
+
+// Whether lines end with a newline, with many, or with both characters.
+fn ends_lines(alloc: Global) -> Result<bool, MinusError> {
+    let many = "This\n\n\nhas many\n newlines\n";
+    let weird = "hello,\n|this is |a test\r\n|of weird line endings";
+    Ok(
+        fill(alloc, many, 80, "This|||has many| newlines")?
+            && fill(
+                alloc,
+                weird,
+                80,
+                "hello,|this is a test|of weird line endings",
+            )?,
+    )
+}
+
+#[test]
+fn weird_line_endings_end_lines(rt: HostRuntime) -> Result<(), Fail> {
+    assert!(rt; ends_lines(rt.alloc())?);
     Ok(())
 }
 
