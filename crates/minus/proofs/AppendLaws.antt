@@ -1,7 +1,7 @@
 -- A page to which a text was appended.
-use Rattle.std.proofs.Common.{◌≡◌, ℕ, zero, suc, ◌+◌, ◌-◌, ◌≤◌, ◌==◌, min, leb, Bool, true, false, cond, List, [], ◌∷◌, ◌++◌, length, take, drop, refl, sym, ap, subst, ◌∙◌, arith, inl, inr}
+use Rattle.std.proofs.Common.{◌≡◌, ℕ, zero, suc, ◌+◌, ◌-◌, ◌≤◌, min, leb, true, List, [], ◌∷◌, ◌++◌, length, take, drop, None, refl, sym, ap, subst, ◌∙◌, arith, inl, inr}
 use Rattle.std.proofs.lemmas.Bool.{cases_Bool, leb-true, leb-false}
-use Rattle.std.proofs.lemmas.List.{length-take, length-take-le, length-drop, take-take, take_at, drop-take}
+use Rattle.std.proofs.lemmas.List.{length-take, length-drop, take-take, drop-take}
 use Rattle.minus_term.specs.Append.{append_ops, rows_anew}
 use Rattle.minus_term.specs.FullRedraw.{page_of}
 use Rattle.minus_term.specs.Operations.{Op, GoTo, ClearRow, Put}
@@ -11,16 +11,13 @@ use Rattle.minus_term.proofs.AppendLaws.{append_shows_lem, IsClean-changed}
 use Rattle.minus_term.proofs.PlayLaws.{play_all-append, draws_from, length-play_all}
 use Rattle.minus_term.proofs.ScrollLaws.{one_put}
 use Rattle.minus_term.proofs.WrittenLaws.{IsClean-append}
-use Rattle.minus_text.specs.declared.line_numbers.LineNumbers.TheVariants.{Disabled}
-use Rattle.minus_text.specs.Document.{Document, rows_of, unfinished_rows, wrap_in, keeps_rows}
-use Rattle.minus_text.specs.Fragments.{rows_in}
-use Rattle.minus_text.specs.Lines.{unfinished_line}
-use Rattle.minus_text.proofs.PushedLaws.{rows_kept}
+use Rattle.minus_state.specs.Selection.{ends_in_order}
+use Rattle.minus_state.proofs.ShownRowsLaws.{length-shown_rows, shown_kept}
 use Rattle.minus.specs.declared.commands.Drawing.TheVariants.{Nothing, Append}
-use Rattle.minus.specs.Control.{Control, Settings, document_of, text_rows, first_changed}
+use Rattle.minus.specs.Control.{Control, Settings, document_of, text_rows, first_changed, keeps_rows_with}
 use Rattle.minus.specs.Drawings.{ops_of_step, changed_prompt}
 use Rattle.minus.specs.Drawn.{IsDrawing}
-use Rattle.minus.specs.Page.{shown, page}
+use Rattle.minus.specs.Page.{all_shown, shown, page}
 use Rattle.minus.specs.PromptRow.{prompt_row}
 use Rattle.minus.proofs.DrawnLaws.{shown_fits, page_size, next_prompt_shows, next_prompt_puts, next_prompt_clean, prompt_there, work_drawn}
 
@@ -38,15 +35,12 @@ agree_shown xs ys k m n f e l w = take-take f n (drop m xs) w ∙ shown_so ∙ s
     ]
 
 -- the rows before the first that an append changes stay
-rows_stay : (c : Control) (text : List ℕ) → take (first_changed c) (text_rows c) ≡ take (first_changed c) (text_rows (record c { text = c.text ++ text }))
-rows_stay c text =
-    let d : Document = document_of c in
-    let equal : (c.cols == c.cols) ≡ true = grind arith in
-    let keeps : keeps_rows d text Disabled c.cols ≡ true = rw equal refl in
-    let more : List (List ℕ) = rows_in (record { text = unfinished_line c.text ++ text; wrap = wrap_in d }) in
-    let is : text_rows (record c { text = c.text ++ text }) ≡ take (first_changed c) (text_rows c) ++ more = rows_kept d text Disabled c.cols keeps in
-    let count : length (take (first_changed c) (text_rows c)) ≡ first_changed c = length-take-le (first_changed c) (text_rows c) (omega arith) in
-    sym (ap (take (first_changed c)) is ∙ take_at (take (first_changed c) (text_rows c)) more (first_changed c) count)
+rows_stay : (c : Control) (text : List ℕ) → keeps_rows_with c text ≡ true → take (first_changed c) (all_shown c) ≡ take (first_changed c) (all_shown (record c { text = c.text ++ text }))
+rows_stay c text keeps = shown_kept None (document_of c) text c.left (ends_in_order c.ends) keeps
+
+-- there are as many as rows
+pub all_there : (c : Control) → length (all_shown c) ≡ length (text_rows c)
+all_there c = length-shown_rows None (document_of c) c.left (ends_in_order c.ends)
 
 -- rows made blank put no more texts than they get, whatever is played after them
 puts_anew : (i : ℕ) (texts : List (List ℕ)) (blanks : ℕ) (rest : List Op) (s : PlayedScreen) → puts (rows_anew i texts blanks ++ rest) s ≤ length texts + puts rest (play_all (rows_anew i texts blanks) s)
@@ -58,13 +52,13 @@ puts_anew i (t ∷ ts) b rest s =
     omega (arith, one, more)
 
 -- the rows that an append has changed, and a prompt row that is another one than before, are its drawing
-pub append_draws : (c : Control) (text : List ℕ) (s : Settings) → 1 ≤ c.rows → (let new : Control = record c { text = c.text ++ text; settings = s } in IsDrawing (ops_of_step Append c new) c (work_drawn Append new ∷ []) new)
-append_draws c text s some =
+pub append_draws : (c : Control) (text : List ℕ) (s : Settings) → keeps_rows_with c text ≡ true → 1 ≤ c.rows → (let new : Control = record c { text = c.text ++ text; settings = s } in IsDrawing (ops_of_step Append c new) c (work_drawn Append new ∷ []) new)
+append_draws c text s keeps some =
     let new : Control = record c { text = c.text ++ text; settings = s } in
     let n : ℕ = c.rows - 1 in
     let first : ℕ = min (first_changed c - c.mark) (length (shown new)) in
-    let count : length (shown new) ≡ min n (length (text_rows new) - c.mark) = omega (arith, length-take n (drop c.mark (text_rows new)), length-drop c.mark (text_rows new)) in
-    let same : take first (shown c) ≡ take first (shown new) = agree_shown (text_rows c) (text_rows new) (first_changed c) c.mark n first (rows_stay c text) (omega arith) (omega (arith, count)) in
+    let count : length (shown new) ≡ min n (length (text_rows new) - c.mark) = omega (arith, length-take n (drop c.mark (all_shown new)), length-drop c.mark (all_shown new), all_there new) in
+    let same : take first (shown c) ≡ take first (shown new) = agree_shown (all_shown c) (all_shown new) (first_changed c) c.mark n first (rows_stay c text keeps) (omega arith) (omega (arith, count)) in
     let rows : List Op = append_ops first (length (shown c)) (shown new) in
     let prompt : List Op = changed_prompt c new in
     let screen : PlayedScreen = screen_of (page c) in

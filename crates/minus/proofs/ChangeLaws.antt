@@ -1,66 +1,130 @@
 -- A change that was put in its place.
-use Rattle.std.proofs.Common.{◌≡◌, ℕ, ◌-◌, List, take, drop, Bool, false, refl, ap, ◌∙◌}
-use Rattle.minus_text.specs.Layouts.{plain}
-use Rattle.minus_text.specs.Document.{Document, rows_of}
-use Rattle.minus_text.specs.Searched.{Searched}
+use Rattle.std.proofs.Common.{◌≡◌, ℕ, ◌+◌, ◌-◌, ◌==◌, eqb, List, [], take, drop, Bool, true, false, None, refl, sym, ap, subst, ◌∙◌, arith, inl, inr}
+use Rattle.std.specs.Prelude.{if◌then◌else◌}
+use Rattle.std.proofs.lemmas.Bool.{cases_Bool, eqb-true, eq-eqb, ne_eqb}
+use Rattle.minus_text.specs.declared.line_numbers.LineNumbers.{LineNumbers}
+use Rattle.minus_text.specs.Document.{Document, margin_in, pushed}
+use Rattle.minus_text.specs.Found.{RowMatches}
+use Rattle.minus_text.specs.Layouts.{margin}
+use Rattle.minus_text.specs.Prefixes.{is_on, padding, prefix_columns}
+use Rattle.minus_text.specs.Searched.{Searched, searched}
+use Rattle.minus_state.specs.declared.selection.SelectionEnds.{SelectionEnds}
 use Rattle.minus.specs.declared.state.PagerState.{PagerState}
 use Rattle.minus.specs.declared.change.Change.{Change}
 use Rattle.minus.specs.declared.change.NextText.{NextText}
 use Rattle.minus.specs.declared.change.NextText.TheVariants.{Same, Whole}
-use Rattle.minus.specs.Control.{Control, Settings, document_of, text_rows, cleared}
-use Rattle.minus.specs.Table.{Wanted, effect, changed_by, drawing_by, drawing_of}
+use Rattle.minus.specs.Control.{Control, Settings, document_of}
+use Rattle.minus.specs.Table.{Wanted, append_redraw, effect, changed_by, drawing_by, drawing_of}
 use Rattle.minus.specs.declared.commands.Redraw.{Redraw}
-use Rattle.minus.specs.Page.{shown}
+use Rattle.minus.specs.declared.commands.Redraw.TheVariants.{Whole as All, Appended}
+use Rattle.minus.specs.Page.{shown_of, all_shown, shown}
 use Rattle.minus.specs.NextTexts.{next_document}
-use Rattle.minus.specs.Changes.{IsChange, shown_by, settings_after}
+use Rattle.minus.specs.Changes.{IsChange, shown_by, left_set, settings_after}
 use Rattle.minus.specs.declared.change.Setting.TheVariants as setting
-use Rattle.minus.specs.Reads.{control_of, settings_of, IsFormed}
+use Rattle.minus.specs.Reads.{control_of, settings_of, ends_of, IsFormed}
 
-same_control : (a b : Control) → a.text ≡ b.text → a.cols ≡ b.cols → a.rows ≡ b.rows → a.mark ≡ b.mark → a.settings ≡ b.settings → a ≡ b
-same_control a b t c r m s =
-    ap (λ (x : List ℕ). let k : Control = record { text = x; cols = a.cols; rows = a.rows; mark = a.mark; settings = a.settings } in k) t
-    ∙ ap (λ (x : ℕ). let k : Control = record { text = b.text; cols = x; rows = a.rows; mark = a.mark; settings = a.settings } in k) c
-    ∙ ap (λ (x : ℕ). let k : Control = record { text = b.text; cols = b.cols; rows = x; mark = a.mark; settings = a.settings } in k) r
-    ∙ ap (λ (x : ℕ). let k : Control = record { text = b.text; cols = b.cols; rows = b.rows; mark = x; settings = a.settings } in k) m
-    ∙ ap (λ (x : Settings). let k : Control = record { text = b.text; cols = b.cols; rows = b.rows; mark = b.mark; settings = x } in k) s
+same_control : (a b : Control) → a.text ≡ b.text → a.cols ≡ b.cols → a.rows ≡ b.rows → a.numbers ≡ b.numbers → a.wrapping ≡ b.wrapping → a.mark ≡ b.mark → a.left ≡ b.left → a.ends ≡ b.ends → a.settings ≡ b.settings → a ≡ b
+same_control a b t c r n w m l e s =
+    ap (λ (x : List ℕ). let k : Control = record a { text = x } in k) t
+    ∙ ap (λ (x : ℕ). let k : Control = record a { text = b.text; cols = x } in k) c
+    ∙ ap (λ (x : ℕ). let k : Control = record a { text = b.text; cols = b.cols; rows = x } in k) r
+    ∙ ap (λ (x : LineNumbers). let k : Control = record a { text = b.text; cols = b.cols; rows = b.rows; numbers = x } in k) n
+    ∙ ap (λ (x : Bool). let k : Control = record a { text = b.text; cols = b.cols; rows = b.rows; numbers = b.numbers; wrapping = x } in k) w
+    ∙ ap (λ (x : ℕ). let k : Control = record b { mark = x; left = a.left; ends = a.ends; settings = a.settings } in k) m
+    ∙ ap (λ (x : ℕ). let k : Control = record b { left = x; ends = a.ends; settings = a.settings } in k) l
+    ∙ ap (λ (x : SelectionEnds). let k : Control = record b { ends = x; settings = a.settings } in k) e
+    ∙ ap (λ (x : Settings). let k : Control = record b { settings = x } in k) s
+
+-- what was formed of the text that a change leads to
+document_next : (s : PagerState) (change : Change) (new : Control) → IsFormed s → IsChange (control_of s) change new → next_document s.screen.document change.text ≡ document_of new
+document_next s change new f h = ap (λ (x : Searched). next_document x.document change.text) f.screen ∙ h.document
+
+-- a state in which a change of another one was put in its place
+pub record IsPlaced (s : PagerState) (change : Change) (t : PagerState) : Type 0 where
+  pub screen : t.screen ≡ searched None (next_document s.screen.document change.text)
+  pub numbers : t.line_numbers ≡ (next_document s.screen.document change.text).layout.numbers
+  pub mark : t.upper_mark ≡ change.mark
+  pub left : t.left_mark ≡ left_set change.setting s.left_mark
+  pub ends : ends_of t ≡ ends_of s
+  pub cols : t.cols ≡ change.cols
+  pub rows : t.rows ≡ change.rows
+  pub settings : settings_of t ≡ settings_after (settings_of s) change.clears change.setting
 
 -- the state holds the control that the change leads to
-pub placed : (s t : PagerState) (change : Change) (new : Control) → IsFormed s → IsChange (control_of s) change new → t.screen.document ≡ next_document s.screen.document change.text → t.upper_mark ≡ change.mark → t.cols ≡ change.cols → t.rows ≡ change.rows → settings_of t ≡ settings_after (settings_of s) change.clears change.setting → control_of t ≡ new
-placed s t change new f h e m c r q =
-    let document : t.screen.document ≡ document_of new = e ∙ ap (λ (d : Document). next_document d change.text) f.document ∙ h.document in
-    same_control (control_of t) new (ap (λ (d : Document). d.text) document) (c ∙ h.cols_are) (r ∙ h.rows_are) (m ∙ h.mark_is) (q ∙ h.settings_are)
+pub placed : (s t : PagerState) (change : Change) (new : Control) → IsFormed s → IsChange (control_of s) change new → IsPlaced s change t → control_of t ≡ new
+placed s t change new f h p =
+    let next = document_next s change new f h in
+    let document : t.screen.document ≡ document_of new = ap (λ (x : Searched). x.document) p.screen ∙ next in
+    same_control (control_of t) new (ap (λ (d : Document). d.text) document) (p.cols ∙ h.cols_are) (p.rows ∙ h.rows_are) (p.numbers ∙ ap (λ (d : Document). d.layout.numbers) next) (ap (λ (d : Document). d.layout.wrapping) document) (p.mark ∙ h.mark_is) (p.left ∙ h.left_is) (p.ends ∙ h.ends_are) (p.settings ∙ h.settings_are)
+
+-- and it is formed
+pub formed_placed : (s t : PagerState) (change : Change) (new : Control) → IsFormed s → IsChange (control_of s) change new → IsPlaced s change t → IsFormed t
+formed_placed s t change new f h p = record {
+  screen = p.screen ∙ ap (λ (d : Document). searched None d) (document_next s change new f h) ∙ sym (ap (λ (c : Control). searched None (document_of c)) (placed s t change new f h p));
+}
 
 -- the same where the state was drawn from between
-pub placed_after : (s d t : PagerState) (change : Change) (new : Control) → d ≡ s → IsFormed s → IsChange (control_of s) change new → t.screen.document ≡ next_document d.screen.document change.text → t.upper_mark ≡ change.mark → t.cols ≡ change.cols → t.rows ≡ change.rows → settings_of t ≡ settings_after (settings_of d) change.clears change.setting → control_of t ≡ new
-placed_after s d t change new same f h e m c r q =
-    placed s t change new f h (e ∙ ap (λ (x : PagerState). next_document x.screen.document change.text) same) m c r (q ∙ ap (λ (x : PagerState). settings_after (settings_of x) change.clears change.setting) same)
-
-abbrev pub document : List ℕ → ℕ → Document
-document text cols = record { text = text; layout = plain cols }
+pub placed_from : (s d t : PagerState) (change : Change) → d ≡ s → IsPlaced d change t → IsPlaced s change t
+placed_from s d t change same p = subst (λ (x : PagerState). IsPlaced x change t) same p
 
 -- a change to a text that was formed anew
-pub change_anew : (s : PagerState) (change : Change) (next : Searched) (text : List ℕ) (cols : ℕ) (new : Control) → change.text ≡ Whole next → next.document ≡ document text cols → text ≡ new.text → cols ≡ new.cols → change.mark ≡ new.mark → change.cols ≡ new.cols → change.rows ≡ new.rows → settings_after (settings_of s) change.clears change.setting ≡ new.settings → IsChange (control_of s) change new
-change_anew s change next text cols new is formed t k m c r q = record {
-  belongs = rw is tt;
-  document = ap (λ (n : NextText). next_document (document_of (control_of s)) n) is ∙ formed ∙ ap (λ (x : List ℕ). document x cols) t ∙ ap (λ (x : ℕ). document new.text x) k;
+pub change_anew : (s : PagerState) (change : Change) (next : Searched) (d : Document) (new : Control) → change.text ≡ Whole next → next ≡ searched None d → d ≡ document_of new → change.mark ≡ new.mark → change.cols ≡ new.cols → change.rows ≡ new.rows → left_set change.setting s.left_mark ≡ new.left → ends_of s ≡ new.ends
+    → settings_after (settings_of s) change.clears change.setting ≡ new.settings → IsChange (control_of s) change new
+change_anew s change next d new is formed same m c r l e q = record {
+  belongs = rw is (ap (λ (x : Searched). x.found) formed);
+  document = ap (λ (n : NextText). next_document (document_of (control_of s)) n) is ∙ ap (λ (x : Searched). x.document) formed ∙ same;
   mark_is = m;
   cols_are = c;
   rows_are = r;
+  left_is = l;
+  ends_are = e;
   settings_are = q;
 }
 
 -- the rows of text on the page that a change leads to
-pub shown_is : (s : PagerState) (change : Change) (new : Control) → IsFormed s → IsChange (control_of s) change new → shown_by s.screen.document change ≡ shown new
+pub shown_is : (s : PagerState) (change : Change) (new : Control) → IsFormed s → IsChange (control_of s) change new → shown_by s change ≡ shown new
 shown_is s change new f h =
-    let document : next_document s.screen.document change.text ≡ document_of new = ap (λ (d : Document). next_document d change.text) f.document ∙ h.document in
-    ap (λ (d : Document). take (change.rows - 1) (drop change.mark (rows_of d))) document
-    ∙ ap (λ (n : ℕ). take (n - 1) (drop change.mark (text_rows new))) h.rows_are
-    ∙ ap (λ (m : ℕ). take (new.rows - 1) (drop m (text_rows new))) h.mark_is
+    ap (λ (d : Document). take (change.rows - 1) (drop change.mark (shown_of d (left_set change.setting s.left_mark) (ends_of s)))) (document_next s change new f h)
+    ∙ ap (λ (l : ℕ). take (change.rows - 1) (drop change.mark (shown_of (document_of new) l (ends_of s)))) h.left_is
+    ∙ ap (λ (e : SelectionEnds). take (change.rows - 1) (drop change.mark (shown_of (document_of new) new.left e))) h.ends_are
+    ∙ ap (λ (n : ℕ). take (n - 1) (drop change.mark (all_shown new))) h.rows_are
+    ∙ ap (λ (m : ℕ). take (new.rows - 1) (drop m (all_shown new))) h.mark_is
 
 -- a change that changes nothing
 pub unchanged : (s : PagerState) (change : Change) → change.text ≡ Same → change.mark ≡ s.upper_mark → change.cols ≡ s.cols → change.rows ≡ s.rows → change.clears ≡ false → change.setting ≡ setting.Same → IsChange (control_of s) change (control_of s)
-unchanged s change is m c r p q = record { belongs = rw is tt; document = rw is refl; mark_is = m; cols_are = c; rows_are = r; settings_are = rw (p, q) refl }
+unchanged s change is m c r p q = record { belongs = rw is refl; document = rw is refl; mark_is = m; cols_are = c; rows_are = r; left_is = rw q refl; ends_are = refl; settings_are = rw (p, q) refl }
 
 -- a change is drawn as the table says of its command
 pub drawn_as : {K : Type 0} (c : Control) (w : Wanted K) (redraw : Redraw) (mark : ℕ) → redraw ≡ (effect c w).redraw → mark ≡ (changed_by (effect c w)).mark → drawing_by redraw c.mark mark ≡ drawing_of c w
 drawn_as c w redraw mark r m = ap (λ (x : Redraw). drawing_by x c.mark mark) r ∙ ap (λ (n : ℕ). drawing_by (effect c w).redraw c.mark n) m
+
+-- ---- what is formed
+
+-- a screen of a document in which nothing was found
+pub searched_is : (s : Searched) (d : Document) → s.document ≡ d → s.found ≡ [] → s ≡ searched None d
+searched_is s d e f = ap (λ (x : Document). let r : Searched = record { document = x; found = s.found } in r) e ∙ ap (λ (x : List RowMatches). let r : Searched = record { document = d; found = x } in r) f
+
+-- the columns that stand before rows are alike where numbers take the same columns
+eqb_more : (a b k : ℕ) → eqb a b ≡ eqb (a + k) (b + k)
+eqb_more a b k = elim (cases_Bool (eqb a b)) [
+  | inl e ↦ (let is : a ≡ b = eqb-true a b e in let more : eqb (a + k) (b + k) ≡ true = eq-eqb (a + k) (b + k) (ap (λ (n : ℕ). n + k) is) in e ∙ sym more)
+  | inr e ↦ (let other : eqb (a + k) (b + k) ≡ false = ne_eqb (a + k) (b + k) (λ same. (let is : a ≡ b = omega (arith, same) in absurd (let both : true ≡ false = sym (eq-eqb a b is) ∙ e in cc))) in e ∙ sym other)
+]
+
+pub margins_alike : (p q : LineNumbers) (m n : ℕ) → eqb (prefix_columns (is_on p) m) (prefix_columns (is_on q) n) ≡ eqb (margin p m) (margin q n)
+margins_alike p q m n = elim (cases_Bool (is_on p)) [
+  | inl a ↦ elim (cases_Bool (is_on q)) [
+    | inl b ↦ rw (a, b) (eqb_more (padding m + 1) (padding n + 1) 1)
+    | inr b ↦ rw (a, b) (ne_eqb (padding m + 1) 0 (λ z. omega (arith, z)) ∙ sym (ne_eqb (padding m + 1 + 1) 0 (λ z. omega (arith, z))))
+  ]
+  | inr a ↦ elim (cases_Bool (is_on q)) [
+    | inl b ↦ rw (a, b) (ne_eqb 0 (padding n + 1) (λ z. omega (arith, z)) ∙ sym (ne_eqb 0 (padding n + 1 + 1) (λ z. omega (arith, z))))
+    | inr b ↦ rw (a, b) refl
+  ]
+]
+
+-- how an append is drawn
+pub redraw_is : (d : Document) (c : Control) (text : List ℕ) → d ≡ document_of c → (if margin_in (pushed d text d.layout.numbers d.layout.cols) == margin_in d then Appended else All) ≡ append_redraw c text
+redraw_is d c text is =
+    let same : (c.cols == c.cols) ≡ true = eq-eqb c.cols c.cols refl in
+    ap (λ (x : Document). if margin_in (pushed x text x.layout.numbers x.layout.cols) == margin_in x then Appended else All) is ∙ rw same refl

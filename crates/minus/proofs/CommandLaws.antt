@@ -1,5 +1,5 @@
 -- Commands are drawn as their works say.
-use Rattle.std.proofs.Common.{◌≡◌, ℕ, ◌<◌, ◌≤◌, ◌==◌, min, Bool, List, [], ◌∷◌, ◌++◌, length, Option, refl, sym, ap, subst, ◌∙◌, arith, inl, inr}
+use Rattle.std.proofs.Common.{◌≡◌, ℕ, ◌<◌, ◌≤◌, ◌==◌, min, Bool, true, List, [], ◌∷◌, ◌++◌, length, Option, sym, ap, subst, ◌∙◌, arith, inl, inr}
 use Rattle.std.specs.Io.KnownBytes.{Appends}
 use Rattle.std.proofs.lemmas.Bool.{cases_Bool, eqb-true}
 use Rattle.minus_term.specs.Operations.{Op}
@@ -9,10 +9,10 @@ use Rattle.minus_term.proofs.WrittenLaws.{written_all-nil}
 use Rattle.minus.specs.declared.commands.Drawing.{Drawing}
 use Rattle.minus.specs.declared.commands.Drawing.TheVariants.{Nothing, Append, Prompt}
 use Rattle.minus.specs.declared.commands.Redraw.TheVariants.{Moved, Appended}
-use Rattle.minus.specs.Control.{Control, Settings, IsClamped, top, cleared}
-use Rattle.minus.specs.Works.{work_of, IsQuiet}
+use Rattle.minus.specs.Control.{Control, Settings, IsClamped, keeps_rows_with, top, cleared}
+use Rattle.minus.specs.Works.{work_of}
 use Rattle.minus.specs.Drawings.{ops_of_step}
-use Rattle.minus.specs.Table.{Wanted, sets_data, appends_data, moves_mark, resizes, exits, ignores, sets_prompt, sends_message, shows_prompt, follows, types, restores_prompt, redraws_prompt, redraws_page, sets_classifier, effect, changed_by, drawing_by, drawing_of}
+use Rattle.minus.specs.Table.{Wanted, sets_data, appends_data, moves_mark, resizes, exits, ignores, sets_prompt, sends_message, shows_prompt, follows, types, restores_prompt, redraws_prompt, redraws_page, sets_classifier, sets_numbers, sets_wrapping, shifts, append_redraw, may_shift, left_after, shift_redraw, effect, changed_by, drawing_by, drawing_of}
 use Rattle.minus.specs.Drawn.{IsDrawing, Drawn, BrokenOff}
 use Rattle.minus.proofs.AppendLaws.{append_draws}
 use Rattle.minus.proofs.DrawnLaws.{work_drawn, whole_draws, quiet_draws, prompt_draws, scroll_draws}
@@ -34,10 +34,22 @@ move_draws c s mark some = elim (cases_Bool (mark == c.mark)) [
   | inr e ↦ rw e (scroll_draws c s mark some)
 ]
 
-appended_draws : (c : Control) (text : List ℕ) (s : Settings) (mark : ℕ) → 1 ≤ c.rows → IsDrawnSo (drawing_by Appended c.mark mark) c (record c { text = c.text ++ text; mark = mark; settings = s })
-appended_draws c text s mark some = elim (cases_Bool (mark == c.mark)) [
-  | inl e ↦ (let is : mark ≡ c.mark = eqb-true mark c.mark e in rw e (subst (λ (m : ℕ). IsDrawnSo Append c (record c { text = c.text ++ text; mark = m; settings = s })) (sym is) (append_draws c text s some)))
-  | inr e ↦ rw e (whole_draws c (record c { text = c.text ++ text; mark = mark; settings = s }) some)
+appended_draws : (c : Control) (text : List ℕ) (s : Settings) (mark : ℕ) → 1 ≤ c.rows → IsDrawnSo (drawing_by (append_redraw c text) c.mark mark) c (record c { text = c.text ++ text; mark = mark; settings = s })
+appended_draws c text s mark some = elim (cases_Bool (keeps_rows_with c text)) [
+  | inl keeps ↦ rw keeps (kept_draws keeps)
+  | inr none ↦ rw none (whole_draws c (record c { text = c.text ++ text; mark = mark; settings = s }) some)
+]
+  where
+    kept_draws : keeps_rows_with c text ≡ true → IsDrawnSo (drawing_by Appended c.mark mark) c (record c { text = c.text ++ text; mark = mark; settings = s })
+    kept_draws keeps = elim (cases_Bool (mark == c.mark)) [
+      | inl e ↦ (let is : mark ≡ c.mark = eqb-true mark c.mark e in rw e (subst (λ (m : ℕ). IsDrawnSo Append c (record c { text = c.text ++ text; mark = m; settings = s })) (sym is) (append_draws c text s keeps some)))
+      | inr e ↦ rw e (whole_draws c (record c { text = c.text ++ text; mark = mark; settings = s }) some)
+    ]
+
+shift_draws : (c : Control) (s : Settings) (left mark : ℕ) → 1 ≤ c.rows → mark ≡ c.mark → IsDrawnSo (drawing_by (shift_redraw c left) c.mark mark) c (record c { mark = mark; left = left_after c left; settings = s })
+shift_draws c s left mark some is = elim (cases_Bool (may_shift c left)) [
+  | inl moves ↦ rw moves (whole_draws c (record c { mark = mark; left = left; settings = s }) some)
+  | inr stays ↦ rw stays (set_draws c s mark some is)
 ]
 
 -- each command is drawn as its work says
@@ -57,6 +69,9 @@ command_draws c clears restores_prompt h some new_some = set_draws c _ (min c.ma
 command_draws c clears redraws_prompt h some new_some = at_mark Prompt c _ (min c.mark (top c)) (omega (arith, h)) (prompt_draws c _ some)
 command_draws c clears redraws_page h some new_some = whole_draws c _ new_some
 command_draws c clears (sets_classifier k) h some new_some = set_draws c _ (min c.mark (top c)) some (omega (arith, h))
+command_draws c clears (sets_numbers numbers) h some new_some = whole_draws c _ new_some
+command_draws c clears (sets_wrapping wrapping) h some new_some = whole_draws c _ new_some
+command_draws c clears (shifts left) h some new_some = shift_draws c (cleared clears c).settings left (min c.mark (top c)) some (omega (arith, h))
 
 -- a step's drawing, whole or broken off
 pub step_drawn : {K : Type 0} (a b c : Option (List ℕ)) (bytes : List ℕ) (old : Control) (clears : Bool) (w : Wanted K) → IsClamped old → 1 ≤ old.rows → 1 ≤ (changed_by (effect (cleared clears old) w)).rows → bytes ≡ written_all (ops_of_step (drawing_of (cleared clears old) w) old (changed_by (effect (cleared clears old) w))) → b ≡ a → Appends b c bytes

@@ -1,5 +1,5 @@
 -- What is drawn in a step, and at the start.
-use Rattle.std.proofs.Common.{◌≡◌, ℕ, ◌+◌, ◌-◌, ◌<◌, ◌≤◌, true, false, List, [], ◌∷◌, ◌++◌, length, map, drop, replicate, cond, Option, Some, None, refl, sym, subst, ◌∙◌, arith, append_assoc, inl, inr}
+use Rattle.std.proofs.Common.{◌≡◌, ℕ, ◌+◌, ◌-◌, ◌<◌, ◌≤◌, true, List, [], ◌∷◌, ◌++◌, length, map, drop, replicate, Option, Some, None, refl, sym, subst, ◌∙◌, arith, append_assoc, inl, inr}
 use Rattle.std.specs.Prelude.{bytes_eq, if◌then◌else◌}
 use Rattle.std.specs.Io.KnownBytes.{Appends}
 use Rattle.std.proofs.lemmas.Bool.{cases_Bool}
@@ -17,8 +17,8 @@ use Rattle.minus_term.proofs.WrittenLaws.{written_all-nil}
 use Rattle.minus_term.proofs.PutsLaws.{puts-prompt}
 use Rattle.minus_term.proofs.ScrollLaws.{scroll_shows_lem, scroll_puts_lem, IsClean-scroll}
 use Rattle.minus_term.proofs.FullRedrawLaws.{full_redraw_lem, IsClean-full, IsClean-prompt, play_prompt}
-use Rattle.minus.specs.Control.{Control, Settings, text_rows}
-use Rattle.minus.specs.Page.{shown, page}
+use Rattle.minus.specs.Control.{Control, Settings}
+use Rattle.minus.specs.Page.{all_shown, shown, page}
 use Rattle.minus.specs.PromptRow.{prompt_row}
 use Rattle.minus.specs.declared.commands.Drawing.{Drawing}
 use Rattle.minus.specs.declared.commands.Drawing.TheVariants.{Nothing, Full, Scroll, Prompt}
@@ -31,7 +31,7 @@ length_page rows texts prompt l =
     omega (arith, length-append (texts ++ replicate (rows - 1 - length texts) []) (prompt ∷ []), length-append texts (replicate (rows - 1 - length texts) []), length-replicate {A = List ℕ} (rows - 1 - length texts) [])
 
 pub shown_fits : (c : Control) → 1 ≤ c.rows → length (shown c) < c.rows
-shown_fits c h = omega (arith, length-take (c.rows - 1) (drop c.mark (text_rows c)))
+shown_fits c h = omega (arith, length-take (c.rows - 1) (drop c.mark (all_shown c)))
 
 -- ---- a page whose rows of text stay
 
@@ -115,9 +115,9 @@ pub scroll_draws : (c : Control) (s : Settings) (mark : ℕ) → 1 ≤ c.rows �
 scroll_draws c s mark some =
     let new : Control = record c { mark = mark; settings = s } in
     record {
-      shows = scroll_shows_lem c.rows c.mark mark (text_rows c) (prompt_row c) (prompt_row new) some;
+      shows = scroll_shows_lem c.rows c.mark mark (all_shown c) (prompt_row c) (prompt_row new) some;
       clean = IsClean-scroll (page c ∷ page new ∷ []) c.rows c.mark mark (shown new) (prompt_row new) (1, omega arith, refl);
-      few = scroll_puts_lem c.rows c.mark mark (text_rows c) (prompt_row new) (screen_of (page c)) some (page_size c some);
+      few = scroll_puts_lem c.rows c.mark mark (all_shown c) (prompt_row new) (screen_of (page c)) some (page_size c some);
       none = λ q. absurd (let drawn : Scroll ≡ Nothing = q.0 in cc);
     }
 

@@ -1,5 +1,6 @@
 pub mod DrawingLaws
 pub mod ShownLaws
+pub mod ShowingLaws
 pub mod ChangeLaws
 pub mod TableLaws
 pub mod DrawnLaws

@@ -1,6 +1,7 @@
 -- The rows of text on a page.
-use Rattle.std.proofs.Common.{◌≡◌, ℕ, zero, suc, ◌+◌, ◌-◌, ◌<◌, ◌≤◌, min, List, [], ◌∷◌, ◌++◌, length, map, take, drop, get_or, Some, None, refl, sym, ap, ◌∙◌, arith}
+use Rattle.std.proofs.Common.{◌≡◌, ℕ, zero, suc, ◌+◌, ◌-◌, ◌<◌, ◌≤◌, min, List, [], ◌∷◌, ◌++◌, length, map, take, drop, get_or, Option, Some, None, refl, sym, ap, ◌∙◌, arith}
 use Rattle.std.specs.List.{slice_get}
+use Rattle.minus_state.specs.ShownRow.{before_rows}
 use Rattle.std.proofs.Math.ListN.{drop_of_length-le}
 use Rattle.std.proofs.lemmas.List.{take_more, get_or-drop, length-drop, length-take, drop-append-le, take_min, drop_min, map_push}
 
@@ -39,13 +40,14 @@ more_from n i xs news rows row l there is h e =
     let count : length (take i rows) ≡ i = omega (arith, length-take i rows) in
     e ∙ ap (λ ts. ts ++ row ∷ []) h ∙ sym (ap (drop n) (take_more rows i [] there ∙ ap (λ r. take i rows ++ r ∷ []) is) ∙ drop-append-le n (take i rows) (row ∷ []) (omega (arith, l, count)))
 
--- one more row on the page, from one on
-pub shown_more_from : {X : Type 0} (f : X → List ℕ) (xs news : List X) (x : X) (rows : List (List ℕ)) (mark n i : ℕ) → n ≤ i → mark + i < length rows → map f xs ≡ drop n (take i (drop mark rows)) → Some (f x) ≡ slice_get rows (mark + i) → news ≡ xs ++ x ∷ []
-    → map f news ≡ drop n (take (i + 1) (drop mark rows))
-shown_more_from f xs news x rows mark n i l there h e g =
-    let left : i < length (drop mark rows) = omega (arith, length-drop mark rows) in
-    let is : get_or (drop mark rows) i [] ≡ f x = get_or-drop mark rows i [] ∙ get_some rows (mark + i) (f x) [] e in
-    more_from n i (map f xs) (map f news) (drop mark rows) (f x) l left is h (ap (map f) g ∙ map_push f xs x)
+-- one more row that is there, as it was put at the end
+pub shown_next : (rows : List (List ℕ)) (mark n i : ℕ) (olds news : List (List ℕ)) (o : Option (List ℕ)) → n ≤ i → mark + i < length rows → olds ≡ drop n (take i (drop mark rows)) → o ≡ slice_get rows (mark + i) → news ≡ olds ++ before_rows o []
+    → news ≡ drop n (take (i + 1) (drop mark rows))
+shown_next rows mark n i olds news None l there h e g = absurd (row_there rows (mark + i) there e)
+shown_next rows mark n i olds news (Some x) l there h e g =
+    let left : i < length (drop mark rows) = omega (arith, there, length-drop mark rows) in
+    let is : get_or (drop mark rows) i [] ≡ x = get_or-drop mark rows i [] ∙ get_some rows (mark + i) x [] e in
+    more_from n i olds news (drop mark rows) x l left is h g
 
 front_of_front : {X : Type 0} (n k : ℕ) (xs : List X) → n ≤ k → take n (take k xs) ≡ take n xs
 front_of_front zero k xs l = refl

@@ -7,7 +7,6 @@ use Rattle.minus_term.specs.Counts.{AppendsFront}
 use Rattle.minus_term.specs.declared.error.CleanupError.{CleanupError}
 use Rattle.minus_term.specs.Terminal.{cleanup_bytes, CleanupBreaksOff}
 use Rattle.minus_term.specs.Written.{written_all}
-use Rattle.minus.specs.declared.commands.Drawing.{Drawing}
 use Rattle.minus.specs.declared.session.Answer.{Answer}
 use Rattle.minus.specs.declared.status.Status.{Status}
 use Rattle.minus.specs.declared.status.Status.TheVariants as status
@@ -18,9 +17,9 @@ use Rattle.minus.specs.Reads.{Told}
 use Rattle.minus.specs.Sizes.{IsSize}
 use Rattle.minus.specs.Seen.{Seen}
 use Rattle.minus.specs.Table.{Wanted, Exit, effect, changed_by, kept_after, drawing_of, IsPossible}
-use Rattle.minus.specs.Works.{Work, work_of, after, WorkedOff, all, one, up_to, items_of}
+use Rattle.minus.specs.Works.{Work, work_of, after, WorkedOff, all, one, up_to}
 use Rattle.minus.specs.Drawings.{ops_of_step}
-use Rattle.minus.specs.Steps.{Allows, Asks, Works, Writes, IsStep, IsBroken, IsBrokenStep, IsBrokenExit, status_after, clears_prefix, taken_by}
+use Rattle.minus.specs.Steps.{Allows, Asks, Works, Writes, IsStep, IsBrokenStep, IsBrokenExit, status_after, clears_prefix, taken_by}
 use Rattle.minus.proofs.TableLaws.{exit_still, none_copied, none_handed, still_on, still_exits}
 use Rattle.minus.proofs.CommandLaws.{step_drawn, step_broken}
 use Rattle.minus.proofs.DrawnLaws.{nothing_drawn}

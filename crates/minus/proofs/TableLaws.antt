@@ -1,9 +1,9 @@
 -- What commands leave, by how they are drawn.
-use Rattle.std.proofs.Common.{◌≡◌, ℕ, ◌+◌, ◌<◌, List, [], ◌∷◌, ◌++◌, length, get_or, map, take, ap, ◌∙◌, sym, refl, arith, min, ◌==◌, ◌||◌, Bool, true, false, inl, inr, Option, Some, None}
+use Rattle.std.proofs.Common.{◌≡◌, ℕ, ◌+◌, ◌<◌, List, [], ◌∷◌, ◌++◌, length, get_or, map, take, ap, ◌∙◌, sym, refl, arith, min, ◌||◌, Bool, true, false, Option, Some, None}
 use Rattle.std.proofs.lemmas.List.{map_more}
 use Rattle.minus.specs.Control.{Control, clamp, top, cleared, IsClamped, SameSize}
 use Rattle.minus.specs.Seen.{Seen}
-use Rattle.minus.specs.Table.{Wanted, sets_data, appends_data, moves_mark, resizes, exits, ignores, sets_prompt, sends_message, shows_prompt, follows, types, restores_prompt, redraws_prompt, redraws_page, sets_classifier, Exit, Effect, effect, changed_by, kept_after, drawing_of, IsPossible}
+use Rattle.minus.specs.Table.{Wanted, sets_data, appends_data, moves_mark, resizes, exits, ignores, sets_prompt, sends_message, shows_prompt, follows, types, restores_prompt, redraws_prompt, redraws_page, sets_classifier, sets_numbers, sets_wrapping, shifts, Exit, Effect, effect, changed_by, kept_after, drawing_of, IsPossible}
 use Rattle.minus.specs.Works.{Work, WorkedOff, all, one, up_to, is_full, some_full, ResizesAreFull}
 use Rattle.minus.specs.Starts.{taken, taken_all, at_start, first_control}
 
@@ -32,6 +32,9 @@ exit_still c restores_prompt x h e = cc
 exit_still c redraws_prompt x h e = cc
 exit_still c redraws_page x h e = cc
 exit_still c (sets_classifier k) x h e = cc
+exit_still c (sets_numbers numbers) x h e = cc
+exit_still c (sets_wrapping wrapping) x h e = cc
+exit_still c (shifts left) x h e = cc
 
 -- nor does it hand a classifier over
 pub none_handed : {K : Type 0} (s : Seen K) (w : Wanted K) (x : Exit) → (effect s.control w).exits_by ≡ Some x → kept_after s.classifier w ≡ s.classifier
@@ -50,6 +53,9 @@ none_handed s restores_prompt x e = refl
 none_handed s redraws_prompt x e = refl
 none_handed s redraws_page x e = refl
 none_handed s (sets_classifier k) x e = cc
+none_handed s (sets_numbers numbers) x e = refl
+none_handed s (sets_wrapping wrapping) x e = refl
+none_handed s (shifts left) x e = refl
 
 -- whether a command is an exit does not hang on the prefix
 same_exit : {K : Type 0} (c : Control) (clears : Bool) (w : Wanted K) → (effect (cleared clears c) w).exits_by ≡ (effect c w).exits_by
@@ -68,6 +74,9 @@ same_exit c clears restores_prompt = refl
 same_exit c clears redraws_prompt = refl
 same_exit c clears redraws_page = refl
 same_exit c clears (sets_classifier k) = refl
+same_exit c clears (sets_numbers numbers) = refl
+same_exit c clears (sets_wrapping wrapping) = refl
+same_exit c clears (shifts left) = refl
 
 pub still_on : {K : Type 0} (c : Control) (clears : Bool) (w : Wanted K) → (effect c w).exits_by ≡ None → (effect (cleared clears c) w).exits_by ≡ None
 still_on c clears w e = same_exit c clears w ∙ e
@@ -92,6 +101,9 @@ none_copied c restores_prompt = refl
 none_copied c redraws_prompt = refl
 none_copied c redraws_page = refl
 none_copied c (sets_classifier k) = refl
+none_copied c (sets_numbers numbers) = refl
+none_copied c (sets_wrapping wrapping) = refl
+none_copied c (shifts left) = refl
 
 -- what is not drawn in full keeps the size
 pub resizes_full_lem : {K : Type 0} → ResizesAreFull K
@@ -110,6 +122,9 @@ resizes_full_lem c restores_prompt e = record { same_cols = refl; same_rows = re
 resizes_full_lem c redraws_prompt e = record { same_cols = refl; same_rows = refl }
 resizes_full_lem c redraws_page e = record { same_cols = refl; same_rows = refl }
 resizes_full_lem c (sets_classifier k) e = record { same_cols = refl; same_rows = refl }
+resizes_full_lem c (sets_numbers numbers) e = record { same_cols = refl; same_rows = refl }
+resizes_full_lem c (sets_wrapping wrapping) e = record { same_cols = refl; same_rows = refl }
+resizes_full_lem c (shifts left) e = record { same_cols = refl; same_rows = refl }
 
 neither : (x y : Bool) → (x || y) ≡ false → (x ≡ false) × (y ≡ false)
 neither false y e = (refl, e)

@@ -1,12 +1,15 @@
 -- What a command leaves, formed beside the state.
-use Rattle.std.specs.Prelude.{◌≡◌, ℕ, ◌-◌, List, [], take, drop, Bool, Option, string_bytes, if◌then◌else◌}
+use Rattle.std.specs.Prelude.{◌≡◌, ℕ, ◌-◌, List, [], take, drop, Bool, Option, None, string_bytes, if◌then◌else◌}
 use Rattle.std.specs.Option.{option_map}
-use Rattle.minus_text.specs.Document.{Document, rows_of}
+use Rattle.minus_text.specs.Searched.{searched}
+use Rattle.minus.specs.declared.state.PagerState.{PagerState}
 use Rattle.minus.specs.declared.change.Change.{Change}
 use Rattle.minus.specs.declared.change.Setting.{Setting}
-use Rattle.minus.specs.declared.change.Setting.TheVariants.{Prompt, Message, Prefix, Shown, Follow}
+use Rattle.minus.specs.declared.change.Setting.TheVariants.{Prompt, Message, Prefix, Shown, Follow, Left}
 use Rattle.minus.specs.NextTexts.{next_document, IsNext}
 use Rattle.minus.specs.Control.{Control, Settings, document_of}
+use Rattle.minus.specs.Page.{shown_of}
+use Rattle.minus.specs.Reads.{ends_of}
 use Rattle.minus.specs.Sizes.{IsSize}
 use Rattle.minus.specs.Table.{Wanted, resizes, HasNewline}
 use Rattle.minus_term.specs.Refusals.{Refusal, for_memory, for_newline, for_size}
@@ -32,6 +35,11 @@ abbrev pub follow_set : Setting → Bool → Bool
 follow_set (Follow next) follow = next
 follow_set setting follow = follow
 
+-- the left mark
+abbrev pub left_set : Setting → ℕ → ℕ
+left_set (Left next) left = next
+left_set setting left = left
+
 -- what there will be beside the text, where the typed prefix goes first, or stays
 abbrev pub settings_after : Settings → Bool → Setting → Settings
 settings_after s clears setting = record {
@@ -44,16 +52,18 @@ settings_after s clears setting = record {
 
 -- the change leads from one control to the other
 pub record IsChange (old : Control) (change : Change) (new : Control) : Type 0 where
-  pub belongs : IsNext (document_of old) change.text
+  pub belongs : IsNext (searched None (document_of old)) change.text
   pub document : next_document (document_of old) change.text ≡ document_of new
   pub mark_is : change.mark ≡ new.mark
   pub cols_are : change.cols ≡ new.cols
   pub rows_are : change.rows ≡ new.rows
+  pub left_is : left_set change.setting old.left ≡ new.left
+  pub ends_are : old.ends ≡ new.ends
   pub settings_are : settings_after old.settings change.clears change.setting ≡ new.settings
 
--- the rows of text on the page that a change of a document leads to
-abbrev pub shown_by : Document → Change → List (List ℕ)
-shown_by d change = take (change.rows - 1) (drop change.mark (rows_of (next_document d change.text)))
+-- the rows of text on the page that a change of a state leads to
+abbrev pub shown_by : PagerState → Change → List (List ℕ)
+shown_by s change = take (change.rows - 1) (drop change.mark (shown_of (next_document s.screen.document change.text) (left_set change.setting s.left_mark) (ends_of s)))
 
 -- why a command was not formed: for want of memory, for a newline, or for a size that is none of a terminal
 abbrev pub IsUnformed : {K : Type 0} → Refusal → Wanted K → Type 0

@@ -11,6 +11,7 @@ pub mod Drawings
 pub mod Drawn
 pub mod Reads
 pub mod NextTexts
+pub mod Showing
 pub mod Changes
 pub mod Steps
 pub mod Runs

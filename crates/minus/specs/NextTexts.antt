@@ -1,7 +1,8 @@
 -- The text that a command leaves, formed beside the document.
-use Rattle.std.specs.Prelude.{string_bytes}
+use Rattle.std.specs.Prelude.{None, string_bytes}
 use Rattle.minus_text.specs.Document.{Document, pushed}
 use Rattle.minus_text.specs.Pending.{IsPending}
+use Rattle.minus_text.specs.Searched.{Searched, IsFoundBy, IsFoundInPush}
 use Rattle.minus.specs.declared.change.NextText.{NextText}
 use Rattle.minus.specs.declared.change.NextText.TheVariants.{Same, Whole, Pushed}
 
@@ -11,8 +12,8 @@ next_document d Same = d
 next_document d (Whole screen) = screen.document
 next_document d (Pushed text pending) = pushed d (string_bytes text) d.layout.numbers d.layout.cols
 
--- what is formed beside a document belongs to it
-abbrev pub IsNext : Document → NextText → Type 0
-IsNext d Same = Unit {0}
-IsNext d (Whole screen) = Unit {0}
-IsNext d (Pushed text pending) = IsPending d (string_bytes text) d.layout.numbers d.layout.cols pending.push
+-- what is formed beside a document belongs to it, and neither was searched for a term
+abbrev pub IsNext : Searched → NextText → Type 0
+IsNext s Same = IsFoundBy None s
+IsNext s (Whole screen) = IsFoundBy None screen
+IsNext s (Pushed text pending) = IsFoundBy None s × IsFoundInPush None pending × IsPending s.document (string_bytes text) s.document.layout.numbers s.document.layout.cols pending.push

@@ -2,34 +2,53 @@
 use Rattle.std.specs.Prelude.{◌≡◌, string_bytes, Bool, true, false, Option, None, Some}
 use Rattle.std.specs.Option.{option_map}
 use Rattle.minus_term.specs.declared.event.Event.{Event}
+use Rattle.minus_text.specs.Searched.{searched}
+use Rattle.minus_state.specs.declared.selection.SelectionEnds.{SelectionEnds}
 use Rattle.minus.specs.declared.state.PagerState.{PagerState}
 use Rattle.minus.specs.declared.commands.CommandOf.{CommandOf}
-use Rattle.minus.specs.declared.commands.CommandOf.TheVariants.{SetData, AppendData, SetPrompt, SendMessage, ShowPrompt, FollowOutput, UserInput, Io, SetInputClassifier}
+use Rattle.minus.specs.declared.commands.CommandOf.TheVariants.{SetData, AppendData, SetPrompt, SendMessage, ShowPrompt, SetLineNumbers, LineWrapping, FollowOutput, UserInput, Io, SetInputClassifier}
 use Rattle.minus.specs.declared.commands.IoCommand.{IoCommand}
-use Rattle.minus.specs.declared.commands.IoCommand.TheVariants.{RedrawPrompt, RedrawDisplay, SetUpperMark}
+use Rattle.minus.specs.declared.commands.IoCommand.TheVariants.{RedrawPrompt, RedrawDisplay, DrawAppendedText, SetUpperMark}
 use Rattle.minus.specs.declared.commands.InputOf.{InputOf}
 use Rattle.minus.specs.declared.commands.InputOf.TheVariants as input
 use Rattle.minus.specs.declared.input.InputEvent.{InputEvent}
 use Rattle.minus.specs.declared.input.InputEvent.TheVariants as events
 use Rattle.minus.specs.Control.{Control, Settings, document_of}
-use Rattle.minus.specs.Table.{Wanted, sets_data, appends_data, moves_mark, resizes, exits, ignores, sets_prompt, sends_message, shows_prompt, follows, types, restores_prompt, redraws_prompt, redraws_page, sets_classifier}
+use Rattle.minus.specs.Table.{Wanted, sets_data, appends_data, moves_mark, resizes, exits, ignores, sets_prompt, sends_message, shows_prompt, follows, types, restores_prompt, redraws_prompt, redraws_page, sets_classifier, sets_numbers, sets_wrapping, shifts}
 
 -- what is set in a state beside its text
 abbrev pub settings_of : PagerState → Settings
 settings_of s = record { prompt = string_bytes s.prompt; message = option_map string_bytes s.message; prefix = string_bytes s.prefix_num; is_shown = s.prompt_shown; follow = s.follow }
 
+-- the ends of what is selected
+abbrev pub ends_of : PagerState → SelectionEnds
+ends_of s = record { anchor = s.anchor; selection = s.selection }
+
 -- the control that a state holds
 abbrev pub control_of : PagerState → Control
-control_of s = record { text = s.screen.document.text; cols = s.cols; rows = s.rows; mark = s.upper_mark; settings = settings_of s }
+control_of s = record {
+  text = s.screen.document.text;
+  cols = s.cols;
+  rows = s.rows;
+  numbers = s.line_numbers;
+  wrapping = s.screen.document.layout.wrapping;
+  mark = s.upper_mark;
+  left = s.left_mark;
+  ends = ends_of s;
+  settings = settings_of s;
+}
 
--- the stored rows are those of the control's document
+-- the stored rows are those of the control's document, which was searched for no term
 pub record IsFormed (s : PagerState) : Type 0 where
-  pub document : s.screen.document ≡ document_of (control_of s)
+  pub screen : s.screen ≡ searched None (document_of (control_of s))
 
 -- what an event of the pager asks for
 abbrev pub event_wanted : {K : Type 0} → InputEvent → Wanted K
 event_wanted (events.UpdateUpperMark mark) = moves_mark mark
 event_wanted (events.UpdateTermArea cols rows) = resizes cols rows
+event_wanted (events.UpdateLeftMark left) = shifts left
+event_wanted (events.UpdateLineNumber numbers) = sets_numbers numbers
+event_wanted (events.HorizontalScroll wrapping) = sets_wrapping wrapping
 event_wanted (events.FollowOutput follow) = follows follow
 event_wanted events.RestorePrompt = restores_prompt
 event_wanted (events.Number character) = types character
@@ -45,6 +64,7 @@ event_clears event = true
 abbrev pub io_wanted : {K : Type 0} → IoCommand → Wanted K
 io_wanted RedrawPrompt = redraws_prompt
 io_wanted RedrawDisplay = redraws_page
+io_wanted (DrawAppendedText unfinished rows style) = redraws_page
 io_wanted (SetUpperMark mark) = moves_mark mark
 
 -- what a classifier's answer asks for: no answer, nothing
@@ -59,6 +79,8 @@ wanted_of (AppendData text) = appends_data (string_bytes text)
 wanted_of (SetPrompt text) = sets_prompt (string_bytes text)
 wanted_of (SendMessage text) = sends_message (string_bytes text)
 wanted_of (ShowPrompt is_shown) = shows_prompt is_shown
+wanted_of (SetLineNumbers numbers) = sets_numbers numbers
+wanted_of (LineWrapping wrapping) = sets_wrapping wrapping
 wanted_of (FollowOutput follow) = follows follow
 wanted_of (UserInput event) = event_wanted event
 wanted_of (Io command) = io_wanted command

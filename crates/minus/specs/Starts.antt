@@ -8,6 +8,7 @@ use Rattle.minus_term.specs.Operations.{Op}
 use Rattle.minus_term.specs.Written.{written_all}
 use Rattle.minus_term.specs.Counts.{AppendsFront, Stays, Rises}
 use Rattle.minus_term.specs.Terminal.{setup_bytes, cleanup_bytes, SetupBreaksOff}
+use Rattle.minus_text.specs.declared.line_numbers.LineNumbers.TheVariants.{Disabled}
 use Rattle.minus.specs.declared.state.RunMode.{RunMode}
 use Rattle.minus.specs.declared.state.RunMode.TheVariants.{Uninitialized}
 use Rattle.minus.specs.declared.status.Status.TheVariants as status
@@ -21,9 +22,19 @@ use Rattle.minus.specs.Table.{Wanted, effect}
 abbrev pub first_settings : Settings
 first_settings = record { prompt = codes "minus"; message = None; prefix = []; is_shown = true; follow = false }
 
--- no text, and the mark at the first row
+-- no text, lines without numbers and wrapped, the marks at the first row and column, and nothing selected
 abbrev pub at_start : ℕ → ℕ → Control
-at_start cols rows = record { text = []; cols = cols; rows = rows; mark = 0; settings = first_settings }
+at_start cols rows = record {
+  text = [];
+  cols = cols;
+  rows = rows;
+  numbers = Disabled;
+  wrapping = true;
+  mark = 0;
+  left = 0;
+  ends = record { anchor = None; selection = None };
+  settings = first_settings;
+}
 
 -- what a command that waits for the start changes: the text on show; nothing moves
 abbrev pub taken : {K : Type 0} → Control → Wanted K → Control

@@ -1,7 +1,10 @@
 -- The table of commands and events.
-use Rattle.std.specs.Prelude.{◌≡◌, ℕ, ◌==◌, List, ◌++◌, Bool, true, false, Option, None, Some, encode_utf8, if◌then◌else◌}
+use Rattle.std.specs.Prelude.{◌≡◌, ℕ, ◌+◌, ◌==◌, ◌||◌, nat_le, List, ◌++◌, Bool, true, false, Option, None, Some, encode_utf8, if◌then◌else◌}
 use Rattle.std.specs.List.{list_any}
 use Rattle.std.specs.Option.{unwrap_or}
+use Rattle.minus_text.specs.declared.line_numbers.LineNumbers.{LineNumbers}
+use Rattle.minus_text.specs.Document.{longest}
+use Rattle.minus_state.specs.View.{prefix_in}
 use Rattle.minus.specs.declared.commands.Drawing.{Drawing}
 use Rattle.minus.specs.declared.commands.Drawing.TheVariants.{Nothing, Full, Scroll, Append, Prompt}
 use Rattle.minus.specs.declared.commands.Redraw.{Redraw}
@@ -9,7 +12,7 @@ use Rattle.minus.specs.declared.commands.Redraw.TheVariants.{Stays, Whole, Moved
 use Rattle.minus.specs.declared.state.ExitStrategy.{ExitStrategy}
 use Rattle.minus.specs.declared.state.ExitStrategy.TheVariants.{ProcessQuit}
 use Rattle.minus.specs.Sizes.{IsSize}
-use Rattle.minus.specs.Control.{Control, Settings, clamp, top}
+use Rattle.minus.specs.Control.{Control, Settings, document_of, keeps_rows_with, clamp, top}
 
 -- a command, as values alone; a classifier is a value of the kind that the session keeps
 pub data Wanted (K : Type 0) : Type 0 where
@@ -28,6 +31,9 @@ pub data Wanted (K : Type 0) : Type 0 where
   redraws_prompt : Wanted K
   redraws_page : Wanted K
   sets_classifier : K → Wanted K
+  sets_numbers : LineNumbers → Wanted K
+  sets_wrapping : Bool → Wanted K
+  shifts : ℕ → Wanted K
 
 -- an exit: how the program is to go on, and the code that it ends with if it is to end
 abbrev pub Exit : Type 0
@@ -54,8 +60,28 @@ sets c settings = changes (record c { settings = settings }) Stays
 abbrev pub followed : Control → Control → ℕ
 followed old new = if old.settings.follow then top new else old.mark
 
+-- how much of the page an append asks to be drawn: all of it where it leaves no row as it is
+abbrev pub append_redraw : Control → List ℕ → Redraw
+append_redraw c text = if keeps_rows_with c text then Appended else Whole
+
 abbrev pub appends : Control → List ℕ → Effect
-appends c text = let new : Control = record c { text = c.text ++ text } in record (changes new Appended) { moves_to = Some (followed c new) }
+appends c text = let new : Control = record c { text = c.text ++ text } in record (changes new (append_redraw c text)) { moves_to = Some (followed c new) }
+
+-- the columns that rows take where lines are not wrapped: those of the longest line, and of the number before it
+abbrev pub width : Control → ℕ
+width c = longest (document_of c) + prefix_in (document_of c)
+
+-- whether the left mark moves to a column: where lines are not wrapped, to the left, or as long as the page does not go beyond
+-- the longest line
+abbrev pub may_shift : Control → ℕ → Bool
+may_shift c left = if c.wrapping then false else nat_le left c.left || nat_le (left + c.cols) (width c)
+
+-- where it is then, and what is drawn: nothing where it stays
+abbrev pub left_after : Control → ℕ → ℕ
+left_after c left = if may_shift c left then left else c.left
+
+abbrev pub shift_redraw : Control → ℕ → Redraw
+shift_redraw c left = if may_shift c left then Whole else Stays
 
 abbrev pub effect : {K : Type 0} → Control → Wanted K → Effect
 effect c (sets_data text) = changes (record c { text = text }) Whole
@@ -73,6 +99,9 @@ effect c restores_prompt = sets c (record c.settings { message = None })
 effect c redraws_prompt = changes c PromptRow
 effect c redraws_page = changes c Whole
 effect c (sets_classifier k) = changes c Stays
+effect c (sets_numbers numbers) = changes (record c { numbers = numbers }) Whole
+effect c (sets_wrapping wrapping) = changes (record c { wrapping = wrapping }) Whole
+effect c (shifts left) = changes (record c { left = left_after c left }) (shift_redraw c left)
 
 -- the classifier that a command hands over to be kept, if it does
 abbrev pub handed : {K : Type 0} → Wanted K → Option K

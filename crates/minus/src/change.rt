@@ -3,7 +3,8 @@ ghost use Rattle.minus.specs.Sizes.{IsSize};
 
 use crate::commands::{Drawing, Redraw};
 use crate::parts::Parts;
-use minus_text::{PendingPush, Screen};
+use minus_text::{Layout, PendingPush, Screen};
+use std::alloc::{AllocError, Global};
 
 // The text that there will be: as it is, another one, or as a push leaves it.
 #[derive(Drop)]
@@ -14,13 +15,14 @@ pub(crate) enum NextText {
 }
 
 impl NextText {
-    ghost use Rattle.std.specs.Prelude.{◌≡◌, length, slice_get, option_map};
-    ghost use Rattle.minus_text.specs.Document.{rows_of};
+    ghost use Rattle.std.specs.Prelude.{◌≡◌, None, length, slice_get, option_map, string_bytes, IfOk};
+    ghost use Rattle.minus_text.specs.Document.{rows_of, line_count, GrowsByRow};
+    ghost use Rattle.minus_text.specs.Searched.{stored_rows_for};
     ghost use Rattle.minus.specs.NextTexts.{next_document, IsNext};
 
     // How many rows there will be.
     pub(crate) fn rows_after(&self, screen: &Screen) -> usize
-        requires { IsNext screen.now.document self.now }
+        requires { IsNext screen.now self.now }
         ensures { result ≡ length (rows_of (next_document screen.now.document self.now)) }
     {
         match self {
@@ -32,7 +34,7 @@ impl NextText {
 
     // The text of a row, counted from 0, as it will be.
     pub(crate) fn row_after<'a>(&'a self, screen: &'a Screen, i: usize) -> Option<&'a str>
-        requires { IsNext screen.now.document self.now }
+        requires { IsNext screen.now self.now }
         ensures { option_map (λ r. r.now) result ≡ slice_get (rows_of (next_document screen.now.document self.now)) i }
     {
         match self {
@@ -40,6 +42,49 @@ impl NextText {
             NextText::Whole(next) => next.row_text(i),
             NextText::Pushed(_, pending) => screen.row_after(pending, i),
         }
+    }
+
+    // How its rows will be laid out.
+    pub(crate) fn layout_after(&self, screen: &Screen) -> Layout
+        requires { IsNext screen.now self.now }
+        ensures { result ≡ (next_document screen.now.document self.now).layout }
+    {
+        match self {
+            NextText::Whole(next) => next.layout(),
+            NextText::Same | NextText::Pushed(..) => screen.layout(),
+        }
+    }
+
+    // How many lines there will be.
+    pub(crate) fn line_count_after(&self, screen: &Screen) -> usize
+        requires { IsNext screen.now self.now }
+        ensures { result ≡ line_count (next_document screen.now.document self.now) }
+    {
+        match self {
+            NextText::Same => screen.line_count(),
+            NextText::Whole(next) => next.line_count(),
+            NextText::Pushed(_, pending) => screen.line_count_after(pending),
+        }
+    }
+
+    // Adds a row as it will be stored, counted from 0, and answers whether there will be one.
+    pub(crate) fn push_row_after(
+        &self,
+        alloc: Global,
+        screen: &Screen,
+        out: &mut String,
+        i: usize,
+    ) -> Result<bool, AllocError>
+        requires { IsNext screen.now self.now }
+        ensures { IfOk result (λ found. GrowsByRow (slice_get (stored_rows_for None (next_document screen.now.document self.now)) i)
+            (string_bytes out.old) (string_bytes out.new) found) }
+    {
+        let found = match self {
+            NextText::Same => screen.push_row(alloc, out, i)?,
+            NextText::Whole(next) => next.push_row(alloc, out, i)?,
+            NextText::Pushed(_, pending) => screen.push_row_after(alloc, pending, out, i)?,
+        };
+        Ok(found)
     }
 }
 
@@ -52,12 +97,13 @@ pub(crate) enum Setting {
     Prefix(String),
     Shown(bool),
     Follow(bool),
+    Left(usize),
 }
 
 impl Setting {
     ghost use Rattle.std.specs.Prelude.{◌≡◌};
     ghost use Rattle.std.specs.Option.{option_map};
-    ghost use Rattle.minus.specs.Changes.{prompt_set, message_set, prefix_set, shown_set, follow_set};
+    ghost use Rattle.minus.specs.Changes.{prompt_set, message_set, prefix_set, shown_set, follow_set, left_set};
 
     // The prompt that there will be.
     pub(crate) fn prompt<'a>(&'a self, prompt: &'a str) -> &'a str
@@ -107,6 +153,16 @@ impl Setting {
         match self {
             Setting::Follow(next) => *next,
             _ => follow,
+        }
+    }
+
+    // The left mark.
+    pub(crate) fn left(&self, left: usize) -> usize
+        ensures { result ≡ left_set self.now left }
+    {
+        match self {
+            Setting::Left(next) => *next,
+            _ => left,
         }
     }
 }

@@ -3,6 +3,16 @@ use crate::input::InputEvent;
 use crate::parts::Parts;
 use crate::stand_in::StandIns;
 use minus_term::Event;
+use minus_text::LineNumbers;
+
+/// How a text was appended.
+#[derive(Clone, Copy, Debug, PartialEq, Eq)]
+pub enum AppendStyle {
+    /// The rows before the first of these numbers stayed, and the second is the number of rows then.
+    PartialUpdate((usize, usize)),
+    /// All rows were formed anew.
+    FullRedraw,
+}
 
 /// A command that asks for a drawing.
 #[derive(Clone, Copy, Debug, PartialEq, Eq)]
@@ -11,6 +21,8 @@ pub enum IoCommand {
     RedrawPrompt,
     /// Draw the whole page.
     RedrawDisplay,
+    /// Draw the whole page: a text was appended so to one of so many unfinished rows, and so many rows in all.
+    DrawAppendedText(usize, usize, AppendStyle),
     /// Move the mark, the first row of text on the page, to this row, counted from 0.
     SetUpperMark(usize),
 }
@@ -29,6 +41,10 @@ pub enum CommandOf<P: Parts> {
     SendMessage(String),
     /// Show the prompt row, or hide it.
     ShowPrompt(bool),
+    /// Let rows begin with the numbers of their lines, or not.
+    SetLineNumbers(LineNumbers),
+    /// Wrap lines that are too long for the columns, or let each be one row.
+    LineWrapping(bool),
     /// Move to the last page, and go on with what is appended from now on, or no longer.
     FollowOutput(bool),
     /// Do what an event would ask for.

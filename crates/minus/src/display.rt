@@ -7,23 +7,25 @@ ghost use Rattle.minus_term.specs.Written.{written_all};
 ghost use Rattle.minus_term.specs.FullRedraw.{full_ops, prompt_ops, row_ops};
 ghost use Rattle.minus_term.specs.Scroll.{down_ops, up_ops, scroll_ops};
 ghost use Rattle.minus.specs.Drawings.{rows_newly};
+ghost use Rattle.minus.specs.Showing.{row_text};
 
+use crate::showing::ShownRow;
 use minus_term::{DrawOp, write_op};
 use std::alloc::{AllocError, Global};
 
 // Adds a row of text, and goes to the next.
-fn write_row(alloc: Global, out: &mut Vec<u8>, row: &str) -> Result<(), AllocError>
-    ensures { OnOk result (out.new.items ≡ out.old.items ++ written_all (row_ops row.now)) }
+fn write_row(alloc: Global, out: &mut Vec<u8>, row: &ShownRow<'_>) -> Result<(), AllocError>
+    ensures { OnOk result (out.new.items ≡ out.old.items ++ written_all (row_ops (row_text row.now))) }
 {
     write_op(alloc, out, &DrawOp::Return)?;
-    write_op(alloc, out, &DrawOp::Put(row))?;
+    write_op(alloc, out, &DrawOp::Put(row.as_str()))?;
     write_op(alloc, out, &DrawOp::NextRow)?;
     Ok(())
 }
 
 // Adds rows of text.
-fn write_rows(alloc: Global, out: &mut Vec<u8>, shown: &[&str]) -> Result<(), AllocError>
-    ensures { OnOk result (out.new.items ≡ out.old.items ++ written_all (flat_map row_ops (map (λ r. r.now) shown.now))) }
+fn write_rows(alloc: Global, out: &mut Vec<u8>, shown: &[ShownRow<'_>]) -> Result<(), AllocError>
+    ensures { OnOk result (out.new.items ≡ out.old.items ++ written_all (flat_map row_ops (map row_text shown.now))) }
 {
     for row in shown {
         write_row(alloc, out, row)?;
@@ -81,10 +83,10 @@ pub(crate) fn draw_full(
     alloc: Global,
     out: &mut Vec<u8>,
     rows: u16,
-    shown: &[&str],
+    shown: &[ShownRow<'_>],
     prompt: &str,
 ) -> Result<(), AllocError>
-    ensures { OnOk result (out.new.items ≡ out.old.items ++ written_all (full_ops rows (map (λ r. r.now) shown.now) prompt.now)) }
+    ensures { OnOk result (out.new.items ≡ out.old.items ++ written_all (full_ops rows (map row_text shown.now) prompt.now)) }
 {
     write_op(alloc, out, &DrawOp::GoTo(0, 0))?;
     write_op(alloc, out, &DrawOp::ClearAll)?;
@@ -108,12 +110,12 @@ fn draw_down(
     out: &mut Vec<u8>,
     rows: u16,
     k: u16,
-    texts: &[&str],
+    texts: &[ShownRow<'_>],
     prompt: &str,
 ) -> Result<(), AllocError>
     requires some { 1 ≤ rows }
     requires within { k ≤ rows - 1 }
-    ensures { OnOk result ((shown : List (List ℕ)) → map (λ r. r.now) texts.now ≡ drop (rows - 1 - k) shown →
+    ensures { OnOk result ((shown : List (List ℕ)) → map row_text texts.now ≡ drop (rows - 1 - k) shown →
         out.new.items ≡ out.old.items ++ written_all (down_ops rows k shown prompt.now)) }
 {
     write_op(alloc, out, &DrawOp::ScrollUp(k))?;
@@ -129,10 +131,10 @@ fn draw_up(
     out: &mut Vec<u8>,
     rows: u16,
     k: u16,
-    texts: &[&str],
+    texts: &[ShownRow<'_>],
     prompt: &str,
 ) -> Result<(), AllocError>
-    ensures { OnOk result ((shown : List (List ℕ)) → map (λ r. r.now) texts.now ≡ take k shown →
+    ensures { OnOk result ((shown : List (List ℕ)) → map row_text texts.now ≡ take k shown →
         out.new.items ≡ out.old.items ++ written_all (up_ops rows k shown prompt.now)) }
 {
     write_op(alloc, out, &DrawOp::ScrollDown(k))?;
@@ -150,11 +152,11 @@ pub(crate) fn draw_scroll(
     rows: u16,
     from: usize,
     to: usize,
-    texts: &[&str],
+    texts: &[ShownRow<'_>],
     prompt: &str,
 ) -> Result<(), AllocError>
     requires { 1 ≤ rows }
-    ensures { OnOk result ((shown : List (List ℕ)) → map (λ r. r.now) texts.now ≡ rows_newly rows from to shown →
+    ensures { OnOk result ((shown : List (List ℕ)) → map row_text texts.now ≡ rows_newly rows from to shown →
         out.new.items ≡ out.old.items ++ written_all (scroll_ops rows from to shown prompt.now)) }
 {
     let most = usize::from(rows - 1);
@@ -169,11 +171,16 @@ pub(crate) fn draw_scroll(
 }
 
 // Adds a row of the page that is made blank, and its text.
-fn write_anew(alloc: Global, out: &mut Vec<u8>, row: u16, text: &str) -> Result<(), AllocError>
-    ensures { OnOk result (out.new.items ≡ out.old.items ++ written_all (GoTo 0 row ∷ ClearRow ∷ Put text.now ∷ [])) }
+fn write_anew(
+    alloc: Global,
+    out: &mut Vec<u8>,
+    row: u16,
+    text: &ShownRow<'_>,
+) -> Result<(), AllocError>
+    ensures { OnOk result (out.new.items ≡ out.old.items ++ written_all (GoTo 0 row ∷ ClearRow ∷ Put (row_text text.now) ∷ [])) }
 {
     clear_row(alloc, out, row)?;
-    write_op(alloc, out, &DrawOp::Put(text))?;
+    write_op(alloc, out, &DrawOp::Put(text.as_str()))?;
     Ok(())
 }
 
@@ -182,10 +189,10 @@ fn write_texts_anew(
     alloc: Global,
     out: &mut Vec<u8>,
     first: u16,
-    texts: &[&str],
+    texts: &[ShownRow<'_>],
 ) -> Result<(), AllocError>
     requires { first + length texts.now < 2 ^ 16 }
-    ensures { OnOk result (out.new.items ≡ out.old.items ++ written_all (rows_anew first (map (λ r. r.now) texts.now) 0)) }
+    ensures { OnOk result (out.new.items ≡ out.old.items ++ written_all (rows_anew first (map row_text texts.now) 0)) }
 {
     for (i, text) in texts.iter().enumerate() {
         write_anew(alloc, out, first + i as u16, text)?;
@@ -211,10 +218,10 @@ pub(crate) fn draw_append_text(
     out: &mut Vec<u8>,
     first: usize,
     blanks: usize,
-    texts: &[&str],
+    texts: &[ShownRow<'_>],
 ) -> Result<(), AllocError>
     requires { first + length texts.now + blanks < 2 ^ 16 }
-    ensures { OnOk result (out.new.items ≡ out.old.items ++ written_all (rows_anew first (map (λ r. r.now) texts.now) blanks)) }
+    ensures { OnOk result (out.new.items ≡ out.old.items ++ written_all (rows_anew first (map row_text texts.now) blanks)) }
 {
     write_texts_anew(alloc, out, first as u16, texts)?;
     write_blanks(alloc, out, (first + texts.len()) as u16, blanks as u16)?;

@@ -50,7 +50,7 @@ fn draw_change<W: OutputSink>(
     change: &Change,
 ) -> Result<(), MinusError>
     requires formed { IsFormed state.now }
-    requires belongs { IsNext state.now.screen.document change.now.text }
+    requires belongs { IsNext state.now.screen change.now.text }
     ensures ok { OnOk result ((new : Control) → IsChange (control_of state.now) change.now new →
         Appends (W.contents out.old) (W.contents out.new) (written_all (ops_between drawing (control_of state.now) new))) }
     ensures stays { OnOk result (Stays (W.refused out.old) (W.refused out.new)) }

@@ -5,6 +5,7 @@ use crate::state::PagerState;
 pub use minus_input::description::{each_text_has_one_meaning, parse_key_event, parse_mouse_event};
 pub use minus_input::names::modifier_of;
 use minus_term::Event;
+use minus_text::LineNumbers;
 
 /// What an event asks for.
 #[derive(Clone, Copy, Debug, PartialEq, Eq)]
@@ -13,6 +14,13 @@ pub enum InputEvent {
     UpdateUpperMark(usize),
     /// The terminal has so many columns and rows now, each from 1 to 65,535.
     UpdateTermArea(usize, usize),
+    /// Move the left mark, the columns that are cut off at the left where lines are not wrapped, to this column, counted
+    /// from 0. It moves to the right only as long as the page does not go beyond the longest line.
+    UpdateLeftMark(usize),
+    /// Let rows begin with the numbers of their lines, or not.
+    UpdateLineNumber(LineNumbers),
+    /// Wrap lines that are too long for the columns, or let each be one row.
+    HorizontalScroll(bool),
     /// Move to the last page, and go on with what is appended from now on, or no longer.
     FollowOutput(bool),
     /// Drop the message, so that the prompt is shown again.

@@ -20,11 +20,13 @@ mod parts;
 pub mod screen;
 pub mod search;
 mod session;
+mod showing;
 pub mod sink;
 mod stand_in;
 pub mod state;
 mod status;
 
+pub use commands::AppendStyle;
 pub use commands::Command;
 pub use commands::CommandOf;
 pub use commands::Input;

@@ -2,18 +2,24 @@
 ghost use Rattle.std.specs.Prelude.{◌≡◌, ◌<◌, ◌++◌, [], length, replicate, map, string_bytes, OnOk, IfOk};
 ghost use Rattle.minus.specs.Page.{page_with};
 ghost use Rattle.minus.specs.Reads.{control_of};
+ghost use Rattle.minus.specs.Showing.{row_text};
 
 use crate::change::Change;
+use crate::showing::ShownRow;
 use crate::state::PagerState;
 use minus_term::MinusError;
 use std::alloc::{AllocError, Global};
 
 // Adds copies of texts.
-fn push_copies(alloc: Global, rows: &mut Vec<String>, texts: &[&str]) -> Result<(), AllocError>
-    ensures { OnOk result (map string_bytes rows.new.items ≡ map string_bytes rows.old.items ++ map (λ r. r.now) texts.now) }
+fn push_copies(
+    alloc: Global,
+    rows: &mut Vec<String>,
+    texts: &[ShownRow<'_>],
+) -> Result<(), AllocError>
+    ensures { OnOk result (map string_bytes rows.new.items ≡ map string_bytes rows.old.items ++ map row_text texts.now) }
 {
     for text in texts {
-        rows.push(String::from_str(alloc, text)?)?;
+        rows.push(String::from_str(alloc, text.as_str())?)?;
     }
     Ok(())
 }
@@ -29,9 +35,13 @@ fn push_blanks(alloc: Global, rows: &mut Vec<String>, count: usize) -> Result<()
 }
 
 // The texts of the page of a state that has these rows of text at its top.
-fn page_rows(alloc: Global, state: &PagerState, shown: &[&str]) -> Result<Vec<String>, AllocError>
+fn page_rows(
+    alloc: Global,
+    state: &PagerState,
+    shown: &[ShownRow<'_>],
+) -> Result<Vec<String>, AllocError>
     requires { length shown.now < state.now.rows }
-    ensures { IfOk result (λ p. map string_bytes p.items ≡ (page_with (control_of state.now) (map (λ r. r.now) shown.now)).texts) }
+    ensures { IfOk result (λ p. map string_bytes p.items ≡ (page_with (control_of state.now) (map row_text shown.now)).texts) }
 {
     let mut page = Vec::new(alloc);
     push_copies(alloc, &mut page, shown)?;
@@ -55,12 +65,13 @@ impl Page {
     ghost use Rattle.minus.specs.NextTexts.{IsNext};
     ghost use Rattle.minus.specs.Page.{page_with};
     ghost use Rattle.minus.specs.Reads.{control_of};
+    ghost use Rattle.minus.specs.Showing.{row_text};
 
     // The page of a state that has these rows of text at its top.
-    fn form(alloc: Global, state: &PagerState, shown: &[&str]) -> Result<Page, MinusError>
+    fn form(alloc: Global, state: &PagerState, shown: &[ShownRow<'_>]) -> Result<Page, MinusError>
         requires { length shown.now < state.now.rows }
-        ensures rows { IfOk result (λ p. map string_bytes p.rows.items ≡ (page_with (control_of state.now) (map (λ r. r.now) shown.now)).texts) }
-        ensures cursor { IfOk result (λ p. p.cursor ≡ (page_with (control_of state.now) (map (λ r. r.now) shown.now)).cursor) }
+        ensures rows { IfOk result (λ p. map string_bytes p.rows.items ≡ (page_with (control_of state.now) (map row_text shown.now)).texts) }
+        ensures cursor { IfOk result (λ p. p.cursor ≡ (page_with (control_of state.now) (map row_text shown.now)).cursor) }
         ensures memory { IfErr result (λ e. e ≡ MinusError.Memory) }
     {
         Ok(Page {
@@ -75,11 +86,11 @@ impl Page {
         state: &PagerState,
         change: &Change,
     ) -> Result<Page, MinusError>
-        requires belongs { IsNext state.now.screen.document change.now.text }
+        requires belongs { IsNext state.now.screen change.now.text }
         requires rows { change.now.rows ≡ state.now.rows }
         ensures rows { IfOk result (λ p. map string_bytes p.rows.items
-            ≡ (page_with (control_of state.now) (shown_by state.now.screen.document change.now)).texts) }
-        ensures cursor { IfOk result (λ p. p.cursor ≡ (page_with (control_of state.now) (shown_by state.now.screen.document change.now)).cursor) }
+            ≡ (page_with (control_of state.now) (shown_by state.now change.now)).texts) }
+        ensures cursor { IfOk result (λ p. p.cursor ≡ (page_with (control_of state.now) (shown_by state.now change.now)).cursor) }
         ensures memory { IfErr result (λ e. e ≡ MinusError.Memory) }
     {
         let shown = state.shown_after(alloc, change, 0)?;

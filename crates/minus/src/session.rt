@@ -170,7 +170,7 @@ impl<S, P: Parts> Core<S, P> {
         change: &Change,
         row: &Option<String>,
     ) -> Result<(), MinusError>
-        requires belongs { IsNext self.old.state.screen.document change.now.text }
+        requires belongs { IsNext self.old.state.screen change.now.text }
         requires running { self.old.status ≡ Status.Running }
         ensures drawn { OnOk result ((new : Control) → IsChange (control_of self.old.state) change.now new →
             unwrap_or (option_map string_bytes row.now) (prompt_row (control_of self.old.state)) ≡ prompt_row new → DrawsBetween self.new drawing (control_of self.old.state) new) }

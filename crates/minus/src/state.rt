@@ -1,8 +1,8 @@
 //! What is on show, and how.
-ghost use Rattle.std.specs.Prelude.{◌≡◌, ◌↔◌, IsTrue, OnOk, OnErr, IfOk, IfErr};
+ghost use Rattle.std.specs.Prelude.{◌≡◌, ◌↔◌, IsTrue, None, OnOk, OnErr, IfOk, IfErr};
 ghost use Rattle.minus.specs.NextTexts.{next_document, IsNext};
 ghost use Rattle.minus.specs.Sizes.{IsSize};
-ghost use Rattle.minus_text.specs.Layouts.{plain};
+ghost use Rattle.minus_text.specs.Searched.{searched};
 
 mod drawing;
 mod prepare;
@@ -11,6 +11,7 @@ use crate::change::{Change, NextText, Setting};
 use crate::commands::CommandOf;
 use crate::parts::Parts;
 pub use minus_state::Selection;
+use minus_state::SelectionEnds;
 use minus_term::MinusError;
 use minus_text::{Layout, LineNumbers, Screen};
 use std::alloc::Global;
@@ -25,13 +26,13 @@ pub(crate) fn is_size(cols: usize, rows: usize) -> bool
 // What the prompt says at first.
 const PROMPT: &str = "minus";
 
-// A text with its rows for so many columns.
-fn formed(alloc: Global, text: &str, cols: usize) -> Result<Screen, MinusError>
-    ensures ok { IfOk result (λ s. s.document ≡ record { text = text.now; layout = plain cols }) }
+// A text with its rows in a layout, searched for no term.
+fn formed(alloc: Global, text: &str, layout: Layout) -> Result<Screen, MinusError>
+    ensures ok { IfOk result (λ s. s ≡ searched None (record { text = text.now; layout = layout })) }
     ensures memory { IfErr result (λ e. e ≡ MinusError.Memory) }
 {
     let mut screen = Screen::new(alloc);
-    match screen.set_text(alloc, text, Layout::plain(cols), None) {
+    match screen.set_text(alloc, text, layout, None) {
         Ok(_) => Ok(screen),
         Err(cause) => Err(cause),
     }
@@ -39,8 +40,8 @@ fn formed(alloc: Global, text: &str, cols: usize) -> Result<Screen, MinusError>
 
 // Puts a text that was formed in its place. An `Err` changes nothing.
 fn place_text(alloc: Global, screen: &mut Screen, text: NextText) -> Result<(), MinusError>
-    requires { IsNext screen.old.document text }
-    ensures ok { OnOk result (screen.new.document ≡ next_document screen.old.document text) }
+    requires { IsNext screen.old text }
+    ensures ok { OnOk result (screen.new ≡ searched None (next_document screen.old.document text)) }
     ensures err { OnErr result (screen.new ≡ screen.old) }
     ensures memory { IfErr result (λ e. e ≡ MinusError.Memory) }
 {
@@ -93,8 +94,14 @@ pub enum ExitStrategy {
 pub struct PagerState {
     /// The text with its rows.
     pub screen: Screen,
+    /// Whether rows begin with the numbers of their lines.
+    pub line_numbers: LineNumbers,
     /// The first row of text on the page, counted from 0.
     pub upper_mark: usize,
+    /// The columns that are cut off at the left where lines are not wrapped.
+    pub left_mark: usize,
+    /// Where what is selected was led to.
+    pub selection: Option<Selection>,
     /// The columns of the terminal, from 1 to 65,535.
     pub cols: usize,
     /// The rows of the terminal, the prompt's among them, from 1 to 65,535.
@@ -103,6 +110,7 @@ pub struct PagerState {
     pub message: Option<String>,
     /// The prefix that is typed; empty where there is none.
     pub prefix_num: String,
+    pub(crate) anchor: Option<Selection>,
     pub(crate) prompt: String,
     pub(crate) prompt_shown: bool,
     pub(crate) follow: bool,
@@ -110,13 +118,14 @@ pub struct PagerState {
 }
 
 impl PagerState {
-    ghost use Rattle.std.specs.Prelude.{◌≡◌, ◌-◌, ◌<◌, [], string_bytes, false, if◌then◌else◌, OnOk, OnErr, IfOk, IfErr};
+    ghost use Rattle.std.specs.Prelude.{◌≡◌, ◌-◌, ◌<◌, [], None, string_bytes, false, if◌then◌else◌, OnOk, OnErr, IfOk, IfErr};
     ghost use Rattle.std.specs.Option.{option_map};
-    ghost use Rattle.minus.specs.Control.{cleared};
+    ghost use Rattle.minus_text.specs.Searched.{searched};
+    ghost use Rattle.minus.specs.Control.{document_of, cleared};
     ghost use Rattle.minus_term.specs.Refusals.{refusal_of};
-    ghost use Rattle.minus.specs.Reads.{control_of, settings_of, wanted_of, IsFormed};
+    ghost use Rattle.minus.specs.Reads.{control_of, settings_of, ends_of, wanted_of, IsFormed};
     ghost use Rattle.minus.specs.NextTexts.{next_document, IsNext};
-    ghost use Rattle.minus.specs.Changes.{settings_after, IsUnformedState};
+    ghost use Rattle.minus.specs.Changes.{settings_after, left_set, IsUnformedState};
     ghost use Rattle.minus.specs.Starts.{at_start, taken};
 
     /// No text yet, for a terminal of so many columns and rows.
@@ -135,12 +144,16 @@ impl PagerState {
             return Err(MinusError::BadSize(cols, rows));
         }
         Ok(PagerState {
-            screen: formed(alloc, "", cols)?,
+            screen: formed(alloc, "", Layout::plain(cols))?,
+            line_numbers: LineNumbers::Disabled,
             upper_mark: 0,
+            left_mark: 0,
+            selection: None,
             cols,
             rows,
             message: None,
             prefix_num: String::new(alloc),
+            anchor: None,
             prompt: String::from_str(alloc, PROMPT)?,
             prompt_shown: true,
             follow: false,
@@ -161,23 +174,53 @@ impl PagerState {
     {
         match command {
             CommandOf::SetData(text) => {
-                let layout = Layout::plain(self.cols);
+                let layout = self.layout();
                 let _ = self.screen.set_text(alloc, text, layout, None)?;
             }
             CommandOf::AppendData(text) => {
                 let _ = self
                     .screen
-                    .push_screen_buf(alloc, text, LineNumbers::Disabled, self.cols, None)?;
+                    .push_screen_buf(alloc, text, self.line_numbers, self.cols, None)?;
             }
             CommandOf::SetPrompt(_)
             | CommandOf::SendMessage(_)
             | CommandOf::ShowPrompt(_)
+            | CommandOf::SetLineNumbers(_)
+            | CommandOf::LineWrapping(_)
             | CommandOf::FollowOutput(_)
             | CommandOf::UserInput(_)
             | CommandOf::Io(_)
             | CommandOf::SetInputClassifier(_) => {}
         }
         Ok(())
+    }
+
+    /// Whether lines that are too long for the columns are wrapped.
+    pub fn line_wrapping(&self) -> bool
+        ensures { result ≡ (control_of self.now).wrapping }
+    {
+        self.screen.layout().wrapping
+    }
+
+    // How the rows are laid out.
+    fn layout(&self) -> Layout
+        ensures { result ≡ (document_of (control_of self.now)).layout }
+    {
+        Layout {
+            cols: self.cols,
+            wrapping: self.line_wrapping(),
+            numbers: self.line_numbers,
+        }
+    }
+
+    // The ends of what is selected.
+    pub(crate) fn ends(&self) -> SelectionEnds
+        ensures { result ≡ ends_of self.now }
+    {
+        SelectionEnds {
+            anchor: self.anchor,
+            selection: self.selection,
+        }
     }
 
     // The typed prefix, after it went or stayed.
@@ -203,6 +246,9 @@ impl PagerState {
     // Sets one thing beside the text.
     fn place_setting(&mut self, setting: Setting)
         ensures settings { settings_of self.new ≡ settings_after (settings_of self.old) false setting }
+        ensures left { self.new.left_mark ≡ left_set setting self.old.left_mark }
+        ensures ends { ends_of self.new ≡ ends_of self.old }
+        ensures numbers { self.new.line_numbers ≡ self.old.line_numbers }
         ensures screen { self.new.screen ≡ self.old.screen }
         ensures mark { self.new.upper_mark ≡ self.old.upper_mark }
         ensures cols { self.new.cols ≡ self.old.cols }
@@ -215,6 +261,7 @@ impl PagerState {
             Setting::Prefix(prefix) => self.prefix_num = prefix,
             Setting::Shown(is_shown) => self.prompt_shown = is_shown,
             Setting::Follow(follow) => self.follow = follow,
+            Setting::Left(left) => self.left_mark = left,
         }
     }
 
@@ -223,6 +270,9 @@ impl PagerState {
         ensures control { control_of self.new ≡ cleared clears (control_of self.old) }
         ensures settings { settings_of self.new ≡ settings_after (settings_of self.old) clears Setting.Same }
         ensures formed { IsFormed self.old → IsFormed self.new }
+        ensures left { self.new.left_mark ≡ self.old.left_mark }
+        ensures ends { ends_of self.new ≡ ends_of self.old }
+        ensures numbers { self.new.line_numbers ≡ self.old.line_numbers }
         ensures screen { self.new.screen ≡ self.old.screen }
         ensures mark { self.new.upper_mark ≡ self.old.upper_mark }
         ensures cols { self.new.cols ≡ self.old.cols }
@@ -235,8 +285,11 @@ impl PagerState {
 
     // Puts what was formed in its place. An `Err` changes nothing.
     pub(crate) fn place(&mut self, alloc: Global, change: Change) -> Result<(), MinusError>
-        requires { IsNext self.old.screen.document change.text }
-        ensures screen { OnOk result (self.new.screen.document ≡ next_document self.old.screen.document change.text) }
+        requires { IsNext self.old.screen change.text }
+        ensures screen { OnOk result (self.new.screen ≡ searched None (next_document self.old.screen.document change.text)) }
+        ensures numbers { OnOk result (self.new.line_numbers ≡ (next_document self.old.screen.document change.text).layout.numbers) }
+        ensures left { OnOk result (self.new.left_mark ≡ left_set change.setting self.old.left_mark) }
+        ensures ends { OnOk result (ends_of self.new ≡ ends_of self.old) }
         ensures mark { OnOk result (self.new.upper_mark ≡ change.mark) }
         ensures cols { OnOk result (self.new.cols ≡ change.cols) }
         ensures rows { OnOk result (self.new.rows ≡ change.rows) }
@@ -254,6 +307,7 @@ impl PagerState {
             redraw: _,
         } = change;
         place_text(alloc, &mut self.screen, text)?;
+        self.line_numbers = self.screen.layout().numbers;
         self.upper_mark = mark;
         self.cols = cols;
         self.rows = rows;

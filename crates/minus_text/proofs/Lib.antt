@@ -54,3 +54,4 @@ pub mod FoundInLaws
 pub mod SearchedLaws
 pub mod LinePartsLaws
 pub mod RowHomesLaws
+pub mod StoredKeptLaws

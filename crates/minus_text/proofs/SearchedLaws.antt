@@ -75,7 +75,7 @@ stored_for term d i row before e s =
     let same : h.0 ≡ before = append_cancel_right h.0 before row both in
     h.2 ∙ ap (λ b. Some (b ++ shown_for term row)) same
 
-length-lines_for : (term : Option Re) (wrap : Wrap) (on : Bool) (count k : ℕ) (ls : List (List ℕ)) → length (rows_of_lines wrap ls) ≡ length (stored_lines_for term wrap on count k ls)
+pub length-lines_for : (term : Option Re) (wrap : Wrap) (on : Bool) (count k : ℕ) (ls : List (List ℕ)) → length (rows_of_lines wrap ls) ≡ length (stored_lines_for term wrap on count k ls)
 length-lines_for term wrap on count k [] = refl
 length-lines_for term wrap on count k (x ∷ xs) =
     let rows : List (List ℕ) = own_rows wrap x in

@@ -350,6 +350,14 @@ impl Screen {
         self.store.rows_after(&pending.push)
     }
 
+    /// How many lines there would be after the push. It takes no memory.
+    pub fn line_count_after(&self, pending: &PendingPush) -> usize
+        ensures { (piece : List ℕ) (numbers : LineNumbers) (cols : ℕ) → IsPending self.now.document piece numbers cols pending.now.push →
+            result ≡ line_count (pushed self.now.document piece numbers cols) }
+    {
+        self.store.line_count_after(&pending.push)
+    }
+
     /// The own text of a row, counted from 0, as it would be after the push. It takes no memory.
     pub fn row_after<'a>(&'a self, pending: &'a PendingPush, i: usize) -> Option<&'a str>
         ensures { RowIsPending self.now.document pending.now.push i (option_map (λ r. r.now) result) }

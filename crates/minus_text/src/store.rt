@@ -488,6 +488,16 @@ impl Store {
         staying + pending.formed_rows()
     }
 
+    // How many lines there would be after the push. It takes no memory.
+    pub(crate) fn line_count_after(&self, pending: &FormedPush) -> usize
+        ensures { (piece : List ℕ) (numbers : LineNumbers) (cols : ℕ) → IsPending self.now piece numbers cols pending.now →
+            result ≡ line_count (pushed self.now piece numbers cols) }
+    {
+        let behind = &pending.formed.first_rows;
+        let staying = pending.start.finished.lines.min(self.first_rows.len());
+        staying + behind.len()
+    }
+
     // The own text of a row, counted from 0, as it would be after the push. It takes no memory.
     pub(crate) fn row_after<'a>(&'a self, pending: &'a FormedPush, i: usize) -> Option<&'a str>
         ensures { RowIsPending self.now pending.now i (option_map (λ r. r.now) result) }

@@ -1,14 +1,30 @@
 //! How what comes of a command is drawn.
-ghost use Rattle.std.specs.Prelude.{◌≡◌};
+ghost use Rattle.std.specs.Prelude.{◌≡◌, ◌++◌, [], map, option_map, OnOk};
+ghost use Rattle.minus_state.specs.ShownRow.{before_rows};
+ghost use Rattle.minus.specs.Showing.{row_text};
 
 use crate::change::{Change, NextText, Setting};
 use crate::commands::{Drawing, Redraw};
 use crate::display::{
     draw_append_text, draw_full, draw_scroll, write_changed_prompt, write_prompt,
 };
+use crate::showing::{Showing, ShownRow};
 use crate::state::PagerState;
 use minus_state::{PromptRow, format_prompt};
 use std::alloc::{AllocError, Global};
+
+// Puts a row at the end, if there is one.
+fn push_some<'a>(rows: &mut Vec<ShownRow<'a>>, row: Option<ShownRow<'a>>) -> Result<(), AllocError>
+    ensures { OnOk result (map row_text rows.new.items ≡ map row_text rows.old.items ++ before_rows (option_map row_text row.entry) []) }
+{
+    match row {
+        Some(row) => {
+            rows.push(row)?;
+            Ok(())
+        }
+        None => Ok(()),
+    }
+}
 
 impl PagerState {
     ghost use Rattle.std.specs.Prelude.{◌≡◌, true, ◌+◌, ◌-◌, ◌++◌, ◌^◌, ◌<◌, length, map, take, drop, string_bytes, false, if◌then◌else◌, OnOk, IfOk};
@@ -18,9 +34,10 @@ impl PagerState {
     ghost use Rattle.minus_state.specs.PromptRow.{seen_prompt};
     ghost use Rattle.minus_term.specs.Written.{written_all};
     ghost use Rattle.minus.specs.Drawings.{rows_after, rows_newly, append_from, ops_between, ops_of_step};
-    ghost use Rattle.minus.specs.Reads.{control_of, settings_of, IsFormed};
+    ghost use Rattle.minus.specs.Reads.{control_of, settings_of, ends_of, IsFormed};
     ghost use Rattle.minus.specs.NextTexts.{IsNext};
-    ghost use Rattle.minus.specs.Changes.{IsChange, settings_after, shown_by};
+    ghost use Rattle.minus.specs.Changes.{IsChange, settings_after, left_set, shown_by};
+    ghost use Rattle.minus.specs.Showing.{row_text};
 
     // What the prompt row is formed of after a change.
     fn prompt_after<'a>(&'a self, change: &'a Change) -> PromptRow<'a>
@@ -66,7 +83,7 @@ impl PagerState {
             ≡ prompt_row (control_of self.now) }
     {
         match change.setting {
-            Setting::Same => {
+            Setting::Same | Setting::Left(_) => {
                 change.cols == self.cols
                     && self.prefix_after(change.clears) == self.prefix_num.as_str()
             }
@@ -92,8 +109,8 @@ impl PagerState {
 
     // How many rows of text the page has that a change leads to.
     fn count_after(&self, change: &Change) -> usize
-        requires { IsNext self.now.screen.document change.now.text }
-        ensures count { result ≡ length (shown_by self.now.screen.document change.now) }
+        requires { IsNext self.now.screen change.now.text }
+        ensures count { result ≡ length (shown_by self.now change.now) }
         ensures within { change.now.mark + result < 2 ^ 64 }
     {
         let left = change
@@ -103,6 +120,21 @@ impl PagerState {
         left.min(change.rows - 1)
     }
 
+    // What rows are shown of after a change, and how.
+    fn showing<'a>(&'a self, change: &'a Change) -> Showing<'a>
+        ensures screen { result.screen.now ≡ self.now.screen }
+        ensures text { result.text.now ≡ change.now.text }
+        ensures left { result.left ≡ left_set change.now.setting self.now.left_mark }
+        ensures ends { result.ends ≡ ends_of self.now }
+    {
+        Showing {
+            screen: &self.screen,
+            text: &change.text,
+            left: change.setting.left(self.left_mark),
+            ends: self.ends(),
+        }
+    }
+
     // The texts of the rows of text on the page that a change leads to, from one of them on and before another.
     fn shown_between<'a>(
         &'a self,
@@ -110,17 +142,16 @@ impl PagerState {
         change: &'a Change,
         first: usize,
         end: usize,
-    ) -> Result<Vec<&'a str>, AllocError>
-        requires { IsNext self.now.screen.document change.now.text }
-        ensures { IfOk result (λ v. map (λ r. r.now) v.items ≡ drop first (take end (shown_by self.now.screen.document change.now))) }
+    ) -> Result<Vec<ShownRow<'a>>, AllocError>
+        requires { IsNext self.now.screen change.now.text }
+        ensures { IfOk result (λ v. map row_text v.items ≡ drop first (take end (shown_by self.now change.now))) }
     {
         let count = self.count_after(change).min(end);
         let start = first.min(count);
+        let showing = self.showing(change);
         let mut shown = Vec::with_capacity(alloc, count - start)?;
         for i in start..count {
-            if let Some(row) = change.text.row_after(&self.screen, change.mark + i) {
-                shown.push(row)?;
-            }
+            push_some(&mut shown, showing.row(alloc, change.mark + i)?)?;
         }
         Ok(shown)
     }
@@ -131,9 +162,9 @@ impl PagerState {
         alloc: Global,
         change: &'a Change,
         first: usize,
-    ) -> Result<Vec<&'a str>, AllocError>
-        requires { IsNext self.now.screen.document change.now.text }
-        ensures { IfOk result (λ v. map (λ r. r.now) v.items ≡ drop first (shown_by self.now.screen.document change.now)) }
+    ) -> Result<Vec<ShownRow<'a>>, AllocError>
+        requires { IsNext self.now.screen change.now.text }
+        ensures { IfOk result (λ v. map row_text v.items ≡ drop first (shown_by self.now change.now)) }
     {
         self.shown_between(alloc, change, first, change.rows - 1)
     }
@@ -144,9 +175,9 @@ impl PagerState {
         alloc: Global,
         change: &'a Change,
         from: usize,
-    ) -> Result<Vec<&'a str>, AllocError>
-        requires { IsNext self.now.screen.document change.now.text }
-        ensures { IfOk result (λ v. map (λ r. r.now) v.items ≡ rows_newly change.now.rows from change.now.mark (shown_by self.now.screen.document change.now)) }
+    ) -> Result<Vec<ShownRow<'a>>, AllocError>
+        requires { IsNext self.now.screen change.now.text }
+        ensures { IfOk result (λ v. map row_text v.items ≡ rows_newly change.now.rows from change.now.mark (shown_by self.now change.now)) }
     {
         let most = change.rows - 1;
         if from <= change.mark {
@@ -177,9 +208,9 @@ impl PagerState {
         first: usize,
         were: usize,
     ) -> Result<(), AllocError>
-        requires belongs { IsNext self.now.screen.document change.now.text }
+        requires belongs { IsNext self.now.screen change.now.text }
         requires few { were < 2 ^ 16 }
-        ensures { OnOk result (out.new.items ≡ out.old.items ++ written_all (rows_after first were (shown_by self.now.screen.document change.now))) }
+        ensures { OnOk result (out.new.items ≡ out.old.items ++ written_all (rows_after first were (shown_by self.now change.now))) }
     {
         let count = self.count_after(change);
         let texts = self.shown_after(alloc, change, first)?;
@@ -201,14 +232,15 @@ impl PagerState {
         change: &'a Change,
     ) -> Result<(), AllocError>
         requires formed { IsFormed self.now }
-        requires belongs { IsNext self.now.screen.document change.now.text }
+        requires belongs { IsNext self.now.screen change.now.text }
         ensures { OnOk result ((new : Control) → IsChange (control_of self.now) change.now new →
             out.new.items ≡ out.old.items ++ written_all (ops_between Drawing.Append (control_of self.now) new)) }
     {
         let rows = self.screen.formatted_lines_count();
         let were = rows.saturating_sub(self.upper_mark).min(self.rows - 1);
         let first = self.first_changed().saturating_sub(self.upper_mark);
-        self.draw_rows_after(alloc, out, change, first, were)
+        self.draw_rows_after(alloc, out, change, first, were)?;
+        Ok(())
     }
 
     // Adds the bytes that draw the rows of text on the page from one row of the text on, where there were so many.
@@ -238,7 +270,7 @@ impl PagerState {
         prompt: &str,
     ) -> Result<(), AllocError>
         requires formed { IsFormed self.now }
-        requires belongs { IsNext self.now.screen.document change.now.text }
+        requires belongs { IsNext self.now.screen change.now.text }
         ensures { OnOk result ((new : Control) → IsChange (control_of self.now) change.now new → prompt.now ≡ prompt_row new →
             out.new.items ≡ out.old.items ++ written_all (ops_between drawing (control_of self.now) new)) }
     {
@@ -270,7 +302,7 @@ impl PagerState {
         before: &str,
     ) -> Result<(), AllocError>
         requires formed { IsFormed self.now }
-        requires belongs { IsNext self.now.screen.document change.now.text }
+        requires belongs { IsNext self.now.screen change.now.text }
         requires before { before.now ≡ prompt_row (control_of self.now) }
         ensures { OnOk result ((new : Control) → IsChange (control_of self.now) change.now new → prompt.now ≡ prompt_row new →
             out.new.items ≡ out.old.items ++ written_all (ops_of_step drawing (control_of self.now) new)) }

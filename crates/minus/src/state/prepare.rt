@@ -8,7 +8,7 @@ use crate::input::InputEvent;
 use crate::parts::Parts;
 use crate::state::{ExitStrategy, PagerState, formed, is_size};
 use minus_term::MinusError;
-use minus_text::LineNumbers;
+use minus_text::{Layout, LineNumbers, prefix_columns};
 use std::alloc::{AllocError, Global};
 
 // Whether a text has a newline.
@@ -19,14 +19,15 @@ fn has_newline(text: &str) -> bool
 }
 
 impl PagerState {
-    ghost use Rattle.std.specs.Prelude.{◌≡◌, ◌+◌, ◌-◌, ◌++◌, ◌<◌, [], length, encode_utf8, string_bytes, false, if◌then◌else◌, OnOk, IfOk, IfErr};
+    ghost use Rattle.std.specs.Prelude.{◌≡◌, ◌+◌, ◌-◌, ◌==◌, ◌++◌, ◌<◌, nat_le, [], length, encode_utf8, string_bytes, false, if◌then◌else◌, OnOk, IfOk, IfErr};
     ghost use Rattle.minus.specs.Control.{cleared, top};
-    ghost use Rattle.minus.specs.Table.{appends, effect, handed, moved_by, moved_to, changed_by, IsPossible};
+    ghost use Rattle.minus.specs.Table.{appends, append_redraw, width, may_shift, left_after, shift_redraw, effect, handed, moved_by, moved_to, changed_by, IsPossible};
     ghost use Rattle.minus_term.specs.Refusals.{refusal_of};
     ghost use Rattle.minus.specs.Reads.{control_of, settings_of, event_wanted, io_wanted, wanted_of, IsFormed};
-    ghost use Rattle.minus_text.specs.Document.{rows_of};
+    ghost use Rattle.minus_text.specs.Document.{rows_of, margin_in};
+    ghost use Rattle.minus_state.specs.View.{prefix_in};
     ghost use Rattle.minus.specs.NextTexts.{next_document, IsNext};
-    ghost use Rattle.minus.specs.Changes.{IsChange, settings_after, IsUnformed};
+    ghost use Rattle.minus.specs.Changes.{IsChange, settings_after, left_set, IsUnformed};
     ghost use Rattle.minus.specs.Sizes.{IsSize};
 
     // How the program is to go on after a command that is an exit, and the code that it ends with.
@@ -61,11 +62,11 @@ impl PagerState {
     }
 
     // The state with one thing set beside its text.
-    fn set(&self, setting: Setting, clears: bool) -> Change
+    fn set(&self, setting: Setting, redraw: Redraw, clears: bool) -> Change
         requires { IsFormed self.now }
         ensures next { IsChange (control_of self.now) result
-            (record (control_of self.now) { settings = settings_after (settings_of self.now) clears setting }) }
-        ensures redraw { result.redraw ≡ Redraw.Stays }
+            (record (control_of self.now) { left = left_set setting self.now.left_mark; settings = settings_after (settings_of self.now) clears setting }) }
+        ensures redraw { result.redraw ≡ redraw }
     {
         Change {
             text: NextText::Same,
@@ -74,7 +75,7 @@ impl PagerState {
             rows: self.rows,
             clears,
             setting,
-            redraw: Redraw::Stays,
+            redraw,
         }
     }
 
@@ -91,7 +92,7 @@ impl PagerState {
     fn moved(&self, mark: usize, setting: Setting, clears: bool) -> Change
         requires { IsFormed self.now }
         ensures next { IsChange (control_of self.now) result
-            (record (control_of self.now) { mark = mark; settings = settings_after (settings_of self.now) clears setting }) }
+            (record (control_of self.now) { mark = mark; left = left_set setting self.now.left_mark; settings = settings_after (settings_of self.now) clears setting }) }
         ensures redraw { result.redraw ≡ Redraw.Moved }
     {
         Change {
@@ -123,6 +124,71 @@ impl PagerState {
         self.moved(mark.min(self.top()), Setting::Same, false)
     }
 
+    // The state with a text in a layout, which is formed anew.
+    fn formed_anew(
+        &self,
+        alloc: Global,
+        text: &str,
+        layout: Layout,
+        clears: bool,
+    ) -> Result<Change, MinusError>
+        requires formed { IsFormed self.now }
+        requires cols { layout.cols ≡ self.now.cols }
+        ensures next { IfOk result (λ c. IsChange (control_of self.now) c
+            (record (cleared clears (control_of self.now)) { text = text.now; numbers = layout.numbers; wrapping = layout.wrapping })) }
+        ensures redraw { IfOk result (λ c. c.redraw ≡ Redraw.Whole) }
+        ensures memory { IfErr result (λ e. e ≡ MinusError.Memory) }
+    {
+        let next = formed(alloc, text, layout)?;
+        Ok(self.change_to(NextText::Whole(next), Redraw::Whole, clears))
+    }
+
+    // The state with another text.
+    fn with_text(&self, alloc: Global, text: &str, clears: bool) -> Result<Change, MinusError>
+        requires { IsFormed self.now }
+        ensures next { IfOk result (λ c. IsChange (control_of self.now) c (record (cleared clears (control_of self.now)) { text = text.now })) }
+        ensures redraw { IfOk result (λ c. c.redraw ≡ Redraw.Whole) }
+        ensures memory { IfErr result (λ e. e ≡ MinusError.Memory) }
+    {
+        let change = self.formed_anew(alloc, text, self.layout(), clears)?;
+        Ok(change)
+    }
+
+    // The state with numbers before its rows, or none.
+    fn renumbered(
+        &self,
+        alloc: Global,
+        numbers: LineNumbers,
+        clears: bool,
+    ) -> Result<Change, MinusError>
+        requires { IsFormed self.now }
+        ensures next { IfOk result (λ c. IsChange (control_of self.now) c (record (cleared clears (control_of self.now)) { numbers = numbers })) }
+        ensures redraw { IfOk result (λ c. c.redraw ≡ Redraw.Whole) }
+        ensures memory { IfErr result (λ e. e ≡ MinusError.Memory) }
+    {
+        let layout = Layout {
+            numbers,
+            ..self.layout()
+        };
+        let change = self.formed_anew(alloc, self.screen.orig_text(), layout, clears)?;
+        Ok(change)
+    }
+
+    // The state with its lines wrapped, or not.
+    fn rewrapped(&self, alloc: Global, wrapping: bool, clears: bool) -> Result<Change, MinusError>
+        requires { IsFormed self.now }
+        ensures next { IfOk result (λ c. IsChange (control_of self.now) c (record (cleared clears (control_of self.now)) { wrapping = wrapping })) }
+        ensures redraw { IfOk result (λ c. c.redraw ≡ Redraw.Whole) }
+        ensures memory { IfErr result (λ e. e ≡ MinusError.Memory) }
+    {
+        let layout = Layout {
+            wrapping,
+            ..self.layout()
+        };
+        let change = self.formed_anew(alloc, self.screen.orig_text(), layout, clears)?;
+        Ok(change)
+    }
+
     // The state in another size, for which the text is formed anew.
     fn resized(
         &self,
@@ -137,8 +203,12 @@ impl PagerState {
         ensures redraw { IfOk result (λ c. c.redraw ≡ Redraw.Whole) }
         ensures memory { IfErr result (λ e. e ≡ MinusError.Memory) }
     {
+        let layout = Layout {
+            cols,
+            ..self.layout()
+        };
         Ok(Change {
-            text: NextText::Whole(formed(alloc, self.screen.orig_text(), cols)?),
+            text: NextText::Whole(formed(alloc, self.screen.orig_text(), layout)?),
             mark: self.upper_mark,
             cols,
             rows,
@@ -148,20 +218,50 @@ impl PagerState {
         })
     }
 
-    // The state with another text.
-    fn with_text(&self, alloc: Global, text: &str, clears: bool) -> Result<Change, MinusError>
-        requires { IsFormed self.now }
-        ensures next { IfOk result (λ c. IsChange (control_of self.now) c (record (cleared clears (control_of self.now)) { text = text.now })) }
-        ensures redraw { IfOk result (λ c. c.redraw ≡ Redraw.Whole) }
-        ensures memory { IfErr result (λ e. e ≡ MinusError.Memory) }
+    // The columns that stand before the text of each row.
+    fn prefix(&self) -> usize
+        ensures { result ≡ prefix_in self.now.screen.document }
     {
-        let next = formed(alloc, text, self.cols)?;
-        Ok(self.change_to(NextText::Whole(next), Redraw::Whole, clears))
+        let numbers = self.screen.layout().numbers.is_on();
+        prefix_columns(numbers, self.screen.line_count())
+    }
+
+    // Whether the page does not go beyond the longest line at a left mark.
+    fn is_within_lines(&self, left: usize) -> bool
+        requires { IsFormed self.now }
+        ensures { result ≡ nat_le (left + self.now.cols) (width (control_of self.now)) }
+    {
+        let width = self.screen.get_max_line_length() as u128 + self.prefix() as u128;
+        left as u128 + self.cols as u128 <= width
+    }
+
+    // Whether the left mark moves to a column.
+    fn may_shift(&self, left: usize) -> bool
+        requires { IsFormed self.now }
+        ensures { result ≡ may_shift (control_of self.now) left }
+    {
+        if self.line_wrapping() {
+            return false;
+        }
+        left <= self.left_mark || self.is_within_lines(left)
+    }
+
+    // The state with its left mark moved, where it moves.
+    fn shifted(&self, left: usize, clears: bool) -> Change
+        requires { IsFormed self.now }
+        ensures next { IsChange (control_of self.now) result
+            (record (cleared clears (control_of self.now)) { left = left_after (control_of self.now) left }) }
+        ensures redraw { result.redraw ≡ shift_redraw (control_of self.now) left }
+    {
+        if self.may_shift(left) {
+            return self.set(Setting::Left(left), Redraw::Whole, clears);
+        }
+        self.redrawn(Redraw::Stays, clears)
     }
 
     // Where an append leaves the mark: at the last page, where the page goes on with what is appended.
     fn mark_after(&self, text: &NextText) -> usize
-        requires { IsNext self.now.screen.document text.now }
+        requires { IsNext self.now.screen text.now }
         ensures { result ≡ (if self.now.follow
             then length (rows_of (next_document self.now.screen.document text.now)) - (self.now.rows - 1) else self.now.upper_mark) }
     {
@@ -171,20 +271,34 @@ impl PagerState {
         self.upper_mark
     }
 
+    // How an append asks to be drawn: all is, where the numbers of lines take more columns after it.
+    fn append_redraw(&self, next: &NextText) -> Redraw
+        requires { IsNext self.now.screen next.now }
+        ensures { result ≡ (if margin_in (next_document self.now.screen.document next.now) == margin_in self.now.screen.document
+            then Redraw.Appended else Redraw.Whole) }
+    {
+        let numbers = next.layout_after(&self.screen).numbers.is_on();
+        let after = prefix_columns(numbers, next.line_count_after(&self.screen));
+        if after == self.prefix() {
+            return Redraw::Appended;
+        }
+        Redraw::Whole
+    }
+
     // The state with a text added to its text.
     fn appended(&self, alloc: Global, text: String, clears: bool) -> Result<Change, MinusError>
         requires { IsFormed self.now }
         ensures next { IfOk result (λ c. IsChange (control_of self.now) c
             (moved_by (appends (cleared clears (control_of self.now)) (string_bytes text)))) }
-        ensures redraw { IfOk result (λ c. c.redraw ≡ Redraw.Appended) }
+        ensures redraw { IfOk result (λ c. c.redraw ≡ append_redraw (control_of self.now) (string_bytes text)) }
         ensures memory { IfErr result (λ e. e ≡ MinusError.Memory) }
     {
-        let numbers = LineNumbers::Disabled;
         let pending = self
             .screen
-            .prepare_push(alloc, &text, numbers, self.cols, None)?;
+            .prepare_push(alloc, &text, self.line_numbers, self.cols, None)?;
         let next = NextText::Pushed(text, pending);
         let mark = self.mark_after(&next);
+        let redraw = self.append_redraw(&next);
         Ok(Change {
             text: next,
             mark,
@@ -192,7 +306,7 @@ impl PagerState {
             rows: self.rows,
             clears,
             setting: Setting::Same,
-            redraw: Redraw::Appended,
+            redraw,
         })
     }
 
@@ -225,13 +339,20 @@ impl PagerState {
                 Ok(self.resized(alloc, cols, rows, clears)?)
             }
             InputEvent::UpdateTermArea(cols, rows) => Err(MinusError::BadSize(cols, rows)),
+            InputEvent::UpdateLeftMark(left) => Ok(self.shifted(left, clears)),
+            InputEvent::UpdateLineNumber(numbers) => Ok(self.renumbered(alloc, numbers, clears)?),
+            InputEvent::HorizontalScroll(wrapping) => Ok(self.rewrapped(alloc, wrapping, clears)?),
             InputEvent::FollowOutput(follow) => {
                 Ok(self.moved(self.top(), Setting::Follow(follow), clears))
             }
-            InputEvent::RestorePrompt => Ok(self.set(Setting::Message(None), clears)),
+            InputEvent::RestorePrompt => Ok(self.set(
+                Setting::Message(None),
+                Redraw::Stays,
+                clears,
+            )),
             InputEvent::Number(character) => {
                 let prefix = self.typed(alloc, character, clears)?;
-                Ok(self.set(Setting::Prefix(prefix), clears))
+                Ok(self.set(Setting::Prefix(prefix), Redraw::Stays, clears))
             }
             InputEvent::Exit | InputEvent::Ignore => Ok(self.redrawn(Redraw::Stays, clears)),
         }
@@ -246,7 +367,10 @@ impl PagerState {
     {
         match io {
             IoCommand::RedrawPrompt => self.redrawn(Redraw::PromptRow, clears),
-            IoCommand::RedrawDisplay => self.redrawn(Redraw::Whole, clears),
+            IoCommand::RedrawDisplay | IoCommand::DrawAppendedText(..) => self.redrawn(
+                Redraw::Whole,
+                clears,
+            ),
             IoCommand::SetUpperMark(mark) => self.moved(mark, Setting::Same, clears),
         }
     }
@@ -271,14 +395,22 @@ impl PagerState {
             CommandOf::AppendData(text) => Ok(Prepared::of(self.appended(alloc, text, clears)?)),
             CommandOf::SetPrompt(text) if has_newline(&text) => Err(MinusError::NewlineInPrompt),
             CommandOf::SetPrompt(text) => {
-                Ok(Prepared::of(self.set(Setting::Prompt(text), clears)))
+                Ok(Prepared::of(self.set(Setting::Prompt(text), Redraw::Stays, clears)))
             }
             CommandOf::SendMessage(text) if has_newline(&text) => Err(MinusError::NewlineInPrompt),
             CommandOf::SendMessage(text) => {
-                Ok(Prepared::of(self.set(Setting::Message(Some(text)), clears)))
+                Ok(Prepared::of(self.set(Setting::Message(Some(text)), Redraw::Stays, clears)))
             }
             CommandOf::ShowPrompt(is_shown) => {
-                Ok(Prepared::of(self.set(Setting::Shown(is_shown), clears)))
+                Ok(Prepared::of(self.set(Setting::Shown(is_shown), Redraw::Stays, clears)))
+            }
+            CommandOf::SetLineNumbers(numbers) => {
+                let event = InputEvent::UpdateLineNumber(numbers);
+                Ok(Prepared::of(self.next_of_event::<P>(alloc, event, clears)?))
+            }
+            CommandOf::LineWrapping(wrapping) => {
+                let event = InputEvent::HorizontalScroll(wrapping);
+                Ok(Prepared::of(self.next_of_event::<P>(alloc, event, clears)?))
             }
             CommandOf::FollowOutput(follow) => {
                 let event = InputEvent::FollowOutput(follow);

@@ -4,11 +4,12 @@ use Rattle.std.proofs.lemmas.List.{length-map}
 use Rattle.minus_term.specs.Append.{rows_anew}
 use Rattle.minus_term.specs.Written.{written_all}
 use Rattle.minus.proofs.DrawingLaws.{anew_added}
+use Rattle.minus.specs.Showing.{row_text}
 use Rattle.minus.proofs.display.draw_append_text.Goals as goal
 
 pub returns : goal.returns
 returns c =
     let a = c.write_texts_anew.new.out.items in
-    let len = length-map c.args.texts.now (λ r. r.now) in
-    anew_added c.args.out.now.items a c.write_blanks.new.out.items c.args.first c.args.blanks (map (λ r. r.now) c.args.texts.now) c.in_ok-write_texts_anew.ensures
+    let len = length-map c.args.texts.now row_text in
+    anew_added c.args.out.now.items a c.write_blanks.new.out.items c.args.first c.args.blanks (map row_text c.args.texts.now) c.in_ok-write_texts_anew.ensures
     (c.in_ok-write_blanks.ensures ∙ ap (λ (n : ℕ). a ++ written_all (rows_anew (c.args.first + n) [] c.args.blanks)) (sym len))

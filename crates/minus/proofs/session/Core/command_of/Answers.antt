@@ -3,7 +3,7 @@ use Rattle.std.proofs.Common.{◌≡◌, Option, Some, None, refl, sym, ap, ◌�
 use Rattle.std.specs.Option.{unwrap_or}
 use Rattle.minus_term.specs.declared.event.Event.{Event}
 use Rattle.minus.specs.declared.input.InputEvent.{InputEvent}
-use Rattle.minus.specs.declared.input.InputEvent.TheVariants.{UpdateUpperMark, UpdateTermArea, FollowOutput, RestorePrompt, Number, Exit, Ignore}
+use Rattle.minus.specs.declared.input.InputEvent.TheVariants.{UpdateUpperMark, UpdateTermArea, UpdateLeftMark, UpdateLineNumber, HorizontalScroll, FollowOutput, RestorePrompt, Number, Exit, Ignore}
 use Rattle.minus.specs.Reads.{event_wanted, answer_wanted, event_clears, an_event}
 use Rattle.minus.specs.Steps.{clears_prefix}
 use Rattle.minus.proofs.session.Core.command_of.Goals as goal
@@ -15,6 +15,9 @@ answered (Some event) = refl
 clears_as : (K : Type 0) (e : Event) (answer : InputEvent) → clears_prefix {K = K} (an_event e) (event_wanted answer) ≡ event_clears answer
 clears_as K e (UpdateUpperMark mark) = refl
 clears_as K e (UpdateTermArea cols rows) = refl
+clears_as K e (UpdateLeftMark left) = refl
+clears_as K e (UpdateLineNumber numbers) = refl
+clears_as K e (HorizontalScroll wrapping) = refl
 clears_as K e (FollowOutput follow) = refl
 clears_as K e RestorePrompt = refl
 clears_as K e (Number character) = refl

@@ -10,7 +10,7 @@ use Rattle.minus.specs.Table.{effect, changed_by}
 use Rattle.minus.specs.Reads.{control_of, wanted_of}
 use Rattle.minus.specs.Seen.{Seen}
 use Rattle.minus.specs.declared.state.PagerState.{PagerState}
-use Rattle.minus.proofs.ChangeLaws.{placed_after, drawn_as}
+use Rattle.minus.proofs.ChangeLaws.{placed, placed_from, drawn_as}
 use Rattle.minus.proofs.PromptLaws.{row_kept}
 use Rattle.minus.proofs.session.Core.take.Goals as goal
 
@@ -21,8 +21,8 @@ returns-clause-drawn g c =
     let new : Control = changed_by (effect taken (wanted_of c.args.command)) in
     let change = c.in_ok-prepared.prepared.change in
     let h = c.in_ok-prepared.ensures.next in
-    let placed = c.in_ok-place.ensures in
-    let is = placed_after c.args.self.now.state c.draw_change.new.self.state c.place.new.self change new c.draw_change.ensures.state c.args.self.now.formed h placed.screen placed.mark placed.cols placed.rows placed.settings in
+    let put = c.in_ok-place.ensures in
+    let is = placed c.args.self.now.state c.place.new.self change new c.args.self.now.formed h (placed_from c.args.self.now.state c.draw_change.new.self.state c.place.new.self change c.draw_change.ensures.state (record { screen = put.screen; numbers = put.numbers; mark = put.mark; left = put.left; ends = put.ends; cols = put.cols; rows = put.rows; settings = put.settings })) in
     let kind = c.drawing-drawing.ensures ∙ drawn_as taken (wanted_of c.args.command) change.redraw change.mark c.in_ok-prepared.ensures.redraw h.mark_is in
     subst (λ (d : Drawing). c.draw_change.new.self.drawing.items ≡ written_all (ops_of_step d old (control_of c.place.new.self))) kind
     (subst (λ (x : Control). c.draw_change.new.self.drawing.items ≡ written_all (ops_of_step c.drawing-drawing.result old x)) (sym is) (c.in_ok-draw_change.ensures.drawn new h (c.in_ok-row.ensures new h)))
@@ -32,8 +32,8 @@ invariant_of-self-2-clause-prompted g c running =
     let taken : Control = cleared c.args.clears (control_of c.args.self.now.state) in
     let new : Control = changed_by (effect taken (wanted_of c.args.command)) in
     let h = c.in_ok-prepared.ensures.next in
-    let placed = c.in_ok-place.ensures in
-    let is = placed_after c.args.self.now.state c.draw_change.new.self.state c.place.new.self c.in_ok-prepared.prepared.change new c.draw_change.ensures.state c.args.self.now.formed h placed.screen placed.mark placed.cols placed.rows placed.settings in
+    let put = c.in_ok-place.ensures in
+    let is = placed c.args.self.now.state c.place.new.self c.in_ok-prepared.prepared.change new c.args.self.now.formed h (placed_from c.args.self.now.state c.draw_change.new.self.state c.place.new.self c.in_ok-prepared.prepared.change c.draw_change.ensures.state (record { screen = put.screen; numbers = put.numbers; mark = put.mark; left = put.left; ends = put.ends; cols = put.cols; rows = put.rows; settings = put.settings })) in
     let drawn = c.draw_change.new.self in
     let row = c.in_ok-row.row in
     let kept = drawn.prompted (ap (λ (s : Seen _). s.status) c.draw_change.ensures.seen ∙ c.requires) ∙ ap (λ (s : PagerState). prompt_row (control_of s)) c.draw_change.ensures.state in

@@ -1,30 +1,41 @@
 -- One more row, since there is one.
-use Rattle.std.proofs.Common.{◌+◌, ◌-◌, ◌<◌, List, ℕ, ◌≡◌, min, length, take, drop, ap, ◌∙◌, arith}
+use Rattle.std.proofs.Common.{◌+◌, ◌-◌, ◌<◌, List, ℕ, ◌≡◌, min, length, take, drop, map, ap, ◌∙◌, arith, None}
 use Rattle.std.proofs.lemmas.List.{length-take, length-drop}
-use Rattle.minus_text.specs.Document.{rows_of}
+use Rattle.minus_text.specs.Document.{Document}
+use Rattle.minus_state.specs.declared.selection.SelectionEnds.{SelectionEnds}
+use Rattle.minus_state.specs.Selection.{ends_in_order}
+use Rattle.minus_state.proofs.ShownRowsLaws.{length-shown_rows}
+use Rattle.minus.specs.Changes.{left_set}
 use Rattle.minus.specs.NextTexts.{next_document}
-use Rattle.minus.proofs.ShownLaws.{row_there, shown_more_from, shown_part}
+use Rattle.minus.specs.Page.{shown_of}
+use Rattle.minus.specs.Reads.{ends_of}
+use Rattle.minus.specs.Showing.{row_text}
+use Rattle.minus.proofs.ShownLaws.{shown_next, shown_part}
+use Rattle.minus.proofs.ShowingLaws.{row_shown}
 use Rattle.minus.proofs.state.PagerState.shown_between.Goals as goal
-use Rattle.minus.proofs.state.PagerState.shown_between.Goals.{in-Some+in_ok-push, in_default}
 
 pub loop-i-preserved : goal.loop-i-preserved
 loop-i-preserved c =
-    let rows : List (List ℕ) = rows_of (next_document c.args.self.now.screen.document c.args.change.now.text) in
+    let d : Document = next_document c.args.self.now.screen.document c.args.change.now.text in
+    let left : ℕ = left_set c.args.change.now.setting c.args.self.now.left_mark in
+    let ends : SelectionEnds = ends_of c.args.self.now in
+    let rows : List (List ℕ) = shown_of d left ends in
     let mark : ℕ = c.args.change.now.mark in
     let count = c.count_after.ensures.count in
     let cut = c.min-count.ensures in
     let test = c.loop-i-test.true in
     let on_page = length-take (c.args.change.now.rows - 1) (drop mark rows) in
     let below = length-drop mark rows in
+    let all = length-shown_rows None d left (ends_in_order ends) in
     let within : mark + c.loop-i.i < length rows = omega (arith, count, cut, test, on_page, below) in
-    elim c.match-row_after.branch [
-      | in-Some+in_ok-push w ↦ rw w.shown-is (shown_more_from (λ r. r.now) c.loop-i.shown.items w.push.new.self.items w.in-Some.row rows mark c.min-start.result c.loop-i.i c.loop-i.auto.i within c.loop-i.invariant w.in-Some.ensures w.in_ok-push.ensures.items)
-      | in_default w ↦ absurd (row_there rows (mark + c.loop-i.i) within w.in_default.ensures)
-    ]
+    let showing = c.showing-showing.ensures in
+    shown_next rows mark c.min-start.result c.loop-i.i (map row_text c.loop-i.shown.items) (map row_text c.push_some.new.rows.items) _ c.loop-i.auto.i within c.loop-i.invariant
+    (row_shown c.args.self.now c.args.change.now c.showing-showing.result _ (mark + c.loop-i.i) showing.screen showing.text showing.left showing.ends (omega (arith, within, all)) c.in_ok-row.ensures) c.in_ok-push_some.ensures
 
 pub returns : goal.returns
 returns c =
-    let shown : List (List ℕ) = drop c.args.change.now.mark (rows_of (next_document c.args.self.now.screen.document c.args.change.now.text)) in
+    let d : Document = next_document c.args.self.now.screen.document c.args.change.now.text in
+    let shown : List (List ℕ) = drop c.args.change.now.mark (shown_of d (left_set c.args.change.now.setting c.args.self.now.left_mark) (ends_of c.args.self.now)) in
     let count : c.min-count.result ≡ min (length (take (c.args.change.now.rows - 1) shown)) c.args.end = c.min-count.ensures ∙ ap (λ n. min n c.args.end) c.count_after.ensures.count in
     let start = c.min-start.ensures in
     let end : c.loop-i.i ≡ c.min-count.result = omega (arith, start, c.loop-i-test.false, c.loop-i.auto.i-end) in
