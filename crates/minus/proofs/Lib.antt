@@ -11,3 +11,4 @@ pub mod JoinLaws
 pub mod StepLaws
 pub mod StartLaws
 pub mod RunLaws
+pub mod WrittenRowsLaws

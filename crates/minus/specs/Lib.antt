@@ -20,3 +20,4 @@ pub mod Answers
 pub mod SessionDrawings
 pub mod SessionSteps
 pub mod SessionStarts
+pub mod WrittenRows
