@@ -12,3 +12,4 @@ pub mod JoinLaws
 pub mod StepLaws
 pub mod StartLaws
 pub mod RunLaws
+pub mod WrittenRowsLaws

@@ -21,3 +21,4 @@ pub mod Answers
 pub mod SessionDrawings
 pub mod SessionSteps
 pub mod SessionStarts
+pub mod WrittenRows

@@ -25,6 +25,7 @@ pub mod sink;
 mod stand_in;
 pub mod state;
 mod status;
+mod written_rows;
 
 pub use commands::AppendStyle;
 pub use commands::Command;
@@ -176,3 +177,6 @@ pub use state::ExitStrategy;
 pub use state::PagerState;
 pub use state::RunMode;
 pub use state::Selection;
+pub use written_rows::write_lines;
+pub use written_rows::write_lines_in_horizontal_scroll;
+pub use written_rows::write_text_checked;

@@ -24,3 +24,5 @@ mod sinks;
 mod starts;
 #[cfg(test)]
 mod stubborn;
+#[cfg(test)]
+mod written_rows;

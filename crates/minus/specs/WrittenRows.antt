@@ -1,0 +1,49 @@
+-- Stored rows that are handed in, and written as they are or, where lines are not wrapped, from a left mark on.
+use Rattle.std.specs.Prelude.{ℕ, zero, suc, ◌-◌, ◌==◌, Bool, true, false, nat_lt, min, List, ◌∷◌, ◌++◌, length, map, take, drop, slice_index, if◌then◌else◌}
+use Rattle.std.specs.Fmt.{is_char_start}
+use Rattle.std.specs.List.{flat_map}
+use Rattle.minus_term.specs.Operations.{Op, GoTo, ClearAll}
+use Rattle.minus_term.specs.FullRedraw.{row_ops}
+use Rattle.minus_text.specs.Crop.{cropped}
+use Rattle.minus_text.specs.Prefixes.{prefix_columns}
+use Rattle.minus_state.specs.ScrollBounds.{prefix_bytes}
+
+-- whether a text may be cut at a place: it ends there, or a character begins there
+abbrev pub is_cut : List ℕ → ℕ → Bool
+is_cut text place = if nat_lt place (length text) then is_char_start (slice_index text place) else place == length text
+
+-- the greatest place up to a number where a text may be cut
+abbrev pub last_cut : List ℕ → ℕ → ℕ
+last_cut text zero = 0
+last_cut text (suc n) = if is_cut text (suc n) then suc n else last_cut text n
+
+-- where the prefix of a stored row ends, in bytes, where numbers are on or not and the text has so many lines
+abbrev pub prefix_end : Bool → ℕ → List ℕ → ℕ
+prefix_end numbers line_count row = last_cut row (prefix_bytes numbers line_count)
+
+-- what stands before a place of a row, and of what follows it so many columns from the left mark on
+abbrev pub cropped_behind : ℕ → ℕ → ℕ → List ℕ → List ℕ
+cropped_behind place left width row = take place row ++ cropped left width (drop place row)
+
+-- a stored row in so many columns: its prefix, and in the columns that this leaves its text from the left mark on
+abbrev pub row_from : ℕ → ℕ → Bool → ℕ → List ℕ → List ℕ
+row_from cols left numbers line_count row = cropped_behind (prefix_end numbers line_count row) left (cols - prefix_columns numbers line_count) row
+
+-- the row as it is where lines are wrapped, and else so
+abbrev pub written_row : Bool → ℕ → ℕ → Bool → ℕ → List ℕ → List ℕ
+written_row true cols left numbers line_count row = row
+written_row false cols left numbers line_count row = row_from cols left numbers line_count row
+
+-- the list that puts such rows one below another
+abbrev pub lines_ops : Bool → ℕ → ℕ → Bool → ℕ → List (List ℕ) → List Op
+lines_ops wrapping cols left numbers line_count lines = flat_map row_ops (map (written_row wrapping cols left numbers line_count) lines)
+
+-- of some lines those on a page of so many rows, the prompt's among them: from the mark on, which is at most the one at
+-- which the last page is full
+abbrev pub lines_of_page : {X : Type 0} → ℕ → ℕ → List X → List X
+lines_of_page mark rows lines = take (rows - 1) (drop (min mark (length lines - (rows - 1))) lines)
+
+-- the list that puts these alone on the screen, from its top
+abbrev pub text_ops : ℕ → ℕ → Bool → ℕ → ℕ → Bool → ℕ → List (List ℕ) → List Op
+text_ops mark rows wrapping cols left numbers line_count lines =
+    GoTo 0 0 ∷ ClearAll ∷ lines_ops wrapping cols left numbers line_count (lines_of_page mark rows lines)
