@@ -11,6 +11,8 @@ mod endings;
 #[cfg(test)]
 mod inputs;
 #[cfg(test)]
+mod layouts;
+#[cfg(test)]
 mod pages;
 #[cfg(test)]
 mod prompts;

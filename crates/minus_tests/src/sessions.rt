@@ -1,8 +1,8 @@
 //! Sessions for the tests, started and stepped in one place.
 use minus::{
     Answer, Command, Event, Input, InputEvent, IoCommand, KeyCode, KeyEvent, KeyEventKind,
-    KeyEventState, KeyModifiers, MinusError, OutputSink, Page, Pager, RunMode, Session, WithTty,
-    init_core,
+    KeyEventState, KeyModifiers, LineNumbers, MinusError, OutputSink, Page, Pager, RunMode,
+    Session, WithTty, init_core,
 };
 use std::alloc::{AllocError, Global};
 use std::test::Fail;
@@ -28,6 +28,9 @@ pub enum Asked<'a> {
     Follow(bool),
     Restored,
     Typed(char),
+    Numbers(LineNumbers),
+    Wrapped(bool),
+    Does(InputEvent),
     Io(IoCommand),
     Told(Event),
     Exit,
@@ -55,6 +58,9 @@ pub fn input(alloc: Global, asked: Asked<'_>) -> Result<Input, AllocError> {
         Asked::Follow(follow) => Command::FollowOutput(follow),
         Asked::Restored => Command::UserInput(InputEvent::RestorePrompt),
         Asked::Typed(character) => Command::UserInput(InputEvent::Number(character)),
+        Asked::Numbers(numbers) => Command::SetLineNumbers(numbers),
+        Asked::Wrapped(wrapping) => Command::LineWrapping(wrapping),
+        Asked::Does(event) => Command::UserInput(event),
         Asked::Io(command) => Command::Io(command),
         Asked::Told(event) => return Ok(Input::Event(event)),
         Asked::Exit => Command::UserInput(InputEvent::Exit),
