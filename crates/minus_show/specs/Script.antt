@@ -6,9 +6,11 @@ use Rattle.std.specs.List.{slice_split, before_first, after_first, position_or_l
 use Rattle.minus_term.specs.declared.event.Event.TheVariants.{Key}
 use Rattle.minus_term.specs.declared.event.KeyCode.TheVariants.{Char}
 use Rattle.minus_term.specs.declared.event.KeyEventKind.TheVariants.{Press}
+use Rattle.minus_text.specs.declared.line_numbers.LineNumbers.{LineNumbers}
+use Rattle.minus_text.specs.declared.line_numbers.LineNumbers.TheVariants.{AlwaysOn, Enabled, Disabled, AlwaysOff}
 use Rattle.minus.specs.declared.stand_in.StandIn.{StandIn}
 use Rattle.minus.specs.Reads.{Told, a_command, an_event}
-use Rattle.minus.specs.Table.{Wanted, sets_data, appends_data, moves_mark, resizes, sets_prompt, sends_message, follows, shows_prompt}
+use Rattle.minus.specs.Table.{Wanted, sets_data, appends_data, moves_mark, resizes, sets_prompt, sends_message, follows, shows_prompt, sets_numbers, sets_wrapping}
 use Rattle.minus_show.specs.Number.{usize_of}
 use Rattle.minus_show.specs.Escapes.{unescaped}
 
@@ -52,6 +54,15 @@ resize_asked argument = if has_blank argument then size_asked (usize_of (before_
 abbrev pub switch_of : List ℕ → Option Bool
 switch_of argument = if bytes_eq argument (codes "on") then Some true else if bytes_eq argument (codes "off") then Some false else None
 
+-- the numbers that an argument asks for
+abbrev pub numbers_of : List ℕ → Option LineNumbers
+numbers_of argument =
+    if bytes_eq argument (codes "always-on") then Some AlwaysOn
+    else if bytes_eq argument (codes "on") then Some Enabled
+    else if bytes_eq argument (codes "off") then Some Disabled
+    else if bytes_eq argument (codes "always-off") then Some AlwaysOff
+    else None
+
 -- what a word sets beside the text with its argument
 abbrev pub setting_asked : List ℕ → List ℕ → Option (Wanted StandIn)
 setting_asked word argument =
@@ -59,6 +70,8 @@ setting_asked word argument =
     else if bytes_eq word (codes "message") then option_map sends_message (unescaped argument)
     else if bytes_eq word (codes "follow") then option_map follows (switch_of argument)
     else if bytes_eq word (codes "showprompt") then option_map shows_prompt (switch_of argument)
+    else if bytes_eq word (codes "wrap") then option_map sets_wrapping (switch_of argument)
+    else if bytes_eq word (codes "numbers") then option_map sets_numbers (numbers_of argument)
     else None
 
 -- what a word asks for as a command with its argument: a known word, whose argument is well formed

@@ -2,17 +2,18 @@
 ghost use Rattle.std.specs.Prelude.{◌≡◌, ◌+◌, ◌<◌, ◌++◌, ◌∷◌, [], map, length, IfOk, IfErr, OnOk, IfSome, IsSome, MatchOption, Ok, Some, None, string_bytes};
 ghost use Rattle.std.specs.Option.{option_map};
 ghost use Rattle.std.specs.List.{position};
-ghost use Rattle.minus_show.specs.Script.{is_newline, script_lines, script_told, line_told, word_told, command_asked, setting_asked, resize_asked, switch_of, typed, all_typed};
+ghost use Rattle.minus_show.specs.Script.{is_newline, script_lines, script_told, line_told, word_told, command_asked, setting_asked, resize_asked, switch_of, numbers_of, typed, all_typed};
 ghost use Rattle.minus_show.specs.Escapes.{unescaped, escape_byte, split_escape_of};
 ghost use Rattle.minus_show.specs.ScriptLines.{told_by};
 ghost use Rattle.minus_show.specs.ScriptFaults.{IsScriptFault};
 ghost use Rattle.minus.specs.Reads.{told_of, wanted_of};
-ghost use Rattle.minus.specs.Table.{sets_data, appends_data, moves_mark, sets_prompt, sends_message, follows, shows_prompt};
+ghost use Rattle.minus.specs.Table.{sets_data, appends_data, moves_mark, sets_prompt, sends_message, follows, shows_prompt, sets_numbers, sets_wrapping};
 
 use crate::fault::ScriptFault;
 use crate::number::parse_usize;
 use minus::{
-    Command, Event, Input, InputEvent, KeyCode, KeyEvent, KeyEventKind, KeyEventState, KeyModifiers,
+    Command, Event, Input, InputEvent, KeyCode, KeyEvent, KeyEventKind, KeyEventState,
+    KeyModifiers, LineNumbers,
 };
 use std::alloc::{AllocError, Global};
 
@@ -125,6 +126,33 @@ fn show_prompt(is_shown: bool) -> Command
     Command::ShowPrompt(is_shown)
 }
 
+/// The command that lets rows begin with numbers, or not.
+fn set_numbers(numbers: LineNumbers) -> Command
+    ensures { wanted_of result ≡ sets_numbers numbers }
+{
+    Command::SetLineNumbers(numbers)
+}
+
+/// The command that wraps lines, or lets each be one row.
+fn wrap(wrapping: bool) -> Command
+    ensures { wanted_of result ≡ sets_wrapping wrapping }
+{
+    Command::LineWrapping(wrapping)
+}
+
+/// The numbers that an argument asks for.
+fn parse_numbers(argument: &str) -> Option<LineNumbers>
+    ensures { result ≡ numbers_of argument.now }
+{
+    match argument {
+        "always-on" => Some(LineNumbers::AlwaysOn),
+        "on" => Some(LineNumbers::Enabled),
+        "off" => Some(LineNumbers::Disabled),
+        "always-off" => Some(LineNumbers::AlwaysOff),
+        _ => None,
+    }
+}
+
 /// Whether an argument says on or off.
 fn parse_switch(argument: &str) -> Option<bool>
     ensures { result ≡ switch_of argument.now }
@@ -162,6 +190,8 @@ fn parse_setting(alloc: Global, word: &str, argument: &str) -> Result<Option<Com
         "message" => unescape(alloc, argument)?.map(send_message),
         "follow" => parse_switch(argument).map(follow),
         "showprompt" => parse_switch(argument).map(show_prompt),
+        "wrap" => parse_switch(argument).map(wrap),
+        "numbers" => parse_numbers(argument).map(set_numbers),
         _ => None,
     };
     Ok(command)

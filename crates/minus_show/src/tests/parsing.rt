@@ -19,6 +19,8 @@ fn command_text(alloc: Global, command: &Command) -> Result<String, Fail> {
         Command::SendMessage(text) => format!(in alloc; "message[{text}]")?,
         Command::FollowOutput(follow) => format!(in alloc; "follow[{follow}]")?,
         Command::ShowPrompt(is_shown) => format!(in alloc; "showprompt[{is_shown}]")?,
+        Command::LineWrapping(wrapping) => format!(in alloc; "wrap[{wrapping}]")?,
+        Command::SetLineNumbers(numbers) => format!(in alloc; "numbers[{numbers:?}]")?,
         Command::UserInput(_) | Command::Io(_) | Command::SetInputClassifier(_) => {
             String::new(alloc)
         }
@@ -60,7 +62,7 @@ fn shown(alloc: Global, script: &[u8]) -> Result<String, Fail> {
 
 #[test]
 fn reads_each_word(rt: HostRuntime) -> Result<(), Fail> {
-    let table: [(&[u8], &str); 17] = [
+    let table: [(&[u8], &str); 19] = [
         (b"", ""),
         (b"push ", "push[]"),
         (b"push \n", "push[]"),
@@ -84,6 +86,11 @@ fn reads_each_word(rt: HostRuntime) -> Result<(), Fail> {
             b"follow on\nfollow off\nshowprompt off",
             "follow[true]follow[false]showprompt[false]",
         ),
+        (b"wrap on\nwrap off", "wrap[true]wrap[false]"),
+        (
+            b"numbers always-on\nnumbers on\nnumbers off\nnumbers always-off",
+            "numbers[AlwaysOn]numbers[Enabled]numbers[Disabled]numbers[AlwaysOff]",
+        ),
     ];
     for (script, text) in table {
         assert_eq!(rt; shown(rt.alloc(), script)?.as_str(), text);
@@ -93,7 +100,7 @@ fn reads_each_word(rt: HostRuntime) -> Result<(), Fail> {
 
 #[test]
 fn names_the_first_faulty_line(rt: HostRuntime) -> Result<(), Fail> {
-    let table: [(&[u8], &str); 28] = [
+    let table: [(&[u8], &str); 31] = [
         (b"\n", "script line 1"),
         (b"push a\n\npush", "script line 2"),
         (b"push", "script line 1"),
@@ -122,6 +129,9 @@ fn names_the_first_faulty_line(rt: HostRuntime) -> Result<(), Fail> {
         (b"prompt", "script line 1"),
         (b"follow On", "script line 1"),
         (b"showprompt on ", "script line 1"),
+        (b"wrap yes", "script line 1"),
+        (b"numbers always", "script line 1"),
+        (b"numbers On", "script line 1"),
     ];
     for (script, text) in table {
         assert_eq!(rt; shown(rt.alloc(), script)?.as_str(), text);
