@@ -2,7 +2,7 @@
 use crate::stubborn::{Refusal, Stubborn};
 use minus_term::{OutputSink, WithTty, draw_bytes};
 use std::alloc::Global;
-use std::io::Cursor;
+use std::io::{Cursor, Read};
 use std::test::Fail;
 use std::{fs, io};
 
@@ -42,13 +42,20 @@ fn draws_to_nothing(rt: HostRuntime) {
 
 // No bytes are drawn to the standard streams, since the test's own output goes there.
 #[test]
-fn draws_to_each_sink_of_the_system(rt: HostRuntime) -> Result<(), Fail> {
+fn draws_to_each_standard_stream(rt: HostRuntime) {
     let (mut out, mut err) = (rt.stdout(), rt.stderr());
     let streams = takes(&mut out, b"") && takes(&mut err, b"");
     let puts = matches!(out.put(b""), Ok(0)) && matches!(err.put(b""), Ok(0));
-    let mut file = fs::create(&rt, "/dev/null")?;
-    let taken = takes(&mut file, b"to a file");
-    assert!(rt; streams && puts && taken);
+    assert!(rt; streams && puts);
+}
+
+#[test]
+fn draws_to_a_file(rt: HostRuntime) -> Result<(), Fail> {
+    let path = "draws_to_a_file.txt";
+    let taken = takes(&mut fs::create(&rt, path)?, b"to a file");
+    let mut text = Vec::new(rt.alloc());
+    let _ = fs::open(&rt, path)?.read_to_end(&mut text)?;
+    assert!(rt; taken && text.as_slice() == b"to a file".as_slice());
     Ok(())
 }
 
