@@ -19,7 +19,7 @@ use Rattle.minus.specs.declared.commands.Redraw.{Redraw}
 use Rattle.minus.specs.declared.commands.Redraw.TheVariants.{Whole as All, Appended}
 use Rattle.minus.specs.Page.{shown_of, all_shown, shown}
 use Rattle.minus.specs.NextTexts.{next_document}
-use Rattle.minus.specs.Changes.{IsChange, shown_by, left_set, settings_after}
+use Rattle.minus.specs.Changes.{IsChange, shown_by, left_set, ends_set, settings_after}
 use Rattle.minus.specs.declared.change.Setting.TheVariants as setting
 use Rattle.minus.specs.Reads.{control_of, settings_of, ends_of, IsFormed}
 
@@ -45,7 +45,7 @@ pub record IsPlaced (s : PagerState) (change : Change) (t : PagerState) : Type 0
   pub numbers : t.line_numbers ≡ (next_document s.screen.document change.text).layout.numbers
   pub mark : t.upper_mark ≡ change.mark
   pub left : t.left_mark ≡ left_set change.setting s.left_mark
-  pub ends : ends_of t ≡ ends_of s
+  pub ends : ends_of t ≡ ends_set change.setting (ends_of s)
   pub cols : t.cols ≡ change.cols
   pub rows : t.rows ≡ change.rows
   pub settings : settings_of t ≡ settings_after (settings_of s) change.clears change.setting
@@ -68,7 +68,7 @@ pub placed_from : (s d t : PagerState) (change : Change) → d ≡ s → IsPlace
 placed_from s d t change same p = subst (λ (x : PagerState). IsPlaced x change t) same p
 
 -- a change to a text that was formed anew
-pub change_anew : (s : PagerState) (change : Change) (next : Searched) (d : Document) (new : Control) → change.text ≡ Whole next → next ≡ searched None d → d ≡ document_of new → change.mark ≡ new.mark → change.cols ≡ new.cols → change.rows ≡ new.rows → left_set change.setting s.left_mark ≡ new.left → ends_of s ≡ new.ends
+pub change_anew : (s : PagerState) (change : Change) (next : Searched) (d : Document) (new : Control) → change.text ≡ Whole next → next ≡ searched None d → d ≡ document_of new → change.mark ≡ new.mark → change.cols ≡ new.cols → change.rows ≡ new.rows → left_set change.setting s.left_mark ≡ new.left → ends_set change.setting (ends_of s) ≡ new.ends
     → settings_after (settings_of s) change.clears change.setting ≡ new.settings → IsChange (control_of s) change new
 change_anew s change next d new is formed same m c r l e q = record {
   belongs = rw is (ap (λ (x : Searched). x.found) formed);
@@ -84,15 +84,15 @@ change_anew s change next d new is formed same m c r l e q = record {
 -- the rows of text on the page that a change leads to
 pub shown_is : (s : PagerState) (change : Change) (new : Control) → IsFormed s → IsChange (control_of s) change new → shown_by s change ≡ shown new
 shown_is s change new f h =
-    ap (λ (d : Document). take (change.rows - 1) (drop change.mark (shown_of d (left_set change.setting s.left_mark) (ends_of s)))) (document_next s change new f h)
-    ∙ ap (λ (l : ℕ). take (change.rows - 1) (drop change.mark (shown_of (document_of new) l (ends_of s)))) h.left_is
+    ap (λ (d : Document). take (change.rows - 1) (drop change.mark (shown_of d (left_set change.setting s.left_mark) (ends_set change.setting (ends_of s))))) (document_next s change new f h)
+    ∙ ap (λ (l : ℕ). take (change.rows - 1) (drop change.mark (shown_of (document_of new) l (ends_set change.setting (ends_of s))))) h.left_is
     ∙ ap (λ (e : SelectionEnds). take (change.rows - 1) (drop change.mark (shown_of (document_of new) new.left e))) h.ends_are
     ∙ ap (λ (n : ℕ). take (n - 1) (drop change.mark (all_shown new))) h.rows_are
     ∙ ap (λ (m : ℕ). take (new.rows - 1) (drop m (all_shown new))) h.mark_is
 
 -- a change that changes nothing
 pub unchanged : (s : PagerState) (change : Change) → change.text ≡ Same → change.mark ≡ s.upper_mark → change.cols ≡ s.cols → change.rows ≡ s.rows → change.clears ≡ false → change.setting ≡ setting.Same → IsChange (control_of s) change (control_of s)
-unchanged s change is m c r p q = record { belongs = rw is refl; document = rw is refl; mark_is = m; cols_are = c; rows_are = r; left_is = rw q refl; ends_are = refl; settings_are = rw (p, q) refl }
+unchanged s change is m c r p q = record { belongs = rw is refl; document = rw is refl; mark_is = m; cols_are = c; rows_are = r; left_is = rw q refl; ends_are = rw q refl; settings_are = rw (p, q) refl }
 
 -- a change is drawn as the table says of its command
 pub drawn_as : {K : Type 0} (c : Control) (w : Wanted K) (redraw : Redraw) (mark : ℕ) → redraw ≡ (effect c w).redraw → mark ≡ (changed_by (effect c w)).mark → drawing_by redraw c.mark mark ≡ drawing_of c w

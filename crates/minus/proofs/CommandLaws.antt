@@ -1,20 +1,25 @@
 -- Commands are drawn as their works say.
-use Rattle.std.proofs.Common.{◌≡◌, ℕ, ◌<◌, ◌≤◌, ◌==◌, min, Bool, true, List, [], ◌∷◌, ◌++◌, length, Option, sym, ap, subst, ◌∙◌, arith, inl, inr}
+use Rattle.std.proofs.Common.{◌≡◌, ℕ, ◌<◌, ◌≤◌, ◌==◌, min, Bool, true, List, [], ◌∷◌, ◌++◌, length, is_some, Option, None, Some, sym, ap, subst, ◌∙◌, arith, inl, inr}
 use Rattle.std.specs.Io.KnownBytes.{Appends}
 use Rattle.std.proofs.lemmas.Bool.{cases_Bool, eqb-true}
 use Rattle.minus_term.specs.Operations.{Op}
 use Rattle.minus_term.specs.Counts.{AppendsFront}
 use Rattle.minus_term.specs.Written.{written_all}
 use Rattle.minus_term.proofs.WrittenLaws.{written_all-nil}
+use Rattle.std.specs.Prelude.{not}
+use Rattle.minus_state.specs.declared.selection.Selection.{Selection}
+use Rattle.minus_state.specs.declared.selection.SelectionEnds.{SelectionEnds}
 use Rattle.minus.specs.declared.commands.Drawing.{Drawing}
 use Rattle.minus.specs.declared.commands.Drawing.TheVariants.{Nothing, Append, Prompt}
 use Rattle.minus.specs.declared.commands.Redraw.TheVariants.{Moved, Appended}
 use Rattle.minus.specs.Control.{Control, Settings, IsClamped, keeps_rows_with, top, cleared}
 use Rattle.minus.specs.Works.{work_of}
 use Rattle.minus.specs.Drawings.{ops_of_step}
-use Rattle.minus.specs.Table.{Wanted, sets_data, appends_data, moves_mark, resizes, exits, ignores, sets_prompt, sends_message, shows_prompt, follows, types, restores_prompt, redraws_prompt, redraws_page, sets_classifier, sets_numbers, sets_wrapping, shifts, append_redraw, may_shift, left_after, shift_redraw, effect, changed_by, drawing_by, drawing_of}
+use Rattle.minus.specs.Table.{Wanted, sets_data, appends_data, moves_mark, resizes, exits, ignores, sets_prompt, sends_message, shows_prompt, follows, types, restores_prompt, redraws_prompt, redraws_page, sets_classifier, sets_numbers, sets_wrapping, shifts, starts_selection, updates_selection, clears_selection, copies_selection, whole_where, led_redraw, append_redraw, may_shift, left_after, shift_redraw, effect, changed_by, drawing_by, drawing_of}
 use Rattle.minus.specs.Drawn.{IsDrawing, Drawn, BrokenOff}
+use Rattle.minus.specs.Selecting.{no_ends, has_ends, end_at, ends_begun, mark_led, ends_led, stays_led}
 use Rattle.minus.proofs.AppendLaws.{append_draws}
+use Rattle.minus.proofs.SelectingLaws.{mark_stays, ends_stay, none_there}
 use Rattle.minus.proofs.DrawnLaws.{work_drawn, whole_draws, quiet_draws, prompt_draws, scroll_draws}
 
 -- the list of a kind is the drawing of a work of that kind, on the way from one control to another
@@ -52,6 +57,29 @@ shift_draws c s left mark some is = elim (cases_Bool (may_shift c left)) [
   | inr stays ↦ rw stays (set_draws c s mark some is)
 ]
 
+begun_draws : (c : Control) (s : Settings) (o : Option Selection) (mark : ℕ) → 1 ≤ c.rows → mark ≡ c.mark → IsDrawnSo (drawing_by (whole_where (is_some o)) c.mark mark) c (record c { mark = mark; ends = ends_begun c.ends o; settings = s })
+begun_draws c s None mark some is = set_draws c s mark some is
+begun_draws c s (Some end) mark some is = whole_draws c (record c { mark = mark; ends = ends_begun c.ends (Some end); settings = s }) some
+
+led_draws : (c : Control) (s : Settings) (x y mark : ℕ) → 1 ≤ c.rows → (mark_led c y ≡ c.mark → mark ≡ c.mark) → IsDrawnSo (drawing_by (led_redraw c x y) c.mark mark) c (record c { mark = mark; ends = ends_led c x y; settings = s })
+led_draws c s x y mark some is = elim (cases_Bool (stays_led c x y)) [
+  | inl stays ↦ ap_stays stays
+  | inr moves ↦ subst (λ (b : Bool). IsDrawnSo (drawing_by (whole_where (not b)) c.mark mark) c (record c { mark = mark; ends = ends_led c x y; settings = s })) (sym moves) (whole_draws c (record c { mark = mark; ends = ends_led c x y; settings = s }) some)
+]
+  where
+    ap_stays : stays_led c x y ≡ true → IsDrawnSo (drawing_by (led_redraw c x y) c.mark mark) c (record c { mark = mark; ends = ends_led c x y; settings = s })
+    ap_stays stays =
+        subst (λ (b : Bool). IsDrawnSo (drawing_by (whole_where (not b)) c.mark mark) c (record c { mark = mark; ends = ends_led c x y; settings = s })) (sym stays)
+        (subst (λ (e : SelectionEnds). IsDrawnSo Nothing c (record c { mark = mark; ends = e; settings = s })) (sym (ends_stay c x y stays)) (set_draws c s mark some (is (mark_stays c x y stays))))
+
+gone_draws : (c : Control) (s : Settings) (mark : ℕ) → 1 ≤ c.rows → mark ≡ c.mark → IsDrawnSo (drawing_by (whole_where (has_ends c.ends)) c.mark mark) c (record c { mark = mark; ends = no_ends; settings = s })
+gone_draws c s mark some is = elim (cases_Bool (has_ends c.ends)) [
+  | inl there ↦ subst (λ (b : Bool). IsDrawnSo (drawing_by (whole_where b) c.mark mark) c (record c { mark = mark; ends = no_ends; settings = s })) (sym there) (whole_draws c (record c { mark = mark; ends = no_ends; settings = s }) some)
+  | inr none ↦
+      subst (λ (b : Bool). IsDrawnSo (drawing_by (whole_where b) c.mark mark) c (record c { mark = mark; ends = no_ends; settings = s })) (sym none)
+      (subst (λ (e : SelectionEnds). IsDrawnSo Nothing c (record c { mark = mark; ends = e; settings = s })) (none_there c.ends none) (set_draws c s mark some is))
+]
+
 -- each command is drawn as its work says
 pub command_draws : {K : Type 0} (c : Control) (clears : Bool) (w : Wanted K) → IsClamped c → 1 ≤ c.rows → 1 ≤ (changed_by (effect (cleared clears c) w)).rows → IsDrawnSo (drawing_of (cleared clears c) w) c (changed_by (effect (cleared clears c) w))
 command_draws c clears (sets_data text) h some new_some = whole_draws c _ new_some
@@ -72,6 +100,10 @@ command_draws c clears (sets_classifier k) h some new_some = set_draws c _ (min 
 command_draws c clears (sets_numbers numbers) h some new_some = whole_draws c _ new_some
 command_draws c clears (sets_wrapping wrapping) h some new_some = whole_draws c _ new_some
 command_draws c clears (shifts left) h some new_some = shift_draws c (cleared clears c).settings left (min c.mark (top c)) some (omega (arith, h))
+command_draws c clears (starts_selection x y) h some new_some = begun_draws c (cleared clears c).settings (end_at c x y) (min c.mark (top c)) some (omega (arith, h))
+command_draws c clears (updates_selection x y) h some new_some = led_draws c (cleared clears c).settings x y (min (mark_led c y) (top c)) some (λ e. omega (arith, h, e))
+command_draws c clears clears_selection h some new_some = gone_draws c (cleared clears c).settings (min c.mark (top c)) some (omega (arith, h))
+command_draws c clears copies_selection h some new_some = gone_draws c (cleared clears c).settings (min c.mark (top c)) some (omega (arith, h))
 
 -- a step's drawing, whole or broken off
 pub step_drawn : {K : Type 0} (a b c : Option (List ℕ)) (bytes : List ℕ) (old : Control) (clears : Bool) (w : Wanted K) → IsClamped old → 1 ≤ old.rows → 1 ≤ (changed_by (effect (cleared clears old) w)).rows → bytes ≡ written_all (ops_of_step (drawing_of (cleared clears old) w) old (changed_by (effect (cleared clears old) w))) → b ≡ a → Appends b c bytes

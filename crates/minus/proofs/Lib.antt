@@ -1,6 +1,7 @@
 pub mod DrawingLaws
 pub mod ShownLaws
 pub mod ShowingLaws
+pub mod SelectingLaws
 pub mod ChangeLaws
 pub mod TableLaws
 pub mod DrawnLaws

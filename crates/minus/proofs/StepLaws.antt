@@ -20,48 +20,47 @@ use Rattle.minus.specs.Table.{Wanted, Exit, effect, changed_by, kept_after, draw
 use Rattle.minus.specs.Works.{Work, work_of, after, WorkedOff, all, one, up_to}
 use Rattle.minus.specs.Drawings.{ops_of_step}
 use Rattle.minus.specs.Steps.{Allows, Asks, Works, Writes, IsStep, IsBrokenStep, IsBrokenExit, status_after, clears_prefix, taken_by}
-use Rattle.minus.proofs.TableLaws.{exit_still, none_copied, none_handed, still_on, still_exits}
+use Rattle.minus.proofs.TableLaws.{exit_still, exit_copies, none_handed, still_on, still_exits}
 use Rattle.minus.proofs.CommandLaws.{step_drawn, step_broken}
 use Rattle.minus.proofs.DrawnLaws.{nothing_drawn}
 use Rattle.minus.proofs.LeavesLaws.{leaves_after}
 
-one_work : {K : Type 0} (s t : Seen K) (w : Wanted K) → IsPossible w → (effect s.control w).exits_by ≡ None → after s w ≡ t → WorkedOff s (w ∷ []) (work_of s.control w ∷ []) None None t
-one_work {K = K} s t w possible on e =
-    subst (λ (x : Seen K). WorkedOff s (w ∷ []) (work_of s.control w ∷ []) None None x) e (subst (λ (text : Option (List ℕ)). WorkedOff s (w ∷ []) (work_of s.control w ∷ []) None text (after s w)) (none_copied s.control w) (one possible on all))
+one_work : {K : Type 0} (s t : Seen K) (w : Wanted K) → IsPossible w → (effect s.control w).exits_by ≡ None → after s w ≡ t → WorkedOff s (w ∷ []) (work_of s.control w ∷ []) None (effect s.control w).copies t
+one_work {K = K} s t w possible on e = subst (λ (x : Seen K). WorkedOff s (w ∷ []) (work_of s.control w ∷ []) None (effect s.control w).copies x) e (one possible on all)
 
 -- a session that stands as one that runs, but for its status, is seen as that one with the status of before
 seen_as : {K : Type 0} (old new : Seen K) (w : Wanted K) (now : Status) → new ≡ record (after old w) { status = now } → after old w ≡ record new { status = old.status }
 seen_as old new w now e = sym (ap (λ (x : Seen _). let r : Seen _ = record x { status = old.status } in r) e)
 
 -- a step, from what was worked off and written
-made_step : {K : Type 0} (allows : Allows K) (old new : Seen K) (told : Told K) (w : Wanted K) (clears : Bool) (works : List Work) (exit : Option Exit) (answer : Answer) (a b : Option (List ℕ)) → Asks allows old told w → clears_prefix told w ≡ clears → Works (taken_by clears old) (w ∷ []) works exit None (status_after exit) new → IsAnswer exit None answer → Writes exit old.control works new.control a b
+made_step : {K : Type 0} (allows : Allows K) (old new : Seen K) (told : Told K) (w : Wanted K) (clears : Bool) (works : List Work) (exit : Option Exit) (text : Option (List ℕ)) (answer : Answer) (a b : Option (List ℕ)) → Asks allows old told w → clears_prefix told w ≡ clears → Works (taken_by clears old) (w ∷ []) works exit text (status_after exit) new → IsAnswer exit text answer → Writes exit old.control works new.control a b
     → IsStep allows old told new answer a b
-made_step allows old new told w clears works exit answer a b asks is h answers writes = record {
+made_step allows old new told w clears works exit text answer a b asks is h answers writes = record {
   wanted = w;
   works = works;
   exit = exit;
-  text = None;
+  text = text;
   asked = asks;
-  worked = subst (λ (x : Bool). Works (taken_by x old) (w ∷ []) works exit None (status_after exit) new) (sym is) h;
+  worked = subst (λ (x : Bool). Works (taken_by x old) (w ∷ []) works exit text (status_after exit) new) (sym is) h;
   answers = answers;
   writes = writes;
-  leaves = λ before k running. leaves_after old (taken_by clears old) new w [] works exit None a b before refl h writes k running;
+  leaves = λ before k running. leaves_after old (taken_by clears old) new w [] works exit text a b before refl h writes k running;
 }
 
 -- a command that is drawn
-pub drawn_step : {K : Type 0} (allows : Allows K) (old mid new : Seen K) (told : Told K) (w : Wanted K) (clears : Bool) (answer : Answer) (a b c : Option (List ℕ)) (bytes : List ℕ) → Asks allows old told w → clears_prefix told w ≡ clears → (effect old.control w).exits_by ≡ None → IsClamped old.control → old.status ≡ status.Running → IsPossible w
-    → IsSize old.control.cols old.control.rows → IsSize mid.control.cols mid.control.rows → mid ≡ after (taken_by clears old) w → new ≡ mid → bytes ≡ written_all (ops_of_step (drawing_of (cleared clears old.control) w) old.control mid.control) → b ≡ a → Appends b c bytes → IsAnswer None None answer → IsStep allows old told new answer a c
-drawn_step allows old mid new told w clears answer a b c bytes asks is_clears on clamped running possible size new_size done same is s h answers =
+pub drawn_step : {K : Type 0} (allows : Allows K) (old mid new : Seen K) (told : Told K) (w : Wanted K) (clears : Bool) (text : Option (List ℕ)) (answer : Answer) (a b c : Option (List ℕ)) (bytes : List ℕ) → Asks allows old told w → clears_prefix told w ≡ clears → (effect old.control w).exits_by ≡ None → IsClamped old.control → old.status ≡ status.Running → IsPossible w
+    → IsSize old.control.cols old.control.rows → IsSize mid.control.cols mid.control.rows → mid ≡ after (taken_by clears old) w → new ≡ mid → bytes ≡ written_all (ops_of_step (drawing_of (cleared clears old.control) w) old.control mid.control) → b ≡ a → Appends b c bytes → text ≡ (effect (cleared clears old.control) w).copies → IsAnswer None text answer → IsStep allows old told new answer a c
+drawn_step allows old mid new told w clears text answer a b c bytes asks is_clears on clamped running possible size new_size done same is s h copies answers =
     let taken : Seen _ = taken_by clears old in
     let left : mid.control ≡ changed_by (effect taken.control w) = ap (λ (x : Seen _). x.control) done in
     let control : new.control ≡ changed_by (effect taken.control w) = ap (λ (x : Seen _). x.control) same ∙ left in
     let some : 1 ≤ (changed_by (effect taken.control w)).rows = subst (λ (x : Control). 1 ≤ x.rows) left new_size.some_rows in
     let ops : bytes ≡ written_all (ops_of_step (drawing_of taken.control w) old.control (changed_by (effect taken.control w))) = is ∙ ap (λ (x : Control). written_all (ops_of_step (drawing_of taken.control w) old.control x)) left in
     let writes : Drawn a c old.control (work_of taken.control w ∷ []) new.control = subst (λ (x : Control). Drawn a c old.control (work_of taken.control w ∷ []) x) (sym control) (step_drawn a b c bytes old.control clears w clamped size.some_rows some ops s h) in
-    made_step allows old new told w clears (work_of taken.control w ∷ []) None answer a c asks is_clears
+    made_step allows old new told w clears (work_of taken.control w ∷ []) None text answer a c asks is_clears
     (record {
       running = running;
-      worked = one_work taken (record new { status = old.status }) w possible (still_on old.control clears w on) (seen_as taken new w old.status (same ∙ done));
+      worked = subst (λ (t : Option (List ℕ)). WorkedOff taken (w ∷ []) (work_of taken.control w ∷ []) None t (record new { status = old.status })) (sym copies) (one_work taken (record new { status = old.status }) w possible (still_on old.control clears w on) (seen_as taken new w old.status (same ∙ done)));
       stands = ap (λ (x : Seen _). x.status) (same ∙ done) ∙ running;
     })
     answers writes
@@ -77,7 +76,7 @@ drawn_broken allows old mid new told w clears a b c bytes asks is_clears drawn o
     let some : 1 ≤ (changed_by (effect taken.control w)).rows = subst (λ (x : Control). 1 ≤ x.rows) left new_size.some_rows in
     let ops : bytes ≡ written_all (ops_of_step (drawing_of taken.control w) old.control (changed_by (effect taken.control w))) = is ∙ ap (λ (x : Control). written_all (ops_of_step (drawing_of taken.control w) old.control x)) left in
     let writes : BrokenOff a c old.control (work_of taken.control w ∷ []) new.control = subst (λ (x : Control). BrokenOff a c old.control (work_of taken.control w ∷ []) x) (sym control) (step_broken a b c bytes old.control clears w clamped size.some_rows some drawn ops s h) in
-    let worked : Works taken (w ∷ []) (work_of taken.control w ∷ []) None None status.Failed new = record {
+    let worked : Works taken (w ∷ []) (work_of taken.control w ∷ []) None (effect taken.control w).copies status.Failed new = record {
       running = running;
       worked = one_work taken (record new { status = old.status }) w possible (still_on old.control clears w on) (seen_as taken new w status.Failed failed);
       stands = ap (λ (x : Seen _). x.status) fails;
@@ -87,19 +86,19 @@ drawn_broken allows old mid new told w clears a b c bytes asks is_clears drawn o
         wanted = w;
         items = w ∷ [];
         rest = [];
-        text = None;
+        text = (effect taken.control w).copies;
         asked = asks;
         all = refl;
-        worked = subst (λ (x : Bool). Works (taken_by x old) (w ∷ []) (work_of taken.control w ∷ []) None None status.Failed new) (sym is_clears) worked;
+        worked = subst (λ (x : Bool). Works (taken_by x old) (w ∷ []) (work_of taken.control w ∷ []) None (effect taken.control w).copies status.Failed new) (sym is_clears) worked;
       },
       writes,
     )
 
 -- a command that is drawn by no bytes
-pub quiet_step : {K : Type 0} (allows : Allows K) (old new : Seen K) (told : Told K) (w : Wanted K) (clears : Bool) (answer : Answer) (a b : Option (List ℕ)) (bytes : List ℕ) → Asks allows old told w → clears_prefix told w ≡ clears → bytes ≡ written_all (ops_of_step (drawing_of (cleared clears old.control) w) old.control new.control) → length bytes ≡ 0 → (effect old.control w).exits_by ≡ None → IsClamped old.control
-    → old.status ≡ status.Running → IsPossible w → IsSize old.control.cols old.control.rows → IsSize new.control.cols new.control.rows → new ≡ after (taken_by clears old) w → b ≡ a → IsAnswer None None answer → IsStep allows old told new answer a b
-quiet_step allows old new told w clears answer a b bytes asks is_clears is none on clamped running possible size new_size done same answers =
-    drawn_step allows old new new told w clears answer a a b bytes asks is_clears on clamped running possible size new_size done refl is refl (rw (nil_from_length bytes none, same) (Appends-nil a)) answers
+pub quiet_step : {K : Type 0} (allows : Allows K) (old new : Seen K) (told : Told K) (w : Wanted K) (clears : Bool) (text : Option (List ℕ)) (answer : Answer) (a b : Option (List ℕ)) (bytes : List ℕ) → Asks allows old told w → clears_prefix told w ≡ clears → bytes ≡ written_all (ops_of_step (drawing_of (cleared clears old.control) w) old.control new.control) → length bytes ≡ 0 → (effect old.control w).exits_by ≡ None → IsClamped old.control
+    → old.status ≡ status.Running → IsPossible w → IsSize old.control.cols old.control.rows → IsSize new.control.cols new.control.rows → new ≡ after (taken_by clears old) w → b ≡ a → text ≡ (effect (cleared clears old.control) w).copies → IsAnswer None text answer → IsStep allows old told new answer a b
+quiet_step allows old new told w clears text answer a b bytes asks is_clears is none on clamped running possible size new_size done same copies answers =
+    drawn_step allows old new new told w clears text answer a a b bytes asks is_clears on clamped running possible size new_size done refl is refl (rw (nil_from_length bytes none, same) (Appends-nil a)) copies answers
 
 -- an exit leaves all as it is
 exit_keeps : {K : Type 0} (s : Seen K) (w : Wanted K) (x : Exit) → IsClamped s.control → (effect s.control w).exits_by ≡ Some x → after s w ≡ s
@@ -108,7 +107,7 @@ exit_keeps s w x clamped is = ap (λ (c : Control). let r : Seen _ = record s { 
 exit_worked : {K : Type 0} (s t : Seen K) (w : Wanted K) (x : Exit) → IsClamped s.control → (effect s.control w).exits_by ≡ Some x → s ≡ t → WorkedOff s (w ∷ []) (work_of s.control w ∷ []) (Some x) None t
 exit_worked {K = K} s t w x clamped is same =
     subst (λ (y : Seen K). WorkedOff s (w ∷ []) (work_of s.control w ∷ []) (Some x) None y) (exit_keeps s w x clamped is ∙ same)
-    (subst (λ (text : Option (List ℕ)). WorkedOff s (w ∷ []) (work_of s.control w ∷ []) (Some x) text (after s w)) (none_copied s.control w) (up_to (exit_still s.control w x clamped is).0 is))
+    (subst (λ (text : Option (List ℕ)). WorkedOff s (w ∷ []) (work_of s.control w ∷ []) (Some x) text (after s w)) (exit_copies s.control w x is) (up_to (exit_still s.control w x clamped is).0 is))
 
 -- what it leaves, once it was taken: a session that stands so
 exit_works : {K : Type 0} (old new : Seen K) (told : Told K) (w : Wanted K) (clears : Bool) (x : Exit) (now : Status) → clears_prefix told w ≡ clears → IsClamped old.control → (effect old.control w).exits_by ≡ Some x → old.status ≡ status.Running → new ≡ record (taken_by clears old) { status = now }
@@ -123,7 +122,7 @@ exit_works old new told w clears x now is_clears clamped is running ends = recor
 pub exit_step : {K : Type 0} (allows : Allows K) (old new : Seen K) (told : Told K) (w : Wanted K) (clears : Bool) (x : Exit) (answer : Answer) (a b : Option (List ℕ)) → Asks allows old told w → clears_prefix told w ≡ clears → IsClamped old.control → (effect old.control w).exits_by ≡ Some x → old.status ≡ status.Running → new ≡ record (taken_by clears old) { status = status.Ended } → Appends a b cleanup_bytes
     → IsAnswer (Some x) None answer → IsStep allows old told new answer a b
 exit_step allows old new told w clears x answer a b asks is_clears clamped is running ends h answers =
-    made_step allows old new told w clears (work_of (cleared clears old.control) w ∷ []) (Some x) answer a b asks is_clears (exit_works old new told w clears x status.Ended is_clears clamped is running ends) answers (a, nothing_drawn a old.control, h)
+    made_step allows old new told w clears (work_of (cleared clears old.control) w ∷ []) (Some x) None answer a b asks is_clears (exit_works old new told w clears x status.Ended is_clears clamped is running ends) answers (a, nothing_drawn a old.control, h)
 
 -- its cleanup was refused
 pub exit_broken : {K : Type 0} (allows : Allows K) (old new : Seen K) (told : Told K) (w : Wanted K) (clears : Bool) (x : Exit) (cause : CleanupError) (a b : Option (List ℕ)) → Asks allows old told w → clears_prefix told w ≡ clears → IsClamped old.control → (effect old.control w).exits_by ≡ Some x → old.status ≡ status.Running → new ≡ record (taken_by clears old) { status = status.Failed } → CleanupBreaksOff cause a b

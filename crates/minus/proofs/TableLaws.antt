@@ -3,7 +3,7 @@ use Rattle.std.proofs.Common.{◌≡◌, ℕ, ◌+◌, ◌<◌, List, [], ◌∷
 use Rattle.std.proofs.lemmas.List.{map_more}
 use Rattle.minus.specs.Control.{Control, clamp, top, cleared, IsClamped, SameSize}
 use Rattle.minus.specs.Seen.{Seen}
-use Rattle.minus.specs.Table.{Wanted, sets_data, appends_data, moves_mark, resizes, exits, ignores, sets_prompt, sends_message, shows_prompt, follows, types, restores_prompt, redraws_prompt, redraws_page, sets_classifier, sets_numbers, sets_wrapping, shifts, Exit, Effect, effect, changed_by, kept_after, drawing_of, IsPossible}
+use Rattle.minus.specs.Table.{Wanted, sets_data, appends_data, moves_mark, resizes, exits, ignores, sets_prompt, sends_message, shows_prompt, follows, types, restores_prompt, redraws_prompt, redraws_page, sets_classifier, sets_numbers, sets_wrapping, shifts, starts_selection, updates_selection, clears_selection, copies_selection, Exit, Effect, effect, changed_by, kept_after, drawing_of, IsPossible}
 use Rattle.minus.specs.Works.{Work, WorkedOff, all, one, up_to, is_full, some_full, ResizesAreFull}
 use Rattle.minus.specs.Starts.{taken, taken_all, at_start, first_control}
 
@@ -35,6 +35,10 @@ exit_still c (sets_classifier k) x h e = cc
 exit_still c (sets_numbers numbers) x h e = cc
 exit_still c (sets_wrapping wrapping) x h e = cc
 exit_still c (shifts left) x h e = cc
+exit_still c (starts_selection a b) x h e = cc
+exit_still c (updates_selection a b) x h e = cc
+exit_still c clears_selection x h e = cc
+exit_still c copies_selection x h e = cc
 
 -- nor does it hand a classifier over
 pub none_handed : {K : Type 0} (s : Seen K) (w : Wanted K) (x : Exit) → (effect s.control w).exits_by ≡ Some x → kept_after s.classifier w ≡ s.classifier
@@ -56,6 +60,10 @@ none_handed s (sets_classifier k) x e = cc
 none_handed s (sets_numbers numbers) x e = refl
 none_handed s (sets_wrapping wrapping) x e = refl
 none_handed s (shifts left) x e = refl
+none_handed s (starts_selection a b) x e = refl
+none_handed s (updates_selection a b) x e = refl
+none_handed s clears_selection x e = refl
+none_handed s copies_selection x e = refl
 
 -- whether a command is an exit does not hang on the prefix
 same_exit : {K : Type 0} (c : Control) (clears : Bool) (w : Wanted K) → (effect (cleared clears c) w).exits_by ≡ (effect c w).exits_by
@@ -77,6 +85,10 @@ same_exit c clears (sets_classifier k) = refl
 same_exit c clears (sets_numbers numbers) = refl
 same_exit c clears (sets_wrapping wrapping) = refl
 same_exit c clears (shifts left) = refl
+same_exit c clears (starts_selection x y) = refl
+same_exit c clears (updates_selection x y) = refl
+same_exit c clears clears_selection = refl
+same_exit c clears copies_selection = refl
 
 pub still_on : {K : Type 0} (c : Control) (clears : Bool) (w : Wanted K) → (effect c w).exits_by ≡ None → (effect (cleared clears c) w).exits_by ≡ None
 still_on c clears w e = same_exit c clears w ∙ e
@@ -84,26 +96,30 @@ still_on c clears w e = same_exit c clears w ∙ e
 pub still_exits : {K : Type 0} (c : Control) (clears : Bool) (w : Wanted K) (x : Exit) → (effect c w).exits_by ≡ Some x → (effect (cleared clears c) w).exits_by ≡ Some x
 still_exits c clears w x e = same_exit c clears w ∙ e
 
--- no command copies a text
-pub none_copied : {K : Type 0} (c : Control) (w : Wanted K) → (effect c w).copies ≡ None
-none_copied c (sets_data text) = refl
-none_copied c (appends_data text) = refl
-none_copied c (moves_mark mark) = refl
-none_copied c (resizes cols rows) = refl
-none_copied c exits = refl
-none_copied c ignores = refl
-none_copied c (sets_prompt text) = refl
-none_copied c (sends_message text) = refl
-none_copied c (shows_prompt is_shown) = refl
-none_copied c (follows follow) = refl
-none_copied c (types character) = refl
-none_copied c restores_prompt = refl
-none_copied c redraws_prompt = refl
-none_copied c redraws_page = refl
-none_copied c (sets_classifier k) = refl
-none_copied c (sets_numbers numbers) = refl
-none_copied c (sets_wrapping wrapping) = refl
-none_copied c (shifts left) = refl
+-- an exit copies no text
+pub exit_copies : {K : Type 0} (c : Control) (w : Wanted K) (x : Exit) → (effect c w).exits_by ≡ Some x → (effect c w).copies ≡ None
+exit_copies c (sets_data text) x e = refl
+exit_copies c (appends_data text) x e = refl
+exit_copies c (moves_mark mark) x e = refl
+exit_copies c (resizes cols rows) x e = refl
+exit_copies c exits x e = refl
+exit_copies c ignores x e = refl
+exit_copies c (sets_prompt text) x e = refl
+exit_copies c (sends_message text) x e = refl
+exit_copies c (shows_prompt is_shown) x e = refl
+exit_copies c (follows follow) x e = refl
+exit_copies c (types character) x e = refl
+exit_copies c restores_prompt x e = refl
+exit_copies c redraws_prompt x e = refl
+exit_copies c redraws_page x e = refl
+exit_copies c (sets_classifier k) x e = refl
+exit_copies c (sets_numbers numbers) x e = refl
+exit_copies c (sets_wrapping wrapping) x e = refl
+exit_copies c (shifts left) x e = refl
+exit_copies c (starts_selection a b) x e = refl
+exit_copies c (updates_selection a b) x e = refl
+exit_copies c clears_selection x e = refl
+exit_copies c copies_selection x e = cc
 
 -- what is not drawn in full keeps the size
 pub resizes_full_lem : {K : Type 0} → ResizesAreFull K
@@ -125,6 +141,10 @@ resizes_full_lem c (sets_classifier k) e = record { same_cols = refl; same_rows 
 resizes_full_lem c (sets_numbers numbers) e = record { same_cols = refl; same_rows = refl }
 resizes_full_lem c (sets_wrapping wrapping) e = record { same_cols = refl; same_rows = refl }
 resizes_full_lem c (shifts left) e = record { same_cols = refl; same_rows = refl }
+resizes_full_lem c (starts_selection x y) e = record { same_cols = refl; same_rows = refl }
+resizes_full_lem c (updates_selection x y) e = record { same_cols = refl; same_rows = refl }
+resizes_full_lem c clears_selection e = record { same_cols = refl; same_rows = refl }
+resizes_full_lem c copies_selection e = record { same_cols = refl; same_rows = refl }
 
 neither : (x y : Bool) → (x || y) ≡ false → (x ≡ false) × (y ≡ false)
 neither false y e = (refl, e)

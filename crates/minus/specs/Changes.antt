@@ -2,10 +2,11 @@
 use Rattle.std.specs.Prelude.{◌≡◌, ℕ, ◌-◌, List, [], take, drop, Bool, Option, None, string_bytes, if◌then◌else◌}
 use Rattle.std.specs.Option.{option_map}
 use Rattle.minus_text.specs.Searched.{searched}
+use Rattle.minus_state.specs.declared.selection.SelectionEnds.{SelectionEnds}
 use Rattle.minus.specs.declared.state.PagerState.{PagerState}
 use Rattle.minus.specs.declared.change.Change.{Change}
 use Rattle.minus.specs.declared.change.Setting.{Setting}
-use Rattle.minus.specs.declared.change.Setting.TheVariants.{Prompt, Message, Prefix, Shown, Follow, Left}
+use Rattle.minus.specs.declared.change.Setting.TheVariants.{Prompt, Message, Prefix, Shown, Follow, Left, Ends}
 use Rattle.minus.specs.NextTexts.{next_document, IsNext}
 use Rattle.minus.specs.Control.{Control, Settings, document_of}
 use Rattle.minus.specs.Page.{shown_of}
@@ -40,6 +41,11 @@ abbrev pub left_set : Setting → ℕ → ℕ
 left_set (Left next) left = next
 left_set setting left = left
 
+-- the ends of what is selected
+abbrev pub ends_set : Setting → SelectionEnds → SelectionEnds
+ends_set (Ends next) ends = next
+ends_set setting ends = ends
+
 -- what there will be beside the text, where the typed prefix goes first, or stays
 abbrev pub settings_after : Settings → Bool → Setting → Settings
 settings_after s clears setting = record {
@@ -58,12 +64,12 @@ pub record IsChange (old : Control) (change : Change) (new : Control) : Type 0 w
   pub cols_are : change.cols ≡ new.cols
   pub rows_are : change.rows ≡ new.rows
   pub left_is : left_set change.setting old.left ≡ new.left
-  pub ends_are : old.ends ≡ new.ends
+  pub ends_are : ends_set change.setting old.ends ≡ new.ends
   pub settings_are : settings_after old.settings change.clears change.setting ≡ new.settings
 
 -- the rows of text on the page that a change of a state leads to
 abbrev pub shown_by : PagerState → Change → List (List ℕ)
-shown_by s change = take (change.rows - 1) (drop change.mark (shown_of (next_document s.screen.document change.text) (left_set change.setting s.left_mark) (ends_of s)))
+shown_by s change = take (change.rows - 1) (drop change.mark (shown_of (next_document s.screen.document change.text) (left_set change.setting s.left_mark) (ends_set change.setting (ends_of s))))
 
 -- why a command was not formed: for want of memory, for a newline, or for a size that is none of a terminal
 abbrev pub IsUnformed : {K : Type 0} → Refusal → Wanted K → Type 0

@@ -1,6 +1,7 @@
 -- What the contracts cite.
 pub mod Sizes
 pub mod Control
+pub mod Selecting
 pub mod Seen
 pub mod Table
 pub mod Classified

@@ -14,7 +14,7 @@ use Rattle.minus.specs.declared.commands.InputOf.TheVariants as input
 use Rattle.minus.specs.declared.input.InputEvent.{InputEvent}
 use Rattle.minus.specs.declared.input.InputEvent.TheVariants as events
 use Rattle.minus.specs.Control.{Control, Settings, document_of}
-use Rattle.minus.specs.Table.{Wanted, sets_data, appends_data, moves_mark, resizes, exits, ignores, sets_prompt, sends_message, shows_prompt, follows, types, restores_prompt, redraws_prompt, redraws_page, sets_classifier, sets_numbers, sets_wrapping, shifts}
+use Rattle.minus.specs.Table.{Wanted, sets_data, appends_data, moves_mark, resizes, exits, ignores, sets_prompt, sends_message, shows_prompt, follows, types, restores_prompt, redraws_prompt, redraws_page, sets_classifier, sets_numbers, sets_wrapping, shifts, starts_selection, updates_selection, clears_selection, copies_selection}
 
 -- what is set in a state beside its text
 abbrev pub settings_of : PagerState → Settings
@@ -48,6 +48,10 @@ event_wanted (events.UpdateUpperMark mark) = moves_mark mark
 event_wanted (events.UpdateTermArea cols rows) = resizes cols rows
 event_wanted (events.UpdateLeftMark left) = shifts left
 event_wanted (events.UpdateLineNumber numbers) = sets_numbers numbers
+event_wanted (events.StartSelection x y) = starts_selection x y
+event_wanted (events.UpdateSelection x y) = updates_selection x y
+event_wanted events.ClearSelection = clears_selection
+event_wanted events.CopySelection = copies_selection
 event_wanted (events.HorizontalScroll wrapping) = sets_wrapping wrapping
 event_wanted (events.FollowOutput follow) = follows follow
 event_wanted events.RestorePrompt = restores_prompt

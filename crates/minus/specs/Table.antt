@@ -1,9 +1,11 @@
 -- The table of commands and events.
-use Rattle.std.specs.Prelude.{◌≡◌, ℕ, ◌+◌, ◌==◌, ◌||◌, nat_le, List, ◌++◌, Bool, true, false, Option, None, Some, encode_utf8, if◌then◌else◌}
+use Rattle.std.specs.Prelude.{◌≡◌, ℕ, ◌+◌, ◌==◌, ◌||◌, nat_le, is_some, not, List, ◌++◌, Bool, true, false, Option, None, Some, encode_utf8, if◌then◌else◌}
 use Rattle.std.specs.List.{list_any}
 use Rattle.std.specs.Option.{unwrap_or}
 use Rattle.minus_text.specs.declared.line_numbers.LineNumbers.{LineNumbers}
 use Rattle.minus_text.specs.Document.{longest}
+use Rattle.minus_state.specs.Copied.{copied}
+use Rattle.minus_state.specs.Selection.{ends_in_order}
 use Rattle.minus_state.specs.View.{prefix_in}
 use Rattle.minus.specs.declared.commands.Drawing.{Drawing}
 use Rattle.minus.specs.declared.commands.Drawing.TheVariants.{Nothing, Full, Scroll, Append, Prompt}
@@ -12,6 +14,7 @@ use Rattle.minus.specs.declared.commands.Redraw.TheVariants.{Stays, Whole, Moved
 use Rattle.minus.specs.declared.state.ExitStrategy.{ExitStrategy}
 use Rattle.minus.specs.declared.state.ExitStrategy.TheVariants.{ProcessQuit}
 use Rattle.minus.specs.Sizes.{IsSize}
+use Rattle.minus.specs.Selecting.{no_ends, has_ends, end_at, ends_begun, mark_led, ends_led, stays_led}
 use Rattle.minus.specs.Control.{Control, Settings, document_of, keeps_rows_with, clamp, top}
 
 -- a command, as values alone; a classifier is a value of the kind that the session keeps
@@ -34,6 +37,10 @@ pub data Wanted (K : Type 0) : Type 0 where
   sets_numbers : LineNumbers → Wanted K
   sets_wrapping : Bool → Wanted K
   shifts : ℕ → Wanted K
+  starts_selection : (x y : ℕ) → Wanted K
+  updates_selection : (x y : ℕ) → Wanted K
+  clears_selection : Wanted K
+  copies_selection : Wanted K
 
 -- an exit: how the program is to go on, and the code that it ends with if it is to end
 abbrev pub Exit : Type 0
@@ -80,8 +87,20 @@ may_shift c left = if c.wrapping then false else nat_le left c.left || nat_le (l
 abbrev pub left_after : Control → ℕ → ℕ
 left_after c left = if may_shift c left then left else c.left
 
+-- the whole page is drawn where something has changed, and else nothing
+abbrev pub whole_where : Bool → Redraw
+whole_where changed = if changed then Whole else Stays
+
 abbrev pub shift_redraw : Control → ℕ → Redraw
-shift_redraw c left = if may_shift c left then Whole else Stays
+shift_redraw c left = whole_where (may_shift c left)
+
+-- a selection that is led on is drawn unless it stays
+abbrev pub led_redraw : Control → ℕ → ℕ → Redraw
+led_redraw c x y = whole_where (not (stays_led c x y))
+
+-- nothing is selected any more
+abbrev pub unselects : Control → Effect
+unselects c = changes (record c { ends = no_ends }) (whole_where (has_ends c.ends))
 
 abbrev pub effect : {K : Type 0} → Control → Wanted K → Effect
 effect c (sets_data text) = changes (record c { text = text }) Whole
@@ -102,6 +121,10 @@ effect c (sets_classifier k) = changes c Stays
 effect c (sets_numbers numbers) = changes (record c { numbers = numbers }) Whole
 effect c (sets_wrapping wrapping) = changes (record c { wrapping = wrapping }) Whole
 effect c (shifts left) = changes (record c { left = left_after c left }) (shift_redraw c left)
+effect c (starts_selection x y) = changes (record c { ends = ends_begun c.ends (end_at c x y) }) (whole_where (is_some (end_at c x y)))
+effect c (updates_selection x y) = changes (record c { mark = mark_led c y; ends = ends_led c x y }) (led_redraw c x y)
+effect c clears_selection = unselects c
+effect c copies_selection = record (unselects c) { copies = copied (document_of c) (ends_in_order c.ends) }
 
 -- the classifier that a command hands over to be kept, if it does
 abbrev pub handed : {K : Type 0} → Wanted K → Option K

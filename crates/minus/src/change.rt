@@ -3,6 +3,7 @@ ghost use Rattle.minus.specs.Sizes.{IsSize};
 
 use crate::commands::{Drawing, Redraw};
 use crate::parts::Parts;
+use minus_state::SelectionEnds;
 use minus_text::{Layout, PendingPush, Screen};
 use std::alloc::{AllocError, Global};
 
@@ -98,12 +99,13 @@ pub(crate) enum Setting {
     Shown(bool),
     Follow(bool),
     Left(usize),
+    Ends(SelectionEnds),
 }
 
 impl Setting {
     ghost use Rattle.std.specs.Prelude.{◌≡◌};
     ghost use Rattle.std.specs.Option.{option_map};
-    ghost use Rattle.minus.specs.Changes.{prompt_set, message_set, prefix_set, shown_set, follow_set, left_set};
+    ghost use Rattle.minus.specs.Changes.{prompt_set, message_set, prefix_set, shown_set, follow_set, left_set, ends_set};
 
     // The prompt that there will be.
     pub(crate) fn prompt<'a>(&'a self, prompt: &'a str) -> &'a str
@@ -165,6 +167,16 @@ impl Setting {
             _ => left,
         }
     }
+
+    // The ends of what is selected.
+    pub(crate) fn ends(&self, ends: SelectionEnds) -> SelectionEnds
+        ensures { result ≡ ends_set self.now ends }
+    {
+        match self {
+            Setting::Ends(next) => *next,
+            _ => ends,
+        }
+    }
 }
 
 // What a command leaves: the text, the mark, the size and what is set beside them; whether the typed prefix went before it;
@@ -201,11 +213,13 @@ impl Change {
     }
 }
 
-// What comes of a command: a change, and a classifier that is to be kept, if it hands one over.
+// What comes of a command: a change, a classifier that is to be kept, if it hands one over, and the text that is copied,
+// if one is.
 #[derive(Drop)]
 pub(crate) struct Prepared<P: Parts> {
     pub(crate) change: Change,
     pub(crate) classifier: Option<P::Classifier>,
+    pub(crate) copied: Option<String>,
 }
 
 impl<P: Parts> Prepared<P> {
@@ -219,6 +233,7 @@ impl<P: Parts> Prepared<P> {
         Prepared {
             change,
             classifier: None,
+            copied: None,
         }
     }
 }

@@ -21,6 +21,25 @@ pub enum InputEvent {
     UpdateLineNumber(LineNumbers),
     /// Wrap lines that are too long for the columns, or let each be one row.
     HorizontalScroll(bool),
+    /// Begin a selection at this column and row of the page, both counted from 0.
+    StartSelection {
+        /// The column.
+        x: u16,
+        /// The row.
+        y: u16,
+    },
+    /// Lead the selection that has begun to this column and row of the page, both counted from 0. At its first row, and
+    /// below its last row of text, the mark moves by a row too.
+    UpdateSelection {
+        /// The column.
+        x: u16,
+        /// The row.
+        y: u16,
+    },
+    /// Select nothing any more.
+    ClearSelection,
+    /// Copy what is selected, and select nothing any more.
+    CopySelection,
     /// Move to the last page, and go on with what is appended from now on, or no longer.
     FollowOutput(bool),
     /// Drop the message, so that the prompt is shown again.

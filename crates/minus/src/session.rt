@@ -48,16 +48,16 @@ pub struct Answer {
 }
 
 impl Answer {
-    ghost use Rattle.std.specs.Prelude.{◌≡◌, None};
+    ghost use Rattle.std.specs.Prelude.{◌≡◌, option_map, string_bytes};
     ghost use Rattle.minus.specs.Answers.{IsAnswer, ends_run};
 
-    // The answer of a step that exits so, or goes on.
-    fn of_exit(alloc: Global, exited: Option<(ExitStrategy, u8)>) -> Answer
-        ensures { IsAnswer exited None result }
+    // The answer of a step that exits so, or goes on, and has copied a text, or none.
+    fn of_step(alloc: Global, exited: Option<(ExitStrategy, u8)>, copied: Option<String>) -> Answer
+        ensures { IsAnswer exited (option_map string_bytes copied) result }
     {
         Answer {
             exited,
-            copied: None,
+            copied,
             refused: Vec::new(alloc),
         }
     }
@@ -126,7 +126,7 @@ impl<S, P: Parts> Core<S, P> {
     ghost use Rattle.minus.specs.NextTexts.{IsNext};
     ghost use Rattle.minus.specs.Changes.{IsChange, IsUnformed};
     ghost use Rattle.minus.specs.Sizes.{IsSize};
-    ghost use Rattle.minus.specs.Table.{drawing_of, IsPossible};
+    ghost use Rattle.minus.specs.Table.{effect, drawing_of, IsPossible};
     ghost use Rattle.minus.specs.Works.{after};
     ghost use Rattle.minus.specs.Steps.{mode_told, taken_by};
     ghost use Rattle.minus.specs.Core.{seen_of};
@@ -187,13 +187,14 @@ impl<S, P: Parts> Core<S, P> {
     }
 
     // Forms what comes of a command, draws it into the buffer and puts it in its place; the typed prefix goes before it, or
-    // stays. An `Err` changes nothing.
-    fn take(&mut self, command: CommandOf<P>, clears: bool) -> Result<(), MinusError>
+    // stays. Answers the text that it copies, if it copies one. An `Err` changes nothing.
+    fn take(&mut self, command: CommandOf<P>, clears: bool) -> Result<Option<String>, MinusError>
         requires { (seen_of self.old).status ≡ Status.Running }
         ensures done { OnOk result (seen_of self.new ≡ after (taken_by clears (seen_of self.old)) (wanted_of command)) }
         ensures possible { OnOk result (IsPossible (wanted_of command)) }
         ensures drawn { OnOk result (DrawsBetween self.new (drawing_of (cleared clears (control_of self.old.state)) (wanted_of command))
             (control_of self.old.state) (control_of self.new.state)) }
+        ensures copied { IfOk result (λ text. option_map string_bytes text ≡ (effect (cleared clears (control_of self.old.state)) (wanted_of command)).copies) }
         ensures size { OnOk result (IsSize self.new.state.cols self.new.state.rows) }
         ensures sink { self.new.sink ≡ self.old.sink }
         ensures err { OnErr result (seen_of self.new ≡ seen_of self.old) }
@@ -206,12 +207,12 @@ impl<S, P: Parts> Core<S, P> {
         self.state.place(self.alloc, prepared.change)?;
         keep(&mut self.prompt_row, row);
         keep(&mut self.classifier, prepared.classifier);
-        Ok(())
+        Ok(prepared.copied)
     }
 }
 
 impl<S: OutputSink + Drop, P: Calls> Core<S, P> {
-    ghost use Rattle.std.specs.Prelude.{◌≡◌, ◌↔◌, true, map, reverse, None, Some, OnOk, OnErr, IfOk, IfErr, IsOk, IsErrOf};
+    ghost use Rattle.std.specs.Prelude.{◌≡◌, ◌↔◌, true, map, option_map, string_bytes, reverse, None, Some, OnOk, OnErr, IfOk, IfErr, IsOk, IsErrOf};
     ghost use Rattle.std.specs.Io.KnownBytes.{Appends};
     ghost use Rattle.minus_term.specs.Counts.{Stays, Rises};
     ghost use Rattle.minus_term.specs.Terminal.{CleanupBreaksOff};
@@ -222,22 +223,23 @@ impl<S: OutputSink + Drop, P: Calls> Core<S, P> {
     ghost use Rattle.minus.specs.Answers.{IsAnswer};
     ghost use Rattle.minus.specs.Core.{seen_of};
 
-    // Does what a command asks for that is no exit, and draws it. A refusal of the sink fails the session.
-    fn change(&mut self, command: CommandOf<P>, clears: bool) -> Result<(), MinusError>
+    // Does what a command asks for that is no exit, and draws it. Answers the text that it copies, if it copies one. A refusal
+    // of the sink fails the session.
+    fn change(&mut self, command: CommandOf<P>, clears: bool) -> Result<Option<String>, MinusError>
         requires on { (effect (seen_of self.old).control (wanted_of command)).exits_by ≡ None }
         requires running { (seen_of self.old).status ≡ stands.Running }
-        ensures step { OnOk result (StepsOf S.contents S.refused P.Classifier.allows self.old (wanted_of command) clears self.new None None) }
+        ensures step { IfOk result (λ text. StepsOf S.contents S.refused P.Classifier.allows self.old (wanted_of command) clears self.new None (option_map string_bytes text)) }
         ensures refused { IfErr result (λ e. RefusesStepOf S.contents S.refused P.Classifier.allows self.old (wanted_of command) clears self.new e) }
     {
-        self.take(command, clears)?;
+        let copied = self.take(command, clears)?;
         if self.drawing.is_empty() {
-            return Ok(());
+            return Ok(copied);
         }
         if let Err(cause) = draw_bytes(&mut self.sink, &self.drawing) {
             self.status = Status::Failed;
             return Err(MinusError::Draw(cause));
         }
-        Ok(())
+        Ok(copied)
     }
 
     // Cleans the terminal up, and ends the session by an exit. A refusal fails it.
@@ -260,7 +262,7 @@ impl<S: OutputSink + Drop, P: Calls> Core<S, P> {
         }
         self.status = Status::Ended;
         self.state.clear_prefix(clears);
-        Ok(Answer::of_exit(self.alloc, Some(exit)))
+        Ok(Answer::of_step(self.alloc, Some(exit), None))
     }
 
     // Does what a command asks for, and draws it.
@@ -273,8 +275,8 @@ impl<S: OutputSink + Drop, P: Calls> Core<S, P> {
         if let Some(exit) = self.state.exit_of(&command) {
             return self.exit(&command, exit, clears);
         }
-        self.change(command, clears)?;
-        Ok(Answer::of_exit(self.alloc, None))
+        let copied = self.change(command, clears)?;
+        Ok(Answer::of_step(self.alloc, None, copied))
     }
 
     // The command that an input is: for an event, what the classifier answers. And whether the typed prefix goes with it.

@@ -125,7 +125,7 @@ impl PagerState {
     ghost use Rattle.minus_term.specs.Refusals.{refusal_of};
     ghost use Rattle.minus.specs.Reads.{control_of, settings_of, ends_of, wanted_of, IsFormed};
     ghost use Rattle.minus.specs.NextTexts.{next_document, IsNext};
-    ghost use Rattle.minus.specs.Changes.{settings_after, left_set, IsUnformedState};
+    ghost use Rattle.minus.specs.Changes.{settings_after, left_set, ends_set, IsUnformedState};
     ghost use Rattle.minus.specs.Starts.{at_start, taken};
 
     /// No text yet, for a terminal of so many columns and rows.
@@ -247,7 +247,7 @@ impl PagerState {
     fn place_setting(&mut self, setting: Setting)
         ensures settings { settings_of self.new ≡ settings_after (settings_of self.old) false setting }
         ensures left { self.new.left_mark ≡ left_set setting self.old.left_mark }
-        ensures ends { ends_of self.new ≡ ends_of self.old }
+        ensures ends { ends_of self.new ≡ ends_set setting (ends_of self.old) }
         ensures numbers { self.new.line_numbers ≡ self.old.line_numbers }
         ensures screen { self.new.screen ≡ self.old.screen }
         ensures mark { self.new.upper_mark ≡ self.old.upper_mark }
@@ -262,6 +262,10 @@ impl PagerState {
             Setting::Shown(is_shown) => self.prompt_shown = is_shown,
             Setting::Follow(follow) => self.follow = follow,
             Setting::Left(left) => self.left_mark = left,
+            Setting::Ends(ends) => {
+                self.anchor = ends.anchor;
+                self.selection = ends.selection;
+            }
         }
     }
 
@@ -289,7 +293,7 @@ impl PagerState {
         ensures screen { OnOk result (self.new.screen ≡ searched None (next_document self.old.screen.document change.text)) }
         ensures numbers { OnOk result (self.new.line_numbers ≡ (next_document self.old.screen.document change.text).layout.numbers) }
         ensures left { OnOk result (self.new.left_mark ≡ left_set change.setting self.old.left_mark) }
-        ensures ends { OnOk result (ends_of self.new ≡ ends_of self.old) }
+        ensures ends { OnOk result (ends_of self.new ≡ ends_set change.setting (ends_of self.old)) }
         ensures mark { OnOk result (self.new.upper_mark ≡ change.mark) }
         ensures cols { OnOk result (self.new.cols ≡ change.cols) }
         ensures rows { OnOk result (self.new.rows ≡ change.rows) }

@@ -19,6 +19,8 @@ mod prompts;
 #[cfg(test)]
 mod refusals;
 #[cfg(test)]
+mod selections;
+#[cfg(test)]
 mod sessions;
 #[cfg(test)]
 mod sinks;

@@ -36,7 +36,7 @@ impl PagerState {
     ghost use Rattle.minus.specs.Drawings.{rows_after, rows_newly, append_from, ops_between, ops_of_step};
     ghost use Rattle.minus.specs.Reads.{control_of, settings_of, ends_of, IsFormed};
     ghost use Rattle.minus.specs.NextTexts.{IsNext};
-    ghost use Rattle.minus.specs.Changes.{IsChange, settings_after, left_set, shown_by};
+    ghost use Rattle.minus.specs.Changes.{IsChange, settings_after, left_set, ends_set, shown_by};
     ghost use Rattle.minus.specs.Showing.{row_text};
 
     // What the prompt row is formed of after a change.
@@ -83,7 +83,7 @@ impl PagerState {
             ≡ prompt_row (control_of self.now) }
     {
         match change.setting {
-            Setting::Same | Setting::Left(_) => {
+            Setting::Same | Setting::Left(_) | Setting::Ends(_) => {
                 change.cols == self.cols
                     && self.prefix_after(change.clears) == self.prefix_num.as_str()
             }
@@ -125,13 +125,13 @@ impl PagerState {
         ensures screen { result.screen.now ≡ self.now.screen }
         ensures text { result.text.now ≡ change.now.text }
         ensures left { result.left ≡ left_set change.now.setting self.now.left_mark }
-        ensures ends { result.ends ≡ ends_of self.now }
+        ensures ends { result.ends ≡ ends_set change.now.setting (ends_of self.now) }
     {
         Showing {
             screen: &self.screen,
             text: &change.text,
             left: change.setting.left(self.left_mark),
-            ends: self.ends(),
+            ends: change.setting.ends(self.ends()),
         }
     }
 

@@ -1,15 +1,38 @@
 //! What comes of commands, formed beside the state.
 ghost use Rattle.std.specs.Prelude.{◌≡◌};
-ghost use Rattle.minus.specs.Table.{has_newline};
+ghost use Rattle.minus.specs.Selecting.{is_same_end};
+ghost use Rattle.minus.specs.Table.{has_newline, whole_where};
 
 use crate::change::{Change, NextText, Prepared, Setting};
 use crate::commands::{CommandOf, IoCommand, Redraw};
 use crate::input::InputEvent;
 use crate::parts::Parts;
 use crate::state::{ExitStrategy, PagerState, formed, is_size};
+use minus_state::{Selection, SelectionEnds, View, extract_selection, selection_from_coordinates};
 use minus_term::MinusError;
 use minus_text::{Layout, LineNumbers, prefix_columns};
 use std::alloc::{AllocError, Global};
+
+// The whole page is drawn where something has changed, and else nothing.
+fn whole_where(changed: bool) -> Redraw
+    ensures { result ≡ whole_where changed }
+{
+    if changed {
+        return Redraw::Whole;
+    }
+    Redraw::Stays
+}
+
+// Whether two ends of a selection are the same, or both missing.
+fn is_same_end(one: Option<Selection>, other: Option<Selection>) -> bool
+    ensures { result ≡ is_same_end one other }
+{
+    match (one, other) {
+        (None, None) => true,
+        (Some(a), Some(b)) => a.absolute_row == b.absolute_row && a.col == b.col,
+        (None, Some(_)) | (Some(_), None) => false,
+    }
+}
 
 // Whether a text has a newline.
 fn has_newline(text: &str) -> bool
@@ -19,15 +42,17 @@ fn has_newline(text: &str) -> bool
 }
 
 impl PagerState {
-    ghost use Rattle.std.specs.Prelude.{◌≡◌, ◌+◌, ◌-◌, ◌==◌, ◌++◌, ◌<◌, nat_le, [], length, encode_utf8, string_bytes, false, if◌then◌else◌, OnOk, IfOk, IfErr};
+    ghost use Rattle.std.specs.Prelude.{◌≡◌, ◌+◌, ◌-◌, ◌==◌, ◌++◌, ◌<◌, ◌&&◌, nat_le, min, is_some, [], length, encode_utf8, string_bytes, false, if◌then◌else◌, OnOk, IfOk, IfErr};
+    ghost use Rattle.std.specs.Option.{option_map};
     ghost use Rattle.minus.specs.Control.{cleared, top};
-    ghost use Rattle.minus.specs.Table.{appends, append_redraw, width, may_shift, left_after, shift_redraw, effect, handed, moved_by, moved_to, changed_by, IsPossible};
+    ghost use Rattle.minus.specs.Selecting.{no_ends, has_ends, end_at, ends_begun, is_led, mark_led_to, mark_led, ends_led_to, ends_led, is_same_end};
+    ghost use Rattle.minus.specs.Table.{appends, append_redraw, width, may_shift, left_after, shift_redraw, whole_where, led_redraw, effect, handed, moved_by, moved_to, changed_by, IsPossible};
     ghost use Rattle.minus_term.specs.Refusals.{refusal_of};
-    ghost use Rattle.minus.specs.Reads.{control_of, settings_of, event_wanted, io_wanted, wanted_of, IsFormed};
+    ghost use Rattle.minus.specs.Reads.{control_of, settings_of, ends_of, event_wanted, io_wanted, wanted_of, IsFormed};
     ghost use Rattle.minus_text.specs.Document.{rows_of, margin_in};
     ghost use Rattle.minus_state.specs.View.{prefix_in};
     ghost use Rattle.minus.specs.NextTexts.{next_document, IsNext};
-    ghost use Rattle.minus.specs.Changes.{IsChange, settings_after, left_set, IsUnformed};
+    ghost use Rattle.minus.specs.Changes.{IsChange, settings_after, left_set, ends_set, IsUnformed};
     ghost use Rattle.minus.specs.Sizes.{IsSize};
 
     // How the program is to go on after a command that is an exit, and the code that it ends with.
@@ -61,22 +86,39 @@ impl PagerState {
         }
     }
 
-    // The state with one thing set beside its text.
-    fn set(&self, setting: Setting, redraw: Redraw, clears: bool) -> Change
+    // The state at a mark, with one thing set beside its text.
+    fn changed(&self, mark: usize, setting: Setting, redraw: Redraw, clears: bool) -> Change
         requires { IsFormed self.now }
-        ensures next { IsChange (control_of self.now) result
-            (record (control_of self.now) { left = left_set setting self.now.left_mark; settings = settings_after (settings_of self.now) clears setting }) }
+        ensures next { IsChange (control_of self.now) result (record (control_of self.now) {
+          mark = mark;
+          left = left_set setting self.now.left_mark;
+          ends = ends_set setting (ends_of self.now);
+          settings = settings_after (settings_of self.now) clears setting;
+        }) }
         ensures redraw { result.redraw ≡ redraw }
     {
         Change {
             text: NextText::Same,
-            mark: self.upper_mark,
+            mark,
             cols: self.cols,
             rows: self.rows,
             clears,
             setting,
             redraw,
         }
+    }
+
+    // The state with one thing set beside its text.
+    fn set(&self, setting: Setting, redraw: Redraw, clears: bool) -> Change
+        requires { IsFormed self.now }
+        ensures next { IsChange (control_of self.now) result (record (control_of self.now) {
+          left = left_set setting self.now.left_mark;
+          ends = ends_set setting (ends_of self.now);
+          settings = settings_after (settings_of self.now) clears setting;
+        }) }
+        ensures redraw { result.redraw ≡ redraw }
+    {
+        self.changed(self.upper_mark, setting, redraw, clears)
     }
 
     // The state as it is, to be drawn so.
@@ -91,19 +133,15 @@ impl PagerState {
     // The state at another mark, with one thing set beside its text.
     fn moved(&self, mark: usize, setting: Setting, clears: bool) -> Change
         requires { IsFormed self.now }
-        ensures next { IsChange (control_of self.now) result
-            (record (control_of self.now) { mark = mark; left = left_set setting self.now.left_mark; settings = settings_after (settings_of self.now) clears setting }) }
+        ensures next { IsChange (control_of self.now) result (record (control_of self.now) {
+          mark = mark;
+          left = left_set setting self.now.left_mark;
+          ends = ends_set setting (ends_of self.now);
+          settings = settings_after (settings_of self.now) clears setting;
+        }) }
         ensures redraw { result.redraw ≡ Redraw.Moved }
     {
-        Change {
-            text: NextText::Same,
-            mark,
-            cols: self.cols,
-            rows: self.rows,
-            clears,
-            setting,
-            redraw: Redraw::Moved,
-        }
+        self.changed(mark, setting, Redraw::Moved, clears)
     }
 
     // The greatest mark.
@@ -259,6 +297,153 @@ impl PagerState {
         self.redrawn(Redraw::Stays, clears)
     }
 
+    // The end of a selection at a place of the page that begins at a mark.
+    fn end_at(&self, mark: usize, x: u16, y: u16) -> Option<Selection>
+        requires { IsFormed self.now }
+        ensures { result ≡ end_at (record (control_of self.now) { mark = mark }) x y }
+    {
+        let view = View {
+            upper_mark: mark,
+            left_mark: self.left_mark,
+            rows: self.rows,
+        };
+        selection_from_coordinates(&self.screen, view, x, y)
+    }
+
+    // The state with a selection that begins at an end, if there is one.
+    fn begun(&self, end: Option<Selection>, clears: bool) -> Change
+        requires { IsFormed self.now }
+        ensures next { IsChange (control_of self.now) result (record (cleared clears (control_of self.now)) { ends = ends_begun (ends_of self.now) end }) }
+        ensures redraw { result.redraw ≡ whole_where (is_some end) }
+    {
+        match end {
+            Some(end) => {
+                let ends = SelectionEnds {
+                    anchor: Some(end),
+                    selection: Some(end),
+                };
+                self.set(Setting::Ends(ends), Redraw::Whole, clears)
+            }
+            None => self.redrawn(Redraw::Stays, clears),
+        }
+    }
+
+    // The state with a selection that begins at a place of the page.
+    fn selected(&self, x: u16, y: u16, clears: bool) -> Change
+        requires { IsFormed self.now }
+        ensures next { IsChange (control_of self.now) result
+            (record (cleared clears (control_of self.now)) { ends = ends_begun (ends_of self.now) (end_at (control_of self.now) x y) }) }
+        ensures redraw { result.redraw ≡ whole_where (is_some (end_at (control_of self.now) x y)) }
+    {
+        self.begun(self.end_at(self.upper_mark, x, y), clears)
+    }
+
+    // Whether a selection is led on.
+    fn is_led(&self) -> bool
+        ensures { result ≡ is_led (control_of self.now) }
+    {
+        self.anchor.is_some() && 1 < self.rows
+    }
+
+    // Where the mark goes as a selection is led to a row of the page.
+    fn mark_led_to(&self, y: u16) -> usize
+        requires { IsFormed self.now }
+        ensures { result ≡ mark_led_to (control_of self.now) y }
+    {
+        if y == 0 {
+            return self.upper_mark.saturating_sub(1);
+        }
+        if usize::from(y) >= self.rows - 1 {
+            return self.upper_mark.saturating_add(1).min(self.top());
+        }
+        self.upper_mark
+    }
+
+    // The ends of a selection that is led to an end, if there is one.
+    fn ends_with(&self, end: Option<Selection>) -> SelectionEnds
+        ensures { result ≡ ends_led_to (ends_of self.now) end }
+    {
+        match end {
+            Some(end) => SelectionEnds {
+                anchor: self.anchor,
+                selection: Some(end),
+            },
+            None => self.ends(),
+        }
+    }
+
+    // The ends of a selection that is led to a place of the page that begins at a mark.
+    fn ends_led_to(&self, mark: usize, x: u16, y: u16) -> SelectionEnds
+        requires formed { IsFormed self.now }
+        requires rows { 1 < self.now.rows }
+        ensures { result ≡ ends_led_to (ends_of self.now) (end_at (record (control_of self.now) { mark = mark }) x (min y (self.now.rows - 2))) }
+    {
+        let row = usize::from(y).min(self.rows - 2) as u16;
+        self.ends_with(self.end_at(mark, x, row))
+    }
+
+    // Whether the mark and where the selection is led to stay so.
+    fn stays_at(&self, mark: usize, ends: SelectionEnds) -> bool
+        ensures { result ≡ ((mark == self.now.upper_mark) && is_same_end ends.selection self.now.selection) }
+    {
+        mark == self.upper_mark && is_same_end(ends.selection, self.selection)
+    }
+
+    // The state with its selection led to a place of the page.
+    fn led(&self, x: u16, y: u16, clears: bool) -> Change
+        requires { IsFormed self.now }
+        ensures next { IsChange (control_of self.now) result
+            (record (cleared clears (control_of self.now)) { mark = mark_led (control_of self.now) y; ends = ends_led (control_of self.now) x y }) }
+        ensures redraw { result.redraw ≡ led_redraw (control_of self.now) x y }
+    {
+        if !self.is_led() {
+            return self.redrawn(Redraw::Stays, clears);
+        }
+        let mark = self.mark_led_to(y);
+        let ends = self.ends_led_to(mark, x, y);
+        let stays = self.stays_at(mark, ends);
+        self.changed(mark, Setting::Ends(ends), whole_where(!stays), clears)
+    }
+
+    // Whether an end of a selection is there.
+    fn has_ends(&self) -> bool
+        ensures { result ≡ has_ends (ends_of self.now) }
+    {
+        self.anchor.is_some() || self.selection.is_some()
+    }
+
+    // The state with nothing selected.
+    fn unselected(&self, clears: bool) -> Change
+        requires { IsFormed self.now }
+        ensures next { IsChange (control_of self.now) result (record (cleared clears (control_of self.now)) { ends = no_ends }) }
+        ensures redraw { result.redraw ≡ whole_where (has_ends (ends_of self.now)) }
+    {
+        let ends = SelectionEnds {
+            anchor: None,
+            selection: None,
+        };
+        self.set(Setting::Ends(ends), whole_where(self.has_ends()), clears)
+    }
+
+    // The text that a command copies, if it copies one.
+    fn copied_by<P: Parts>(
+        &self,
+        alloc: Global,
+        command: &CommandOf<P>,
+        clears: bool,
+    ) -> Result<Option<String>, AllocError>
+        requires { IsFormed self.now }
+        ensures { IfOk result (λ text. option_map string_bytes text ≡ (effect (cleared clears (control_of self.now)) (wanted_of command.now)).copies) }
+    {
+        match command {
+            CommandOf::UserInput(InputEvent::CopySelection) => {
+                let text = extract_selection(alloc, &self.screen, self.ends())?;
+                Ok(text)
+            }
+            _ => Ok(None),
+        }
+    }
+
     // Where an append leaves the mark: at the last page, where the page goes on with what is appended.
     fn mark_after(&self, text: &NextText) -> usize
         requires { IsNext self.now.screen text.now }
@@ -342,6 +527,9 @@ impl PagerState {
             InputEvent::UpdateLeftMark(left) => Ok(self.shifted(left, clears)),
             InputEvent::UpdateLineNumber(numbers) => Ok(self.renumbered(alloc, numbers, clears)?),
             InputEvent::HorizontalScroll(wrapping) => Ok(self.rewrapped(alloc, wrapping, clears)?),
+            InputEvent::StartSelection { x, y } => Ok(self.selected(x, y, clears)),
+            InputEvent::UpdateSelection { x, y } => Ok(self.led(x, y, clears)),
+            InputEvent::ClearSelection | InputEvent::CopySelection => Ok(self.unselected(clears)),
             InputEvent::FollowOutput(follow) => {
                 Ok(self.moved(self.top(), Setting::Follow(follow), clears))
             }
@@ -423,6 +611,7 @@ impl PagerState {
             CommandOf::SetInputClassifier(classifier) => Ok(Prepared {
                 change: self.redrawn(Redraw::Stays, clears),
                 classifier: Some(classifier),
+                copied: None,
             }),
         }
     }
@@ -439,13 +628,16 @@ impl PagerState {
             (changed_by (effect (cleared clears (control_of self.now)) (wanted_of command)))) }
         ensures redraw { IfOk result (λ p. p.change.redraw ≡ (effect (cleared clears (control_of self.now)) (wanted_of command)).redraw) }
         ensures handed { IfOk result (λ p. p.classifier ≡ handed (wanted_of command)) }
+        ensures copied { IfOk result (λ p. option_map string_bytes p.copied ≡ (effect (cleared clears (control_of self.now)) (wanted_of command)).copies) }
         ensures possible { OnOk result (IsPossible (wanted_of command)) }
         ensures unformed { IfErr result (λ e. IsUnformed (refusal_of e) (wanted_of command)) }
     {
+        let copied = self.copied_by(alloc, &command, clears)?;
         let mut prepared = self.next(alloc, command, clears)?;
         let rows = prepared.change.text.rows_after(&self.screen);
         let top = rows.saturating_sub(prepared.change.rows - 1);
         prepared.change.mark = prepared.change.mark.min(top);
+        prepared.copied = copied;
         Ok(prepared)
     }
 }

@@ -7,7 +7,7 @@ use Rattle.minus.proofs.session.Core.change.Goals as goal
 
 pub returns-in-Err-clause-refused : goal.returns-in-Err-clause-refused
 returns-in-Err-clause-refused g c told asked =
-    let taken = c.in_ok-take.ensures in
+    let taken = c.in_ok-copied.ensures in
     record {
       refuses =
           drawn_broken _ (seen_of c.args.self.now) (seen_of c.take.new.self) _ told _ c.args.clears _ _ _ c.take.new.self.drawing.items asked.0 asked.1 (search rules) c.requires.on c.args.self.now.clamped c.requires.running taken.possible c.args.self.now.state.sized taken.size taken.done refl taken.drawn (ap g.S.Write.contents c.take.ensures.sink)
@@ -18,16 +18,16 @@ returns-in-Err-clause-refused g c told asked =
 
 pub returns-clause-step : goal.returns-clause-step
 returns-clause-step g c told asked answer answers =
-    let taken = c.in_ok-take.ensures in
+    let taken = c.in_ok-copied.ensures in
     record {
-      step = drawn_step _ (seen_of c.args.self.now) (seen_of c.take.new.self) _ told _ c.args.clears answer _ _ _ _ asked.0 asked.1 c.requires.on c.args.self.now.clamped c.requires.running taken.possible c.args.self.now.state.sized taken.size taken.done refl (c.deref.ensures.value ∙ taken.drawn) (ap g.S.Write.contents c.take.ensures.sink) c.in_default.ensures.ok answers;
+      step = drawn_step _ (seen_of c.args.self.now) (seen_of c.take.new.self) _ told _ c.args.clears _ answer _ _ _ _ asked.0 asked.1 c.requires.on c.args.self.now.clamped c.requires.running taken.possible c.args.self.now.state.sized taken.size taken.done refl (c.deref.ensures.value ∙ taken.drawn) (ap g.S.Write.contents c.take.ensures.sink) c.in_default.ensures.ok taken.copied answers;
       stays = let h = c.in_default.ensures.stays in rw (ap g.S.OutputSink.refused c.take.ensures.sink) at h;
     }
 
 pub returns-then-is_empty-clause-step : goal.returns-then-is_empty-clause-step
 returns-then-is_empty-clause-step g c told asked answer answers =
-    let taken = c.in_ok-take.ensures in
+    let taken = c.in_ok-copied.ensures in
     record {
-      step = quiet_step _ (seen_of c.args.self.now) (seen_of c.take.new.self) told _ c.args.clears answer _ _ c.take.new.self.drawing.items asked.0 asked.1 taken.drawn (search rules) c.requires.on c.args.self.now.clamped c.requires.running taken.possible c.args.self.now.state.sized taken.size taken.done (ap g.S.Write.contents taken.sink) answers;
+      step = quiet_step _ (seen_of c.args.self.now) (seen_of c.take.new.self) told _ c.args.clears _ answer _ _ c.take.new.self.drawing.items asked.0 asked.1 taken.drawn (search rules) c.requires.on c.args.self.now.clamped c.requires.running taken.possible c.args.self.now.state.sized taken.size taken.done (ap g.S.Write.contents taken.sink) taken.copied answers;
       stays = rw taken.sink (Stays-refl (g.S.OutputSink.refused c.args.self.now.sink));
     }

@@ -3,7 +3,7 @@ use Rattle.std.proofs.Common.{◌≡◌, Option, Some, None, refl, sym, ap, ◌�
 use Rattle.std.specs.Option.{unwrap_or}
 use Rattle.minus_term.specs.declared.event.Event.{Event}
 use Rattle.minus.specs.declared.input.InputEvent.{InputEvent}
-use Rattle.minus.specs.declared.input.InputEvent.TheVariants.{UpdateUpperMark, UpdateTermArea, UpdateLeftMark, UpdateLineNumber, HorizontalScroll, FollowOutput, RestorePrompt, Number, Exit, Ignore}
+use Rattle.minus.specs.declared.input.InputEvent.TheVariants.{UpdateUpperMark, UpdateTermArea, UpdateLeftMark, UpdateLineNumber, HorizontalScroll, StartSelection, UpdateSelection, ClearSelection, CopySelection, FollowOutput, RestorePrompt, Number, Exit, Ignore}
 use Rattle.minus.specs.Reads.{event_wanted, answer_wanted, event_clears, an_event}
 use Rattle.minus.specs.Steps.{clears_prefix}
 use Rattle.minus.proofs.session.Core.command_of.Goals as goal
@@ -18,6 +18,10 @@ clears_as K e (UpdateTermArea cols rows) = refl
 clears_as K e (UpdateLeftMark left) = refl
 clears_as K e (UpdateLineNumber numbers) = refl
 clears_as K e (HorizontalScroll wrapping) = refl
+clears_as K e (StartSelection x y) = refl
+clears_as K e (UpdateSelection x y) = refl
+clears_as K e ClearSelection = refl
+clears_as K e CopySelection = refl
 clears_as K e (FollowOutput follow) = refl
 clears_as K e RestorePrompt = refl
 clears_as K e (Number character) = refl

@@ -20,7 +20,7 @@ returns-in-Err-clause-refused g c told asked = record {
 pub returns-clause-step : goal.returns-clause-step
 returns-clause-step g c told asked = record {
   step =
-      exit_step _ (seen_of c.args.self.now) _ told (wanted_of c.args.command.now) c.args.clears c.args.exit c.of_exit.result _ _ asked.0 asked.1 c.args.self.now.clamped c.requires.exits c.requires.running
-      (ap (λ (x : Control). let r : Seen _ = record (seen_of c.args.self.now) { control = x; status = status.Ended } in r) c.clear_prefix-2.ensures.control) c.in_default.ensures.ok c.of_exit.ensures;
+      exit_step _ (seen_of c.args.self.now) _ told (wanted_of c.args.command.now) c.args.clears c.args.exit c.of_step.result _ _ asked.0 asked.1 c.args.self.now.clamped c.requires.exits c.requires.running
+      (ap (λ (x : Control). let r : Seen _ = record (seen_of c.args.self.now) { control = x; status = status.Ended } in r) c.clear_prefix-2.ensures.control) c.in_default.ensures.ok c.of_step.ensures;
   stays = c.in_default.ensures.stays;
 }

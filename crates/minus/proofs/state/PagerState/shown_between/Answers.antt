@@ -5,7 +5,7 @@ use Rattle.minus_text.specs.Document.{Document}
 use Rattle.minus_state.specs.declared.selection.SelectionEnds.{SelectionEnds}
 use Rattle.minus_state.specs.Selection.{ends_in_order}
 use Rattle.minus_state.proofs.ShownRowsLaws.{length-shown_rows}
-use Rattle.minus.specs.Changes.{left_set}
+use Rattle.minus.specs.Changes.{left_set, ends_set}
 use Rattle.minus.specs.NextTexts.{next_document}
 use Rattle.minus.specs.Page.{shown_of}
 use Rattle.minus.specs.Reads.{ends_of}
@@ -18,7 +18,7 @@ pub loop-i-preserved : goal.loop-i-preserved
 loop-i-preserved c =
     let d : Document = next_document c.args.self.now.screen.document c.args.change.now.text in
     let left : ℕ = left_set c.args.change.now.setting c.args.self.now.left_mark in
-    let ends : SelectionEnds = ends_of c.args.self.now in
+    let ends : SelectionEnds = ends_set c.args.change.now.setting (ends_of c.args.self.now) in
     let rows : List (List ℕ) = shown_of d left ends in
     let mark : ℕ = c.args.change.now.mark in
     let count = c.count_after.ensures.count in
@@ -35,7 +35,7 @@ loop-i-preserved c =
 pub returns : goal.returns
 returns c =
     let d : Document = next_document c.args.self.now.screen.document c.args.change.now.text in
-    let shown : List (List ℕ) = drop c.args.change.now.mark (shown_of d (left_set c.args.change.now.setting c.args.self.now.left_mark) (ends_of c.args.self.now)) in
+    let shown : List (List ℕ) = drop c.args.change.now.mark (shown_of d (left_set c.args.change.now.setting c.args.self.now.left_mark) (ends_set c.args.change.now.setting (ends_of c.args.self.now))) in
     let count : c.min-count.result ≡ min (length (take (c.args.change.now.rows - 1) shown)) c.args.end = c.min-count.ensures ∙ ap (λ n. min n c.args.end) c.count_after.ensures.count in
     let start = c.min-start.ensures in
     let end : c.loop-i.i ≡ c.min-count.result = omega (arith, start, c.loop-i-test.false, c.loop-i.auto.i-end) in

@@ -1,6 +1,6 @@
 -- The rows so far.
 use Rattle.std.proofs.Common.{◌≡◌, map, take, drop}
-use Rattle.minus.specs.Changes.{left_set}
+use Rattle.minus.specs.Changes.{left_set, ends_set}
 use Rattle.minus.specs.NextTexts.{next_document}
 use Rattle.minus.specs.Page.{shown_of}
 use Rattle.minus.specs.Reads.{ends_of}
@@ -9,4 +9,4 @@ use Rattle.minus.proofs.state.PagerState.shown_between.Given as goal
 
 abbrev pub invariant-loop-i : goal.invariant-loop-i
 invariant-loop-i l =
-    map row_text l.shown.items ≡ drop l.start (take l.i (drop l.change.mark (shown_of (next_document l.self.screen.document l.change.text) (left_set l.change.setting l.self.left_mark) (ends_of l.self))))
+    map row_text l.shown.items ≡ drop l.start (take l.i (drop l.change.mark (shown_of (next_document l.self.screen.document l.change.text) (left_set l.change.setting l.self.left_mark) (ends_set l.change.setting (ends_of l.self)))))
