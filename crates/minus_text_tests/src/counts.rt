@@ -1,129 +1,123 @@
 //! What a screen, a push and a map of lines tell.
-use crate::screens::{has_rows, screen_of};
-use minus_term::error::MinusError;
+use crate::screens::{has_rows, push, push_all, stores};
+use crate::told::{Told, tells};
 use minus_text::{FormatResult, Layout, LineNumbers, LinesRowMap, PendingPush, Screen};
-use std::alloc::Global;
-use std::test::Fail;
+use std::alloc::{AllocError, Global};
 
-// A screen's number of lines and of rows, and the columns of its longest line, after these pieces.
-fn counted(alloc: Global, pieces: &str) -> Result<(usize, usize, usize), MinusError> {
-    let screen = screen_of(alloc, pieces, 80)?;
-    Ok((
-        screen.line_count(),
-        screen.formatted_lines_count(),
-        screen.get_max_line_length(),
-    ))
+// Whether a screen has so many lines and rows, and its longest line so many columns, after these pieces.
+fn counts(alloc: Global, pieces: &str, lines: usize, rows: usize, longest: usize) -> bool {
+    let mut screen = Screen::new(alloc);
+    push_all(alloc, &mut screen, pieces, 80)
+        && screen.line_count() == lines
+        && screen.formatted_lines_count() == rows
+        && screen.get_max_line_length() == longest
 }
 
-// How many unfinished rows the last push of these pieces tells, for 20 columns.
-fn unfinished_told(alloc: Global, pieces: &str) -> Result<usize, MinusError> {
+#[test]
+fn lines_and_the_longest_are_counted(rt: HostRuntime) {
+    assert!(rt; counts(rt.alloc(), "", 0, 0, 0));
+    assert!(rt; counts(rt.alloc(), "abc\r", 1, 1, 3));
+    assert!(rt; counts(rt.alloc(), "abc\r|\n", 1, 1, 3));
+    assert!(rt; counts(rt.alloc(), "one\ntwo|", 2, 2, 3));
+}
+
+// How many unfinished rows the push of a piece tells, for 20 columns.
+fn unfinished(alloc: Global, screen: &mut Screen, piece: &str) -> Option<usize> {
+    match screen.push_screen_buf(alloc, piece, LineNumbers::Disabled, 20, None) {
+        Ok(told) => Some(told.num_unterminated),
+        Err(_) => None,
+    }
+}
+
+// Whether the last push of these pieces tells so many unfinished rows.
+fn tells_unfinished(alloc: Global, pieces: &str, rows: usize) -> bool {
     let mut screen = Screen::new(alloc);
-    let mut rows = 0;
+    let mut told = None;
     for piece in pieces.split('|') {
-        rows = screen
-            .push_screen_buf(alloc, piece, LineNumbers::Disabled, 20, None)?
-            .num_unterminated;
+        told = unfinished(alloc, &mut screen, piece);
+        if told.is_none() {
+            return false;
+        }
     }
-    Ok(rows)
-}
-
-// What a result tells: lines, rows, unfinished rows, the longest line, whether nothing was attached.
-fn told(answer: &FormatResult) -> (usize, usize, usize, usize, bool) {
-    (
-        answer.lines_formatted,
-        answer.rows_formatted,
-        answer.num_unterminated,
-        answer.max_line_length,
-        answer.clean_append,
-    )
+    told == Some(rows)
 }
 
 #[test]
-fn lines_and_the_longest_are_counted(rt: HostRuntime) -> Result<(), Fail> {
-    let table = [
-        ("", (0, 0, 0)),
-        ("abc\r", (1, 1, 3)),
-        ("abc\r|\n", (1, 1, 3)),
-        ("one\ntwo|", (2, 2, 3)),
-    ];
-    for (pieces, counts) in table {
-        assert!(rt; counted(rt.alloc(), pieces)? == counts, "at {pieces}");
+fn unfinished_rows_are_told(rt: HostRuntime) {
+    let alloc = rt.alloc();
+    assert!(rt; tells_unfinished(alloc, "This is a quite lengthy line", 2));
+    let long = "This is a line. This is second line. ";
+    assert!(rt; tells_unfinished(alloc, long, 2));
+    let pieces = "This is a line. This is second line. |This is third line";
+    assert!(rt; tells_unfinished(alloc, pieces, 3));
+    let lines = "This is a line.\nThis is second line. ";
+    assert!(rt; tells_unfinished(alloc, lines, 1));
+    let third = "This is a line.\nThis is second line. |This is third line.";
+    assert!(rt; tells_unfinished(alloc, third, 2));
+    let finished = "This is a line.\nThis is second line. |This is third line.|\n";
+    assert!(rt; tells_unfinished(alloc, finished, 0));
+}
+
+// Whether a text that is set tells what it formed.
+fn tells_set(alloc: Global, screen: &mut Screen) -> bool {
+    let wanted = Told {
+        matching: "",
+        first: Some(0),
+        lines: 2,
+        rows: 2,
+        unfinished: 1,
+        longest: 2,
+        is_clean: true,
+    };
+    match screen.set_text(alloc, "ab\r\ncd", Layout::plain(80), None) {
+        Ok(answer) => tells(&answer, &wanted),
+        Err(_) => false,
     }
-    Ok(())
+}
+
+// Whether a push onto it does.
+fn tells_push(alloc: Global, screen: &mut Screen) -> bool {
+    let wanted = Told {
+        matching: "",
+        first: Some(1),
+        lines: 2,
+        rows: 2,
+        unfinished: 0,
+        longest: 3,
+        is_clean: false,
+    };
+    match screen.push_screen_buf(alloc, "e\nfg\n", LineNumbers::Disabled, 80, None) {
+        Ok(answer) => tells(&answer, &wanted) && answer.lines_to_row_map.get(1) == Some(2),
+        Err(_) => false,
+    }
 }
 
 #[test]
-fn unfinished_rows_are_told(rt: HostRuntime) -> Result<(), Fail> {
-    let table = [
-        ("This is a quite lengthy line", 2),
-        ("This is a line. This is second line. ", 2),
-        (
-            "This is a line. This is second line. |This is third line",
-            3,
-        ),
-        ("This is a line.\nThis is second line. ", 1),
-        (
-            "This is a line.\nThis is second line. |This is third line.",
-            2,
-        ),
-        (
-            "This is a line.\nThis is second line. |This is third line.|\n",
-            0,
-        ),
-    ];
-    for (pieces, rows) in table {
-        assert!(rt; unfinished_told(rt.alloc(), pieces)? == rows, "at {pieces}");
-    }
-    Ok(())
-}
-
-// Whether a text that is set, and a push onto it, tell what they formed.
-fn tells_both(alloc: Global) -> Result<bool, MinusError> {
+fn a_result_tells_of_the_text_formed(rt: HostRuntime) {
+    let alloc = rt.alloc();
     let mut screen = Screen::new(alloc);
-    let set = told(&screen.set_text(alloc, "ab\r\ncd", Layout::plain(80), None)?);
-    let pushed = screen.push_screen_buf(alloc, "e\nfg\n", LineNumbers::Disabled, 80, None)?;
-    let pushed_told = told(&pushed) == (2, 2, 0, 3, false);
-    Ok(set == (2, 2, 1, 2, true) && pushed_told && pushed.lines_to_row_map.get(1) == Some(2))
+    assert!(rt; tells_set(alloc, &mut screen) && tells_push(alloc, &mut screen));
 }
 
 #[test]
-fn a_result_tells_of_the_text_formed(rt: HostRuntime) -> Result<(), Fail> {
-    assert!(rt; tells_both(rt.alloc())?);
-    Ok(())
-}
-
-// Whether a screen copies its second row so, after these pieces.
-fn copies(alloc: Global, pieces: &str, wanted: &str) -> Result<bool, MinusError> {
-    let screen = screen_of(alloc, pieces, 80)?;
-    Ok(match screen.formatted_row(alloc, 1)? {
-        Some(row) => row.as_str() == wanted,
-        None => false,
-    })
-}
-
-#[test]
-fn a_row_is_copied(rt: HostRuntime) -> Result<(), Fail> {
-    assert!(rt; copies(rt.alloc(), "ab\r\ncd|e\nfg\n", "cde")?);
-    Ok(())
+fn a_row_is_copied(rt: HostRuntime) {
+    let alloc = rt.alloc();
+    let mut screen = Screen::new(alloc);
+    let is_pushed = push_all(alloc, &mut screen, "ab\r\ncd|e\nfg\n", 80);
+    assert!(rt; is_pushed && stores(alloc, &screen, 1, "cde"));
 }
 
 // Whether a screen keeps this text, after these pieces.
-fn keeps(alloc: Global, pieces: &str, text: &str) -> Result<bool, MinusError> {
-    let screen = screen_of(alloc, pieces, 80)?;
-    Ok(screen.orig_text() == text)
+fn keeps(alloc: Global, pieces: &str, text: &str) -> bool {
+    let mut screen = Screen::new(alloc);
+    push_all(alloc, &mut screen, pieces, 80) && screen.orig_text() == text
 }
 
 #[test]
-fn the_text_is_kept(rt: HostRuntime) -> Result<(), Fail> {
-    let table = [
-        ("ab\r\ncd|e\nfg\n", "ab\r\ncde\nfg\n"),
-        // a push of nothing changes nothing
-        ("one\ntwo|", "one\ntwo"),
-    ];
-    for (pieces, text) in table {
-        assert!(rt; keeps(rt.alloc(), pieces, text)?, "at {pieces}");
-    }
-    Ok(())
+fn the_text_is_kept(rt: HostRuntime) {
+    assert!(rt; keeps(rt.alloc(), "ab\r\ncd|e\nfg\n", "ab\r\ncde\nfg\n"));
+    // a push of nothing changes nothing
+    assert!(rt; keeps(rt.alloc(), "one\ntwo|", "one\ntwo"));
 }
 
 // Whether a push of `ee`, a newline and `four` that is not made yet is seen.
@@ -142,23 +136,35 @@ fn is_seen_made(screen: &Screen, answer: &FormatResult) -> bool {
         && screen.lines_to_row_map().row_to_line(3) == Some(2)
 }
 
-// Whether a push is seen before it is made, and when it is.
-fn is_seen_twice(alloc: Global) -> Result<bool, MinusError> {
-    let mut screen = screen_of(alloc, "one\ntwo thr", 5)?;
-    let pending = screen.prepare_push(alloc, "ee\nfour", LineNumbers::Disabled, 5, None)?;
-    let seen = is_seen_before(&screen, &pending);
-    let result = screen.place_push(alloc, "ee\nfour", pending, None)?;
-    Ok(seen && is_seen_made(&screen, &result))
+// Whether it is made and seen.
+fn is_made(alloc: Global, screen: &mut Screen, pending: PendingPush) -> bool {
+    match screen.place_push(alloc, "ee\nfour", pending, None) {
+        Ok(answer) => is_seen_made(screen, &answer),
+        Err(_) => false,
+    }
+}
+
+// Whether it is seen before it is made, and when it is.
+fn is_seen_twice(alloc: Global, screen: &mut Screen) -> bool {
+    match screen.prepare_push(alloc, "ee\nfour", LineNumbers::Disabled, 5, None) {
+        Ok(pending) => {
+            let is_seen = is_seen_before(screen, &pending);
+            is_made(alloc, screen, pending) && is_seen
+        }
+        Err(_) => false,
+    }
 }
 
 #[test]
-fn a_push_is_seen_before_it_is_made(rt: HostRuntime) -> Result<(), Fail> {
-    assert!(rt; is_seen_twice(rt.alloc())?);
-    Ok(())
+fn a_push_is_seen_before_it_is_made(rt: HostRuntime) {
+    let alloc = rt.alloc();
+    let mut screen = Screen::new(alloc);
+    let is_pushed = push(alloc, &mut screen, "one\ntwo thr", LineNumbers::Disabled, 5);
+    assert!(rt; is_pushed && is_seen_twice(alloc, &mut screen));
 }
 
 // Whether a map of three lines has their rows, and the one emptied into it has none.
-fn maps_three(alloc: Global) -> Result<bool, MinusError> {
+fn maps_three(alloc: Global) -> Result<bool, AllocError> {
     let mut map = LinesRowMap::new(alloc);
     map.insert(0, true)?;
     map.insert(3, true)?;
@@ -171,7 +177,6 @@ fn maps_three(alloc: Global) -> Result<bool, MinusError> {
 }
 
 #[test]
-fn a_map_of_lines(rt: HostRuntime) -> Result<(), Fail> {
-    assert!(rt; maps_three(rt.alloc())?);
-    Ok(())
+fn a_map_of_lines(rt: HostRuntime) {
+    assert!(rt; matches!(maps_three(rt.alloc()), Ok(true)));
 }

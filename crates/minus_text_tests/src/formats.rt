@@ -1,194 +1,261 @@
 //! Texts whose rows are put into a buffer, and rows that are searched.
-use minus_term::error::{MinusError, RegexError};
+use crate::searches::Search;
+use crate::told::{Told, tells};
+use minus_term::error::MinusError;
 use minus_text::{
-    AppendableBuffer, FormatOpts, FormatResult, FormattedRow, Layout, LineNumbers, Patterns,
-    ReusableRows, Rows, Term, format_lines_into, format_search_rows, format_text_block,
+    AppendableBuffer, FormatOpts, FormatResult, FormattedRow, Layout, LineNumbers, ReusableRows,
+    Rows, SearchFormattedRow, Term, format_lines_into, format_search_rows, format_text_block,
 };
-use regex::Regex;
-use std::alloc::{AllocError, Global};
-use std::test::Fail;
+use std::alloc::Global;
 
-// A pattern built of its text.
-fn pattern(alloc: Global, text: &str) -> Result<Regex, MinusError> {
-    match Regex::new(alloc, text) {
-        Ok(query) => Ok(query),
-        Err(cause) => Err(MinusError::SearchExpError(RegexError(cause))),
+// A text and what it is attached to, the term that it is searched for, the rows that this leaves, each with a bar
+// behind it, and what is told.
+#[derive(Clone, Copy)]
+struct Case<'a> {
+    attachment: Option<&'a str>,
+    text: &'a str,
+    term: &'a str,
+    rows: &'a str,
+    told: Told<'a>,
+}
+
+// Adds a row with this text.
+fn add(alloc: Global, rows: &mut Rows, text: &str) -> bool {
+    match String::from_str(alloc, text) {
+        Ok(row) => rows.push(row).is_ok(),
+        Err(_) => false,
     }
 }
 
-// Rows with these texts.
-fn rows_with(alloc: Global, texts: &[&str]) -> Result<Rows, AllocError> {
-    let mut rows = Rows::new(alloc);
-    for text in texts {
-        rows.push(String::from_str(alloc, *text)?)?;
-    }
-    Ok(rows)
-}
-
-// These rows with a bar behind each; and what a result tells: the rows that match, the first row of its first line, its
-// lines, rows and unfinished rows, its longest line, and whether nothing was attached.
-fn summary(alloc: Global, rows: &Rows, told: &FormatResult) -> Result<String, AllocError> {
-    let mut all = String::new(alloc);
+// Whether rows are these and no others.
+fn are(rows: &Rows, wanted: &str) -> bool {
+    let mut wanted = wanted.split('|');
     for row in rows {
-        write!(all, "{row}|")?;
+        if wanted.next() != Some(row.as_str()) {
+            return false;
+        }
     }
-    for row in told.append_search_idx.iter() {
-        write!(all, " {row}")?;
-    }
-    let first = told.lines_to_row_map.get(0).unwrap_or(99);
-    let (lines, count, unfinished) = (
-        told.lines_formatted,
-        told.rows_formatted,
-        told.num_unterminated,
-    );
-    let (longest, clean) = (told.max_line_length, told.clean_append);
-    write!(
-        all,
-        ";{first};{lines};{count};{unfinished};{longest};{clean}"
-    )?;
-    Ok(all)
+    // behind the last bar stands nothing
+    wanted.next() == Some("") && wanted.next().is_none()
 }
 
 // Puts the rows of a text for 20 columns into a buffer, behind 5 lines of 7 rows, of which the last two are the attachment's.
 fn format_behind<B: AppendableBuffer>(
     alloc: Global,
     buffer: &mut B,
-    attachment: Option<&str>,
-    text: &str,
-    term: &str,
+    case: &Case<'_>,
+    search_term: Option<Term<'_>>,
 ) -> Result<FormatResult, MinusError> {
-    let patterns = Patterns::new(alloc)?;
-    let query = pattern(alloc, term)?;
-    let term = Some(Term {
-        patterns: &patterns,
-        pattern: &query,
-    });
     let opts = FormatOpts {
         buffer,
-        text,
-        attachment,
+        text: case.text,
+        attachment: case.attachment,
         line_numbers: LineNumbers::Disabled,
         lines_count: 5,
         formatted_lines_count: 7,
         cols: 20,
         prev_unterminated: 2,
-        search_term: term,
+        search_term,
         line_wrapping: true,
     };
-    format_text_block(alloc, opts)
+    let told = format_text_block(alloc, opts)?;
+    Ok(told)
 }
 
-// What is put into an empty buffer, and told.
-fn formatted(
-    alloc: Global,
-    attachment: Option<&str>,
-    text: &str,
-    term: &str,
-) -> Result<String, MinusError> {
+// Whether a text is formatted so into an empty buffer, and told.
+fn is_formatted(alloc: Global, case: &Case<'_>) -> bool {
+    let Some(search) = Search::of(alloc, case.term) else {
+        return false;
+    };
     let mut rows = Rows::new(alloc);
-    let told = format_behind(alloc, &mut &mut rows, attachment, text, term)?;
-    Ok(summary(alloc, &rows, &told)?)
+    match format_behind(alloc, &mut &mut rows, case, search.term()) {
+        Ok(answer) => tells(&answer, &case.told) && are(&rows, case.rows),
+        Err(_) => false,
+    }
 }
 
 #[test]
-fn a_text_is_formatted_behind_others(rt: HostRuntime) -> Result<(), Fail> {
-    let table = [
-        (
-            None,
-            "this \x1b[34mis a te\x1b[0mst\n",
-            "test",
-            "this \x1b[34mis a \x1b[7mtest\x1b[27m\x1b[0m| 7;7;1;1;0;14;true",
-        ),
-        (
-            Some("This is a line. This is second line. "),
-            "This is third line",
-            "third|second",
-            "This is a line. This|is \x1b[7msecond\x1b[27m line. This|is \x1b[7mthird\x1b[27m line| 6 7;5;1;3;3;55;false",
-        ),
-        (None, "", "a", ";99;0;0;0;0;true"),
-    ];
-    for (attachment, text, term, wanted) in table {
-        assert!(rt;
-            formatted(rt.alloc(), attachment, text, term)?.as_str() == wanted,
-            "at {text}"
-        );
-    }
-    Ok(())
+fn a_text_is_formatted_behind_others(rt: HostRuntime) {
+    let line = &Case {
+        attachment: None,
+        text: "this \x1b[34mis a te\x1b[0mst\n",
+        term: "test",
+        rows: "this \x1b[34mis a \x1b[7mtest\x1b[27m\x1b[0m|",
+        told: Told {
+            matching: "7",
+            first: Some(7),
+            lines: 1,
+            rows: 1,
+            unfinished: 0,
+            longest: 14,
+            is_clean: true,
+        },
+    };
+    let attached = &Case {
+        attachment: Some("This is a line. This is second line. "),
+        text: "This is third line",
+        term: "third|second",
+        rows: "This is a line. This|is \x1b[7msecond\x1b[27m line. This|is \x1b[7mthird\x1b[27m line|",
+        told: Told {
+            matching: "67",
+            first: Some(5),
+            lines: 1,
+            rows: 3,
+            unfinished: 3,
+            longest: 55,
+            is_clean: false,
+        },
+    };
+    let nothing = &Case {
+        attachment: None,
+        text: "",
+        term: "a",
+        rows: "",
+        told: Told {
+            matching: "",
+            first: None,
+            lines: 0,
+            rows: 0,
+            unfinished: 0,
+            longest: 0,
+            is_clean: true,
+        },
+    };
+    assert!(rt; is_formatted(rt.alloc(), line));
+    assert!(rt; is_formatted(rt.alloc(), attached));
+    assert!(rt; is_formatted(rt.alloc(), nothing));
 }
 
-// What a buffer with a row holds after the rows of a text by itself were put into it, and what is told.
-fn formatted_alone(alloc: Global, text: &str, term: &str) -> Result<String, MinusError> {
-    let patterns = Patterns::new(alloc)?;
-    let query = pattern(alloc, term)?;
-    let term = Some(Term {
-        patterns: &patterns,
-        pattern: &query,
-    });
-    let mut rows = rows_with(alloc, &["old"])?;
+// Whether the numbered rows of a text by itself, in one column, are all that a buffer with a row holds after they were
+// put into it, and are told.
+fn is_formatted_alone(alloc: Global, case: &Case<'_>) -> bool {
+    let Some(search) = Search::of(alloc, case.term) else {
+        return false;
+    };
     let layout = Layout {
         cols: 1,
         wrapping: true,
         numbers: LineNumbers::Enabled,
     };
-    let told = format_lines_into(alloc, &mut rows, text, layout, term)?;
-    Ok(summary(alloc, &rows, &told)?)
-}
-
-#[test]
-fn a_buffer_holds_the_rows_of_a_text_alone(rt: HostRuntime) -> Result<(), Fail> {
-    let told = formatted_alone(rt.alloc(), "ab", "b")?;
-    let wanted = "     \x1b[1m1.\x1b[0m a|        \x1b[7mb\x1b[27m| 1;0;1;2;2;2;true";
-    assert_eq!(rt; told.as_str(), wanted);
-    Ok(())
-}
-
-// What is left of two rows after a text was written over them.
-fn written_over(alloc: Global, text: &str) -> Result<String, MinusError> {
-    let rows = rows_with(alloc, &["a row that is longer", "b"])?;
-    let mut reusable = ReusableRows::new(rows);
-    let told = format_behind(alloc, &mut reusable, None, text, "x")?;
-    Ok(summary(alloc, &reusable.finish(), &told)?)
-}
-
-#[test]
-fn rows_are_written_over(rt: HostRuntime) -> Result<(), Fail> {
-    let table = [
-        ("one\n", "one|;7;1;1;0;3;true"),
-        ("one\ntwo\nx", "one|two|\x1b[7mx\x1b[27m| 9;7;3;3;1;3;true"),
-    ];
-    for (text, wanted) in table {
-        assert!(rt;
-            written_over(rt.alloc(), text)?.as_str() == wanted,
-            "at {text}"
-        );
+    let mut rows = Rows::new(alloc);
+    let is_old = add(alloc, &mut rows, "old");
+    match format_lines_into(alloc, &mut rows, case.text, layout, search.term()) {
+        Ok(answer) => is_old && tells(&answer, &case.told) && are(&rows, case.rows),
+        Err(_) => false,
     }
-    Ok(())
 }
 
-// What two rows print under a term, and whether they match.
-fn searched(alloc: Global, term: &str) -> Result<String, MinusError> {
-    let patterns = Patterns::new(alloc)?;
-    let query = pattern(alloc, term)?;
-    let term = Some(Term {
-        patterns: &patterns,
-        pattern: &query,
-    });
+#[test]
+fn a_buffer_holds_the_rows_of_a_text_alone(rt: HostRuntime) {
+    let case = &Case {
+        attachment: None,
+        text: "ab",
+        term: "b",
+        rows: "     \x1b[1m1.\x1b[0m a|        \x1b[7mb\x1b[27m|",
+        told: Told {
+            matching: "1",
+            first: Some(0),
+            lines: 1,
+            rows: 2,
+            unfinished: 2,
+            longest: 2,
+            is_clean: true,
+        },
+    };
+    assert!(rt; is_formatted_alone(rt.alloc(), case));
+}
+
+// Whether a text is written so over rows, and told.
+fn is_written_onto(alloc: Global, old: Rows, case: &Case<'_>, term: Option<Term<'_>>) -> bool {
+    let mut rows = ReusableRows::new(old);
+    match format_behind(alloc, &mut rows, case, term) {
+        Ok(answer) => {
+            let is_told = tells(&answer, &case.told);
+            are(&rows.finish(), case.rows) && is_told
+        }
+        Err(_) => false,
+    }
+}
+
+// Whether a text is written so over two rows, and told.
+fn is_written_over(alloc: Global, case: &Case<'_>) -> bool {
+    let Some(search) = Search::of(alloc, case.term) else {
+        return false;
+    };
+    let mut old = Rows::new(alloc);
+    let is_old = add(alloc, &mut old, "a row that is longer") && add(alloc, &mut old, "b");
+    is_written_onto(alloc, old, case, search.term()) && is_old
+}
+
+#[test]
+fn rows_are_written_over(rt: HostRuntime) {
+    let fewer = &Case {
+        attachment: None,
+        text: "one\n",
+        term: "x",
+        rows: "one|",
+        told: Told {
+            matching: "",
+            first: Some(7),
+            lines: 1,
+            rows: 1,
+            unfinished: 0,
+            longest: 3,
+            is_clean: true,
+        },
+    };
+    let more = &Case {
+        attachment: None,
+        text: "one\ntwo\nx",
+        term: "x",
+        rows: "one|two|\x1b[7mx\x1b[27m|",
+        told: Told {
+            matching: "9",
+            first: Some(7),
+            lines: 3,
+            rows: 3,
+            unfinished: 1,
+            longest: 3,
+            is_clean: true,
+        },
+    };
+    assert!(rt; is_written_over(rt.alloc(), fewer));
+    assert!(rt; is_written_over(rt.alloc(), more));
+}
+
+// Whether a row prints this.
+fn prints(alloc: Global, row: &SearchFormattedRow<'_>, text: &str) -> bool {
+    match row.to_string(alloc) {
+        Ok(printed) => printed.as_str() == text,
+        Err(_) => false,
+    }
+}
+
+// Whether two rows print these texts under a term that the first one alone matches.
+fn is_searched(alloc: Global, term: Option<Term<'_>>, first: &str, second: &str) -> bool {
     let rows = [
         FormattedRow::new("ab", true, 10, 1, true),
         FormattedRow::new("c", true, 10, 1, false),
     ];
-    let mut all = String::new(alloc);
-    for found in &format_search_rows(alloc, &rows, term)? {
-        let (row, matches) = (&found.0, found.1);
-        write!(all, "{row}|{matches}|")?;
+    let Ok(found) = format_search_rows(alloc, &rows, term) else {
+        return false;
+    };
+    match found.as_slice() {
+        [a, b] => a.1 && !b.1 && prints(alloc, &a.0, first) && prints(alloc, &b.0, second),
+        _ => false,
     }
-    Ok(all)
+}
+
+// The same of the term that a text says.
+fn is_searched_for(alloc: Global, term: &str, first: &str, second: &str) -> bool {
+    match Search::of(alloc, term) {
+        Some(search) => is_searched(alloc, search.term(), first, second),
+        None => false,
+    }
 }
 
 #[test]
-fn rows_are_searched(rt: HostRuntime) -> Result<(), Fail> {
-    let told = searched(rt.alloc(), "b")?;
-    let wanted = "      \x1b[1m1.\x1b[0m a\x1b[7mb\x1b[27m|true|         c|false|";
-    assert_eq!(rt; told.as_str(), wanted);
-    Ok(())
+fn rows_are_searched(rt: HostRuntime) {
+    let first = "      \x1b[1m1.\x1b[0m a\x1b[7mb\x1b[27m";
+    assert!(rt; is_searched_for(rt.alloc(), "b", first, "         c"));
 }

@@ -1,141 +1,144 @@
 //! What a term finds in the rows of a screen.
-use minus_term::error::{MinusError, RegexError};
-use minus_text::{FormatResult, Layout, LineNumbers, Patterns, Screen, Term};
-use regex::Regex;
+use crate::screens::{push, sees, stores};
+use crate::searches::Search;
+use crate::told::{row_of, tells_matches};
+use minus_term::error::MinusError;
+use minus_text::{FormatResult, Layout, LineNumbers, Screen, Term};
 use std::alloc::Global;
-use std::test::Fail;
+use std::process::Abort;
 
-// A pattern built of its text.
-fn pattern(alloc: Global, text: &str) -> Result<Regex, MinusError> {
-    match Regex::new(alloc, text) {
-        Ok(pattern) => Ok(pattern),
-        Err(cause) => Err(MinusError::SearchExpError(RegexError(cause))),
-    }
-}
-
-// A screen of 20 columns with these pieces, all but the first pushed under a term, and the rows that the
-// last one told to match. A bar stands between pieces; every other one is prepared before it is pushed.
-fn searched(
-    alloc: Global,
-    pieces: &str,
-    term: Option<Term<'_>>,
-) -> Result<(Screen, String), MinusError> {
-    let mut screen = Screen::new(alloc);
-    let mut told = String::new(alloc);
-    let mut is_first = true;
-    let mut is_prepared = false;
-    for piece in pieces.split('|') {
-        let result = push(alloc, &mut screen, piece, (is_first, is_prepared), term)?;
-        told = told_numbers(alloc, &result)?;
-        is_first = false;
-        is_prepared = !is_prepared;
-    }
-    Ok((screen, told))
-}
-
-// Puts a piece into a screen, as the first, or prepared, or at once.
-fn push(
+// Puts a piece into a screen of 20 columns under a term. The first sets the text; of the others, every other one is
+// prepared before it is pushed.
+fn put(
     alloc: Global,
     screen: &mut Screen,
+    i: usize,
     piece: &str,
-    (is_first, is_prepared): (bool, bool),
     term: Option<Term<'_>>,
 ) -> Result<FormatResult, MinusError> {
-    if is_first {
+    if i == 0 {
         return screen.set_text(alloc, piece, Layout::plain(20), term);
     }
-    if is_prepared {
-        let pending = screen.prepare_push(alloc, piece, LineNumbers::Disabled, 20, term)?;
-        return screen.place_push(alloc, piece, pending, term);
+    if i % 2 == 0 {
+        return screen.push_screen_buf(alloc, piece, LineNumbers::Disabled, 20, term);
     }
-    screen.push_screen_buf(alloc, piece, LineNumbers::Disabled, 20, term)
+    let pending = screen.prepare_push(alloc, piece, LineNumbers::Disabled, 20, term)?;
+    screen.place_push(alloc, piece, pending, term)
 }
 
-// The rows that a result tells to match, as digits with a dot after each.
-fn told_numbers(alloc: Global, told: &FormatResult) -> Result<String, MinusError> {
-    let mut rows = String::new(alloc);
-    for row in told.append_search_idx.iter() {
-        write!(rows, "{row}.")?;
+// Whether that tells these rows, each a digit, and no others to match; none where memory runs out.
+fn put_tells(
+    alloc: Global,
+    screen: &mut Screen,
+    i: usize,
+    piece: &str,
+    term: Option<Term<'_>>,
+    rows: &str,
+) -> Option<bool> {
+    match put(alloc, screen, i, piece, term) {
+        Ok(answer) => Some(tells_matches(&answer, rows)),
+        Err(_) => None,
     }
-    Ok(rows)
 }
 
-// The rows that match, as digits with a dot after each.
-fn numbers(alloc: Global, screen: &Screen) -> Result<String, MinusError> {
-    let mut rows = String::new(alloc);
-    for i in 0..screen.match_count() {
-        if let Some(row) = screen.match_row(i) {
-            write!(rows, "{row}.")?;
+// Puts these pieces, with a bar between them, and answers whether the last one tells these rows to match.
+fn put_all(
+    alloc: Global,
+    screen: &mut Screen,
+    pieces: &str,
+    term: Option<Term<'_>>,
+    rows: &str,
+) -> bool {
+    let mut is_told = false;
+    for (i, piece) in pieces.split('|').enumerate() {
+        match put_tells(alloc, screen, i, piece, term, rows) {
+            Some(told) => is_told = told,
+            None => return false,
         }
     }
-    Ok(rows)
+    is_told
 }
 
-// Whether these rows match after these pieces were pushed, and after all was formed anew; and whether the
-// last piece told these, and all formed anew told all.
-fn finds(
-    alloc: Global,
-    pieces: &str,
-    term: &str,
-    (rows, told): (&str, &str),
-) -> Result<bool, MinusError> {
-    let patterns = Patterns::new(alloc)?;
-    let pattern = pattern(alloc, term)?;
-    let term = Some(Term {
-        patterns: &patterns,
-        pattern: &pattern,
-    });
-    let (mut screen, last) = searched(alloc, pieces, term)?;
-    let pushed = numbers(alloc, &screen)?.as_str() == rows && last.as_str() == told;
-    let all = told_numbers(alloc, &screen.reform(alloc, Layout::plain(20), term)?)?;
-    let anew = numbers(alloc, &screen)?.as_str() == rows && all.as_str() == rows;
-    let _ = screen.push_screen_buf(alloc, "", LineNumbers::Disabled, 20, None)?;
-    Ok(pushed && anew && screen.match_count() == 0)
+// Whether these rows, each a digit, and no others match.
+fn has_matches(screen: &Screen, rows: &str) -> bool {
+    for (i, digit) in rows.bytes().enumerate() {
+        if screen.match_row(i) != Some(row_of(digit)) {
+            return false;
+        }
+    }
+    screen.match_count() == rows.len()
+}
+
+// Whether these rows match, and all are told, after all was formed anew.
+fn finds_anew(alloc: Global, screen: &mut Screen, term: Option<Term<'_>>, rows: &str) -> bool {
+    match screen.reform(alloc, Layout::plain(20), term) {
+        Ok(answer) => tells_matches(&answer, rows) && has_matches(screen, rows),
+        Err(_) => false,
+    }
+}
+
+// Whether these rows match after these pieces were put, the last of which tells those, and after all was formed anew;
+// and none after a push without a term.
+fn finds(alloc: Global, pieces: &str, term: &str, rows: &str, told: &str) -> bool {
+    let Some(search) = Search::of(alloc, term) else {
+        return false;
+    };
+    let mut screen = Screen::new(alloc);
+    put_all(alloc, &mut screen, pieces, search.term(), told)
+        && has_matches(&screen, rows)
+        && finds_anew(alloc, &mut screen, search.term(), rows)
+        && push(alloc, &mut screen, "", LineNumbers::Disabled, 20)
+        && screen.match_count() == 0
+}
+
+// Fails where one of these is not so: pieces, term, the rows that match, and those told last.
+fn assert_finds(rt: &impl Abort, alloc: Global, cases: &[(&str, &str, &str, &str)]) {
+    for (pieces, term, rows, told) in cases {
+        assert!(rt; finds(alloc, pieces, term, rows, told), "at {pieces}");
+    }
 }
 
 #[test]
-fn matches_change_when_the_unfinished_line_goes_on(rt: HostRuntime) -> Result<(), Fail> {
-    let table = [
-        ("ab", "b$", ("0.", "0.")),
-        ("ab|c", "b$", ("", "")),
-        ("ab|c|\nb", "b$", ("1.", "1.")),
-        ("b\nab|\n|c\nb", "b$", ("0.1.3.", "3.")),
-        ("a\n\x1b[1mx\x1b[0my\n[0m", "xy|1m", ("1.", "1.")),
+fn matches_change_when_the_unfinished_line_goes_on(rt: HostRuntime) {
+    let cases = &[
+        ("ab", "b$", "0", "0"),
+        ("ab|c", "b$", "", ""),
+        ("ab|c|\nb", "b$", "1", "1"),
+        ("b\nab|\n|c\nb", "b$", "013", "3"),
+        ("a\n\x1b[1mx\x1b[0my\n[0m", "xy|1m", "1", "1"),
         // a row of the unfinished line that matches and stays
         (
             "two\none two three four five six seven|\none two",
             "two",
-            ("0.1.3.", "1.3."),
+            "013",
+            "13",
         ),
     ];
-    for (pieces, term, rows) in table {
-        assert!(rt; finds(rt.alloc(), pieces, term, rows)?, "at {pieces}");
-    }
-    Ok(())
+    assert_finds(&rt, rt.alloc(), cases);
 }
 
-// Whether a row is stored so, and so beside a push that is prepared.
-fn stores(alloc: Global, term: &str, row: &str, after: &str) -> Result<bool, MinusError> {
-    let patterns = Patterns::new(alloc)?;
-    let pattern = pattern(alloc, term)?;
-    let term = Some(Term {
-        patterns: &patterns,
-        pattern: &pattern,
-    });
-    let (screen, _) = searched(alloc, "a t\x1b[34mes\x1b[0mt|\nno\nte", term)?;
-    let pending = screen.prepare_push(alloc, "st", LineNumbers::Disabled, 20, term)?;
-    let mut seen = String::new(alloc);
-    let is_there = screen.push_row_after(alloc, &pending, &mut seen, 2)?;
-    let stored = match screen.formatted_row(alloc, 0)? {
-        Some(stored) => stored.as_str() == row,
-        None => false,
+// Whether the last row is seen so beside a push that is prepared.
+fn shows_after(alloc: Global, screen: &Screen, term: Option<Term<'_>>, row: &str) -> bool {
+    match screen.prepare_push(alloc, "st", LineNumbers::Disabled, 20, term) {
+        Ok(pending) => sees(alloc, screen, &pending, 2, row),
+        Err(_) => false,
+    }
+}
+
+// Whether the first row is stored so, and the last one so beside a push that is prepared.
+fn shows(alloc: Global, term: &str, row: &str, after: &str) -> bool {
+    let Some(search) = Search::of(alloc, term) else {
+        return false;
     };
-    Ok(stored && is_there && seen.as_str() == after)
+    let mut screen = Screen::new(alloc);
+    let pieces = "a t\x1b[34mes\x1b[0mt|\nno\nte";
+    put_all(alloc, &mut screen, pieces, search.term(), "0")
+        && stores(alloc, &screen, 0, row)
+        && shows_after(alloc, &screen, search.term(), after)
 }
 
 #[test]
-fn a_row_that_matches_is_stored_with_its_matches_in_reverse(rt: HostRuntime) -> Result<(), Fail> {
+fn a_row_that_matches_is_stored_with_its_matches_in_reverse(rt: HostRuntime) {
     let row = "a \x1b[7mtest\x1b[27m\x1b[34m\x1b[0m";
-    assert!(rt; stores(rt.alloc(), "test", row, "\x1b[7mtest\x1b[27m")?);
-    Ok(())
+    assert!(rt; shows(rt.alloc(), "test", row, "\x1b[7mtest\x1b[27m"));
 }

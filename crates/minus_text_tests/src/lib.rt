@@ -20,4 +20,8 @@ mod screens;
 #[cfg(test)]
 mod search;
 #[cfg(test)]
+mod searches;
+#[cfg(test)]
 mod shown;
+#[cfg(test)]
+mod told;

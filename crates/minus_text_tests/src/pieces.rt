@@ -1,9 +1,7 @@
 //! An unfinished line that comes in pieces has the rows of the whole.
-use crate::screens::fill;
-use minus_term::error::MinusError;
+use crate::screens::{assert_fill, push};
 use minus_text::{LineNumbers, PendingPush, Screen};
 use std::alloc::Global;
-use std::test::Fail;
 
 // Lines that go on at their hyphens, in wide and combining characters, in `ESC[`, and between both characters of an ending;
 // the last ones are words of many rows.
@@ -35,69 +33,77 @@ fn same(a: &Screen, b: &Screen) -> bool {
     alike
 }
 
-// A screen of a text that is pushed whole.
-fn whole(alloc: Global, text: &str, cols: usize) -> Result<Screen, MinusError> {
-    let mut screen = Screen::new(alloc);
-    let _ = screen.push_screen_buf(alloc, text, LineNumbers::Disabled, cols, None)?;
-    Ok(screen)
+// Pushes a text without numbers.
+fn push_plain(alloc: Global, screen: &mut Screen, text: &str, cols: usize) -> bool {
+    push(alloc, screen, text, LineNumbers::Disabled, cols)
+}
+
+// Whether a screen shows the same as one of a text that is pushed whole.
+fn same_as_whole(alloc: Global, screen: &Screen, text: &str, cols: usize) -> bool {
+    let mut all = Screen::new(alloc);
+    push_plain(alloc, &mut all, text, cols) && same(screen, &all)
 }
 
 // Pushes a piece of a text, if its places are those of characters.
-fn push_part(
-    screen: &mut Screen,
-    alloc: Global,
-    part: Option<&str>,
-    cols: usize,
-) -> Result<(), MinusError> {
-    if let Some(piece) = part {
-        let _ = screen.push_screen_buf(alloc, piece, LineNumbers::Disabled, cols, None)?;
+fn push_part(alloc: Global, screen: &mut Screen, part: Option<&str>, cols: usize) -> bool {
+    match part {
+        Some(piece) => push_plain(alloc, screen, piece, cols),
+        None => true,
     }
-    Ok(())
 }
 
 // Whether a text that comes in three pieces shows the same as the whole.
-fn same_in_three(
-    alloc: Global,
-    text: &str,
-    i: usize,
-    j: usize,
-    cols: usize,
-) -> Result<bool, MinusError> {
+fn same_in_three(alloc: Global, text: &str, i: usize, j: usize, cols: usize) -> bool {
     if !text.is_char_boundary(i) || !text.is_char_boundary(j) {
-        return Ok(true);
+        return true;
     }
     let mut screen = Screen::new(alloc);
-    push_part(&mut screen, alloc, text.get(..i), cols)?;
-    push_part(&mut screen, alloc, text.get(i..j), cols)?;
-    push_part(&mut screen, alloc, text.get(j..), cols)?;
-    let all = whole(alloc, text, cols)?;
-    Ok(same(&screen, &all))
+    push_part(alloc, &mut screen, text.get(..i), cols)
+        && push_part(alloc, &mut screen, text.get(i..j), cols)
+        && push_part(alloc, &mut screen, text.get(j..), cols)
+        && same_as_whole(alloc, &screen, text, cols)
 }
 
 // Whether a text that is cut at any two places shows the same as the whole.
-fn same_at_each_place(alloc: Global, text: &str, cols: usize) -> Result<bool, MinusError> {
+fn same_at_each_place(alloc: Global, text: &str, cols: usize) -> bool {
     for i in 0..text.len() {
         for j in i..text.len() {
-            if !same_in_three(alloc, text, i, j, cols)? {
-                return Ok(false);
+            if !same_in_three(alloc, text, i, j, cols) {
+                return false;
             }
         }
     }
-    Ok(true)
+    true
 }
 
-// Whether a text that comes character by character shows the same as the whole.
-fn same_by_characters(alloc: Global, text: &str, cols: usize) -> Result<bool, MinusError> {
-    let mut screen = Screen::new(alloc);
+// Pushes a text character by character.
+fn push_characters(alloc: Global, screen: &mut Screen, text: &str, cols: usize) -> bool {
     let mut start = 0;
     for i in 1..text.len() + 1 {
         if text.is_char_boundary(i) {
-            push_part(&mut screen, alloc, text.get(start..i), cols)?;
+            if !push_part(alloc, screen, text.get(start..i), cols) {
+                return false;
+            }
             start = i;
         }
     }
-    let all = whole(alloc, text, cols)?;
-    Ok(same(&screen, &all))
+    true
+}
+
+// Whether a text that comes character by character shows the same as the whole.
+fn same_by_characters(alloc: Global, text: &str, cols: usize) -> bool {
+    let mut screen = Screen::new(alloc);
+    push_characters(alloc, &mut screen, text, cols) && same_as_whole(alloc, &screen, text, cols)
+}
+
+// The same in each number of columns.
+fn same_by_characters_everywhere(alloc: Global, text: &str) -> bool {
+    for cols in 0..12 {
+        if !same_by_characters(alloc, text, cols) {
+            return false;
+        }
+    }
+    true
 }
 
 // Whether a push that is not made yet shows what a screen does.
@@ -110,109 +116,109 @@ fn shows_before(screen: &Screen, pending: &PendingPush, all: &Screen) -> bool {
 }
 
 // Whether the push of a piece shows what a screen does before it is made, and when it is.
-fn pushed_as(
-    alloc: Global,
-    mut screen: Screen,
-    piece: &str,
-    cols: usize,
-    all: &Screen,
-) -> Result<bool, MinusError> {
-    let pending = screen.prepare_push(alloc, piece, LineNumbers::Disabled, cols, None)?;
-    let before = shows_before(&screen, &pending, all);
-    let _ = screen.place_push(alloc, piece, pending, None)?;
-    Ok(before && same(&screen, all))
+fn pushed_as(alloc: Global, screen: &mut Screen, piece: &str, cols: usize, all: &Screen) -> bool {
+    match screen.prepare_push(alloc, piece, LineNumbers::Disabled, cols, None) {
+        Ok(pending) => {
+            let is_seen = shows_before(screen, &pending, all);
+            let is_made = screen.place_push(alloc, piece, pending, None).is_ok();
+            is_seen && is_made && same(screen, all)
+        }
+        Err(_) => false,
+    }
 }
 
 // Whether a push shows the same before it is made, and when it is.
-fn same_prepared(alloc: Global, text: &str, i: usize, cols: usize) -> Result<bool, MinusError> {
+fn same_prepared(alloc: Global, text: &str, i: usize, cols: usize, all: &Screen) -> bool {
     let (Some(first), Some(piece)) = (text.get(..i), text.get(i..)) else {
-        return Ok(true);
+        return true;
     };
-    let all = whole(alloc, text, cols)?;
-    pushed_as(alloc, whole(alloc, first, cols)?, piece, cols, &all)
+    let mut screen = Screen::new(alloc);
+    push_plain(alloc, &mut screen, first, cols) && pushed_as(alloc, &mut screen, piece, cols, all)
 }
 
 // Whether a push that is prepared at any place shows the same.
-fn same_prepared_at_each_place(alloc: Global, text: &str, cols: usize) -> Result<bool, MinusError> {
+fn same_prepared_at_each_place(alloc: Global, text: &str, cols: usize, all: &Screen) -> bool {
     for i in 0..text.len() {
-        if !same_prepared(alloc, text, i, cols)? {
-            return Ok(false);
+        if !same_prepared(alloc, text, i, cols, all) {
+            return false;
         }
     }
-    Ok(true)
+    true
+}
+
+// The same of a text, beside a screen of the whole.
+fn same_prepared_in(alloc: Global, text: &str, cols: usize) -> bool {
+    let mut all = Screen::new(alloc);
+    push_plain(alloc, &mut all, text, cols) && same_prepared_at_each_place(alloc, text, cols, &all)
+}
+
+// The same in each number of columns.
+fn same_prepared_everywhere(alloc: Global, text: &str) -> bool {
+    for cols in 0..12 {
+        if !same_prepared_in(alloc, text, cols) {
+            return false;
+        }
+    }
+    true
 }
 
 #[test]
-fn a_text_cut_at_any_two_places_has_the_rows_of_the_whole(rt: HostRuntime) -> Result<(), Fail> {
-    for text in TEXTS {
-        for cols in [1, 2, 5, 9] {
-            assert!(rt;
-                same_at_each_place(rt.alloc(), text, cols)?,
-                "at {text} in {cols}"
-            );
-        }
+fn a_text_cut_at_any_two_places_has_the_rows_of_the_whole(rt: HostRuntime) {
+    let alloc = rt.alloc();
+    for text in &TEXTS {
+        let is_same = same_at_each_place(alloc, text, 1)
+            && same_at_each_place(alloc, text, 2)
+            && same_at_each_place(alloc, text, 5)
+            && same_at_each_place(alloc, text, 9);
+        assert!(rt; is_same, "at {text}");
     }
-    Ok(())
 }
 
 #[test]
-fn a_word_in_pieces_has_its_rows(rt: HostRuntime) -> Result<(), Fail> {
+fn a_word_in_pieces_has_its_rows(rt: HostRuntime) {
     // (a row that begins with a hyphen is formed again, and one that is a carriage return alone goes with its newline)
-    let table = [
-        ("bb-a|a", "bb|-|aa"),
-        ("99-|9-", "99|-|9-"),
-        ("\r   \r|\n", "\r"),
-        ("ab|cde|f|gh|i", "ab|cd|ef|gh|i"),
+    let cases = &[
+        ("bb-a|a", 2, "bb|-|aa"),
+        ("99-|9-", 2, "99|-|9-"),
+        ("\r   \r|\n", 2, "\r"),
+        ("ab|cde|f|gh|i", 2, "ab|cd|ef|gh|i"),
     ];
-    for (pieces, rows) in table {
-        assert!(rt; fill(rt.alloc(), pieces, 2, rows)?, "at {pieces}");
-    }
-    Ok(())
+    assert_fill(&rt, rt.alloc(), cases);
 }
 
 #[test]
-fn a_text_character_by_character_has_the_rows_of_the_whole(rt: HostRuntime) -> Result<(), Fail> {
-    for text in TEXTS {
-        for cols in 0..12 {
-            assert!(rt;
-                same_by_characters(rt.alloc(), text, cols)?,
-                "at {text} in {cols}"
-            );
+fn a_text_character_by_character_has_the_rows_of_the_whole(rt: HostRuntime) {
+    for text in &TEXTS {
+        assert!(rt;
+            same_by_characters_everywhere(rt.alloc(), text),
+            "at {text}"
+        );
+    }
+}
+
+#[test]
+fn a_prepared_push_has_the_rows_of_the_whole(rt: HostRuntime) {
+    for text in &TEXTS {
+        assert!(rt; same_prepared_everywhere(rt.alloc(), text), "at {text}");
+    }
+}
+
+// Whether a push of another text than was prepared shows the same as the whole text.
+fn same_after_another_push(alloc: Global, screen: &mut Screen) -> bool {
+    match screen.prepare_push(alloc, "ree", LineNumbers::Disabled, 5, None) {
+        Ok(pending) => {
+            let is_made = screen.place_push(alloc, "ird one", pending, None).is_ok();
+            is_made && same_as_whole(alloc, screen, "one two third one", 5)
         }
+        Err(_) => false,
     }
-    Ok(())
 }
 
 #[test]
-fn a_prepared_push_has_the_rows_of_the_whole(rt: HostRuntime) -> Result<(), Fail> {
-    for text in TEXTS {
-        for cols in 0..12 {
-            assert!(rt;
-                same_prepared_at_each_place(rt.alloc(), text, cols)?,
-                "at {text} in {cols}"
-            );
-        }
-    }
-    Ok(())
-}
-
-// A screen of a text, after a push of another text than was prepared.
-fn after_another_push(alloc: Global, text: &str) -> Result<Screen, MinusError> {
-    let mut screen = whole(alloc, "one two th", 5)?;
-    let pending = screen.prepare_push(alloc, "ree", LineNumbers::Disabled, 5, None)?;
-    let _ = screen.place_push(alloc, text, pending, None)?;
-    Ok(screen)
-}
-
-// Whether that screen shows the same as the whole text.
-fn same_after_another_push(alloc: Global) -> Result<bool, MinusError> {
-    let screen = after_another_push(alloc, "ird one")?;
-    let all = whole(alloc, "one two third one", 5)?;
-    Ok(same(&screen, &all) && screen.orig_text() == "one two third one")
-}
-
-#[test]
-fn a_push_of_another_text_than_prepared_is_formed_anew(rt: HostRuntime) -> Result<(), Fail> {
-    assert!(rt; same_after_another_push(rt.alloc())?);
-    Ok(())
+fn a_push_of_another_text_than_prepared_is_formed_anew(rt: HostRuntime) {
+    let alloc = rt.alloc();
+    let mut screen = Screen::new(alloc);
+    let is_same = push_plain(alloc, &mut screen, "one two th", 5)
+        && same_after_another_push(alloc, &mut screen);
+    assert!(rt; is_same && screen.orig_text() == "one two third one");
 }

@@ -1,13 +1,11 @@
 //! Worked texts and their rows.
-use crate::screens::fill;
-use minus_term::error::MinusError;
+use crate::screens::assert_fill;
 use minus_text::{digits, format_line};
 use std::alloc::Global;
-use std::test::Fail;
 
 #[test]
-fn a_text_fills_rows(rt: HostRuntime) -> Result<(), Fail> {
-    let table = [
+fn a_text_fills_rows(rt: HostRuntime) {
+    let cases = &[
         // spaces at the start that are too many fill an empty row
         ("     ab", 4, "|ab"),
         // a hyphen cuts a word where columns are few, and else the word stays whole
@@ -16,15 +14,12 @@ fn a_text_fills_rows(rt: HostRuntime) -> Result<(), Fail> {
         // a wide character has a row that is too narrow for it
         ("日本", 1, "日|本"),
     ];
-    for (text, cols, rows) in table {
-        assert!(rt; fill(rt.alloc(), text, cols, rows)?, "at {text}");
-    }
-    Ok(())
+    assert_fill(&rt, rt.alloc(), cases);
 }
 
 #[test]
-fn pushes_go_on_in_the_unfinished_line(rt: HostRuntime) -> Result<(), Fail> {
-    let table = [
+fn pushes_go_on_in_the_unfinished_line(rt: HostRuntime) {
+    let cases = &[
         (
             "this is a normal line with no newline|this is an appended line with a newline\n|and this is a third line",
             15,
@@ -40,41 +35,36 @@ fn pushes_go_on_in_the_unfinished_line(rt: HostRuntime) -> Result<(), Fail> {
         ("aaaa    \r", 4, "aaaa|\r"),
         ("aaaa    \r|\n", 4, "aaaa"),
     ];
-    for (pieces, cols, rows) in table {
-        assert!(rt; fill(rt.alloc(), pieces, cols, rows)?, "at {pieces}");
-    }
-    Ok(())
-}
-
-// Whether lines end with a newline, with many, or with both characters.
-fn ends_lines(alloc: Global) -> Result<bool, MinusError> {
-    let many = "This\n\n\nhas many\n newlines\n";
-    let weird = "hello,\n|this is |a test\r\n|of weird line endings";
-    Ok(
-        fill(alloc, many, 80, "This|||has many| newlines")?
-            && fill(
-                alloc,
-                weird,
-                80,
-                "hello,|this is a test|of weird line endings",
-            )?,
-    )
+    assert_fill(&rt, rt.alloc(), cases);
 }
 
 #[test]
-fn weird_line_endings_end_lines(rt: HostRuntime) -> Result<(), Fail> {
-    assert!(rt; ends_lines(rt.alloc())?);
-    Ok(())
+fn weird_line_endings_end_lines(rt: HostRuntime) {
+    let cases = &[
+        (
+            "This\n\n\nhas many\n newlines\n",
+            80,
+            "This|||has many| newlines",
+        ),
+        // lines that end with both characters
+        (
+            "hello,\n|this is |a test\r\n|of weird line endings",
+            80,
+            "hello,|this is a test|of weird line endings",
+        ),
+    ];
+    assert_fill(&rt, rt.alloc(), cases);
 }
 
 // Whether a line of two words has a row for each.
-fn has_two_rows(alloc: Global) -> Result<bool, MinusError> {
-    let rows = format_line(alloc, "one two", 4)?;
-    Ok(rows.len() == 2 && rows[0].as_str() == "one" && rows[1].as_str() == "two")
+fn has_two_rows(alloc: Global) -> bool {
+    match format_line(alloc, "one two", 4) {
+        Ok(rows) => rows.len() == 2 && rows[0].as_str() == "one" && rows[1].as_str() == "two",
+        Err(_) => false,
+    }
 }
 
 #[test]
-fn a_line_is_formatted(rt: HostRuntime) -> Result<(), Fail> {
-    assert!(rt; has_two_rows(rt.alloc())? && digits(120) == 3);
-    Ok(())
+fn a_line_is_formatted(rt: HostRuntime) {
+    assert!(rt; has_two_rows(rt.alloc()) && digits(120) == 3);
 }

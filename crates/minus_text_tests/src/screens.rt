@@ -1,15 +1,34 @@
-//! Screens for tests. Pieces, and rows, stand in one text with a bar between them.
-use minus_term::error::MinusError;
-use minus_text::{LineNumbers, Screen};
+//! Screens for tests, and what they have. Pieces, and rows, stand in one text with a bar between them. Where memory runs out, each answer is `false`.
+use minus_text::{Layout, LineNumbers, PendingPush, Screen};
 use std::alloc::Global;
+use std::process::Abort;
 
-// A screen of these pieces, pushed one after another.
-pub(crate) fn screen_of(alloc: Global, pieces: &str, cols: usize) -> Result<Screen, MinusError> {
-    let mut screen = Screen::new(alloc);
+// Pushes a text.
+pub(crate) fn push(
+    alloc: Global,
+    screen: &mut Screen,
+    text: &str,
+    numbers: LineNumbers,
+    cols: usize,
+) -> bool {
+    screen
+        .push_screen_buf(alloc, text, numbers, cols, None)
+        .is_ok()
+}
+
+// Pushes these pieces, one after another.
+pub(crate) fn push_all(alloc: Global, screen: &mut Screen, pieces: &str, cols: usize) -> bool {
     for piece in pieces.split('|') {
-        let _ = screen.push_screen_buf(alloc, piece, LineNumbers::Disabled, cols, None)?;
+        if !push(alloc, screen, piece, LineNumbers::Disabled, cols) {
+            return false;
+        }
     }
-    Ok(screen)
+    true
+}
+
+// Sets a text.
+pub(crate) fn set(alloc: Global, screen: &mut Screen, text: &str, layout: Layout) -> bool {
+    screen.set_text(alloc, text, layout, None).is_ok()
 }
 
 // Whether a screen has these rows and no others.
@@ -23,13 +42,36 @@ pub(crate) fn has_rows(screen: &Screen, rows: &str) -> bool {
     wanted.next().is_none()
 }
 
-// Whether pieces, pushed one after another, have these rows and no others.
-pub(crate) fn fill(
+// Whether a row is stored so.
+pub(crate) fn stores(alloc: Global, screen: &Screen, i: usize, wanted: &str) -> bool {
+    match screen.formatted_row(alloc, i) {
+        Ok(Some(row)) => row.as_str() == wanted,
+        _ => false,
+    }
+}
+
+// Whether a row is seen so beside a push that is prepared.
+pub(crate) fn sees(
     alloc: Global,
-    pieces: &str,
-    cols: usize,
-    rows: &str,
-) -> Result<bool, MinusError> {
-    let screen = screen_of(alloc, pieces, cols)?;
-    Ok(has_rows(&screen, rows))
+    screen: &Screen,
+    pending: &PendingPush,
+    i: usize,
+    wanted: &str,
+) -> bool {
+    let mut row = String::new(alloc);
+    let is_there = matches!(screen.push_row_after(alloc, pending, &mut row, i), Ok(true));
+    is_there && row.as_str() == wanted
+}
+
+// Whether pieces, pushed one after another, have these rows and no others.
+fn fill(alloc: Global, pieces: &str, cols: usize, rows: &str) -> bool {
+    let mut screen = Screen::new(alloc);
+    push_all(alloc, &mut screen, pieces, cols) && has_rows(&screen, rows)
+}
+
+// Fails where pieces do not fill these rows: pieces, columns and rows of each case.
+pub(crate) fn assert_fill(rt: &impl Abort, alloc: Global, cases: &[(&str, usize, &str)]) {
+    for (pieces, cols, rows) in cases {
+        assert!(rt; fill(alloc, pieces, *cols, rows), "at {pieces}");
+    }
 }

@@ -1,23 +1,29 @@
 //! What is shown of a text in some columns, and the prefixes of numbered rows.
 use minus_text::{LineNumbers, crop_columns, prefix_columns, push_fitted, push_prefix};
-use std::alloc::{AllocError, Global};
-use std::test::Fail;
+use std::alloc::Global;
+use std::process::Abort;
 
 // Whether a text shows this in so many columns from one on.
-fn shows(
-    alloc: Global,
-    text: &str,
-    left: usize,
-    width: usize,
-    shown: &str,
-) -> Result<bool, AllocError> {
-    let row = crop_columns(alloc, text, left, width)?;
-    Ok(row.as_str() == shown)
+fn shows(alloc: Global, text: &str, left: usize, width: usize, shown: &str) -> bool {
+    match crop_columns(alloc, text, left, width) {
+        Ok(row) => row.as_str() == shown,
+        Err(_) => false,
+    }
+}
+
+// Fails where one of these is not so: text, left column, columns, and what is shown.
+fn assert_shows(rt: &impl Abort, alloc: Global, cases: &[(&str, usize, usize, &str)]) {
+    for (text, left, width, shown) in cases {
+        assert!(rt;
+            shows(alloc, text, *left, *width, shown),
+            "at {text} from {left}"
+        );
+    }
 }
 
 #[test]
-fn a_text_is_cropped_by_columns(rt: HostRuntime) -> Result<(), Fail> {
-    let table = [
+fn a_text_is_cropped_by_columns(rt: HostRuntime) {
+    let cases = &[
         // a wide character that is cut shows a space for each of its columns
         ("日本語abc", 0, 4, "日本"),
         ("日本語abc", 1, 4, " 本 "),
@@ -30,56 +36,42 @@ fn a_text_is_cropped_by_columns(rt: HostRuntime) -> Result<(), Fail> {
         ("\u{301}e\u{301}a", 0, 1, "\u{301}e\u{301}"),
         ("\u{301}e\u{301}a", 1, 1, "a"),
     ];
-    for (text, left, width, shown) in table {
-        assert!(rt;
-            shows(rt.alloc(), text, left, width, shown)?,
-            "at {text} from {left}"
-        );
-    }
-    Ok(())
+    assert_shows(&rt, rt.alloc(), cases);
 }
 
 // Whether a text is cut or filled so.
-fn fits(alloc: Global, text: &str, cols: usize, fitted: &str) -> Result<bool, AllocError> {
+fn fits(alloc: Global, text: &str, cols: usize, fitted: &str) -> bool {
     let mut row = String::new(alloc);
-    push_fitted(&mut row, text, cols)?;
-    Ok(row.as_str() == fitted)
+    push_fitted(&mut row, text, cols).is_ok() && row.as_str() == fitted
 }
 
 #[test]
-fn a_text_is_cut_or_filled(rt: HostRuntime) -> Result<(), Fail> {
-    let table = [
-        ("日本", 20, "日本                "),
-        ("日本", 3, "日 "),
-        ("\x1b[1mhi", 20, "\x1b[1mhi                  "),
-        ("Help: q:quit | j/k:scroll", 17, "Help: q:quit | j/"),
-    ];
-    for (text, cols, fitted) in table {
-        assert!(rt; fits(rt.alloc(), text, cols, fitted)?, "at {text}");
-    }
-    Ok(())
+fn a_text_is_cut_or_filled(rt: HostRuntime) {
+    assert!(rt; fits(rt.alloc(), "日本", 20, "日本                "));
+    assert!(rt; fits(rt.alloc(), "日本", 3, "日 "));
+    assert!(rt; fits(rt.alloc(), "\x1b[1mhi", 20, "\x1b[1mhi                  "));
+    let help = "Help: q:quit | j/k:scroll";
+    assert!(rt; fits(rt.alloc(), help, 17, "Help: q:quit | j/"));
 }
 
 // Whether a first row has its number, one without numbers has nothing, and one that goes on has blanks.
-fn begins_with_numbers(alloc: Global) -> Result<bool, AllocError> {
-    let mut rows = String::new(alloc);
-    push_prefix(&mut rows, true, 1, 1, true)?;
-    push_prefix(&mut rows, false, 1, 1, true)?;
-    push_prefix(&mut rows, true, 10, 9, false)?;
-    Ok(rows.as_str() == "     \x1b[1m1.\x1b[0m          ")
+fn begins_with_numbers(rows: &mut String) -> bool {
+    let is_put = push_prefix(rows, true, 1, 1, true).is_ok()
+        && push_prefix(rows, false, 1, 1, true).is_ok()
+        && push_prefix(rows, true, 10, 9, false).is_ok();
+    is_put && rows.as_str() == "     \x1b[1m1.\x1b[0m          "
 }
 
 #[test]
-fn rows_begin_with_numbers(rt: HostRuntime) -> Result<(), Fail> {
+fn rows_begin_with_numbers(rt: HostRuntime) {
     let has_columns = prefix_columns(true, 10) == 9 && prefix_columns(false, 10) == 0;
-    assert!(rt; begins_with_numbers(rt.alloc())? && has_columns);
-    Ok(())
+    let mut rows = String::new(rt.alloc());
+    assert!(rt; begins_with_numbers(&mut rows) && has_columns);
 }
 
 #[test]
-fn numbers_are_exchanged(rt: HostRuntime) -> Result<(), Fail> {
+fn numbers_are_exchanged(rt: HostRuntime) {
     let exchanged = !LineNumbers::Enabled == LineNumbers::Disabled
         && (!LineNumbers::Disabled).is_on();
     assert!(rt; exchanged && !LineNumbers::AlwaysOff == LineNumbers::AlwaysOff);
-    Ok(())
 }
