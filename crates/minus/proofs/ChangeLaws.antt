@@ -1,12 +1,7 @@
 -- A change that was put in its place.
-use Rattle.std.proofs.Common.{◌≡◌, ℕ, ◌+◌, ◌-◌, ◌==◌, eqb, List, [], take, drop, Bool, true, false, None, refl, sym, ap, subst, ◌∙◌, arith, inl, inr}
-use Rattle.std.specs.Prelude.{if◌then◌else◌}
-use Rattle.std.proofs.lemmas.Bool.{cases_Bool, eqb-true, eq-eqb, ne_eqb}
+use Rattle.std.proofs.Common.{◌≡◌, ℕ, ◌-◌, List, take, drop, Bool, false, None, refl, sym, ap, subst, ◌∙◌}
 use Rattle.minus_text.specs.declared.line_numbers.LineNumbers.{LineNumbers}
-use Rattle.minus_text.specs.Document.{Document, margin_in, pushed}
-use Rattle.minus_text.specs.Found.{RowMatches}
-use Rattle.minus_text.specs.Layouts.{margin}
-use Rattle.minus_text.specs.Prefixes.{is_on, padding, prefix_columns}
+use Rattle.minus_text.specs.Document.{Document}
 use Rattle.minus_text.specs.Searched.{Searched, searched}
 use Rattle.minus_state.specs.declared.selection.SelectionEnds.{SelectionEnds}
 use Rattle.minus.specs.declared.state.PagerState.{PagerState}
@@ -14,9 +9,8 @@ use Rattle.minus.specs.declared.change.Change.{Change}
 use Rattle.minus.specs.declared.change.NextText.{NextText}
 use Rattle.minus.specs.declared.change.NextText.TheVariants.{Same, Whole}
 use Rattle.minus.specs.Control.{Control, Settings, document_of}
-use Rattle.minus.specs.Table.{Wanted, append_redraw, effect, changed_by, drawing_by, drawing_of}
+use Rattle.minus.specs.Table.{Wanted, effect, changed_by, drawing_by, drawing_of}
 use Rattle.minus.specs.declared.commands.Redraw.{Redraw}
-use Rattle.minus.specs.declared.commands.Redraw.TheVariants.{Whole as All, Appended}
 use Rattle.minus.specs.Page.{shown_of, all_shown, shown}
 use Rattle.minus.specs.NextTexts.{next_document}
 use Rattle.minus.specs.Changes.{IsChange, shown_by, left_set, ends_set, settings_after}
@@ -97,34 +91,3 @@ unchanged s change is m c r p q = record { belongs = rw is refl; document = rw i
 -- a change is drawn as the table says of its command
 pub drawn_as : {K : Type 0} (c : Control) (w : Wanted K) (redraw : Redraw) (mark : ℕ) → redraw ≡ (effect c w).redraw → mark ≡ (changed_by (effect c w)).mark → drawing_by redraw c.mark mark ≡ drawing_of c w
 drawn_as c w redraw mark r m = ap (λ (x : Redraw). drawing_by x c.mark mark) r ∙ ap (λ (n : ℕ). drawing_by (effect c w).redraw c.mark n) m
-
--- ---- what is formed
-
--- a screen of a document in which nothing was found
-pub searched_is : (s : Searched) (d : Document) → s.document ≡ d → s.found ≡ [] → s ≡ searched None d
-searched_is s d e f = ap (λ (x : Document). let r : Searched = record { document = x; found = s.found } in r) e ∙ ap (λ (x : List RowMatches). let r : Searched = record { document = d; found = x } in r) f
-
--- the columns that stand before rows are alike where numbers take the same columns
-eqb_more : (a b k : ℕ) → eqb a b ≡ eqb (a + k) (b + k)
-eqb_more a b k = elim (cases_Bool (eqb a b)) [
-  | inl e ↦ (let is : a ≡ b = eqb-true a b e in let more : eqb (a + k) (b + k) ≡ true = eq-eqb (a + k) (b + k) (ap (λ (n : ℕ). n + k) is) in e ∙ sym more)
-  | inr e ↦ (let other : eqb (a + k) (b + k) ≡ false = ne_eqb (a + k) (b + k) (λ same. (let is : a ≡ b = omega (arith, same) in absurd (let both : true ≡ false = sym (eq-eqb a b is) ∙ e in cc))) in e ∙ sym other)
-]
-
-pub margins_alike : (p q : LineNumbers) (m n : ℕ) → eqb (prefix_columns (is_on p) m) (prefix_columns (is_on q) n) ≡ eqb (margin p m) (margin q n)
-margins_alike p q m n = elim (cases_Bool (is_on p)) [
-  | inl a ↦ elim (cases_Bool (is_on q)) [
-    | inl b ↦ rw (a, b) (eqb_more (padding m + 1) (padding n + 1) 1)
-    | inr b ↦ rw (a, b) (ne_eqb (padding m + 1) 0 (λ z. omega (arith, z)) ∙ sym (ne_eqb (padding m + 1 + 1) 0 (λ z. omega (arith, z))))
-  ]
-  | inr a ↦ elim (cases_Bool (is_on q)) [
-    | inl b ↦ rw (a, b) (ne_eqb 0 (padding n + 1) (λ z. omega (arith, z)) ∙ sym (ne_eqb 0 (padding n + 1 + 1) (λ z. omega (arith, z))))
-    | inr b ↦ rw (a, b) refl
-  ]
-]
-
--- how an append is drawn
-pub redraw_is : (d : Document) (c : Control) (text : List ℕ) → d ≡ document_of c → (if margin_in (pushed d text d.layout.numbers d.layout.cols) == margin_in d then Appended else All) ≡ append_redraw c text
-redraw_is d c text is =
-    let same : (c.cols == c.cols) ≡ true = eq-eqb c.cols c.cols refl in
-    ap (λ (x : Document). if margin_in (pushed x text x.layout.numbers x.layout.cols) == margin_in x then Appended else All) is ∙ rw same refl
