@@ -1,6 +1,6 @@
 //! Selections with the mouse, and what is copied of them.
 use crate::sessions::{Asked, PROMPT_ROW, draws, inputs, session_on, shows, terminal};
-use minus::{InputEvent, LineNumbers};
+use minus::{Answer, InputEvent, LineNumbers, Ran};
 use std::alloc::Global;
 use std::test::Fail;
 
@@ -34,9 +34,14 @@ fn led(alloc: Global, asked: &[Asked<'_>]) -> Result<(usize, usize, usize), Fail
 // The text that the last of these copies; empty where none is.
 fn copied(alloc: Global, cols: usize, rows: usize, asked: &[Asked<'_>]) -> Result<String, Fail> {
     let mut session = session_on(alloc, terminal(alloc), cols, rows)?;
-    match session.run(inputs(alloc, asked)?).last {
-        Some(answer) => Ok(answer.copied.unwrap_or(String::new(alloc))),
-        None => Err(Fail::from("the inputs were to be taken")),
+    let Ran { last, .. } = session.run(inputs(alloc, asked)?);
+    let Some(answer) = last else {
+        return Err(Fail::from("the inputs were to be taken"));
+    };
+    let Answer { copied, .. } = answer;
+    match copied {
+        Some(text) => Ok(text),
+        None => Ok(String::new(alloc)),
     }
 }
 
