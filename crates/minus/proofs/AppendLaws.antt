@@ -14,11 +14,11 @@ use Rattle.minus_term.proofs.WrittenLaws.{IsClean-append}
 use Rattle.minus_state.specs.Selection.{ends_in_order}
 use Rattle.minus_state.proofs.ShownRowsLaws.{length-shown_rows, shown_kept}
 use Rattle.minus.specs.declared.commands.Drawing.TheVariants.{Nothing, Append}
-use Rattle.minus.specs.Control.{Control, Settings, document_of, text_rows, first_changed, keeps_rows_with}
+use Rattle.minus_state.specs.Control.{Control, Settings, document_of, text_rows, first_changed, keeps_rows_with}
 use Rattle.minus.specs.Drawings.{ops_of_step, changed_prompt}
 use Rattle.minus.specs.Drawn.{IsDrawing}
-use Rattle.minus.specs.Page.{all_shown, shown, page}
-use Rattle.minus.specs.PromptRow.{prompt_row}
+use Rattle.minus_state.specs.Page.{all_shown, shown, page}
+use Rattle.minus_state.specs.ShownPrompt.{prompt_row}
 use Rattle.minus.proofs.DrawnLaws.{shown_fits, page_size, next_prompt_shows, next_prompt_puts, next_prompt_clean, prompt_there, work_drawn}
 
 -- rows that agree up to one agree up to where it stands on the page

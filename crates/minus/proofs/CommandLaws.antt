@@ -11,15 +11,17 @@ use Rattle.minus_state.specs.declared.selection.Selection.{Selection}
 use Rattle.minus_state.specs.declared.selection.SelectionEnds.{SelectionEnds}
 use Rattle.minus.specs.declared.commands.Drawing.{Drawing}
 use Rattle.minus.specs.declared.commands.Drawing.TheVariants.{Nothing, Append, Prompt}
-use Rattle.minus.specs.declared.commands.Redraw.TheVariants.{Moved, Appended}
-use Rattle.minus.specs.Control.{Control, Settings, IsClamped, keeps_rows_with, top, cleared}
+use Rattle.minus_state.specs.declared.change.Redraw.TheVariants.{Moved, Appended}
+use Rattle.minus_state.specs.Control.{Control, Settings, IsClamped, keeps_rows_with, top, cleared}
 use Rattle.minus.specs.Works.{work_of}
 use Rattle.minus.specs.Drawings.{ops_of_step}
-use Rattle.minus.specs.Table.{Wanted, sets_data, appends_data, moves_mark, resizes, exits, ignores, sets_prompt, sends_message, shows_prompt, follows, types, restores_prompt, redraws_prompt, redraws_page, sets_classifier, sets_numbers, sets_wrapping, shifts, starts_selection, updates_selection, clears_selection, copies_selection, whole_where, led_redraw, append_redraw, may_shift, left_after, shift_redraw, effect, changed_by, drawing_by, drawing_of}
+use Rattle.minus.specs.Table.{Wanted, sets_data, appends_data, moves_mark, resizes, exits, ignores, sets_prompt, sends_message, shows_prompt, follows, types, restores_prompt, redraws_prompt, redraws_page, sets_classifier, sets_numbers, sets_wrapping, shifts, starts_selection, updates_selection, clears_selection, copies_selection, effect, changed_by, drawing_by, drawing_of}
+use Rattle.minus_state.specs.Redraws.{whole_where, led_redraw, append_redraw, shift_redraw}
+use Rattle.minus_state.specs.Shifting.{may_shift, left_after}
 use Rattle.minus.specs.Drawn.{IsDrawing, Drawn, BrokenOff}
-use Rattle.minus.specs.Selecting.{no_ends, has_ends, end_at, ends_begun, mark_led, ends_led, stays_led}
+use Rattle.minus_state.specs.Selecting.{no_ends, has_ends, end_at, ends_begun, mark_led, ends_led, stays_led}
 use Rattle.minus.proofs.AppendLaws.{append_draws}
-use Rattle.minus.proofs.SelectingLaws.{mark_stays, ends_stay, none_there}
+use Rattle.minus_state.proofs.SelectingLaws.{mark_stays, ends_stay, none_there}
 use Rattle.minus.proofs.DrawnLaws.{work_drawn, whole_draws, quiet_draws, prompt_draws, scroll_draws}
 
 -- the list of a kind is the drawing of a work of that kind, on the way from one control to another

@@ -17,9 +17,9 @@ use Rattle.minus_term.proofs.WrittenLaws.{written_all-nil}
 use Rattle.minus_term.proofs.PutsLaws.{puts-prompt}
 use Rattle.minus_term.proofs.ScrollLaws.{scroll_shows_lem, scroll_puts_lem, IsClean-scroll}
 use Rattle.minus_term.proofs.FullRedrawLaws.{full_redraw_lem, IsClean-full, IsClean-prompt, play_prompt}
-use Rattle.minus.specs.Control.{Control, Settings}
-use Rattle.minus.specs.Page.{all_shown, shown, page}
-use Rattle.minus.specs.PromptRow.{prompt_row}
+use Rattle.minus_state.specs.Control.{Control, Settings}
+use Rattle.minus_state.specs.Page.{all_shown, shown, page}
+use Rattle.minus_state.specs.ShownPrompt.{prompt_row}
 use Rattle.minus.specs.declared.commands.Drawing.{Drawing}
 use Rattle.minus.specs.declared.commands.Drawing.TheVariants.{Nothing, Full, Scroll, Prompt}
 use Rattle.minus.specs.Works.{Work}

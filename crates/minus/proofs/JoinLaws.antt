@@ -9,9 +9,9 @@ use Rattle.minus_term.specs.PlayedScreen.{PlayedScreen, Shows, play_all, screen_
 use Rattle.minus_term.specs.Puts.{puts}
 use Rattle.minus_term.proofs.JoinLaws.{puts_join, puts_below}
 use Rattle.minus_term.proofs.PlayLaws.{play_all-append, draws_from, shows_below, screen_of_below, unknown_below, length-play_all, play_is_monotone_lem}
-use Rattle.minus.specs.Control.{Control}
-use Rattle.minus.specs.Page.{page}
-use Rattle.minus.specs.PromptRow.{prompt_row}
+use Rattle.minus_state.specs.Control.{Control}
+use Rattle.minus_state.specs.Page.{page}
+use Rattle.minus_state.specs.ShownPrompt.{prompt_row}
 use Rattle.minus.specs.Works.{Work, WorkedOff, all, one, up_to, is_full, some_full, IsQuiet, passed_in, reached}
 use Rattle.minus.specs.Seen.{Seen}
 use Rattle.minus.specs.Table.{Wanted, Exit}

@@ -10,8 +10,8 @@ use Rattle.minus_term.specs.Written.{written_all}
 use Rattle.minus_term.proofs.PlayLaws.{play_all-append, draws_from}
 use Rattle.minus_term.proofs.WrittenLaws.{written_all-append, IsClean-append, IsClean-more}
 use Rattle.minus.specs.declared.status.Status.TheVariants as status
-use Rattle.minus.specs.Control.{Control}
-use Rattle.minus.specs.Page.{page}
+use Rattle.minus_state.specs.Control.{Control}
+use Rattle.minus_state.specs.Page.{page}
 use Rattle.minus.specs.Seen.{Seen}
 use Rattle.minus.specs.Table.{Wanted, Exit}
 use Rattle.minus.specs.Works.{Work, work_of, after, WorkedOff, all, one, up_to, passed_in, some_full}

@@ -1,8 +1,4 @@
 pub mod DrawingLaws
-pub mod ShownLaws
-pub mod ShowingLaws
-pub mod SelectingLaws
-pub mod ChangeLaws
 pub mod TableLaws
 pub mod DrawnLaws
 pub mod PromptLaws

@@ -5,10 +5,10 @@ use Rattle.std.specs.Option.{option_map, unwrap_or}
 use Rattle.minus_term.specs.Operations.{Op}
 use Rattle.minus_term.specs.FullRedraw.{prompt_ops}
 use Rattle.minus_term.specs.Written.{written_all}
-use Rattle.minus.specs.Control.{Control}
+use Rattle.minus_state.specs.Control.{Control}
 use Rattle.minus.specs.Drawings.{changed_prompt, draws_prompt, ops_between, ops_of_step}
 use Rattle.minus.specs.declared.commands.Drawing.{Drawing}
-use Rattle.minus.specs.PromptRow.{prompt_row}
+use Rattle.minus_state.specs.ShownPrompt.{prompt_row}
 use Rattle.minus.specs.declared.commands.Drawing.TheVariants.{Nothing, Full, Scroll, Append, Prompt}
 use Rattle.minus.proofs.DrawingLaws.{ops_added}
 

@@ -7,7 +7,7 @@ use Rattle.minus_term.specs.Refusals.{Refusal, refusal_of, for_memory, for_newli
 use Rattle.minus.specs.declared.session.Answer.{Answer}
 use Rattle.minus.specs.declared.status.Status.TheVariants as status
 use Rattle.minus.specs.Answers.{ends_run}
-use Rattle.minus.specs.Control.{Control}
+use Rattle.minus_state.specs.Control.{Control}
 use Rattle.minus.specs.Reads.{Told}
 use Rattle.minus.specs.Works.{passed_in}
 use Rattle.minus.specs.Drawn.{Leaves}

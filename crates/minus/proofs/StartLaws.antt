@@ -6,10 +6,10 @@ use Rattle.minus_term.specs.Counts.{AppendsFront, Stays, Rises}
 use Rattle.minus_term.specs.Terminal.{cleanup_bytes}
 use Rattle.minus_term.specs.Refusals.{Refusal, for_memory, for_newline, for_size, for_mode, after_failure, after_exit, at_setup, at_cleanup, at_drawing, of_no_call}
 use Rattle.minus_term.specs.Written.{written_all}
-use Rattle.minus.specs.Control.{Control}
-use Rattle.minus.specs.declared.state.RunMode.{RunMode}
-use Rattle.minus.specs.declared.state.RunMode.TheVariants.{Uninitialized}
-use Rattle.minus.specs.Changes.{IsUnformedState}
+use Rattle.minus_state.specs.Control.{Control}
+use Rattle.minus_state.specs.declared.state.RunMode.{RunMode}
+use Rattle.minus_state.specs.declared.state.RunMode.TheVariants.{Uninitialized}
+use Rattle.minus_state.specs.Changes.{IsUnformedState}
 use Rattle.minus.specs.Starts.{CanStart, IsStartRefused, IsEarly, IsShowRefused, CleansUp, DrawingBreaksOff, ShowBreaksOff, StartBreaksOff}
 use Rattle.minus.specs.Drawings.{whole_page}
 use Rattle.minus.proofs.DrawnLaws.{whole_shows}

@@ -11,10 +11,10 @@ use Rattle.minus.specs.declared.session.Answer.{Answer}
 use Rattle.minus.specs.declared.status.Status.{Status}
 use Rattle.minus.specs.declared.status.Status.TheVariants as status
 use Rattle.minus.specs.Answers.{IsAnswer}
-use Rattle.minus.specs.Control.{Control, IsClamped, cleared}
+use Rattle.minus_state.specs.Control.{Control, IsClamped, cleared}
 use Rattle.minus.specs.Drawn.{Drawn, BrokenOff}
 use Rattle.minus.specs.Reads.{Told}
-use Rattle.minus.specs.Sizes.{IsSize}
+use Rattle.minus_state.specs.Sizes.{IsSize}
 use Rattle.minus.specs.Seen.{Seen}
 use Rattle.minus.specs.Table.{Wanted, Exit, effect, changed_by, kept_after, drawing_of, IsPossible}
 use Rattle.minus.specs.Works.{Work, work_of, after, WorkedOff, all, one, up_to}

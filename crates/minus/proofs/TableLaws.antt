@@ -1,11 +1,13 @@
 -- What commands leave, by how they are drawn.
 use Rattle.std.proofs.Common.{◌≡◌, ℕ, ◌+◌, ◌<◌, List, [], ◌∷◌, ◌++◌, length, get_or, map, take, ap, ◌∙◌, sym, refl, arith, min, ◌||◌, Bool, true, false, Option, Some, None}
 use Rattle.std.proofs.lemmas.List.{map_more}
-use Rattle.minus.specs.Control.{Control, clamp, top, cleared, IsClamped, SameSize}
+use Rattle.minus_state.specs.declared.change.Redraw.{Redraw}
+use Rattle.minus_state.specs.Control.{Control, clamp, top, cleared, IsClamped, SameSize}
 use Rattle.minus.specs.Seen.{Seen}
-use Rattle.minus.specs.Table.{Wanted, sets_data, appends_data, moves_mark, resizes, exits, ignores, sets_prompt, sends_message, shows_prompt, follows, types, restores_prompt, redraws_prompt, redraws_page, sets_classifier, sets_numbers, sets_wrapping, shifts, starts_selection, updates_selection, clears_selection, copies_selection, Exit, Effect, effect, changed_by, kept_after, drawing_of, IsPossible}
+use Rattle.minus.specs.Table.{Wanted, drawing_by, sets_data, appends_data, moves_mark, resizes, exits, ignores, sets_prompt, sends_message, shows_prompt, follows, types, restores_prompt, redraws_prompt, redraws_page, sets_classifier, sets_numbers, sets_wrapping, shifts, starts_selection, updates_selection, clears_selection, copies_selection, Exit, Effect, effect, changed_by, kept_after, drawing_of, IsPossible}
 use Rattle.minus.specs.Works.{Work, WorkedOff, all, one, up_to, is_full, some_full, ResizesAreFull}
-use Rattle.minus.specs.Starts.{taken, taken_all, at_start, first_control}
+use Rattle.minus.specs.Starts.{taken, taken_all, first_control}
+use Rattle.minus_state.specs.States.{at_start}
 
 -- what the clamp leaves
 clamp_still : (c : Control) → IsClamped c → clamp c ≡ c
@@ -177,3 +179,7 @@ taken_all-append c (w ∷ ws) vs = taken_all-append (taken c w) ws vs
 pub take_one : {A K : Type 0} (f : A → Wanted K) (commands : List A) (i : ℕ) (d x : A) (first now new : Control) → i < length commands → x ≡ get_or commands i d → now ≡ taken_all first (map f (take i commands)) → new ≡ taken now (f x) → new ≡ taken_all first (map f (take (i + 1) commands))
 take_one f commands i d x first now new l is so_far e =
     e ∙ ap (λ (c : Control). taken c (f x)) so_far ∙ ap (λ (y : _). taken (taken_all first (map f (take i commands))) (f y)) is ∙ sym (ap (taken_all first) (map_more f commands i d l) ∙ taken_all-append first (map f (take i commands)) (f (get_or commands i d) ∷ []))
+
+-- a change is drawn as the table says of its command
+pub drawn_as : {K : Type 0} (c : Control) (w : Wanted K) (redraw : Redraw) (mark : ℕ) → redraw ≡ (effect c w).redraw → mark ≡ (changed_by (effect c w)).mark → drawing_by redraw c.mark mark ≡ drawing_of c w
+drawn_as c w redraw mark r m = ap (λ (x : Redraw). drawing_by x c.mark mark) r ∙ ap (λ (n : ℕ). drawing_by (effect c w).redraw c.mark n) m

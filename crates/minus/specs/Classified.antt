@@ -7,10 +7,10 @@ use Rattle.minus_term.specs.declared.event.KeyCode.{KeyCode}
 use Rattle.minus_term.specs.declared.event.KeyCode.TheVariants.{Char}
 use Rattle.minus_term.specs.declared.event.KeyEvent.{KeyEvent}
 use Rattle.minus_term.specs.declared.event.KeyModifiers.{KeyModifiers}
-use Rattle.minus.specs.declared.input.InputEvent.{InputEvent}
-use Rattle.minus.specs.declared.input.InputEvent.TheVariants.{UpdateTermArea, Number, Ignore}
+use Rattle.minus_state.specs.declared.input.InputEvent.{InputEvent}
+use Rattle.minus_state.specs.declared.input.InputEvent.TheVariants.{UpdateTermArea, Number, Ignore}
 use Rattle.minus.specs.declared.stand_in.StandIn.{StandIn}
-use Rattle.minus.specs.declared.state.PagerState.{PagerState}
+use Rattle.minus_state.specs.declared.state.PagerState.{PagerState}
 
 -- a digit without modifiers is typed to the prefix; any other key asks for nothing
 abbrev pub code_answer : KeyCode → KeyModifiers → InputEvent

@@ -1,16 +1,16 @@
 -- How the page is drawn.
-use Rattle.std.specs.Prelude.{ℕ, ◌-◌, ◌++◌, nat_le, min, List, [], length, take, drop, bytes_eq, Bool, true, false, if◌then◌else◌}
+use Rattle.std.specs.Prelude.{ℕ, ◌-◌, ◌++◌, min, List, [], length, bytes_eq, Bool, true, false, if◌then◌else◌}
 use Rattle.minus_term.specs.Operations.{Op}
 use Rattle.minus_term.specs.FullRedraw.{full_ops, prompt_ops}
 use Rattle.minus_term.specs.Scroll.{scroll_ops}
 use Rattle.minus_term.specs.Append.{append_ops}
 use Rattle.minus.specs.declared.commands.Drawing.{Drawing}
 use Rattle.minus.specs.declared.commands.Drawing.TheVariants.{Nothing, Full, Scroll, Append, Prompt}
-use Rattle.minus.specs.Control.{Control, first_changed}
-use Rattle.minus.specs.declared.commands.Redraw.TheVariants.{Moved}
-use Rattle.minus.specs.Table.{drawing_by, moved_to}
-use Rattle.minus.specs.Page.{shown}
-use Rattle.minus.specs.PromptRow.{prompt_row}
+use Rattle.minus_state.specs.Control.{Control, first_changed, moved_to}
+use Rattle.minus_state.specs.declared.change.Redraw.TheVariants.{Moved}
+use Rattle.minus.specs.Table.{drawing_by}
+use Rattle.minus_state.specs.Page.{shown}
+use Rattle.minus_state.specs.ShownPrompt.{prompt_row}
 
 -- the list that draws a page whole
 abbrev pub whole_page : Control → List Op
@@ -23,10 +23,6 @@ rows_after first were shown = append_ops (min first (length shown)) were shown
 -- the list that draws those from a row of the text on, where there were so many rows in all
 abbrev pub append_from : Control → ℕ → ℕ → List Op
 append_from c first were = rows_after (first - c.mark) (min (were - c.mark) (c.rows - 1)) (shown c)
-
--- the rows of text that come onto a page of so many rows on the way from one mark to another, of those on show then
-abbrev pub rows_newly : ℕ → ℕ → ℕ → List (List ℕ) → List (List ℕ)
-rows_newly rows from to shown = if nat_le from to then drop (rows - 1 - min (to - from) (rows - 1)) shown else take (min (from - to) (rows - 1)) shown
 
 -- the list that draws the prompt row
 abbrev pub whole_prompt : Control → List Op

@@ -9,8 +9,8 @@ use Rattle.minus_term.specs.Written.{written_all, IsClean}
 use Rattle.minus_term.specs.Puts.{puts}
 use Rattle.minus_term.specs.Scroll.{distance}
 use Rattle.minus_term.specs.Terminal.{setup_bytes}
-use Rattle.minus.specs.Control.{Control, text_rows, first_changed}
-use Rattle.minus.specs.Page.{page}
+use Rattle.minus_state.specs.Control.{Control, text_rows, first_changed}
+use Rattle.minus_state.specs.Page.{page}
 use Rattle.minus.specs.Seen.{Seen}
 use Rattle.minus.specs.Table.{Wanted, Exit}
 use Rattle.minus.specs.Works.{Work, WorkedOff, passed_in, some_full, IsQuiet}

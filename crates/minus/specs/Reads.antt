@@ -1,46 +1,15 @@
 -- What contracts read of the state, of commands and inputs.
-use Rattle.std.specs.Prelude.{◌≡◌, string_bytes, Bool, true, false, Option, None, Some}
-use Rattle.std.specs.Option.{option_map}
+use Rattle.std.specs.Prelude.{string_bytes, Option, None, Some}
 use Rattle.minus_term.specs.declared.event.Event.{Event}
-use Rattle.minus_text.specs.Searched.{searched}
-use Rattle.minus_state.specs.declared.selection.SelectionEnds.{SelectionEnds}
-use Rattle.minus.specs.declared.state.PagerState.{PagerState}
 use Rattle.minus.specs.declared.commands.CommandOf.{CommandOf}
 use Rattle.minus.specs.declared.commands.CommandOf.TheVariants.{SetData, AppendData, SetPrompt, SendMessage, ShowPrompt, SetLineNumbers, LineWrapping, FollowOutput, UserInput, Io, SetInputClassifier}
 use Rattle.minus.specs.declared.commands.IoCommand.{IoCommand}
 use Rattle.minus.specs.declared.commands.IoCommand.TheVariants.{RedrawPrompt, RedrawDisplay, DrawAppendedText, SetUpperMark}
 use Rattle.minus.specs.declared.commands.InputOf.{InputOf}
 use Rattle.minus.specs.declared.commands.InputOf.TheVariants as input
-use Rattle.minus.specs.declared.input.InputEvent.{InputEvent}
-use Rattle.minus.specs.declared.input.InputEvent.TheVariants as events
-use Rattle.minus.specs.Control.{Control, Settings, document_of}
+use Rattle.minus_state.specs.declared.input.InputEvent.{InputEvent}
+use Rattle.minus_state.specs.declared.input.InputEvent.TheVariants as events
 use Rattle.minus.specs.Table.{Wanted, sets_data, appends_data, moves_mark, resizes, exits, ignores, sets_prompt, sends_message, shows_prompt, follows, types, restores_prompt, redraws_prompt, redraws_page, sets_classifier, sets_numbers, sets_wrapping, shifts, starts_selection, updates_selection, clears_selection, copies_selection}
-
--- what is set in a state beside its text
-abbrev pub settings_of : PagerState → Settings
-settings_of s = record { prompt = string_bytes s.prompt; message = option_map string_bytes s.message; prefix = string_bytes s.prefix_num; is_shown = s.prompt_shown; follow = s.follow }
-
--- the ends of what is selected
-abbrev pub ends_of : PagerState → SelectionEnds
-ends_of s = record { anchor = s.anchor; selection = s.selection }
-
--- the control that a state holds
-abbrev pub control_of : PagerState → Control
-control_of s = record {
-  text = s.screen.document.text;
-  cols = s.cols;
-  rows = s.rows;
-  numbers = s.line_numbers;
-  wrapping = s.screen.document.layout.wrapping;
-  mark = s.upper_mark;
-  left = s.left_mark;
-  ends = ends_of s;
-  settings = settings_of s;
-}
-
--- the stored rows are those of the control's document, which was searched for no term
-pub record IsFormed (s : PagerState) : Type 0 where
-  pub screen : s.screen ≡ searched None (document_of (control_of s))
 
 -- what an event of the pager asks for
 abbrev pub event_wanted : {K : Type 0} → InputEvent → Wanted K
@@ -58,11 +27,6 @@ event_wanted events.RestorePrompt = restores_prompt
 event_wanted (events.Number character) = types character
 event_wanted events.Exit = exits
 event_wanted events.Ignore = ignores
-
--- the typed prefix goes with an event that types nothing
-abbrev pub event_clears : InputEvent → Bool
-event_clears (events.Number character) = false
-event_clears event = true
 
 -- what a command that asks for a drawing asks for
 abbrev pub io_wanted : {K : Type 0} → IoCommand → Wanted K

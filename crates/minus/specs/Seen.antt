@@ -1,7 +1,7 @@
 -- What a session is seen as.
-use Rattle.minus.specs.declared.state.RunMode.{RunMode}
+use Rattle.minus_state.specs.declared.state.RunMode.{RunMode}
 use Rattle.minus.specs.declared.status.Status.{Status}
-use Rattle.minus.specs.Control.{Control}
+use Rattle.minus_state.specs.Control.{Control}
 
 -- the control, the classifier that is kept, the mode of the session, and whether it runs, has exited or has failed
 pub record Seen (K : Type 0) : Type 0 where

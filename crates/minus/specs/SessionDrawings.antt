@@ -3,7 +3,7 @@ use Rattle.std.specs.Prelude.{◌≡◌}
 use Rattle.minus_term.specs.Written.{written_all}
 use Rattle.minus.specs.declared.commands.Drawing.{Drawing}
 use Rattle.minus.specs.declared.session.Core.{Core}
-use Rattle.minus.specs.Control.{Control}
+use Rattle.minus_state.specs.Control.{Control}
 use Rattle.minus.specs.Drawings.{ops_of_step}
 
 -- the buffer holds the list that a page is drawn by, on the way from one control to another

@@ -5,7 +5,7 @@ use Rattle.minus_term.specs.Refusals.{refusal_of}
 use Rattle.minus.specs.declared.init.StartErrorOf.{StartErrorOf}
 use Rattle.minus.specs.declared.pager.PagerOf.{PagerOf}
 use Rattle.minus.specs.declared.session.Core.{Core}
-use Rattle.minus.specs.declared.state.RunMode.{RunMode}
+use Rattle.minus_state.specs.declared.state.RunMode.{RunMode}
 use Rattle.minus.specs.Core.{seen_of}
 use Rattle.minus.specs.Reads.{wanted_of}
 use Rattle.minus.specs.Starts.{first_control, IsStarted, IsStartRefused, IsEarly, StartBreaksOff, IsStartFault}

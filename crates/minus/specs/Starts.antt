@@ -1,5 +1,5 @@
 -- The start of a session.
-use Rattle.std.specs.Prelude.{◌≡◌, ℕ, List, [], ◌∷◌, Bool, true, false, Option, None, codes, ◌⊎◌}
+use Rattle.std.specs.Prelude.{◌≡◌, ℕ, List, [], ◌∷◌, Bool, true, false, Option, ◌⊎◌}
 use Rattle.std.specs.Io.KnownBytes.{Appends}
 use Rattle.minus_term.specs.Refusals.{Refusal, for_memory, for_size, for_mode, at_setup, at_drawing}
 use Rattle.minus_term.specs.declared.error.SetupError.{SetupError}
@@ -8,33 +8,15 @@ use Rattle.minus_term.specs.Operations.{Op}
 use Rattle.minus_term.specs.Written.{written_all}
 use Rattle.minus_term.specs.Counts.{AppendsFront, Stays, Rises}
 use Rattle.minus_term.specs.Terminal.{setup_bytes, cleanup_bytes, SetupBreaksOff}
-use Rattle.minus_text.specs.declared.line_numbers.LineNumbers.TheVariants.{Disabled}
-use Rattle.minus.specs.declared.state.RunMode.{RunMode}
-use Rattle.minus.specs.declared.state.RunMode.TheVariants.{Uninitialized}
+use Rattle.minus_state.specs.declared.state.RunMode.{RunMode}
+use Rattle.minus_state.specs.declared.state.RunMode.TheVariants.{Uninitialized}
 use Rattle.minus.specs.declared.status.Status.TheVariants as status
-use Rattle.minus.specs.Sizes.{IsSize}
-use Rattle.minus.specs.Control.{Control, Settings}
+use Rattle.minus_state.specs.Sizes.{IsSize}
+use Rattle.minus_state.specs.States.{at_start}
+use Rattle.minus_state.specs.Control.{Control}
 use Rattle.minus.specs.Drawn.{Begins, IsWholeDrawing}
 use Rattle.minus.specs.Seen.{Seen}
 use Rattle.minus.specs.Table.{Wanted, effect}
-
--- the prompt, no message and no prefix; the prompt row is shown, and the page stays where it is at an append
-abbrev pub first_settings : Settings
-first_settings = record { prompt = codes "minus"; message = None; prefix = []; is_shown = true; follow = false }
-
--- no text, lines without numbers and wrapped, the marks at the first row and column, and nothing selected
-abbrev pub at_start : ℕ → ℕ → Control
-at_start cols rows = record {
-  text = [];
-  cols = cols;
-  rows = rows;
-  numbers = Disabled;
-  wrapping = true;
-  mark = 0;
-  left = 0;
-  ends = record { anchor = None; selection = None };
-  settings = first_settings;
-}
 
 -- what a command that waits for the start changes: the text on show; nothing moves
 abbrev pub taken : {K : Type 0} → Control → Wanted K → Control

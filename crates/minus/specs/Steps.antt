@@ -5,18 +5,19 @@ use Rattle.minus_term.specs.Refusals.{Refusal, for_memory, for_newline, for_size
 use Rattle.minus_term.specs.declared.event.Event.{Event}
 use Rattle.minus_term.specs.Terminal.{cleanup_bytes, CleanupBreaksOff}
 use Rattle.minus_term.specs.declared.error.CleanupError.{CleanupError}
-use Rattle.minus.specs.declared.input.InputEvent.{InputEvent}
-use Rattle.minus.specs.declared.state.PagerState.{PagerState}
-use Rattle.minus.specs.declared.state.RunMode.{RunMode}
-use Rattle.minus.specs.declared.state.RunMode.TheVariants as run_mode
+use Rattle.minus_state.specs.declared.input.InputEvent.{InputEvent}
+use Rattle.minus_state.specs.declared.state.PagerState.{PagerState}
+use Rattle.minus_state.specs.declared.state.RunMode.{RunMode}
+use Rattle.minus_state.specs.declared.state.RunMode.TheVariants as run_mode
 use Rattle.minus.specs.declared.session.Answer.{Answer}
 use Rattle.minus.specs.declared.status.Status.{Status}
 use Rattle.minus.specs.declared.status.Status.TheVariants as status
 use Rattle.minus.specs.Answers.{IsAnswer}
-use Rattle.minus.specs.Control.{Control, cleared}
-use Rattle.minus.specs.Reads.{control_of, IsFormed, answer_wanted, Told, a_command, an_event}
+use Rattle.minus_state.specs.Control.{Control, cleared}
+use Rattle.minus_state.specs.States.{control_of, IsFormed}
+use Rattle.minus.specs.Reads.{answer_wanted, Told, a_command, an_event}
 use Rattle.minus.specs.Seen.{Seen}
-use Rattle.minus.specs.Sizes.{IsSize}
+use Rattle.minus_state.specs.Sizes.{IsSize}
 use Rattle.minus.specs.Table.{Wanted, Exit, resizes, types, HasNewline}
 use Rattle.minus.specs.Works.{Work, WorkedOff, passed_in, items_of, reached, before_last}
 use Rattle.minus.specs.Drawn.{Drawn, BrokenOff, Leaves}

@@ -1,21 +1,22 @@
 -- The table of commands and events.
-use Rattle.std.specs.Prelude.{◌≡◌, ℕ, ◌+◌, ◌==◌, ◌||◌, nat_le, is_some, not, List, ◌++◌, Bool, true, false, Option, None, Some, encode_utf8, if◌then◌else◌}
-use Rattle.std.specs.List.{list_any}
+use Rattle.std.specs.Prelude.{◌≡◌, ℕ, ◌==◌, is_some, List, ◌++◌, Bool, true, false, Option, None, Some, encode_utf8, if◌then◌else◌}
 use Rattle.std.specs.Option.{unwrap_or}
 use Rattle.minus_text.specs.declared.line_numbers.LineNumbers.{LineNumbers}
-use Rattle.minus_text.specs.Document.{longest}
 use Rattle.minus_state.specs.Copied.{copied}
 use Rattle.minus_state.specs.Selection.{ends_in_order}
-use Rattle.minus_state.specs.View.{prefix_in}
 use Rattle.minus.specs.declared.commands.Drawing.{Drawing}
 use Rattle.minus.specs.declared.commands.Drawing.TheVariants.{Nothing, Full, Scroll, Append, Prompt}
-use Rattle.minus.specs.declared.commands.Redraw.{Redraw}
-use Rattle.minus.specs.declared.commands.Redraw.TheVariants.{Stays, Whole, Moved, Appended, PromptRow}
-use Rattle.minus.specs.declared.state.ExitStrategy.{ExitStrategy}
-use Rattle.minus.specs.declared.state.ExitStrategy.TheVariants.{ProcessQuit}
-use Rattle.minus.specs.Sizes.{IsSize}
-use Rattle.minus.specs.Selecting.{no_ends, has_ends, end_at, ends_begun, mark_led, ends_led, stays_led}
-use Rattle.minus.specs.Control.{Control, Settings, document_of, keeps_rows_with, clamp, top}
+use Rattle.minus_state.specs.declared.change.Redraw.{Redraw}
+use Rattle.minus_state.specs.declared.change.Redraw.TheVariants.{Stays, Whole, Moved, Appended, PromptRow}
+use Rattle.minus_state.specs.declared.state.ExitStrategy.{ExitStrategy}
+use Rattle.minus_state.specs.declared.state.ExitStrategy.TheVariants.{ProcessQuit}
+use Rattle.minus_state.specs.Sizes.{IsSize}
+use Rattle.minus_state.specs.Appending.{followed}
+use Rattle.minus_state.specs.Redraws.{append_redraw, shift_redraw, whole_where, led_redraw}
+use Rattle.minus_state.specs.Shifting.{left_after}
+use Rattle.minus_state.specs.ShownPrompt.{has_newline}
+use Rattle.minus_state.specs.Selecting.{no_ends, has_ends, end_at, ends_begun, mark_led, ends_led}
+use Rattle.minus_state.specs.Control.{Control, Settings, document_of, clamp, top}
 
 -- a command, as values alone; a classifier is a value of the kind that the session keeps
 pub data Wanted (K : Type 0) : Type 0 where
@@ -63,40 +64,8 @@ changes c redraw = record { changed = c; moves_to = None; redraw = redraw; exits
 abbrev pub sets : Control → Settings → Effect
 sets c settings = changes (record c { settings = settings }) Stays
 
--- where an append leaves the mark: at the last page, where the page goes on with what is appended
-abbrev pub followed : Control → Control → ℕ
-followed old new = if old.settings.follow then top new else old.mark
-
--- how much of the page an append asks to be drawn: all of it where it leaves no row as it is
-abbrev pub append_redraw : Control → List ℕ → Redraw
-append_redraw c text = if keeps_rows_with c text then Appended else Whole
-
 abbrev pub appends : Control → List ℕ → Effect
 appends c text = let new : Control = record c { text = c.text ++ text } in record (changes new (append_redraw c text)) { moves_to = Some (followed c new) }
-
--- the columns that rows take where lines are not wrapped: those of the longest line, and of the number before it
-abbrev pub width : Control → ℕ
-width c = longest (document_of c) + prefix_in (document_of c)
-
--- whether the left mark moves to a column: where lines are not wrapped, to the left, or as long as the page does not go beyond
--- the longest line
-abbrev pub may_shift : Control → ℕ → Bool
-may_shift c left = if c.wrapping then false else nat_le left c.left || nat_le (left + c.cols) (width c)
-
--- where it is then, and what is drawn: nothing where it stays
-abbrev pub left_after : Control → ℕ → ℕ
-left_after c left = if may_shift c left then left else c.left
-
--- the whole page is drawn where something has changed, and else nothing
-abbrev pub whole_where : Bool → Redraw
-whole_where changed = if changed then Whole else Stays
-
-abbrev pub shift_redraw : Control → ℕ → Redraw
-shift_redraw c left = whole_where (may_shift c left)
-
--- a selection that is led on is drawn unless it stays
-abbrev pub led_redraw : Control → ℕ → ℕ → Redraw
-led_redraw c x y = whole_where (not (stays_led c x y))
 
 -- nothing is selected any more
 abbrev pub unselects : Control → Effect
@@ -135,10 +104,6 @@ handed w = None
 abbrev pub kept_after : {K : Type 0} → K → Wanted K → K
 kept_after k w = unwrap_or (handed w) k
 
--- whether a text has a newline
-abbrev pub has_newline : List ℕ → Bool
-has_newline text = list_any (λ b. b == 10) text
-
 -- it can be done: a size is one of a terminal, and a prompt or a message has no newline
 abbrev pub IsPossible : {K : Type 0} → Wanted K → Type 0
 IsPossible (resizes cols rows) = IsSize cols rows
@@ -164,10 +129,6 @@ moved_by e = moved e.changed e.moves_to
 -- the control that a command leaves: the clamp ends each
 abbrev pub changed_by : Effect → Control
 changed_by e = clamp (moved_by e)
-
--- the control that a move of the mark leaves
-abbrev pub moved_to : Control → ℕ → Control
-moved_to c mark = clamp (record c { mark = mark })
 
 -- how what is asked for is drawn, by the mark before it and the mark that the clamp leaves: a move not at all where the mark
 -- stays, and an append in full where it does not

@@ -3,8 +3,8 @@ use Rattle.std.specs.Prelude.{◌≡◌, ℕ, List, [], ◌∷◌, map, Option, 
 use Rattle.std.specs.List.{list_any}
 use Rattle.minus.specs.declared.commands.Drawing.{Drawing}
 use Rattle.minus.specs.declared.commands.Drawing.TheVariants.{Nothing, Full}
-use Rattle.minus.specs.PromptRow.{prompt_row}
-use Rattle.minus.specs.Control.{Control, SameSize}
+use Rattle.minus_state.specs.ShownPrompt.{prompt_row}
+use Rattle.minus_state.specs.Control.{Control, SameSize}
 use Rattle.minus.specs.Seen.{Seen}
 use Rattle.minus.specs.Table.{Wanted, Exit, effect, kept_after, changed_by, drawing_of, IsPossible}
 

@@ -71,21 +71,6 @@ pub enum InputOf<P: Parts> {
 /// What a session is given to which no classifier was given.
 pub type Input = InputOf<StandIns>;
 
-/// What a command asks to be drawn.
-#[derive(Clone, Copy)]
-pub(crate) enum Redraw {
-    /// Nothing: the page stays as it is.
-    Stays,
-    /// The whole page.
-    Whole,
-    /// What a move of the mark changes.
-    Moved,
-    /// What an append changes.
-    Appended,
-    /// The prompt row.
-    PromptRow,
-}
-
 /// How what comes of a command is drawn. What does not draw the prompt row is followed by it where it has changed.
 #[derive(Clone, Copy)]
 pub(crate) enum Drawing {

@@ -6,10 +6,10 @@ ghost use Rattle.minus_term.specs.Operations.{GoTo, ClearRow, Put};
 ghost use Rattle.minus_term.specs.Written.{written_all};
 ghost use Rattle.minus_term.specs.FullRedraw.{full_ops, prompt_ops, row_ops};
 ghost use Rattle.minus_term.specs.Scroll.{down_ops, up_ops, scroll_ops};
-ghost use Rattle.minus.specs.Drawings.{rows_newly};
-ghost use Rattle.minus.specs.Showing.{row_text};
+ghost use Rattle.minus_state.specs.Page.{rows_newly};
+ghost use Rattle.minus_state.specs.Showing.{row_text};
 
-use crate::showing::ShownRow;
+use minus_state::showing::ShownRow;
 use minus_term::{DrawOp, write_op};
 use std::alloc::{AllocError, Global};
 

@@ -5,17 +5,17 @@ ghost use Rattle.minus_term.specs.Counts.{Stays};
 ghost use Rattle.minus_term.specs.FullRedraw.{prompt_ops};
 ghost use Rattle.minus_term.specs.Writes.{WriteRefuses};
 ghost use Rattle.minus_term.specs.Written.{written_all};
-ghost use Rattle.minus.specs.Control.{Control, clamp};
-ghost use Rattle.minus.specs.Changes.{IsChange};
+ghost use Rattle.minus_state.specs.Control.{Control, clamp, moved_to};
+ghost use Rattle.minus_state.specs.Changes.{IsChange};
 ghost use Rattle.minus.specs.Drawings.{whole_page, append_from, scroll_to, ops_between};
-ghost use Rattle.minus.specs.NextTexts.{IsNext};
-ghost use Rattle.minus.specs.Reads.{IsFormed, control_of};
-ghost use Rattle.minus.specs.Table.{moved_to};
+ghost use Rattle.minus_state.specs.NextTexts.{IsNext};
+ghost use Rattle.minus_state.specs.States.{IsFormed, control_of};
 
-use crate::change::Change;
 use crate::commands::Drawing;
 use crate::display;
+use crate::drawing::{draw_after, draw_rows_from, drawing_by};
 use crate::state::PagerState;
+use minus_state::change::Change;
 use minus_term::{MinusError, OutputSink, draw_bytes};
 use std::alloc::Global;
 
@@ -59,7 +59,7 @@ fn draw_change<W: OutputSink>(
 {
     let prompt = state.prompt_row_after(alloc, change)?;
     let mut bytes = Vec::new(alloc);
-    state.draw_after(alloc, &mut bytes, drawing, change, &prompt)?;
+    draw_after(state, alloc, &mut bytes, drawing, change, &prompt)?;
     draw_bytes(out, &bytes)?;
     Ok(())
 }
@@ -115,7 +115,13 @@ pub fn draw_for_change<W: OutputSink>(
     ensures mark_kept { OnErr result (new_upper_mark.new ≡ new_upper_mark.old) }
 {
     let change = state.moved_to(*new_upper_mark);
-    draw_change(alloc, out, state, change.drawing(state.upper_mark), &change)?;
+    draw_change(
+        alloc,
+        out,
+        state,
+        drawing_by(&change, state.upper_mark),
+        &change,
+    )?;
     *new_upper_mark = change.mark;
     state.upper_mark = change.mark;
     Ok(())
@@ -141,7 +147,7 @@ pub fn draw_append_text<W: OutputSink>(
     ensures err { IfErr result (λ e. WriteRefuses W.contents W.refused e out.old out.new (written_all (append_from (control_of state.now) first old_count))) }
 {
     let mut bytes = Vec::new(alloc);
-    state.draw_rows_from(alloc, &mut bytes, first, old_count)?;
+    draw_rows_from(state, alloc, &mut bytes, first, old_count)?;
     draw_bytes(out, &bytes)?;
     Ok(())
 }

@@ -5,24 +5,27 @@ ghost use Rattle.minus_term.specs.Counts.{Stays, Rises};
 ghost use Rattle.minus_term.specs.Refusals.{refusal_of};
 ghost use Rattle.minus_term.specs.Terminal.{setup_bytes};
 ghost use Rattle.minus_term.specs.Written.{written_all};
-ghost use Rattle.minus.specs.Changes.{IsChange, IsUnformedState};
-ghost use Rattle.minus.specs.Control.{IsClamped};
+ghost use Rattle.minus_state.specs.Changes.{IsChange, IsUnformedState};
+ghost use Rattle.minus_state.specs.Control.{IsClamped};
 ghost use Rattle.minus.specs.Drawings.{whole_page};
 ghost use Rattle.minus.specs.Drawn.{StartLeavesItsPage};
-ghost use Rattle.minus.specs.PromptRow.{prompt_row, prompt_row_of};
-ghost use Rattle.minus.specs.Reads.{IsFormed, control_of, settings_of, wanted_of};
+ghost use Rattle.minus_state.specs.ShownPrompt.{prompt_row, prompt_row_of};
+ghost use Rattle.minus_state.specs.States.{IsFormed, control_of, settings_of};
+ghost use Rattle.minus.specs.Reads.{wanted_of};
 ghost use Rattle.minus.specs.SessionStarts.{IsStart, IsRefusedStart};
-ghost use Rattle.minus.specs.Sizes.{IsSize};
+ghost use Rattle.minus_state.specs.Sizes.{IsSize};
 ghost use Rattle.minus.specs.Starts.{taken_all, first_control, IsShowRefused, ShowBreaksOff, IsStartFault};
 
-use crate::change::{Change, NextText};
-use crate::commands::{CommandOf, Drawing, Redraw};
+use crate::commands::{CommandOf, Drawing};
+use crate::drawing::draw_after;
 use crate::pager::{Pager, PagerOf};
 use crate::parts::Parts;
+use crate::prepare::take_text;
 use crate::session::{Core, Session};
 use crate::stand_in::{StandIn, StandIns};
 use crate::state::{PagerState, RunMode};
 use crate::status::Status;
+use minus_state::change::{Change, NextText, Redraw};
 use minus_term::{MinusError, OutputSink, cleanup, draw_bytes, setup};
 use std::alloc::{AllocError, Global};
 
@@ -53,7 +56,7 @@ fn take_waiting<P: Parts>(
     ensures memory { IfErr result (λ e. e ≡ MinusError.Memory) }
 {
     for command in queue {
-        state.take_text(alloc, command)?;
+        take_text(state, alloc, command)?;
     }
     Ok(())
 }
@@ -100,7 +103,14 @@ fn draw_unchanged(
 {
     let prompt_row = state.prompt_row_after(alloc, change)?;
     let mut drawing = Vec::new(alloc);
-    state.draw_after(alloc, &mut drawing, Drawing::Full, change, &prompt_row)?;
+    draw_after(
+        state,
+        alloc,
+        &mut drawing,
+        Drawing::Full,
+        change,
+        &prompt_row,
+    )?;
     Ok((prompt_row, drawing))
 }
 

@@ -4,10 +4,10 @@
 //! are those of the Rust crate.
 #![tactic(auto)]
 
-mod change;
 mod commands;
 mod display;
 mod draw;
+mod drawing;
 pub mod error;
 pub mod help;
 pub mod hooks;
@@ -17,10 +17,10 @@ mod laws;
 mod page;
 mod pager;
 mod parts;
+mod prepare;
 pub mod screen;
 pub mod search;
 mod session;
-mod showing;
 pub mod sink;
 mod stand_in;
 pub mod state;

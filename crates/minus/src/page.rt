@@ -1,12 +1,12 @@
 //! The page, as texts.
 ghost use Rattle.std.specs.Prelude.{◌≡◌, ◌<◌, ◌++◌, [], length, replicate, map, string_bytes, OnOk, IfOk};
-ghost use Rattle.minus.specs.Page.{page_with};
-ghost use Rattle.minus.specs.Reads.{control_of};
-ghost use Rattle.minus.specs.Showing.{row_text};
+ghost use Rattle.minus_state.specs.Page.{page_with};
+ghost use Rattle.minus_state.specs.States.{control_of};
+ghost use Rattle.minus_state.specs.Showing.{row_text};
 
-use crate::change::Change;
-use crate::showing::ShownRow;
 use crate::state::PagerState;
+use minus_state::change::Change;
+use minus_state::showing::ShownRow;
 use minus_term::MinusError;
 use std::alloc::{AllocError, Global};
 
@@ -61,11 +61,11 @@ pub struct Page {
 
 impl Page {
     ghost use Rattle.std.specs.Prelude.{◌≡◌, ◌<◌, length, map, string_bytes, IfOk, IfErr};
-    ghost use Rattle.minus.specs.Changes.{shown_by};
-    ghost use Rattle.minus.specs.NextTexts.{IsNext};
-    ghost use Rattle.minus.specs.Page.{page_with};
-    ghost use Rattle.minus.specs.Reads.{control_of};
-    ghost use Rattle.minus.specs.Showing.{row_text};
+    ghost use Rattle.minus_state.specs.Changes.{shown_by};
+    ghost use Rattle.minus_state.specs.NextTexts.{IsNext};
+    ghost use Rattle.minus_state.specs.Page.{page_with};
+    ghost use Rattle.minus_state.specs.States.{control_of};
+    ghost use Rattle.minus_state.specs.Showing.{row_text};
 
     // The page of a state that has these rows of text at its top.
     fn form(alloc: Global, state: &PagerState, shown: &[ShownRow<'_>]) -> Result<Page, MinusError>

@@ -1,19 +1,21 @@
 //! A session: a pager over a sink.
 ghost use Rattle.std.specs.Prelude.{◌≡◌, string_bytes};
 ghost use Rattle.std.specs.Option.{option_map, unwrap_or};
-ghost use Rattle.minus.specs.Control.{IsClamped};
-ghost use Rattle.minus.specs.PromptRow.{prompt_row_of};
-ghost use Rattle.minus.specs.Reads.{control_of, settings_of, IsFormed};
+ghost use Rattle.minus_state.specs.Control.{IsClamped};
+ghost use Rattle.minus_state.specs.ShownPrompt.{prompt_row_of};
+ghost use Rattle.minus_state.specs.States.{control_of, settings_of, IsFormed};
 ghost use Rattle.minus.specs.declared.status.Status.TheVariants as stands;
 
-use crate::change::{Change, NextText};
-use crate::commands::{CommandOf, Drawing, InputOf, Redraw};
+use crate::commands::{CommandOf, Drawing, InputOf};
+use crate::drawing::{draw_step, drawing_by};
 use crate::input::{InputClassifier, InputEvent};
 use crate::page::Page;
 use crate::parts::{Calls, Parts};
+use crate::prepare::{exit_of, prepare};
 use crate::stand_in::StandIns;
 use crate::state::{ExitStrategy, PagerState, RunMode};
 use crate::status::Status;
+use minus_state::change::{Change, NextText, Redraw};
 use minus_term::{CleanupError, MinusError, OutputSink, cleanup, draw_bytes};
 use std::alloc::Global;
 
@@ -118,14 +120,16 @@ impl<S, P: Parts> Core<S, P> {
     ghost use Rattle.std.specs.Prelude.{◌≡◌, map, None, OnOk, OnErr, IfOk, IfErr, string_bytes};
     ghost use Rattle.std.specs.Option.{option_map, unwrap_or};
     ghost use Rattle.minus_term.specs.Refusals.{refusal_of};
-    ghost use Rattle.minus.specs.Control.{Control, cleared};
-    ghost use Rattle.minus.specs.Page.{page};
-    ghost use Rattle.minus.specs.PromptRow.{prompt_row};
+    ghost use Rattle.minus_state.specs.Control.{Control, cleared};
+    ghost use Rattle.minus_state.specs.Page.{page};
+    ghost use Rattle.minus_state.specs.ShownPrompt.{prompt_row};
     ghost use Rattle.minus.specs.SessionDrawings.{DrawsBetween};
-    ghost use Rattle.minus.specs.Reads.{control_of, wanted_of};
-    ghost use Rattle.minus.specs.NextTexts.{IsNext};
-    ghost use Rattle.minus.specs.Changes.{IsChange, IsUnformed};
-    ghost use Rattle.minus.specs.Sizes.{IsSize};
+    ghost use Rattle.minus_state.specs.States.{control_of};
+    ghost use Rattle.minus.specs.Reads.{wanted_of};
+    ghost use Rattle.minus_state.specs.NextTexts.{IsNext};
+    ghost use Rattle.minus_state.specs.Changes.{IsChange};
+    ghost use Rattle.minus.specs.Unformed.{IsUnformed};
+    ghost use Rattle.minus_state.specs.Sizes.{IsSize};
     ghost use Rattle.minus.specs.Table.{effect, drawing_of, IsPossible};
     ghost use Rattle.minus.specs.Works.{after};
     ghost use Rattle.minus.specs.Steps.{mode_told, taken_by};
@@ -182,7 +186,15 @@ impl<S, P: Parts> Core<S, P> {
         self.drawing.clear();
         let kept = self.prompt_row.as_str();
         let prompt = row_of(row, kept);
-        self.state.draw_step(self.alloc, &mut self.drawing, drawing, change, prompt, kept)?;
+        draw_step(
+            &self.state,
+            self.alloc,
+            &mut self.drawing,
+            drawing,
+            change,
+            prompt,
+            kept,
+        )?;
         Ok(())
     }
 
@@ -200,9 +212,9 @@ impl<S, P: Parts> Core<S, P> {
         ensures err { OnErr result (seen_of self.new ≡ seen_of self.old) }
         ensures unformed { IfErr result (λ e. IsUnformed (refusal_of e) (wanted_of command)) }
     {
-        let prepared = self.state.prepare(self.alloc, command, clears)?;
+        let prepared = prepare(&self.state, self.alloc, command, clears)?;
         let row = self.state.new_prompt_row(self.alloc, &prepared.change)?;
-        let drawing = prepared.change.drawing(self.state.upper_mark);
+        let drawing = drawing_by(&prepared.change, self.state.upper_mark);
         self.draw_change(drawing, &prepared.change, &row)?;
         self.state.place(self.alloc, prepared.change)?;
         keep(&mut self.prompt_row, row);
@@ -272,7 +284,7 @@ impl<S: OutputSink + Drop, P: Calls> Core<S, P> {
             IsStepOf S.contents S.refused P.Classifier.allows self.old told self.new a) }
         ensures refused { IfErr result (λ e. RefusesStepOf S.contents S.refused P.Classifier.allows self.old (wanted_of command) clears self.new e) }
     {
-        if let Some(exit) = self.state.exit_of(&command) {
+        if let Some(exit) = exit_of(&self.state, &command) {
             return self.exit(&command, exit, clears);
         }
         let copied = self.change(command, clears)?;

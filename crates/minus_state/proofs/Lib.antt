@@ -3,3 +3,7 @@ pub mod ScrollLaws
 pub mod CopiedLaws
 pub mod ShownRowLaws
 pub mod ShownRowsLaws
+pub mod ShownLaws
+pub mod ShowingLaws
+pub mod SelectingLaws
+pub mod ChangeLaws

@@ -6,3 +6,16 @@ pub mod ScrollBounds
 pub mod View
 pub mod Copied
 pub mod ShownRow
+pub mod Sizes
+pub mod Control
+pub mod Selecting
+pub mod Shifting
+pub mod Appending
+pub mod Redraws
+pub mod ShownPrompt
+pub mod Page
+pub mod NextTexts
+pub mod Showing
+pub mod Events
+pub mod States
+pub mod Changes

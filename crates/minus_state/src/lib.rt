@@ -1,22 +1,29 @@
-//! The state of a pager beside its text: what its prompt row shows, what is selected, and what of a
-//! row stands in some columns.
+//! The state of a pager: its text, its marks and what is set beside them, what is selected, what of a row
+//! and of the prompt row is shown, and what events ask it for.
 #![tactic(auto)]
 
+pub mod change;
 pub mod copied;
+pub mod input;
 pub mod prompt;
 pub mod rendering;
 pub mod scroll;
 pub mod selection;
+pub mod showing;
+pub mod state;
 pub mod view;
 pub mod visible;
 
+pub use change::{Change, NextText, Redraw, Setting};
 pub use copied::extract_selection;
+pub use input::{InputClassifier, InputEvent};
 pub use prompt::{PromptRow, format_prompt, prompt_fills_its_row};
 pub use rendering::{
     Rendering, render_rows_for_display, selection_adds_markers_alone, shown_rows_fit,
 };
 pub use scroll::get_horizontal_scroll_bounds;
 pub use selection::{Selection, SelectionEnds, marked_range};
+pub use state::{ExitStrategy, PagerState, RunMode};
 pub use view::{View, selection_from_coordinates};
 pub use visible::{
     highlight_visible_range, markers_alone_are_added, place_after_visible, place_of_visible,

@@ -4,7 +4,7 @@ use Rattle.std.proofs.lemmas.List.{length-map}
 use Rattle.minus_term.specs.Append.{rows_anew}
 use Rattle.minus_term.specs.Written.{written_all}
 use Rattle.minus.proofs.DrawingLaws.{anew_added}
-use Rattle.minus.specs.Showing.{row_text}
+use Rattle.minus_state.specs.Showing.{row_text}
 use Rattle.minus.proofs.display.draw_append_text.Goals as goal
 
 pub returns : goal.returns

@@ -4,7 +4,7 @@ use Rattle.std.specs.List.{flat_map}
 use Rattle.minus_term.specs.Operations.{Op, GoTo, ClearAll}
 use Rattle.minus_term.specs.FullRedraw.{row_ops, prompt_ops}
 use Rattle.minus.proofs.DrawingLaws.{op_first, op_added, ops_added}
-use Rattle.minus.specs.Showing.{row_text}
+use Rattle.minus_state.specs.Showing.{row_text}
 use Rattle.minus.proofs.display.draw_full.Goals as goal
 
 pub returns : goal.returns

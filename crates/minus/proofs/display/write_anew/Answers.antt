@@ -2,7 +2,7 @@
 use Rattle.std.proofs.Common.{ℕ, List, [], ◌∷◌, ◌++◌, ap, ◌∙◌}
 use Rattle.minus_term.specs.Operations.{GoTo, ClearRow, Put}
 use Rattle.minus_term.specs.Written.{written}
-use Rattle.minus.specs.Showing.{row_text}
+use Rattle.minus_state.specs.Showing.{row_text}
 use Rattle.minus.proofs.DrawingLaws.{op_added}
 use Rattle.minus.proofs.display.write_anew.Goals as goal
 

@@ -2,7 +2,7 @@
 use Rattle.std.proofs.Common.{ℕ, List, [], ◌∷◌, ◌++◌, ap, ◌∙◌}
 use Rattle.minus_term.specs.Operations.{Return, Put, NextRow}
 use Rattle.minus_term.specs.Written.{written}
-use Rattle.minus.specs.Showing.{row_text}
+use Rattle.minus_state.specs.Showing.{row_text}
 use Rattle.minus.proofs.DrawingLaws.{op_first, op_added}
 use Rattle.minus.proofs.display.write_row.Goals as goal
 

@@ -3,8 +3,8 @@ use Rattle.minus.proofs.DrawingLaws.{no_op, rows_more}
 use Rattle.std.proofs.Common.{◌++◌, ap, ◌∙◌}
 use Rattle.minus_term.specs.FullRedraw.{row_ops}
 use Rattle.minus_term.specs.Written.{written_all}
-use Rattle.minus.specs.declared.showing.ShownRow.{ShownRow}
-use Rattle.minus.specs.Showing.{row_text}
+use Rattle.minus_state.specs.declared.showing.ShownRow.{ShownRow}
+use Rattle.minus_state.specs.Showing.{row_text}
 use Rattle.minus.proofs.display.write_rows.Goals as goal
 
 pub loop-row-init : goal.loop-row-init

@@ -3,7 +3,7 @@ use Rattle.std.proofs.Common.{◌≡◌, ◌++◌, map, take}
 use Rattle.std.specs.List.{flat_map}
 use Rattle.minus_term.specs.Written.{written_all}
 use Rattle.minus_term.specs.FullRedraw.{row_ops}
-use Rattle.minus.specs.Showing.{row_text}
+use Rattle.minus_state.specs.Showing.{row_text}
 use Rattle.minus.proofs.display.write_rows.Given as goal
 
 abbrev pub invariant-loop-row : goal.invariant-loop-row

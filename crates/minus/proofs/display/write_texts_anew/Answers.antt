@@ -3,8 +3,8 @@ use Rattle.minus.proofs.DrawingLaws.{no_op, anew_next}
 use Rattle.std.proofs.Common.{◌+◌, ◌++◌, [], ◌∷◌, ap, ◌∙◌}
 use Rattle.minus_term.specs.Operations.{GoTo, ClearRow, Put}
 use Rattle.minus_term.specs.Written.{written_all}
-use Rattle.minus.specs.declared.showing.ShownRow.{ShownRow}
-use Rattle.minus.specs.Showing.{row_text}
+use Rattle.minus_state.specs.declared.showing.ShownRow.{ShownRow}
+use Rattle.minus_state.specs.Showing.{row_text}
 use Rattle.minus.proofs.display.write_texts_anew.Goals as goal
 
 pub loop-i-init : goal.loop-i-init

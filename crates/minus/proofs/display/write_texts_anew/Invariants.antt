@@ -2,7 +2,7 @@
 use Rattle.std.proofs.Common.{◌≡◌, ◌++◌, map, take}
 use Rattle.minus_term.specs.Append.{rows_anew}
 use Rattle.minus_term.specs.Written.{written_all}
-use Rattle.minus.specs.Showing.{row_text}
+use Rattle.minus_state.specs.Showing.{row_text}
 use Rattle.minus.proofs.display.write_texts_anew.Given as goal
 
 abbrev pub invariant-loop-i : goal.invariant-loop-i

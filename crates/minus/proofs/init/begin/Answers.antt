@@ -1,7 +1,7 @@
 -- The first page is drawn whole, or broken off.
 use Rattle.std.proofs.Common.{refl}
 use Rattle.minus_term.specs.Refusals.{refusal_of}
-use Rattle.minus.specs.Reads.{control_of}
+use Rattle.minus_state.specs.States.{control_of}
 use Rattle.minus.proofs.StartLaws.{start_broken, shown_at_start}
 use Rattle.minus.proofs.DrawnLaws.{first_drawn}
 use Rattle.minus.proofs.init.begin.Goals as goal

@@ -1,5 +1,5 @@
 -- The change changes nothing.
-use Rattle.minus.proofs.ChangeLaws.{unchanged}
+use Rattle.minus_state.proofs.ChangeLaws.{unchanged}
 use Rattle.minus.proofs.init.draw_first.Goals as goal
 
 pub draw_unchanged-requires-clause-same : goal.draw_unchanged-requires-clause-same

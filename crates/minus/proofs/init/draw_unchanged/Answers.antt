@@ -1,6 +1,6 @@
 -- The page is drawn in full.
 use Rattle.std.proofs.Common.{◌∙◌}
-use Rattle.minus.specs.Reads.{control_of}
+use Rattle.minus_state.specs.States.{control_of}
 use Rattle.minus.proofs.init.draw_unchanged.Goals as goal
 
 pub returns-clause-prompt : goal.returns-clause-prompt

@@ -1,7 +1,8 @@
 -- No command that waited moved the mark.
 use Rattle.std.proofs.Common.{map, ap, ◌∙◌}
-use Rattle.minus.specs.Control.{Control}
-use Rattle.minus.specs.Reads.{control_of, wanted_of}
+use Rattle.minus_state.specs.Control.{Control}
+use Rattle.minus_state.specs.States.{control_of}
+use Rattle.minus.specs.Reads.{wanted_of}
 use Rattle.minus.specs.Starts.{taken_all}
 use Rattle.minus.proofs.TableLaws.{first_is_clamped}
 use Rattle.minus.proofs.init.first_state.Goals as goal

@@ -1,8 +1,9 @@
 -- The first state has the size that was asked for.
 use Rattle.std.proofs.Common.{rules, ℕ, map, ap, sym, ◌∙◌}
-use Rattle.minus.specs.Control.{Control}
+use Rattle.minus_state.specs.Control.{Control}
 use Rattle.minus.specs.Reads.{wanted_of}
-use Rattle.minus.specs.Starts.{at_start, first_control}
+use Rattle.minus_state.specs.States.{at_start}
+use Rattle.minus.specs.Starts.{first_control}
 use Rattle.minus.proofs.TableLaws.{taken_all_size}
 use Rattle.minus.proofs.init.init_core_with.Goals as goal
 

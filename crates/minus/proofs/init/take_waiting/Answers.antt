@@ -1,5 +1,6 @@
 -- One more command.
-use Rattle.minus.specs.Reads.{control_of, wanted_of}
+use Rattle.minus_state.specs.States.{control_of}
+use Rattle.minus.specs.Reads.{wanted_of}
 use Rattle.minus.proofs.TableLaws.{take_one}
 use Rattle.minus.proofs.init.take_waiting.Goals as goal
 

@@ -1,6 +1,7 @@
 -- The commands so far are taken.
 use Rattle.std.proofs.Common.{◌≡◌, map, take}
-use Rattle.minus.specs.Reads.{IsFormed, control_of, wanted_of}
+use Rattle.minus_state.specs.States.{IsFormed, control_of}
+use Rattle.minus.specs.Reads.{wanted_of}
 use Rattle.minus.specs.Starts.{taken_all}
 use Rattle.minus.proofs.init.take_waiting.Given as goal
 

@@ -1,6 +1,6 @@
 -- The copies so far.
 use Rattle.std.proofs.Common.{◌≡◌, ◌++◌, map, take, string_bytes}
-use Rattle.minus.specs.Showing.{row_text}
+use Rattle.minus_state.specs.Showing.{row_text}
 use Rattle.minus.proofs.page.push_copies.Given as goal
 
 abbrev pub invariant-loop-text : goal.invariant-loop-text

@@ -2,9 +2,10 @@
 use Rattle.std.proofs.Common.{◌≡◌, Option, Some, None, refl, sym, ap, ◌∙◌}
 use Rattle.std.specs.Option.{unwrap_or}
 use Rattle.minus_term.specs.declared.event.Event.{Event}
-use Rattle.minus.specs.declared.input.InputEvent.{InputEvent}
-use Rattle.minus.specs.declared.input.InputEvent.TheVariants.{UpdateUpperMark, UpdateTermArea, UpdateLeftMark, UpdateLineNumber, HorizontalScroll, StartSelection, UpdateSelection, ClearSelection, CopySelection, FollowOutput, RestorePrompt, Number, Exit, Ignore}
-use Rattle.minus.specs.Reads.{event_wanted, answer_wanted, event_clears, an_event}
+use Rattle.minus_state.specs.declared.input.InputEvent.{InputEvent}
+use Rattle.minus_state.specs.declared.input.InputEvent.TheVariants.{UpdateUpperMark, UpdateTermArea, UpdateLeftMark, UpdateLineNumber, HorizontalScroll, StartSelection, UpdateSelection, ClearSelection, CopySelection, FollowOutput, RestorePrompt, Number, Exit, Ignore}
+use Rattle.minus.specs.Reads.{event_wanted, answer_wanted, an_event}
+use Rattle.minus_state.specs.Events.{event_clears}
 use Rattle.minus.specs.Steps.{clears_prefix}
 use Rattle.minus.proofs.session.Core.command_of.Goals as goal
 

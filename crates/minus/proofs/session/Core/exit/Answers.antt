@@ -1,6 +1,6 @@
 -- The exit, or its cleanup broken off.
 use Rattle.std.proofs.Common.{ap}
-use Rattle.minus.specs.Control.{Control}
+use Rattle.minus_state.specs.Control.{Control}
 use Rattle.minus.specs.Reads.{wanted_of}
 use Rattle.minus.specs.Core.{seen_of}
 use Rattle.minus.specs.Seen.{Seen}

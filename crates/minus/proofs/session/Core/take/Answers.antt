@@ -3,14 +3,16 @@ use Rattle.std.proofs.Common.{◌≡◌, ℕ, List, string_bytes, sym, ap, subst
 use Rattle.std.specs.Option.{option_map, unwrap_or}
 use Rattle.minus_term.specs.Written.{written_all}
 use Rattle.minus.specs.Drawings.{ops_of_step}
-use Rattle.minus.specs.PromptRow.{prompt_row}
+use Rattle.minus_state.specs.ShownPrompt.{prompt_row}
 use Rattle.minus.specs.declared.commands.Drawing.{Drawing}
-use Rattle.minus.specs.Control.{Control, cleared}
+use Rattle.minus_state.specs.Control.{Control, cleared}
 use Rattle.minus.specs.Table.{effect, changed_by}
-use Rattle.minus.specs.Reads.{control_of, wanted_of}
+use Rattle.minus_state.specs.States.{control_of}
+use Rattle.minus.specs.Reads.{wanted_of}
 use Rattle.minus.specs.Seen.{Seen}
-use Rattle.minus.specs.declared.state.PagerState.{PagerState}
-use Rattle.minus.proofs.ChangeLaws.{placed, placed_from, drawn_as}
+use Rattle.minus_state.specs.declared.state.PagerState.{PagerState}
+use Rattle.minus_state.proofs.ChangeLaws.{placed, placed_from}
+use Rattle.minus.proofs.TableLaws.{drawn_as}
 use Rattle.minus.proofs.PromptLaws.{row_kept}
 use Rattle.minus.proofs.session.Core.take.Goals as goal
 
@@ -23,9 +25,9 @@ returns-clause-drawn g c =
     let h = c.in_ok-prepared.ensures.next in
     let put = c.in_ok-place.ensures in
     let is = placed c.args.self.now.state c.place.new.self change new c.args.self.now.formed h (placed_from c.args.self.now.state c.draw_change.new.self.state c.place.new.self change c.draw_change.ensures.state (record { screen = put.screen; numbers = put.numbers; mark = put.mark; left = put.left; ends = put.ends; cols = put.cols; rows = put.rows; settings = put.settings })) in
-    let kind = c.drawing-drawing.ensures ∙ drawn_as taken (wanted_of c.args.command) change.redraw change.mark c.in_ok-prepared.ensures.redraw h.mark_is in
+    let kind = c.drawing_by-drawing.ensures ∙ drawn_as taken (wanted_of c.args.command) change.redraw change.mark c.in_ok-prepared.ensures.redraw h.mark_is in
     subst (λ (d : Drawing). c.draw_change.new.self.drawing.items ≡ written_all (ops_of_step d old (control_of c.place.new.self))) kind
-    (subst (λ (x : Control). c.draw_change.new.self.drawing.items ≡ written_all (ops_of_step c.drawing-drawing.result old x)) (sym is) (c.in_ok-draw_change.ensures.drawn new h (c.in_ok-row.ensures new h)))
+    (subst (λ (x : Control). c.draw_change.new.self.drawing.items ≡ written_all (ops_of_step c.drawing_by-drawing.result old x)) (sym is) (c.in_ok-draw_change.ensures.drawn new h (c.in_ok-row.ensures new h)))
 
 pub invariant_of-self-2-clause-prompted : goal.invariant_of-self-2-clause-prompted
 invariant_of-self-2-clause-prompted g c running =

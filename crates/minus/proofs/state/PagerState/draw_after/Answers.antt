@@ -1,6 +1,0 @@
--- What is drawn is the page of the control that the change leads to.
-use Rattle.minus.proofs.DrawingLaws.{no_op}
-use Rattle.minus.proofs.state.PagerState.draw_after.Goals as goal
-
-pub returns-in-Nothing : goal.returns-in-Nothing
-returns-in-Nothing c new h same = rw c.in-Nothing.is (no_op c.args.out.now.items)

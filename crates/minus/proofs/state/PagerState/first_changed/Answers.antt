@@ -1,6 +1,0 @@
--- Found by search.
-use Rattle.std.proofs.Common.{rules}
-use Rattle.minus.proofs.state.PagerState.first_changed.Goals as goal
-
-pub returns : goal.returns
-returns c = search rules

@@ -1,6 +1,0 @@
--- Found by search.
-use Rattle.std.proofs.Common.{rules}
-use Rattle.minus.proofs.state.PagerState.new.Goals as goal
-
-pub returns-clause-control : goal.returns-clause-control
-returns-clause-control c = search rules

@@ -1,9 +1,0 @@
--- It is that of the change that changes nothing.
-use Rattle.minus.specs.Reads.{control_of}
-use Rattle.minus.proofs.ChangeLaws.{unchanged}
-use Rattle.minus.proofs.state.PagerState.prompt_row.Goals as goal
-
-pub returns : goal.returns
-returns c =
-    let is = c.change_to-stays.ensures in
-    c.in_ok-row.ensures (control_of c.args.self.now) (unchanged c.args.self.now c.change_to-stays.result is.text is.mark is.cols is.rows is.clears is.setting)

@@ -1,6 +1,0 @@
--- Found by search.
-use Rattle.std.proofs.Common.{rules}
-use Rattle.minus.proofs.state.is_size.Goals as goal
-
-pub returns-then-contains : goal.returns-then-contains
-returns-then-contains c = search rules

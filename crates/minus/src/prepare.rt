@@ -1,0 +1,253 @@
+//! What comes of commands, formed beside the state.
+ghost use Rattle.std.specs.Prelude.{◌≡◌, ◌+◌, ◌-◌, ◌==◌, ◌++◌, ◌<◌, ◌&&◌, nat_le, min, is_some, [], length, encode_utf8, string_bytes, false, if◌then◌else◌, OnOk, OnErr, IfOk, IfErr};
+ghost use Rattle.std.specs.Option.{option_map};
+ghost use Rattle.minus_state.specs.Control.{cleared, top, moved_to};
+ghost use Rattle.minus_state.specs.Selecting.{no_ends, has_ends, end_at, ends_begun, is_led, mark_led_to, mark_led, ends_led_to, ends_led, is_same_end};
+ghost use Rattle.minus.specs.Table.{appends, effect, handed, moved_by, changed_by, IsPossible};
+ghost use Rattle.minus_state.specs.Redraws.{append_redraw, shift_redraw, whole_where, led_redraw};
+ghost use Rattle.minus_state.specs.Shifting.{width, may_shift, left_after};
+ghost use Rattle.minus_term.specs.Refusals.{refusal_of};
+ghost use Rattle.minus_state.specs.States.{control_of, settings_of, ends_of, IsFormed};
+ghost use Rattle.minus.specs.Reads.{event_wanted, io_wanted, wanted_of};
+ghost use Rattle.minus_text.specs.Document.{rows_of, margin_in};
+ghost use Rattle.minus_state.specs.View.{prefix_in};
+ghost use Rattle.minus_state.specs.NextTexts.{next_document, IsNext};
+ghost use Rattle.minus_state.specs.Changes.{IsChange, settings_after, left_set, ends_set};
+ghost use Rattle.minus.specs.Starts.{taken};
+ghost use Rattle.minus.specs.Unformed.{IsUnformed};
+ghost use Rattle.minus_state.specs.Sizes.{IsSize};
+
+use crate::commands::{CommandOf, IoCommand};
+use crate::input::InputEvent;
+use crate::parts::Parts;
+use crate::state::{ExitStrategy, PagerState};
+use minus_state::change::{Change, Redraw, Setting};
+use minus_state::extract_selection;
+use minus_state::state::{has_newline, is_size};
+use minus_term::MinusError;
+use std::alloc::{AllocError, Global};
+
+// What comes of a command: a change, a classifier that is to be kept, if it hands one over, and the text that is copied,
+// if one is.
+#[derive(Drop)]
+pub(crate) struct Prepared<P: Parts> {
+    pub(crate) change: Change,
+    pub(crate) classifier: Option<P::Classifier>,
+    pub(crate) copied: Option<String>,
+}
+
+impl<P: Parts> Prepared<P> {
+    ghost use Rattle.std.specs.Prelude.{◌≡◌, None};
+
+    // A change alone.
+    pub(crate) fn of(change: Change) -> Prepared<P>
+        ensures change { result.change ≡ change }
+        ensures none { result.classifier ≡ None }
+    {
+        Prepared {
+            change,
+            classifier: None,
+            copied: None,
+        }
+    }
+}
+
+// Takes over the text that a command leaves, before the start. An `Err` changes nothing.
+pub(crate) fn take_text<P: Parts>(
+    state: &mut PagerState,
+    alloc: Global,
+    command: &CommandOf<P>,
+) -> Result<(), MinusError>
+    requires { IsFormed state.old }
+    ensures control { OnOk result (control_of state.new ≡ taken (control_of state.old) (wanted_of command.now)) }
+    ensures formed { OnOk result (IsFormed state.new) }
+    ensures err { OnErr result (state.new ≡ state.old) }
+    ensures memory { IfErr result (λ e. e ≡ MinusError.Memory) }
+{
+    match command {
+        CommandOf::SetData(text) => {
+            let layout = state.layout();
+            let _ = state.screen.set_text(alloc, text, layout, None)?;
+        }
+        CommandOf::AppendData(text) => {
+            let _ = state
+                .screen
+                .push_screen_buf(alloc, text, state.line_numbers, state.cols, None)?;
+        }
+        CommandOf::SetPrompt(_)
+        | CommandOf::SendMessage(_)
+        | CommandOf::ShowPrompt(_)
+        | CommandOf::SetLineNumbers(_)
+        | CommandOf::LineWrapping(_)
+        | CommandOf::FollowOutput(_)
+        | CommandOf::UserInput(_)
+        | CommandOf::Io(_)
+        | CommandOf::SetInputClassifier(_) => {}
+    }
+    Ok(())
+}
+
+// How the program is to go on after a command that is an exit, and the code that it ends with.
+pub(crate) fn exit_of<P: Parts>(
+    state: &PagerState,
+    command: &CommandOf<P>,
+) -> Option<(ExitStrategy, u8)>
+    ensures { result ≡ (effect (control_of state.now) (wanted_of command.now)).exits_by }
+{
+    match command {
+        CommandOf::UserInput(InputEvent::Exit) => Some((ExitStrategy::ProcessQuit, 0)),
+        _ => None,
+    }
+}
+
+// The text that a command copies, if it copies one.
+fn copied_by<P: Parts>(
+    state: &PagerState,
+    alloc: Global,
+    command: &CommandOf<P>,
+    clears: bool,
+) -> Result<Option<String>, AllocError>
+    requires { IsFormed state.now }
+    ensures { IfOk result (λ text. option_map string_bytes text ≡ (effect (cleared clears (control_of state.now)) (wanted_of command.now)).copies) }
+{
+    match command {
+        CommandOf::UserInput(InputEvent::CopySelection) => {
+            let text = extract_selection(alloc, &state.screen, state.ends())?;
+            Ok(text)
+        }
+        _ => Ok(None),
+    }
+}
+
+// What comes of an event's answer, before the mark is clamped.
+fn next_of_event<P: Parts>(
+    state: &PagerState,
+    alloc: Global,
+    event: InputEvent,
+    clears: bool,
+) -> Result<Change, MinusError>
+    requires { IsFormed state.now }
+    ensures next { IfOk result (λ c. IsChange (control_of state.now) c
+        (moved_by (effect {K = P.Classifier} (cleared clears (control_of state.now)) (event_wanted event)))) }
+    ensures redraw { IfOk result (λ c. c.redraw ≡ (effect {K = P.Classifier} (cleared clears (control_of state.now)) (event_wanted event)).redraw) }
+    ensures possible { OnOk result (IsPossible {K = P.Classifier} (event_wanted event)) }
+    ensures unformed { IfErr result (λ e. IsUnformed {K = P.Classifier} (refusal_of e) (event_wanted event)) }
+{
+    match event {
+        InputEvent::UpdateUpperMark(mark) => Ok(state.moved(mark, Setting::Same, clears)),
+        InputEvent::UpdateTermArea(cols, rows) if is_size(cols, rows) => {
+            Ok(state.resized(alloc, cols, rows, clears)?)
+        }
+        InputEvent::UpdateTermArea(cols, rows) => Err(MinusError::BadSize(cols, rows)),
+        InputEvent::UpdateLeftMark(left) => Ok(state.shifted(left, clears)),
+        InputEvent::UpdateLineNumber(numbers) => Ok(state.renumbered(alloc, numbers, clears)?),
+        InputEvent::HorizontalScroll(wrapping) => Ok(state.rewrapped(alloc, wrapping, clears)?),
+        InputEvent::StartSelection { x, y } => Ok(state.selected(x, y, clears)),
+        InputEvent::UpdateSelection { x, y } => Ok(state.led(x, y, clears)),
+        InputEvent::ClearSelection | InputEvent::CopySelection => Ok(state.unselected(clears)),
+        InputEvent::FollowOutput(follow) => {
+            Ok(state.moved(state.top(), Setting::Follow(follow), clears))
+        }
+        InputEvent::RestorePrompt => Ok(state.set(Setting::Message(None), Redraw::Stays, clears)),
+        InputEvent::Number(character) => {
+            let prefix = state.typed(alloc, character, clears)?;
+            Ok(state.set(Setting::Prefix(prefix), Redraw::Stays, clears))
+        }
+        InputEvent::Exit | InputEvent::Ignore => Ok(state.redrawn(Redraw::Stays, clears)),
+    }
+}
+
+// What comes of a command that asks for a drawing, before the mark is clamped.
+fn next_of_io<P: Parts>(state: &PagerState, io: IoCommand, clears: bool) -> Change
+    requires { IsFormed state.now }
+    ensures next { IsChange (control_of state.now) result
+        (moved_by (effect {K = P.Classifier} (cleared clears (control_of state.now)) (io_wanted io))) }
+    ensures redraw { result.redraw ≡ (effect {K = P.Classifier} (cleared clears (control_of state.now)) (io_wanted io)).redraw }
+{
+    match io {
+        IoCommand::RedrawPrompt => state.redrawn(Redraw::PromptRow, clears),
+        IoCommand::RedrawDisplay | IoCommand::DrawAppendedText(..) => state.redrawn(
+            Redraw::Whole,
+            clears,
+        ),
+        IoCommand::SetUpperMark(mark) => state.moved(mark, Setting::Same, clears),
+    }
+}
+
+// What comes of a command, before the mark is clamped.
+fn next<P: Parts>(
+    state: &PagerState,
+    alloc: Global,
+    command: CommandOf<P>,
+    clears: bool,
+) -> Result<Prepared<P>, MinusError>
+    requires { IsFormed state.now }
+    ensures next { IfOk result (λ p. IsChange (control_of state.now) p.change
+        (moved_by (effect (cleared clears (control_of state.now)) (wanted_of command)))) }
+    ensures redraw { IfOk result (λ p. p.change.redraw ≡ (effect (cleared clears (control_of state.now)) (wanted_of command)).redraw) }
+    ensures handed { IfOk result (λ p. p.classifier ≡ handed (wanted_of command)) }
+    ensures possible { OnOk result (IsPossible (wanted_of command)) }
+    ensures unformed { IfErr result (λ e. IsUnformed (refusal_of e) (wanted_of command)) }
+{
+    match command {
+        CommandOf::SetData(text) => Ok(Prepared::of(state.with_text(alloc, &text, clears)?)),
+        CommandOf::AppendData(text) => Ok(Prepared::of(state.appended(alloc, text, clears)?)),
+        CommandOf::SetPrompt(text) if has_newline(&text) => Err(MinusError::NewlineInPrompt),
+        CommandOf::SetPrompt(text) => {
+            Ok(Prepared::of(state.set(Setting::Prompt(text), Redraw::Stays, clears)))
+        }
+        CommandOf::SendMessage(text) if has_newline(&text) => Err(MinusError::NewlineInPrompt),
+        CommandOf::SendMessage(text) => {
+            Ok(Prepared::of(state.set(Setting::Message(Some(text)), Redraw::Stays, clears)))
+        }
+        CommandOf::ShowPrompt(is_shown) => {
+            Ok(Prepared::of(state.set(Setting::Shown(is_shown), Redraw::Stays, clears)))
+        }
+        CommandOf::SetLineNumbers(numbers) => {
+            let event = InputEvent::UpdateLineNumber(numbers);
+            Ok(Prepared::of(next_of_event::<P>(state, alloc, event, clears)?))
+        }
+        CommandOf::LineWrapping(wrapping) => {
+            let event = InputEvent::HorizontalScroll(wrapping);
+            Ok(Prepared::of(next_of_event::<P>(state, alloc, event, clears)?))
+        }
+        CommandOf::FollowOutput(follow) => {
+            let event = InputEvent::FollowOutput(follow);
+            Ok(Prepared::of(next_of_event::<P>(state, alloc, event, clears)?))
+        }
+        CommandOf::UserInput(event) => {
+            Ok(Prepared::of(next_of_event::<P>(state, alloc, event, clears)?))
+        }
+        CommandOf::Io(io) => Ok(Prepared::of(next_of_io::<P>(state, io, clears))),
+        CommandOf::SetInputClassifier(classifier) => Ok(Prepared {
+            change: state.redrawn(Redraw::Stays, clears),
+            classifier: Some(classifier),
+            copied: None,
+        }),
+    }
+}
+
+// What comes of a command, formed beside the state; the typed prefix goes before it, or stays.
+pub(crate) fn prepare<P: Parts>(
+    state: &PagerState,
+    alloc: Global,
+    command: CommandOf<P>,
+    clears: bool,
+) -> Result<Prepared<P>, MinusError>
+    requires { IsFormed state.now }
+    ensures next { IfOk result (λ p. IsChange (control_of state.now) p.change
+        (changed_by (effect (cleared clears (control_of state.now)) (wanted_of command)))) }
+    ensures redraw { IfOk result (λ p. p.change.redraw ≡ (effect (cleared clears (control_of state.now)) (wanted_of command)).redraw) }
+    ensures handed { IfOk result (λ p. p.classifier ≡ handed (wanted_of command)) }
+    ensures copied { IfOk result (λ p. option_map string_bytes p.copied ≡ (effect (cleared clears (control_of state.now)) (wanted_of command)).copies) }
+    ensures possible { OnOk result (IsPossible (wanted_of command)) }
+    ensures unformed { IfErr result (λ e. IsUnformed (refusal_of e) (wanted_of command)) }
+{
+    let copied = copied_by(state, alloc, &command, clears)?;
+    let mut prepared = next(state, alloc, command, clears)?;
+    let rows = prepared.change.text.rows_after(&state.screen);
+    let top = rows.saturating_sub(prepared.change.rows - 1);
+    prepared.change.mark = prepared.change.mark.min(top);
+    prepared.copied = copied;
+    Ok(prepared)
+}

@@ -1,0 +1,6 @@
+-- Found by search.
+use Rattle.std.proofs.Common.{rules}
+use Rattle.minus_state.proofs.state.PagerState.first_changed.Goals as goal
+
+pub returns : goal.returns
+returns c = search rules

@@ -1,0 +1,77 @@
+-- What a command leaves, formed beside the state.
+use Rattle.std.specs.Prelude.{◌≡◌, ℕ, ◌-◌, List, [], take, drop, Bool, Option, None, string_bytes, if◌then◌else◌}
+use Rattle.std.specs.Option.{option_map}
+use Rattle.minus_text.specs.Searched.{searched}
+use Rattle.minus_state.specs.declared.selection.SelectionEnds.{SelectionEnds}
+use Rattle.minus_state.specs.declared.state.PagerState.{PagerState}
+use Rattle.minus_state.specs.declared.change.Change.{Change}
+use Rattle.minus_state.specs.declared.change.Setting.{Setting}
+use Rattle.minus_state.specs.declared.change.Setting.TheVariants.{Prompt, Message, Prefix, Shown, Follow, Left, Ends}
+use Rattle.minus_state.specs.NextTexts.{next_document, IsNext}
+use Rattle.minus_state.specs.Control.{Control, Settings, document_of}
+use Rattle.minus_state.specs.Page.{shown_of}
+use Rattle.minus_state.specs.States.{ends_of}
+use Rattle.minus_state.specs.Sizes.{IsSize}
+use Rattle.minus_term.specs.Refusals.{Refusal, for_memory, for_size}
+
+-- one thing that is set beside the text, and all others as they are
+abbrev pub prompt_set : Setting → List ℕ → List ℕ
+prompt_set (Prompt text) prompt = string_bytes text
+prompt_set setting prompt = prompt
+
+abbrev pub message_set : Setting → Option (List ℕ) → Option (List ℕ)
+message_set (Message text) message = option_map string_bytes text
+message_set setting message = message
+
+abbrev pub prefix_set : Setting → List ℕ → List ℕ
+prefix_set (Prefix text) prefix = string_bytes text
+prefix_set setting prefix = prefix
+
+abbrev pub shown_set : Setting → Bool → Bool
+shown_set (Shown next) is_shown = next
+shown_set setting is_shown = is_shown
+
+abbrev pub follow_set : Setting → Bool → Bool
+follow_set (Follow next) follow = next
+follow_set setting follow = follow
+
+-- the left mark
+abbrev pub left_set : Setting → ℕ → ℕ
+left_set (Left next) left = next
+left_set setting left = left
+
+-- the ends of what is selected
+abbrev pub ends_set : Setting → SelectionEnds → SelectionEnds
+ends_set (Ends next) ends = next
+ends_set setting ends = ends
+
+-- what there will be beside the text, where the typed prefix goes first, or stays
+abbrev pub settings_after : Settings → Bool → Setting → Settings
+settings_after s clears setting = record {
+  prompt = prompt_set setting s.prompt;
+  message = message_set setting s.message;
+  prefix = prefix_set setting (if clears then [] else s.prefix);
+  is_shown = shown_set setting s.is_shown;
+  follow = follow_set setting s.follow;
+}
+
+-- the change leads from one control to the other
+pub record IsChange (old : Control) (change : Change) (new : Control) : Type 0 where
+  pub belongs : IsNext (searched None (document_of old)) change.text
+  pub document : next_document (document_of old) change.text ≡ document_of new
+  pub mark_is : change.mark ≡ new.mark
+  pub cols_are : change.cols ≡ new.cols
+  pub rows_are : change.rows ≡ new.rows
+  pub left_is : left_set change.setting old.left ≡ new.left
+  pub ends_are : ends_set change.setting old.ends ≡ new.ends
+  pub settings_are : settings_after old.settings change.clears change.setting ≡ new.settings
+
+-- the rows of text on the page that a change of a state leads to
+abbrev pub shown_by : PagerState → Change → List (List ℕ)
+shown_by s change = take (change.rows - 1) (drop change.mark (shown_of (next_document s.screen.document change.text) (left_set change.setting s.left_mark) (ends_set change.setting (ends_of s))))
+
+-- why a state of so many columns and rows was not formed: for its size, or, where that is one, for want of memory
+abbrev pub IsUnformedState : Refusal → ℕ → ℕ → Type 0
+IsUnformedState for_memory cols rows = IsSize cols rows
+IsUnformedState (for_size c r) cols rows = (c ≡ cols) × (r ≡ rows) × (IsSize cols rows → ⊥)
+IsUnformedState refusal cols rows = ⊥

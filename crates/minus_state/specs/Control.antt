@@ -1,0 +1,68 @@
+-- What the commands define: the text on show and how it is laid out, the size, the part of it that the page shows, and what is set beside it.
+use Rattle.std.specs.Prelude.{◌≡◌, ℕ, ◌-◌, ◌≤◌, min, List, [], length, Option, Bool, if◌then◌else◌}
+use Rattle.minus_text.specs.declared.line_numbers.LineNumbers.{LineNumbers}
+use Rattle.minus_text.specs.Document.{Document, rows_of, unfinished_rows, keeps_rows}
+use Rattle.minus_state.specs.declared.selection.SelectionEnds.{SelectionEnds}
+
+-- what is set beside the text: the prompt, a message in its place, the prefix that is typed, whether the prompt row is shown,
+-- and whether the page goes on with what is appended
+pub record Settings : Type 0 where
+  pub prompt : List ℕ
+  pub message : Option (List ℕ)
+  pub prefix : List ℕ
+  pub is_shown : Bool
+  pub follow : Bool
+
+-- the text, the size, whether lines have numbers and are wrapped, the first row on the page, the columns that are cut off at the
+-- left where lines are not wrapped, the ends of a selection, and what is set beside them
+pub record Control : Type 0 where
+  pub text : List ℕ
+  pub cols : ℕ
+  pub rows : ℕ
+  pub numbers : LineNumbers
+  pub wrapping : Bool
+  pub mark : ℕ
+  pub left : ℕ
+  pub ends : SelectionEnds
+  pub settings : Settings
+
+-- the document of the text on show
+abbrev pub document_of : Control → Document
+document_of c = record { text = c.text; layout = record { cols = c.cols; wrapping = c.wrapping; numbers = c.numbers } }
+
+-- the texts of its rows
+abbrev pub text_rows : Control → List (List ℕ)
+text_rows c = rows_of (document_of c)
+
+-- the first row that an append may change: that of the line that no newline ends, or the first new one
+abbrev pub first_changed : Control → ℕ
+first_changed c = length (text_rows c) - unfinished_rows (document_of c)
+
+-- whether a text that is appended leaves the rows before that as they are: its lines' numbers take no more columns then
+abbrev pub keeps_rows_with : Control → List ℕ → Bool
+keeps_rows_with c text = keeps_rows (document_of c) text c.numbers c.cols
+
+-- the greatest mark: the last page is full where there are rows enough
+abbrev pub top : Control → ℕ
+top c = length (text_rows c) - (c.rows - 1)
+
+-- the mark is at most that
+abbrev pub clamp : Control → Control
+clamp c = record c { mark = min c.mark (top c) }
+
+-- a control whose mark the clamp leaves
+abbrev pub IsClamped : Control → Type 0
+IsClamped c = c.mark ≤ top c
+
+-- the typed prefix goes, or stays
+abbrev pub cleared : Bool → Control → Control
+cleared clears c = record c { settings = record c.settings { prefix = if clears then [] else c.settings.prefix } }
+
+-- both have the size of the same terminal
+pub record SameSize (a b : Control) : Type 0 where
+  pub same_cols : a.cols ≡ b.cols
+  pub same_rows : a.rows ≡ b.rows
+
+-- the control that a move of the mark leaves
+abbrev pub moved_to : Control → ℕ → Control
+moved_to c mark = clamp (record c { mark = mark })

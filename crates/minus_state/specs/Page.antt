@@ -1,0 +1,34 @@
+-- The page of a control.
+use Rattle.std.specs.Prelude.{ℕ, ◌-◌, nat_le, min, List, length, take, drop, None, if◌then◌else◌}
+use Rattle.minus_term.specs.PlayedScreen.{ShownPage}
+use Rattle.minus_term.specs.FullRedraw.{page_of}
+use Rattle.minus_text.specs.Document.{Document, rows_of}
+use Rattle.minus_state.specs.declared.selection.SelectionEnds.{SelectionEnds}
+use Rattle.minus_state.specs.Selection.{ends_in_order}
+use Rattle.minus_state.specs.ShownRow.{shown_rows}
+use Rattle.minus_state.specs.Control.{Control, document_of}
+use Rattle.minus_state.specs.ShownPrompt.{prompt_row}
+
+-- what is shown of all rows of a document, from a left mark on and with a selection
+abbrev pub shown_of : Document → ℕ → SelectionEnds → List (List ℕ)
+shown_of d left ends = shown_rows None d left (ends_in_order ends) 0 (length (rows_of d))
+
+-- what is shown of all rows of text
+abbrev pub all_shown : Control → List (List ℕ)
+all_shown c = shown_of (document_of c) c.left c.ends
+
+-- the rows of text on the page: one less than the rows of the terminal, from the mark on
+abbrev pub shown : Control → List (List ℕ)
+shown c = take (c.rows - 1) (drop c.mark (all_shown c))
+
+-- a page of the control with these rows of text at its top, blank rows after them, and the prompt row last
+abbrev pub page_with : Control → List (List ℕ) → ShownPage
+page_with c texts = page_of c.rows texts (prompt_row c)
+
+-- the page
+abbrev pub page : Control → ShownPage
+page c = page_with c (shown c)
+
+-- the rows of text that come onto a page of so many rows on the way from one mark to another, of those on show then
+abbrev pub rows_newly : ℕ → ℕ → ℕ → List (List ℕ) → List (List ℕ)
+rows_newly rows from to shown = if nat_le from to then drop (rows - 1 - min (to - from) (rows - 1)) shown else take (min (from - to) (rows - 1)) shown

@@ -1,0 +1,28 @@
+-- The prompt row of a control.
+use Rattle.std.specs.Prelude.{ℕ, ◌==◌, List, Bool}
+use Rattle.std.specs.List.{list_any}
+use Rattle.minus_state.specs.PromptRow.{PromptRow, prompt_row as row_text}
+use Rattle.minus_state.specs.Control.{Control, Settings}
+
+-- what the prompt row of so many columns is formed of
+abbrev pub shown_in : ℕ → Settings → PromptRow
+shown_in cols s = record {
+  is_shown = s.is_shown;
+  prompt = s.prompt;
+  message = s.message;
+  prefix = s.prefix;
+  search_mark = 0;
+  match_count = 0;
+  follow = s.follow;
+  cols = cols;
+}
+
+abbrev pub prompt_row_of : ℕ → Settings → List ℕ
+prompt_row_of cols s = row_text (shown_in cols s)
+
+abbrev pub prompt_row : Control → List ℕ
+prompt_row c = prompt_row_of c.cols c.settings
+
+-- whether a text has a newline
+abbrev pub has_newline : List ℕ → Bool
+has_newline text = list_any (λ b. b == 10) text

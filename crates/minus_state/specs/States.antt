@@ -1,0 +1,52 @@
+-- What contracts read of a state.
+use Rattle.std.specs.Prelude.{◌≡◌, ℕ, [], None, true, false, codes, string_bytes}
+use Rattle.std.specs.Option.{option_map}
+use Rattle.minus_text.specs.declared.line_numbers.LineNumbers.TheVariants.{Disabled}
+use Rattle.minus_text.specs.Searched.{searched}
+use Rattle.minus_state.specs.declared.selection.SelectionEnds.{SelectionEnds}
+use Rattle.minus_state.specs.declared.state.PagerState.{PagerState}
+use Rattle.minus_state.specs.Control.{Control, Settings, document_of}
+
+-- what is set in a state beside its text
+abbrev pub settings_of : PagerState → Settings
+settings_of s = record { prompt = string_bytes s.prompt; message = option_map string_bytes s.message; prefix = string_bytes s.prefix_num; is_shown = s.prompt_shown; follow = s.follow }
+
+-- the ends of what is selected
+abbrev pub ends_of : PagerState → SelectionEnds
+ends_of s = record { anchor = s.anchor; selection = s.selection }
+
+-- the control that a state holds
+abbrev pub control_of : PagerState → Control
+control_of s = record {
+  text = s.screen.document.text;
+  cols = s.cols;
+  rows = s.rows;
+  numbers = s.line_numbers;
+  wrapping = s.screen.document.layout.wrapping;
+  mark = s.upper_mark;
+  left = s.left_mark;
+  ends = ends_of s;
+  settings = settings_of s;
+}
+
+-- the stored rows are those of the control's document, which was searched for no term
+pub record IsFormed (s : PagerState) : Type 0 where
+  pub screen : s.screen ≡ searched None (document_of (control_of s))
+
+-- the prompt, no message and no prefix; the prompt row is shown, and the page stays where it is at an append
+abbrev pub first_settings : Settings
+first_settings = record { prompt = codes "minus"; message = None; prefix = []; is_shown = true; follow = false }
+
+-- no text, lines without numbers and wrapped, the marks at the first row and column, and nothing selected
+abbrev pub at_start : ℕ → ℕ → Control
+at_start cols rows = record {
+  text = [];
+  cols = cols;
+  rows = rows;
+  numbers = Disabled;
+  wrapping = true;
+  mark = 0;
+  left = 0;
+  ends = record { anchor = None; selection = None };
+  settings = first_settings;
+}

@@ -1,0 +1,207 @@
+//! What a command leaves, formed beside the state.
+ghost use Rattle.minus_state.specs.Sizes.{IsSize};
+
+use crate::selection::SelectionEnds;
+use minus_text::{Layout, PendingPush, Screen};
+use std::alloc::{AllocError, Global};
+
+/// What a command asks to be drawn.
+#[derive(Clone, Copy)]
+pub enum Redraw {
+    /// Nothing: the page stays as it is.
+    Stays,
+    /// The whole page.
+    Whole,
+    /// What a move of the mark changes.
+    Moved,
+    /// What an append changes.
+    Appended,
+    /// The prompt row.
+    PromptRow,
+}
+
+/// The text that there will be: as it is, another one, or as a push leaves it.
+#[derive(Drop)]
+pub enum NextText {
+    Same,
+    Whole(Screen),
+    Pushed(String, PendingPush),
+}
+
+impl NextText {
+    ghost use Rattle.std.specs.Prelude.{◌≡◌, None, length, slice_get, option_map, string_bytes, IfOk};
+    ghost use Rattle.minus_text.specs.Document.{rows_of, line_count, GrowsByRow};
+    ghost use Rattle.minus_text.specs.Searched.{stored_rows_for};
+    ghost use Rattle.minus_state.specs.NextTexts.{next_document, IsNext};
+
+    /// How many rows there will be.
+    pub fn rows_after(&self, screen: &Screen) -> usize
+        requires { IsNext screen.now self.now }
+        ensures { result ≡ length (rows_of (next_document screen.now.document self.now)) }
+    {
+        match self {
+            NextText::Same => screen.formatted_lines_count(),
+            NextText::Whole(next) => next.formatted_lines_count(),
+            NextText::Pushed(_, pending) => screen.rows_after(pending),
+        }
+    }
+
+    /// The text of a row, counted from 0, as it will be.
+    pub fn row_after<'a>(&'a self, screen: &'a Screen, i: usize) -> Option<&'a str>
+        requires { IsNext screen.now self.now }
+        ensures { option_map (λ r. r.now) result ≡ slice_get (rows_of (next_document screen.now.document self.now)) i }
+    {
+        match self {
+            NextText::Same => screen.row_text(i),
+            NextText::Whole(next) => next.row_text(i),
+            NextText::Pushed(_, pending) => screen.row_after(pending, i),
+        }
+    }
+
+    /// How its rows will be laid out.
+    pub fn layout_after(&self, screen: &Screen) -> Layout
+        requires { IsNext screen.now self.now }
+        ensures { result ≡ (next_document screen.now.document self.now).layout }
+    {
+        match self {
+            NextText::Whole(next) => next.layout(),
+            NextText::Same | NextText::Pushed(..) => screen.layout(),
+        }
+    }
+
+    /// How many lines there will be.
+    pub fn line_count_after(&self, screen: &Screen) -> usize
+        requires { IsNext screen.now self.now }
+        ensures { result ≡ line_count (next_document screen.now.document self.now) }
+    {
+        match self {
+            NextText::Same => screen.line_count(),
+            NextText::Whole(next) => next.line_count(),
+            NextText::Pushed(_, pending) => screen.line_count_after(pending),
+        }
+    }
+
+    /// Adds a row as it will be stored, counted from 0, and answers whether there will be one.
+    pub fn push_row_after(
+        &self,
+        alloc: Global,
+        screen: &Screen,
+        out: &mut String,
+        i: usize,
+    ) -> Result<bool, AllocError>
+        requires { IsNext screen.now self.now }
+        ensures { IfOk result (λ found. GrowsByRow (slice_get (stored_rows_for None (next_document screen.now.document self.now)) i)
+            (string_bytes out.old) (string_bytes out.new) found) }
+    {
+        let found = match self {
+            NextText::Same => screen.push_row(alloc, out, i)?,
+            NextText::Whole(next) => next.push_row(alloc, out, i)?,
+            NextText::Pushed(_, pending) => screen.push_row_after(alloc, pending, out, i)?,
+        };
+        Ok(found)
+    }
+}
+
+/// What there will be beside the text: all as it is, or one thing set anew.
+#[derive(Drop)]
+pub enum Setting {
+    Same,
+    Prompt(String),
+    Message(Option<String>),
+    Prefix(String),
+    Shown(bool),
+    Follow(bool),
+    Left(usize),
+    Ends(SelectionEnds),
+}
+
+impl Setting {
+    ghost use Rattle.std.specs.Prelude.{◌≡◌};
+    ghost use Rattle.std.specs.Option.{option_map};
+    ghost use Rattle.minus_state.specs.Changes.{prompt_set, message_set, prefix_set, shown_set, follow_set, left_set, ends_set};
+
+    /// The prompt that there will be.
+    pub fn prompt<'a>(&'a self, prompt: &'a str) -> &'a str
+        ensures { result.now ≡ prompt_set self.now prompt.now }
+    {
+        match self {
+            Setting::Prompt(next) => next.as_str(),
+            _ => prompt,
+        }
+    }
+
+    /// The message.
+    pub fn message<'a>(&'a self, message: Option<&'a str>) -> Option<&'a str>
+        ensures { option_map (λ m. m.now) result ≡ message_set self.now (option_map (λ m. m.now) message.entry) }
+    {
+        match self {
+            Setting::Message(Some(next)) => Some(next.as_str()),
+            Setting::Message(None) => None,
+            _ => message,
+        }
+    }
+
+    /// The typed prefix.
+    pub fn prefix<'a>(&'a self, prefix: &'a str) -> &'a str
+        ensures { result.now ≡ prefix_set self.now prefix.now }
+    {
+        match self {
+            Setting::Prefix(next) => next.as_str(),
+            _ => prefix,
+        }
+    }
+
+    /// Whether the prompt row will be shown.
+    pub fn is_shown(&self, is_shown: bool) -> bool
+        ensures { result ≡ shown_set self.now is_shown }
+    {
+        match self {
+            Setting::Shown(next) => *next,
+            _ => is_shown,
+        }
+    }
+
+    /// Whether the page will go on with what is appended.
+    pub fn follow(&self, follow: bool) -> bool
+        ensures { result ≡ follow_set self.now follow }
+    {
+        match self {
+            Setting::Follow(next) => *next,
+            _ => follow,
+        }
+    }
+
+    /// The left mark.
+    pub fn left(&self, left: usize) -> usize
+        ensures { result ≡ left_set self.now left }
+    {
+        match self {
+            Setting::Left(next) => *next,
+            _ => left,
+        }
+    }
+
+    /// The ends of what is selected.
+    pub fn ends(&self, ends: SelectionEnds) -> SelectionEnds
+        ensures { result ≡ ends_set self.now ends }
+    {
+        match self {
+            Setting::Ends(next) => *next,
+            _ => ends,
+        }
+    }
+}
+
+/// What a command leaves: the text, the mark, the size and what is set beside them; whether the typed prefix went before it;
+/// and what of it is asked to be drawn.
+#[derive(Drop)]
+pub struct Change {
+    pub text: NextText,
+    pub mark: usize,
+    pub cols: usize,
+    pub rows: usize,
+    pub clears: bool,
+    pub setting: Setting,
+    pub redraw: Redraw,
+    pub ghost sized: { IsSize cols rows },
+}

@@ -1,0 +1,79 @@
+//! What the events of a terminal ask a pager for, and what decides about them.
+use crate::state::PagerState;
+use minus_term::Event;
+use minus_text::LineNumbers;
+
+/// What an event asks for.
+#[derive(Clone, Copy, Debug, PartialEq, Eq)]
+pub enum InputEvent {
+    /// Move the mark, the first row of text on the page, to this row, counted from 0.
+    UpdateUpperMark(usize),
+    /// The terminal has so many columns and rows now, each from 1 to 65,535.
+    UpdateTermArea(usize, usize),
+    /// Move the left mark, the columns that are cut off at the left where lines are not wrapped, to this column, counted
+    /// from 0. It moves to the right only as long as the page does not go beyond the longest line.
+    UpdateLeftMark(usize),
+    /// Let rows begin with the numbers of their lines, or not.
+    UpdateLineNumber(LineNumbers),
+    /// Wrap lines that are too long for the columns, or let each be one row.
+    HorizontalScroll(bool),
+    /// Begin a selection at this column and row of the page, both counted from 0.
+    StartSelection {
+        /// The column.
+        x: u16,
+        /// The row.
+        y: u16,
+    },
+    /// Lead the selection that has begun to this column and row of the page, both counted from 0. At its first row, and
+    /// below its last row of text, the mark moves by a row too.
+    UpdateSelection {
+        /// The column.
+        x: u16,
+        /// The row.
+        y: u16,
+    },
+    /// Select nothing any more.
+    ClearSelection,
+    /// Copy what is selected, and select nothing any more.
+    CopySelection,
+    /// Move to the last page, and go on with what is appended from now on, or no longer.
+    FollowOutput(bool),
+    /// Drop the message, so that the prompt is shown again.
+    RestorePrompt,
+    /// Add this character to the typed prefix.
+    Number(char),
+    /// End the session.
+    Exit,
+    /// Nothing.
+    Ignore,
+}
+
+impl InputEvent {
+    ghost use Rattle.std.specs.Prelude.{◌≡◌};
+    ghost use Rattle.minus_state.specs.Events.{event_clears};
+
+    /// Whether the typed prefix goes with it: it does unless it is typed to.
+    pub fn clears_prefix(&self) -> bool
+        ensures { result ≡ event_clears self.now }
+    {
+        match self {
+            InputEvent::Number(_) => false,
+            _ => true,
+        }
+    }
+}
+
+/// What decides about the events of a terminal.
+pub trait InputClassifier: Drop {
+    ghost use Rattle.std.specs.Prelude.{Option};
+    ghost use Rattle.minus_term.specs.declared.event.Event.{Event};
+    ghost use Rattle.minus_state.specs.declared.input.InputEvent.{InputEvent};
+    ghost use Rattle.minus_state.specs.declared.state.PagerState.{PagerState};
+
+    // Which answers it may give to an event in a state.
+    ghost allows: { Self → Event → PagerState → Option InputEvent → Type 0 };
+
+    /// What the event asks for in this state, if anything.
+    fn classify_input(&self, event: Event, state: &PagerState) -> Option<InputEvent>
+        ensures { allows self.now event state.now result };
+}

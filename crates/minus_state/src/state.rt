@@ -1,0 +1,292 @@
+//! What is on show, and how.
+ghost use Rattle.std.specs.Prelude.{◌≡◌, ◌↔◌, IsTrue, None, OnOk, OnErr, IfOk, IfErr};
+ghost use Rattle.minus_state.specs.NextTexts.{next_document, IsNext};
+ghost use Rattle.minus_state.specs.ShownPrompt.{has_newline};
+ghost use Rattle.minus_state.specs.Sizes.{IsSize};
+ghost use Rattle.minus_text.specs.Searched.{searched};
+
+mod after;
+mod forming;
+mod selecting;
+
+use crate::change::{Change, NextText, Setting};
+use crate::selection::{Selection, SelectionEnds};
+use minus_term::MinusError;
+use minus_text::{Layout, LineNumbers, Screen};
+use std::alloc::Global;
+
+/// Whether these are columns and rows of a terminal: each from 1 to 65,535.
+pub fn is_size(cols: usize, rows: usize) -> bool
+    ensures { IsTrue result ↔ IsSize cols rows }
+{
+    (1..=65_535).contains(&cols) && (1..=65_535).contains(&rows)
+}
+
+// What the prompt says at first.
+const PROMPT: &str = "minus";
+
+// A text with its rows in a layout, searched for no term.
+fn formed(alloc: Global, text: &str, layout: Layout) -> Result<Screen, MinusError>
+    ensures ok { IfOk result (λ s. s ≡ searched None (record { text = text.now; layout = layout })) }
+    ensures memory { IfErr result (λ e. e ≡ MinusError.Memory) }
+{
+    let mut screen = Screen::new(alloc);
+    match screen.set_text(alloc, text, layout, None) {
+        Ok(_) => Ok(screen),
+        Err(cause) => Err(cause),
+    }
+}
+
+// Puts a text that was formed in its place. An `Err` changes nothing.
+fn place_text(alloc: Global, screen: &mut Screen, text: NextText) -> Result<(), MinusError>
+    requires { IsNext screen.old text }
+    ensures ok { OnOk result (screen.new ≡ searched None (next_document screen.old.document text)) }
+    ensures err { OnErr result (screen.new ≡ screen.old) }
+    ensures memory { IfErr result (λ e. e ≡ MinusError.Memory) }
+{
+    match text {
+        NextText::Same => Ok(()),
+        NextText::Whole(next) => {
+            *screen = next;
+            Ok(())
+        }
+        NextText::Pushed(piece, pending) => {
+            let _ = screen.place_push(alloc, &piece, pending, None)?;
+            Ok(())
+        }
+    }
+}
+
+/// How a session was started, or that it runs no more.
+#[derive(Clone, Copy, Debug, PartialEq, Eq)]
+pub enum RunMode {
+    /// For a text that is whole at the start.
+    Static,
+    /// For a text that grows.
+    Dynamic,
+    /// The session has exited or failed, or has not begun.
+    Uninitialized,
+}
+
+impl RunMode {
+    ghost use Rattle.std.specs.Prelude.{◌≡◌, ◌↔◌, IsTrue};
+
+    /// Whether no session runs.
+    pub fn is_uninitialized(&self) -> bool
+        ensures { IsTrue result ↔ (self.now ≡ RunMode.Uninitialized) }
+    {
+        *self == RunMode::Uninitialized
+    }
+}
+
+/// How the program is to go on after an exit.
+#[derive(Clone, Copy, Debug, PartialEq, Eq)]
+pub enum ExitStrategy {
+    /// The process is to end.
+    ProcessQuit,
+    /// The program is to go on.
+    PagerQuit,
+}
+
+/// What is on show: the text, the size of the terminal, the mark, and what is set beside them.
+#[derive(Debug, Drop)]
+pub struct PagerState {
+    /// The text with its rows.
+    pub screen: Screen,
+    /// Whether rows begin with the numbers of their lines.
+    pub line_numbers: LineNumbers,
+    /// The first row of text on the page, counted from 0.
+    pub upper_mark: usize,
+    /// The columns that are cut off at the left where lines are not wrapped.
+    pub left_mark: usize,
+    /// Where what is selected was led to.
+    pub selection: Option<Selection>,
+    /// The columns of the terminal, from 1 to 65,535.
+    pub cols: usize,
+    /// The rows of the terminal, the prompt's among them, from 1 to 65,535.
+    pub rows: usize,
+    /// What the prompt row says in the prompt's place.
+    pub message: Option<String>,
+    /// The prefix that is typed; empty where there is none.
+    pub prefix_num: String,
+    pub anchor: Option<Selection>,
+    pub prompt: String,
+    pub prompt_shown: bool,
+    pub follow: bool,
+    pub ghost sized: { IsSize cols rows },
+}
+
+impl PagerState {
+    ghost use Rattle.std.specs.Prelude.{◌≡◌, ◌-◌, ◌<◌, [], None, string_bytes, false, if◌then◌else◌, OnOk, OnErr, IfOk, IfErr};
+    ghost use Rattle.std.specs.Option.{option_map};
+    ghost use Rattle.minus_text.specs.Searched.{searched};
+    ghost use Rattle.minus_state.specs.Control.{document_of, cleared};
+    ghost use Rattle.minus_term.specs.Refusals.{refusal_of};
+    ghost use Rattle.minus_state.specs.States.{control_of, settings_of, ends_of, IsFormed, at_start};
+    ghost use Rattle.minus_state.specs.NextTexts.{next_document, IsNext};
+    ghost use Rattle.minus_state.specs.Changes.{settings_after, left_set, ends_set, IsUnformedState};
+
+    /// No text yet, for a terminal of so many columns and rows.
+    ///
+    /// # Errors
+    ///
+    /// [`MinusError::BadSize`] where the columns or the rows are not from 1 to 65,535, and [`MinusError::Memory`] where
+    /// there is no memory.
+    pub fn new(alloc: Global, cols: usize, rows: usize) -> Result<PagerState, MinusError>
+        ensures control { IfOk result (λ s. control_of s ≡ at_start cols rows) }
+        ensures formed { IfOk result IsFormed }
+        ensures size { OnOk result (IsSize cols rows) }
+        ensures refused { IfErr result (λ e. IsUnformedState (refusal_of e) cols rows) }
+    {
+        if !is_size(cols, rows) {
+            return Err(MinusError::BadSize(cols, rows));
+        }
+        Ok(PagerState {
+            screen: formed(alloc, "", Layout::plain(cols))?,
+            line_numbers: LineNumbers::Disabled,
+            upper_mark: 0,
+            left_mark: 0,
+            selection: None,
+            cols,
+            rows,
+            message: None,
+            prefix_num: String::new(alloc),
+            anchor: None,
+            prompt: String::from_str(alloc, PROMPT)?,
+            prompt_shown: true,
+            follow: false,
+        })
+    }
+
+    /// Whether lines that are too long for the columns are wrapped.
+    pub fn line_wrapping(&self) -> bool
+        ensures { result ≡ (control_of self.now).wrapping }
+    {
+        self.screen.layout().wrapping
+    }
+
+    /// How the rows are laid out.
+    pub fn layout(&self) -> Layout
+        ensures { result ≡ (document_of (control_of self.now)).layout }
+    {
+        Layout {
+            cols: self.cols,
+            wrapping: self.line_wrapping(),
+            numbers: self.line_numbers,
+        }
+    }
+
+    /// The ends of what is selected.
+    pub fn ends(&self) -> SelectionEnds
+        ensures { result ≡ ends_of self.now }
+    {
+        SelectionEnds {
+            anchor: self.anchor,
+            selection: self.selection,
+        }
+    }
+
+    // The typed prefix, after it went or stayed.
+    fn prefix_after(&self, clears: bool) -> &str
+        ensures { result.now ≡ (if clears then [] else string_bytes self.now.prefix_num) }
+    {
+        if clears {
+            return "";
+        }
+        self.prefix_num.as_str()
+    }
+
+    // The message.
+    fn message_text(&self) -> Option<&str>
+        ensures { option_map (λ m. m.now) result ≡ option_map string_bytes self.now.message }
+    {
+        match &self.message {
+            Some(message) => Some(message.as_str()),
+            None => None,
+        }
+    }
+
+    // Sets one thing beside the text.
+    fn place_setting(&mut self, setting: Setting)
+        ensures settings { settings_of self.new ≡ settings_after (settings_of self.old) false setting }
+        ensures left { self.new.left_mark ≡ left_set setting self.old.left_mark }
+        ensures ends { ends_of self.new ≡ ends_set setting (ends_of self.old) }
+        ensures numbers { self.new.line_numbers ≡ self.old.line_numbers }
+        ensures screen { self.new.screen ≡ self.old.screen }
+        ensures mark { self.new.upper_mark ≡ self.old.upper_mark }
+        ensures cols { self.new.cols ≡ self.old.cols }
+        ensures rows { self.new.rows ≡ self.old.rows }
+    {
+        match setting {
+            Setting::Same => {}
+            Setting::Prompt(prompt) => self.prompt = prompt,
+            Setting::Message(message) => self.message = message,
+            Setting::Prefix(prefix) => self.prefix_num = prefix,
+            Setting::Shown(is_shown) => self.prompt_shown = is_shown,
+            Setting::Follow(follow) => self.follow = follow,
+            Setting::Left(left) => self.left_mark = left,
+            Setting::Ends(ends) => {
+                self.anchor = ends.anchor;
+                self.selection = ends.selection;
+            }
+        }
+    }
+
+    /// Lets the typed prefix go, or leaves it.
+    pub fn clear_prefix(&mut self, clears: bool)
+        ensures control { control_of self.new ≡ cleared clears (control_of self.old) }
+        ensures settings { settings_of self.new ≡ settings_after (settings_of self.old) clears Setting.Same }
+        ensures formed { IsFormed self.old → IsFormed self.new }
+        ensures left { self.new.left_mark ≡ self.old.left_mark }
+        ensures ends { ends_of self.new ≡ ends_of self.old }
+        ensures numbers { self.new.line_numbers ≡ self.old.line_numbers }
+        ensures screen { self.new.screen ≡ self.old.screen }
+        ensures mark { self.new.upper_mark ≡ self.old.upper_mark }
+        ensures cols { self.new.cols ≡ self.old.cols }
+        ensures rows { self.new.rows ≡ self.old.rows }
+    {
+        if clears {
+            self.prefix_num.clear();
+        }
+    }
+
+    /// Puts what was formed in its place. An `Err` changes nothing.
+    pub fn place(&mut self, alloc: Global, change: Change) -> Result<(), MinusError>
+        requires { IsNext self.old.screen change.text }
+        ensures screen { OnOk result (self.new.screen ≡ searched None (next_document self.old.screen.document change.text)) }
+        ensures numbers { OnOk result (self.new.line_numbers ≡ (next_document self.old.screen.document change.text).layout.numbers) }
+        ensures left { OnOk result (self.new.left_mark ≡ left_set change.setting self.old.left_mark) }
+        ensures ends { OnOk result (ends_of self.new ≡ ends_set change.setting (ends_of self.old)) }
+        ensures mark { OnOk result (self.new.upper_mark ≡ change.mark) }
+        ensures cols { OnOk result (self.new.cols ≡ change.cols) }
+        ensures rows { OnOk result (self.new.rows ≡ change.rows) }
+        ensures settings { OnOk result (settings_of self.new ≡ settings_after (settings_of self.old) change.clears change.setting) }
+        ensures err { OnErr result (self.new ≡ self.old) }
+        ensures memory { IfErr result (λ e. e ≡ MinusError.Memory) }
+    {
+        let Change {
+            text,
+            mark,
+            cols,
+            rows,
+            clears,
+            setting,
+            redraw: _,
+        } = change;
+        place_text(alloc, &mut self.screen, text)?;
+        self.line_numbers = self.screen.layout().numbers;
+        self.upper_mark = mark;
+        self.cols = cols;
+        self.rows = rows;
+        self.clear_prefix(clears);
+        self.place_setting(setting);
+        Ok(())
+    }
+}
+
+/// Whether a text has a newline.
+pub fn has_newline(text: &str) -> bool
+    ensures { result ≡ has_newline text.now }
+{
+    text.as_bytes().contains(&b'\n')
+}

@@ -1,0 +1,193 @@
+//! What a state shows after a change.
+ghost use Rattle.std.specs.Prelude.{◌≡◌, ◌++◌, [], map, option_map, OnOk};
+ghost use Rattle.minus_state.specs.ShownRow.{before_rows};
+ghost use Rattle.minus_state.specs.Showing.{row_text};
+
+use crate::change::{Change, NextText, Redraw, Setting};
+use crate::prompt::{PromptRow, format_prompt};
+use crate::showing::{Showing, ShownRow};
+use crate::state::PagerState;
+use std::alloc::{AllocError, Global};
+
+// Puts a row at the end, if there is one.
+fn push_some<'a>(rows: &mut Vec<ShownRow<'a>>, row: Option<ShownRow<'a>>) -> Result<(), AllocError>
+    ensures { OnOk result (map row_text rows.new.items ≡ map row_text rows.old.items ++ before_rows (option_map row_text row.entry) []) }
+{
+    match row {
+        Some(row) => {
+            rows.push(row)?;
+            Ok(())
+        }
+        None => Ok(()),
+    }
+}
+
+impl PagerState {
+    ghost use Rattle.std.specs.Prelude.{◌≡◌, true, ◌+◌, ◌-◌, ◌++◌, ◌^◌, ◌<◌, length, map, take, drop, string_bytes, false, if◌then◌else◌, OnOk, IfOk};
+    ghost use Rattle.std.specs.Option.{option_map, unwrap_or};
+    ghost use Rattle.minus_state.specs.Control.{Control, first_changed};
+    ghost use Rattle.minus_state.specs.ShownPrompt.{shown_in, prompt_row, prompt_row_of};
+    ghost use Rattle.minus_state.specs.PromptRow.{seen_prompt};
+    ghost use Rattle.minus_term.specs.Written.{written_all};
+    ghost use Rattle.minus_state.specs.Page.{rows_newly};
+    ghost use Rattle.minus_state.specs.States.{control_of, settings_of, ends_of, IsFormed};
+    ghost use Rattle.minus_state.specs.NextTexts.{IsNext};
+    ghost use Rattle.minus_state.specs.Changes.{IsChange, settings_after, left_set, ends_set, shown_by};
+    ghost use Rattle.minus_state.specs.Showing.{row_text};
+
+    // What the prompt row is formed of after a change.
+    fn prompt_after<'a>(&'a self, change: &'a Change) -> PromptRow<'a>
+        ensures { seen_prompt result ≡ shown_in change.now.cols (settings_after (settings_of self.now) change.now.clears change.now.setting) }
+    {
+        PromptRow {
+            is_shown: change.setting.is_shown(self.prompt_shown),
+            prompt: change.setting.prompt(self.prompt.as_str()),
+            message: change.setting.message(self.message_text()),
+            prefix: change.setting.prefix(self.prefix_after(change.clears)),
+            search_mark: 0,
+            match_count: 0,
+            follow: change.setting.follow(self.follow),
+            cols: change.cols,
+        }
+    }
+
+    /// The prompt row after a change.
+    pub fn prompt_row_after(&self, alloc: Global, change: &Change) -> Result<String, AllocError>
+        ensures { IfOk result (λ row. (new : Control) → IsChange (control_of self.now) change.now new → string_bytes row ≡ prompt_row new) }
+    {
+        let row = self.prompt_after(change);
+        let text = format_prompt(alloc, &row)?;
+        Ok(text)
+    }
+
+    /// The prompt row.
+    pub fn prompt_row(&self, alloc: Global) -> Result<String, AllocError>
+        ensures { IfOk result (λ row. string_bytes row ≡ prompt_row (control_of self.now)) }
+    {
+        let stays = self.change_to(NextText::Same, Redraw::Stays, false);
+        let row = self.prompt_row_after(alloc, &stays)?;
+        Ok(row)
+    }
+
+    // Whether a change leaves the prompt row as it is: the columns, the prefix and all that is set stay.
+    fn keeps_prompt_row(&self, change: &Change) -> bool
+        ensures { result ≡ true → prompt_row_of change.now.cols (settings_after (settings_of self.now) change.now.clears change.now.setting)
+            ≡ prompt_row (control_of self.now) }
+    {
+        match change.setting {
+            Setting::Same | Setting::Left(_) | Setting::Ends(_) => {
+                change.cols == self.cols
+                    && self.prefix_after(change.clears) == self.prefix_num.as_str()
+            }
+            _ => false,
+        }
+    }
+
+    /// The prompt row after a change, where it may be another one.
+    pub fn new_prompt_row(
+        &self,
+        alloc: Global,
+        change: &Change,
+    ) -> Result<Option<String>, AllocError>
+        ensures { IfOk result (λ row. (new : Control) → IsChange (control_of self.now) change.now new →
+            unwrap_or (option_map string_bytes row) (prompt_row (control_of self.now)) ≡ prompt_row new) }
+    {
+        if self.keeps_prompt_row(change) {
+            return Ok(None);
+        }
+        let row = self.prompt_row_after(alloc, change)?;
+        Ok(Some(row))
+    }
+
+    /// How many rows of text the page has that a change leads to.
+    pub fn count_after(&self, change: &Change) -> usize
+        requires { IsNext self.now.screen change.now.text }
+        ensures count { result ≡ length (shown_by self.now change.now) }
+        ensures within { change.now.mark + result < 2 ^ 64 }
+    {
+        let left = change
+            .text
+            .rows_after(&self.screen)
+            .saturating_sub(change.mark);
+        left.min(change.rows - 1)
+    }
+
+    // What rows are shown of after a change, and how.
+    fn showing<'a>(&'a self, change: &'a Change) -> Showing<'a>
+        ensures screen { result.screen.now ≡ self.now.screen }
+        ensures text { result.text.now ≡ change.now.text }
+        ensures left { result.left ≡ left_set change.now.setting self.now.left_mark }
+        ensures ends { result.ends ≡ ends_set change.now.setting (ends_of self.now) }
+    {
+        Showing {
+            screen: &self.screen,
+            text: &change.text,
+            left: change.setting.left(self.left_mark),
+            ends: change.setting.ends(self.ends()),
+        }
+    }
+
+    // The texts of the rows of text on the page that a change leads to, from one of them on and before another.
+    fn shown_between<'a>(
+        &'a self,
+        alloc: Global,
+        change: &'a Change,
+        first: usize,
+        end: usize,
+    ) -> Result<Vec<ShownRow<'a>>, AllocError>
+        requires { IsNext self.now.screen change.now.text }
+        ensures { IfOk result (λ v. map row_text v.items ≡ drop first (take end (shown_by self.now change.now))) }
+    {
+        let count = self.count_after(change).min(end);
+        let start = first.min(count);
+        let showing = self.showing(change);
+        let mut shown = Vec::with_capacity(alloc, count - start)?;
+        for i in start..count {
+            push_some(&mut shown, showing.row(alloc, change.mark + i)?)?;
+        }
+        Ok(shown)
+    }
+
+    /// The texts of the rows of text on the page that a change leads to, from one of them on.
+    pub fn shown_after<'a>(
+        &'a self,
+        alloc: Global,
+        change: &'a Change,
+        first: usize,
+    ) -> Result<Vec<ShownRow<'a>>, AllocError>
+        requires { IsNext self.now.screen change.now.text }
+        ensures { IfOk result (λ v. map row_text v.items ≡ drop first (shown_by self.now change.now)) }
+    {
+        self.shown_between(alloc, change, first, change.rows - 1)
+    }
+
+    /// The texts of the rows of text that come onto the page that a change leads to, where the mark was this one.
+    pub fn shown_newly<'a>(
+        &'a self,
+        alloc: Global,
+        change: &'a Change,
+        from: usize,
+    ) -> Result<Vec<ShownRow<'a>>, AllocError>
+        requires { IsNext self.now.screen change.now.text }
+        ensures { IfOk result (λ v. map row_text v.items ≡ rows_newly change.now.rows from change.now.mark (shown_by self.now change.now)) }
+    {
+        let most = change.rows - 1;
+        if from <= change.mark {
+            let k = (change.mark - from).min(most);
+            self.shown_after(alloc, change, most - k)
+        } else {
+            let k = (from - change.mark).min(most);
+            self.shown_between(alloc, change, 0, k)
+        }
+    }
+
+    /// The first row that an append may change.
+    pub fn first_changed(&self) -> usize
+        requires { IsFormed self.now }
+        ensures { result ≡ first_changed (control_of self.now) }
+    {
+        self.screen
+            .formatted_lines_count()
+            .saturating_sub(self.screen.unterminated())
+    }
+}

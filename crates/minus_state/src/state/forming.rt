@@ -1,0 +1,325 @@
+//! What changes of a state leave, formed beside it.
+ghost use Rattle.std.specs.Prelude.{◌≡◌};
+ghost use Rattle.minus_state.specs.Selecting.{is_same_end};
+ghost use Rattle.minus_state.specs.ShownPrompt.{has_newline};
+ghost use Rattle.minus_state.specs.Redraws.{whole_where};
+
+use crate::change::{Change, NextText, Redraw, Setting};
+use crate::state::{PagerState, formed};
+use minus_term::MinusError;
+use minus_text::{Layout, LineNumbers, prefix_columns};
+use std::alloc::{AllocError, Global};
+
+impl PagerState {
+    ghost use Rattle.std.specs.Prelude.{◌≡◌, ◌+◌, ◌-◌, ◌==◌, ◌++◌, ◌<◌, ◌&&◌, nat_le, min, is_some, [], length, encode_utf8, string_bytes, false, if◌then◌else◌, OnOk, IfOk, IfErr};
+    ghost use Rattle.std.specs.Option.{option_map};
+    ghost use Rattle.minus_state.specs.Control.{cleared, top, moved_to};
+    ghost use Rattle.minus_state.specs.Selecting.{no_ends, has_ends, end_at, ends_begun, is_led, mark_led_to, mark_led, ends_led_to, ends_led, is_same_end};
+    ghost use Rattle.minus_state.specs.Redraws.{append_redraw, shift_redraw, whole_where, led_redraw};
+    ghost use Rattle.minus_state.specs.Appending.{appended};
+    ghost use Rattle.minus_state.specs.Shifting.{width, may_shift, left_after};
+    ghost use Rattle.minus_term.specs.Refusals.{refusal_of};
+    ghost use Rattle.minus_state.specs.States.{control_of, settings_of, ends_of, IsFormed};
+    ghost use Rattle.minus_text.specs.Document.{rows_of, margin_in};
+    ghost use Rattle.minus_state.specs.View.{prefix_in};
+    ghost use Rattle.minus_state.specs.NextTexts.{next_document, IsNext};
+    ghost use Rattle.minus_state.specs.Changes.{IsChange, settings_after, left_set, ends_set};
+    ghost use Rattle.minus_state.specs.Sizes.{IsSize};
+
+    /// The state as it is, but for the text, and without the typed prefix where that goes.
+    pub fn change_to(&self, text: NextText, redraw: Redraw, clears: bool) -> Change
+        ensures text { result.text ≡ text }
+        ensures mark { result.mark ≡ self.now.upper_mark }
+        ensures cols { result.cols ≡ self.now.cols }
+        ensures rows { result.rows ≡ self.now.rows }
+        ensures clears { result.clears ≡ clears }
+        ensures setting { result.setting ≡ Setting.Same }
+        ensures redraw { result.redraw ≡ redraw }
+    {
+        Change {
+            text,
+            mark: self.upper_mark,
+            cols: self.cols,
+            rows: self.rows,
+            clears,
+            setting: Setting::Same,
+            redraw,
+        }
+    }
+
+    /// The state at a mark, with one thing set beside its text.
+    pub fn changed(&self, mark: usize, setting: Setting, redraw: Redraw, clears: bool) -> Change
+        requires { IsFormed self.now }
+        ensures next { IsChange (control_of self.now) result (record (control_of self.now) {
+          mark = mark;
+          left = left_set setting self.now.left_mark;
+          ends = ends_set setting (ends_of self.now);
+          settings = settings_after (settings_of self.now) clears setting;
+        }) }
+        ensures redraw { result.redraw ≡ redraw }
+    {
+        Change {
+            text: NextText::Same,
+            mark,
+            cols: self.cols,
+            rows: self.rows,
+            clears,
+            setting,
+            redraw,
+        }
+    }
+
+    /// The state with one thing set beside its text.
+    pub fn set(&self, setting: Setting, redraw: Redraw, clears: bool) -> Change
+        requires { IsFormed self.now }
+        ensures next { IsChange (control_of self.now) result (record (control_of self.now) {
+          left = left_set setting self.now.left_mark;
+          ends = ends_set setting (ends_of self.now);
+          settings = settings_after (settings_of self.now) clears setting;
+        }) }
+        ensures redraw { result.redraw ≡ redraw }
+    {
+        self.changed(self.upper_mark, setting, redraw, clears)
+    }
+
+    /// The state as it is, to be drawn so.
+    pub fn redrawn(&self, redraw: Redraw, clears: bool) -> Change
+        requires { IsFormed self.now }
+        ensures next { IsChange (control_of self.now) result (cleared clears (control_of self.now)) }
+        ensures redraw { result.redraw ≡ redraw }
+    {
+        self.change_to(NextText::Same, redraw, clears)
+    }
+
+    /// The state at another mark, with one thing set beside its text.
+    pub fn moved(&self, mark: usize, setting: Setting, clears: bool) -> Change
+        requires { IsFormed self.now }
+        ensures next { IsChange (control_of self.now) result (record (control_of self.now) {
+          mark = mark;
+          left = left_set setting self.now.left_mark;
+          ends = ends_set setting (ends_of self.now);
+          settings = settings_after (settings_of self.now) clears setting;
+        }) }
+        ensures redraw { result.redraw ≡ Redraw.Moved }
+    {
+        self.changed(mark, setting, Redraw::Moved, clears)
+    }
+
+    /// The greatest mark.
+    pub fn top(&self) -> usize
+        requires { IsFormed self.now }
+        ensures { result ≡ top (control_of self.now) }
+    {
+        let rows = self.screen.formatted_lines_count();
+        rows.saturating_sub(self.rows - 1)
+    }
+
+    /// The state with its mark moved, as far as the text goes.
+    pub fn moved_to(&self, mark: usize) -> Change
+        requires { IsFormed self.now }
+        ensures next { IsChange (control_of self.now) result (moved_to (control_of self.now) mark) }
+        ensures redraw { result.redraw ≡ Redraw.Moved }
+    {
+        self.moved(mark.min(self.top()), Setting::Same, false)
+    }
+
+    // The state with a text in a layout, which is formed anew.
+    fn formed_anew(
+        &self,
+        alloc: Global,
+        text: &str,
+        layout: Layout,
+        clears: bool,
+    ) -> Result<Change, MinusError>
+        requires formed { IsFormed self.now }
+        requires cols { layout.cols ≡ self.now.cols }
+        ensures next { IfOk result (λ c. IsChange (control_of self.now) c
+            (record (cleared clears (control_of self.now)) { text = text.now; numbers = layout.numbers; wrapping = layout.wrapping })) }
+        ensures redraw { IfOk result (λ c. c.redraw ≡ Redraw.Whole) }
+        ensures memory { IfErr result (λ e. e ≡ MinusError.Memory) }
+    {
+        let next = formed(alloc, text, layout)?;
+        Ok(self.change_to(NextText::Whole(next), Redraw::Whole, clears))
+    }
+
+    /// The state with another text.
+    pub fn with_text(&self, alloc: Global, text: &str, clears: bool) -> Result<Change, MinusError>
+        requires { IsFormed self.now }
+        ensures next { IfOk result (λ c. IsChange (control_of self.now) c (record (cleared clears (control_of self.now)) { text = text.now })) }
+        ensures redraw { IfOk result (λ c. c.redraw ≡ Redraw.Whole) }
+        ensures memory { IfErr result (λ e. e ≡ MinusError.Memory) }
+    {
+        let change = self.formed_anew(alloc, text, self.layout(), clears)?;
+        Ok(change)
+    }
+
+    /// The state with numbers before its rows, or none.
+    pub fn renumbered(
+        &self,
+        alloc: Global,
+        numbers: LineNumbers,
+        clears: bool,
+    ) -> Result<Change, MinusError>
+        requires { IsFormed self.now }
+        ensures next { IfOk result (λ c. IsChange (control_of self.now) c (record (cleared clears (control_of self.now)) { numbers = numbers })) }
+        ensures redraw { IfOk result (λ c. c.redraw ≡ Redraw.Whole) }
+        ensures memory { IfErr result (λ e. e ≡ MinusError.Memory) }
+    {
+        let layout = Layout {
+            numbers,
+            ..self.layout()
+        };
+        let change = self.formed_anew(alloc, self.screen.orig_text(), layout, clears)?;
+        Ok(change)
+    }
+
+    /// The state with its lines wrapped, or not.
+    pub fn rewrapped(
+        &self,
+        alloc: Global,
+        wrapping: bool,
+        clears: bool,
+    ) -> Result<Change, MinusError>
+        requires { IsFormed self.now }
+        ensures next { IfOk result (λ c. IsChange (control_of self.now) c (record (cleared clears (control_of self.now)) { wrapping = wrapping })) }
+        ensures redraw { IfOk result (λ c. c.redraw ≡ Redraw.Whole) }
+        ensures memory { IfErr result (λ e. e ≡ MinusError.Memory) }
+    {
+        let layout = Layout {
+            wrapping,
+            ..self.layout()
+        };
+        let change = self.formed_anew(alloc, self.screen.orig_text(), layout, clears)?;
+        Ok(change)
+    }
+
+    /// The state in another size, for which the text is formed anew.
+    pub fn resized(
+        &self,
+        alloc: Global,
+        cols: usize,
+        rows: usize,
+        clears: bool,
+    ) -> Result<Change, MinusError>
+        requires formed { IsFormed self.now }
+        requires size { IsSize cols rows }
+        ensures next { IfOk result (λ c. IsChange (control_of self.now) c (record (cleared clears (control_of self.now)) { cols = cols; rows = rows })) }
+        ensures redraw { IfOk result (λ c. c.redraw ≡ Redraw.Whole) }
+        ensures memory { IfErr result (λ e. e ≡ MinusError.Memory) }
+    {
+        let layout = Layout {
+            cols,
+            ..self.layout()
+        };
+        Ok(Change {
+            text: NextText::Whole(formed(alloc, self.screen.orig_text(), layout)?),
+            mark: self.upper_mark,
+            cols,
+            rows,
+            clears,
+            setting: Setting::Same,
+            redraw: Redraw::Whole,
+        })
+    }
+
+    // The columns that stand before the text of each row.
+    fn prefix(&self) -> usize
+        ensures { result ≡ prefix_in self.now.screen.document }
+    {
+        let numbers = self.screen.layout().numbers.is_on();
+        prefix_columns(numbers, self.screen.line_count())
+    }
+
+    // Whether the page does not go beyond the longest line at a left mark.
+    fn is_within_lines(&self, left: usize) -> bool
+        requires { IsFormed self.now }
+        ensures { result ≡ nat_le (left + self.now.cols) (width (control_of self.now)) }
+    {
+        let width = self.screen.get_max_line_length() as u128 + self.prefix() as u128;
+        left as u128 + self.cols as u128 <= width
+    }
+
+    // Whether the left mark moves to a column.
+    fn may_shift(&self, left: usize) -> bool
+        requires { IsFormed self.now }
+        ensures { result ≡ may_shift (control_of self.now) left }
+    {
+        if self.line_wrapping() {
+            return false;
+        }
+        left <= self.left_mark || self.is_within_lines(left)
+    }
+
+    /// The state with its left mark moved, where it moves.
+    pub fn shifted(&self, left: usize, clears: bool) -> Change
+        requires { IsFormed self.now }
+        ensures next { IsChange (control_of self.now) result
+            (record (cleared clears (control_of self.now)) { left = left_after (control_of self.now) left }) }
+        ensures redraw { result.redraw ≡ shift_redraw (control_of self.now) left }
+    {
+        if self.may_shift(left) {
+            return self.set(Setting::Left(left), Redraw::Whole, clears);
+        }
+        self.redrawn(Redraw::Stays, clears)
+    }
+
+    // Where an append leaves the mark: at the last page, where the page goes on with what is appended.
+    fn mark_after(&self, text: &NextText) -> usize
+        requires { IsNext self.now.screen text.now }
+        ensures { result ≡ (if self.now.follow
+            then length (rows_of (next_document self.now.screen.document text.now)) - (self.now.rows - 1) else self.now.upper_mark) }
+    {
+        if self.follow {
+            return text.rows_after(&self.screen).saturating_sub(self.rows - 1);
+        }
+        self.upper_mark
+    }
+
+    // How an append asks to be drawn: all is, where the numbers of lines take more columns after it.
+    fn append_redraw(&self, next: &NextText) -> Redraw
+        requires { IsNext self.now.screen next.now }
+        ensures { result ≡ (if margin_in (next_document self.now.screen.document next.now) == margin_in self.now.screen.document
+            then Redraw.Appended else Redraw.Whole) }
+    {
+        let numbers = next.layout_after(&self.screen).numbers.is_on();
+        let after = prefix_columns(numbers, next.line_count_after(&self.screen));
+        if after == self.prefix() {
+            return Redraw::Appended;
+        }
+        Redraw::Whole
+    }
+
+    /// The state with a text added to its text.
+    pub fn appended(&self, alloc: Global, text: String, clears: bool) -> Result<Change, MinusError>
+        requires { IsFormed self.now }
+        ensures next { IfOk result (λ c. IsChange (control_of self.now) c
+            (appended (cleared clears (control_of self.now)) (string_bytes text))) }
+        ensures redraw { IfOk result (λ c. c.redraw ≡ append_redraw (control_of self.now) (string_bytes text)) }
+        ensures memory { IfErr result (λ e. e ≡ MinusError.Memory) }
+    {
+        let pending = self
+            .screen
+            .prepare_push(alloc, &text, self.line_numbers, self.cols, None)?;
+        let next = NextText::Pushed(text, pending);
+        let mark = self.mark_after(&next);
+        let redraw = self.append_redraw(&next);
+        Ok(Change {
+            text: next,
+            mark,
+            cols: self.cols,
+            rows: self.rows,
+            clears,
+            setting: Setting::Same,
+            redraw,
+        })
+    }
+
+    /// The same with one more character.
+    pub fn typed(&self, alloc: Global, character: char, clears: bool) -> Result<String, AllocError>
+        ensures { IfOk result (λ text. string_bytes text ≡ (if clears then [] else string_bytes self.now.prefix_num) ++ encode_utf8 character) }
+    {
+        let mut prefix = String::from_str(alloc, self.prefix_after(clears))?;
+        prefix.push(character)?;
+        Ok(prefix)
+    }
+}

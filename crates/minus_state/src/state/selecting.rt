@@ -1,0 +1,174 @@
+//! What is selected by events of the mouse, formed beside a state.
+ghost use Rattle.std.specs.Prelude.{◌≡◌};
+ghost use Rattle.minus_state.specs.Selecting.{is_same_end};
+ghost use Rattle.minus_state.specs.Redraws.{whole_where};
+
+use crate::change::{Change, Redraw, Setting};
+use crate::selection::{Selection, SelectionEnds};
+use crate::state::PagerState;
+use crate::view::{View, selection_from_coordinates};
+
+// The whole page is drawn where something has changed, and else nothing.
+fn whole_where(changed: bool) -> Redraw
+    ensures { result ≡ whole_where changed }
+{
+    if changed {
+        return Redraw::Whole;
+    }
+    Redraw::Stays
+}
+
+// Whether two ends of a selection are the same, or both missing.
+fn is_same_end(one: Option<Selection>, other: Option<Selection>) -> bool
+    ensures { result ≡ is_same_end one other }
+{
+    match (one, other) {
+        (None, None) => true,
+        (Some(a), Some(b)) => a.absolute_row == b.absolute_row && a.col == b.col,
+        (None, Some(_)) | (Some(_), None) => false,
+    }
+}
+
+impl PagerState {
+    ghost use Rattle.std.specs.Prelude.{◌≡◌, ◌+◌, ◌-◌, ◌==◌, ◌++◌, ◌<◌, ◌&&◌, nat_le, min, is_some, [], length, encode_utf8, string_bytes, false, if◌then◌else◌, OnOk, IfOk, IfErr};
+    ghost use Rattle.std.specs.Option.{option_map};
+    ghost use Rattle.minus_state.specs.Control.{cleared, top, moved_to};
+    ghost use Rattle.minus_state.specs.Selecting.{no_ends, has_ends, end_at, ends_begun, is_led, mark_led_to, mark_led, ends_led_to, ends_led, is_same_end};
+    ghost use Rattle.minus_state.specs.Redraws.{append_redraw, shift_redraw, whole_where, led_redraw};
+    ghost use Rattle.minus_state.specs.Shifting.{width, may_shift, left_after};
+    ghost use Rattle.minus_term.specs.Refusals.{refusal_of};
+    ghost use Rattle.minus_state.specs.States.{control_of, settings_of, ends_of, IsFormed};
+    ghost use Rattle.minus_text.specs.Document.{rows_of, margin_in};
+    ghost use Rattle.minus_state.specs.View.{prefix_in};
+    ghost use Rattle.minus_state.specs.NextTexts.{next_document, IsNext};
+    ghost use Rattle.minus_state.specs.Changes.{IsChange, settings_after, left_set, ends_set};
+    ghost use Rattle.minus_state.specs.Sizes.{IsSize};
+
+    // The end of a selection at a place of the page that begins at a mark.
+    fn end_at(&self, mark: usize, x: u16, y: u16) -> Option<Selection>
+        requires { IsFormed self.now }
+        ensures { result ≡ end_at (record (control_of self.now) { mark = mark }) x y }
+    {
+        let view = View {
+            upper_mark: mark,
+            left_mark: self.left_mark,
+            rows: self.rows,
+        };
+        selection_from_coordinates(&self.screen, view, x, y)
+    }
+
+    // The state with a selection that begins at an end, if there is one.
+    fn begun(&self, end: Option<Selection>, clears: bool) -> Change
+        requires { IsFormed self.now }
+        ensures next { IsChange (control_of self.now) result (record (cleared clears (control_of self.now)) { ends = ends_begun (ends_of self.now) end }) }
+        ensures redraw { result.redraw ≡ whole_where (is_some end) }
+    {
+        match end {
+            Some(end) => {
+                let ends = SelectionEnds {
+                    anchor: Some(end),
+                    selection: Some(end),
+                };
+                self.set(Setting::Ends(ends), Redraw::Whole, clears)
+            }
+            None => self.redrawn(Redraw::Stays, clears),
+        }
+    }
+
+    /// The state with a selection that begins at a place of the page.
+    pub fn selected(&self, x: u16, y: u16, clears: bool) -> Change
+        requires { IsFormed self.now }
+        ensures next { IsChange (control_of self.now) result
+            (record (cleared clears (control_of self.now)) { ends = ends_begun (ends_of self.now) (end_at (control_of self.now) x y) }) }
+        ensures redraw { result.redraw ≡ whole_where (is_some (end_at (control_of self.now) x y)) }
+    {
+        self.begun(self.end_at(self.upper_mark, x, y), clears)
+    }
+
+    // Whether a selection is led on.
+    fn is_led(&self) -> bool
+        ensures { result ≡ is_led (control_of self.now) }
+    {
+        self.anchor.is_some() && 1 < self.rows
+    }
+
+    // Where the mark goes as a selection is led to a row of the page.
+    fn mark_led_to(&self, y: u16) -> usize
+        requires { IsFormed self.now }
+        ensures { result ≡ mark_led_to (control_of self.now) y }
+    {
+        if y == 0 {
+            return self.upper_mark.saturating_sub(1);
+        }
+        if usize::from(y) >= self.rows - 1 {
+            return self.upper_mark.saturating_add(1).min(self.top());
+        }
+        self.upper_mark
+    }
+
+    // The ends of a selection that is led to an end, if there is one.
+    fn ends_with(&self, end: Option<Selection>) -> SelectionEnds
+        ensures { result ≡ ends_led_to (ends_of self.now) end }
+    {
+        match end {
+            Some(end) => SelectionEnds {
+                anchor: self.anchor,
+                selection: Some(end),
+            },
+            None => self.ends(),
+        }
+    }
+
+    // The ends of a selection that is led to a place of the page that begins at a mark.
+    fn ends_led_to(&self, mark: usize, x: u16, y: u16) -> SelectionEnds
+        requires formed { IsFormed self.now }
+        requires rows { 1 < self.now.rows }
+        ensures { result ≡ ends_led_to (ends_of self.now) (end_at (record (control_of self.now) { mark = mark }) x (min y (self.now.rows - 2))) }
+    {
+        let row = usize::from(y).min(self.rows - 2) as u16;
+        self.ends_with(self.end_at(mark, x, row))
+    }
+
+    // Whether the mark and where the selection is led to stay so.
+    fn stays_at(&self, mark: usize, ends: SelectionEnds) -> bool
+        ensures { result ≡ ((mark == self.now.upper_mark) && is_same_end ends.selection self.now.selection) }
+    {
+        mark == self.upper_mark && is_same_end(ends.selection, self.selection)
+    }
+
+    /// The state with its selection led to a place of the page.
+    pub fn led(&self, x: u16, y: u16, clears: bool) -> Change
+        requires { IsFormed self.now }
+        ensures next { IsChange (control_of self.now) result
+            (record (cleared clears (control_of self.now)) { mark = mark_led (control_of self.now) y; ends = ends_led (control_of self.now) x y }) }
+        ensures redraw { result.redraw ≡ led_redraw (control_of self.now) x y }
+    {
+        if !self.is_led() {
+            return self.redrawn(Redraw::Stays, clears);
+        }
+        let mark = self.mark_led_to(y);
+        let ends = self.ends_led_to(mark, x, y);
+        let stays = self.stays_at(mark, ends);
+        self.changed(mark, Setting::Ends(ends), whole_where(!stays), clears)
+    }
+
+    // Whether an end of a selection is there.
+    fn has_ends(&self) -> bool
+        ensures { result ≡ has_ends (ends_of self.now) }
+    {
+        self.anchor.is_some() || self.selection.is_some()
+    }
+
+    /// The state with nothing selected.
+    pub fn unselected(&self, clears: bool) -> Change
+        requires { IsFormed self.now }
+        ensures next { IsChange (control_of self.now) result (record (cleared clears (control_of self.now)) { ends = no_ends }) }
+        ensures redraw { result.redraw ≡ whole_where (has_ends (ends_of self.now)) }
+    {
+        let ends = SelectionEnds {
+            anchor: None,
+            selection: None,
+        };
+        self.set(Setting::Ends(ends), whole_where(self.has_ends()), clears)
+    }
+}
