@@ -12,17 +12,17 @@ use Rattle.minus_state.specs.declared.selection.SelectionEnds.{SelectionEnds}
 use Rattle.minus.specs.declared.commands.Drawing.{Drawing}
 use Rattle.minus.specs.declared.commands.Drawing.TheVariants.{Nothing, Append, Prompt}
 use Rattle.minus_state.specs.declared.change.Redraw.TheVariants.{Moved, Appended}
-use Rattle.minus_state.specs.Control.{Control, Settings, IsClamped, keeps_rows_with, top, cleared}
+use Rattle.minus_state.specs.Control.{Control, Saved, Settings, IsClamped, keeps_rows_with, top, cleared}
 use Rattle.minus.specs.Works.{work_of}
 use Rattle.minus.specs.Drawings.{ops_of_step}
-use Rattle.minus.specs.Table.{Wanted, sets_data, appends_data, moves_mark, resizes, exits, ignores, sets_prompt, sends_message, shows_prompt, follows, types, restores_prompt, redraws_prompt, redraws_page, sets_classifier, sets_numbers, sets_wrapping, shifts, starts_selection, updates_selection, clears_selection, copies_selection, effect, changed_by, drawing_by, drawing_of}
+use Rattle.minus.specs.Table.{Wanted, sets_data, appends_data, moves_mark, resizes, exits, ignores, sets_prompt, sends_message, shows_prompt, follows, types, restores_prompt, redraws_prompt, redraws_page, sets_classifier, sets_numbers, sets_wrapping, shifts, starts_selection, updates_selection, clears_selection, copies_selection, shows_help, effect, changed_by, drawing_by, drawing_of}
 use Rattle.minus_state.specs.Redraws.{whole_where, led_redraw, append_redraw, shift_redraw}
 use Rattle.minus_state.specs.Shifting.{may_shift, left_after}
 use Rattle.minus.specs.Drawn.{IsDrawing, Drawn, BrokenOff}
 use Rattle.minus_state.specs.Selecting.{no_ends, has_ends, end_at, ends_begun, mark_led, ends_led, stays_led}
 use Rattle.minus.proofs.AppendLaws.{append_draws}
 use Rattle.minus_state.proofs.SelectingLaws.{mark_stays, ends_stay, none_there}
-use Rattle.minus.proofs.DrawnLaws.{work_drawn, whole_draws, quiet_draws, prompt_draws, scroll_draws}
+use Rattle.minus.proofs.DrawnLaws.{work_drawn, whole_draws, aside_draws, quiet_draws, prompt_draws, scroll_draws}
 
 -- the list of a kind is the drawing of a work of that kind, on the way from one control to another
 abbrev IsDrawnSo : Drawing → Control → Control → Type 0
@@ -82,20 +82,45 @@ gone_draws c s mark some is = elim (cases_Bool (has_ends c.ends)) [
       (subst (λ (e : SelectionEnds). IsDrawnSo Nothing c (record c { mark = mark; ends = e; settings = s })) (none_there c.ends none) (set_draws c s mark some is))
 ]
 
+-- where something else is put aside
+aside_set : (c : Control) (s : Settings) (help : Option Saved) (mark : ℕ) → 1 ≤ c.rows → mark ≡ c.mark → IsDrawnSo Nothing c (record c { mark = mark; settings = s; help = help })
+aside_set c s help mark some is = subst (λ (m : ℕ). IsDrawnSo Nothing c (record c { mark = m; settings = s; help = help })) (sym is) (aside_draws c s help some)
+
+-- a command is drawn as its work says
+abbrev CommandDraws : {K : Type 0} → Control → Bool → Wanted K → Type 0
+CommandDraws c clears w = IsClamped c → 1 ≤ c.rows → 1 ≤ (changed_by (effect (cleared clears c) w)).rows → IsDrawnSo (drawing_of (cleared clears c) w) c (changed_by (effect (cleared clears c) w))
+
+-- by whether help is open
+text_draws : (K : Type 0) (c : Control) (clears : Bool) (text : List ℕ) (help : Option Saved) → CommandDraws {K = K} (record c { help = help }) clears (sets_data text)
+text_draws K c clears text None h some new_some = whole_draws (record c { help = None }) _ new_some
+text_draws K c clears text (Some saved) h some new_some = aside_set (record c { help = Some saved }) _ _ (min c.mark (top c)) some (omega (arith, h))
+
+more_draws : (K : Type 0) (c : Control) (clears : Bool) (text : List ℕ) (help : Option Saved) → CommandDraws {K = K} (record c { help = help }) clears (appends_data text)
+more_draws K c clears text None h some new_some = appended_draws (record c { help = None }) text (cleared clears c).settings _ some
+more_draws K c clears text (Some saved) h some new_some = aside_set (record c { help = Some saved }) _ _ (min c.mark (top c)) some (omega (arith, h))
+
+exit_draws : (K : Type 0) (c : Control) (clears : Bool) (help : Option Saved) → CommandDraws {K = K} (record c { help = help }) clears exits
+exit_draws K c clears None h some new_some = set_draws (record c { help = None }) _ (min c.mark (top c)) some (omega (arith, h))
+exit_draws K c clears (Some saved) h some new_some = whole_draws (record c { help = Some saved }) _ new_some
+
+restored_draws : (K : Type 0) (c : Control) (clears : Bool) (help : Option Saved) → CommandDraws {K = K} (record c { help = help }) clears restores_prompt
+restored_draws K c clears None h some new_some = set_draws (record c { help = None }) _ (min c.mark (top c)) some (omega (arith, h))
+restored_draws K c clears (Some saved) h some new_some = whole_draws (record c { help = Some saved }) _ new_some
+
 -- each command is drawn as its work says
 pub command_draws : {K : Type 0} (c : Control) (clears : Bool) (w : Wanted K) → IsClamped c → 1 ≤ c.rows → 1 ≤ (changed_by (effect (cleared clears c) w)).rows → IsDrawnSo (drawing_of (cleared clears c) w) c (changed_by (effect (cleared clears c) w))
-command_draws c clears (sets_data text) h some new_some = whole_draws c _ new_some
-command_draws c clears (appends_data text) h some new_some = appended_draws c text (cleared clears c).settings _ some
+command_draws {K = K} c clears (sets_data text) h some new_some = text_draws K c clears text c.help h some new_some
+command_draws {K = K} c clears (appends_data text) h some new_some = more_draws K c clears text c.help h some new_some
 command_draws c clears (moves_mark mark) h some new_some = move_draws c (cleared clears c).settings (min mark (top c)) some
 command_draws c clears (resizes cols rows) h some new_some = whole_draws c _ new_some
-command_draws c clears exits h some new_some = set_draws c _ (min c.mark (top c)) some (omega (arith, h))
+command_draws {K = K} c clears exits h some new_some = exit_draws K c clears c.help h some new_some
 command_draws c clears ignores h some new_some = set_draws c _ (min c.mark (top c)) some (omega (arith, h))
 command_draws c clears (sets_prompt text) h some new_some = set_draws c _ (min c.mark (top c)) some (omega (arith, h))
 command_draws c clears (sends_message text) h some new_some = set_draws c _ (min c.mark (top c)) some (omega (arith, h))
 command_draws c clears (shows_prompt is_shown) h some new_some = set_draws c _ (min c.mark (top c)) some (omega (arith, h))
 command_draws c clears (follows follow) h some new_some = move_draws c _ (min (top c) (top c)) some
 command_draws c clears (types character) h some new_some = set_draws c _ (min c.mark (top c)) some (omega (arith, h))
-command_draws c clears restores_prompt h some new_some = set_draws c _ (min c.mark (top c)) some (omega (arith, h))
+command_draws {K = K} c clears restores_prompt h some new_some = restored_draws K c clears c.help h some new_some
 command_draws c clears redraws_prompt h some new_some = at_mark Prompt c _ (min c.mark (top c)) (omega (arith, h)) (prompt_draws c _ some)
 command_draws c clears redraws_page h some new_some = whole_draws c _ new_some
 command_draws c clears (sets_classifier k) h some new_some = set_draws c _ (min c.mark (top c)) some (omega (arith, h))
@@ -106,6 +131,7 @@ command_draws c clears (starts_selection x y) h some new_some = begun_draws c (c
 command_draws c clears (updates_selection x y) h some new_some = led_draws c (cleared clears c).settings x y (min (mark_led c y) (top c)) some (λ e. omega (arith, h, e))
 command_draws c clears clears_selection h some new_some = gone_draws c (cleared clears c).settings (min c.mark (top c)) some (omega (arith, h))
 command_draws c clears copies_selection h some new_some = gone_draws c (cleared clears c).settings (min c.mark (top c)) some (omega (arith, h))
+command_draws c clears (shows_help text) h some new_some = whole_draws c _ new_some
 
 -- a step's drawing, whole or broken off
 pub step_drawn : {K : Type 0} (a b c : Option (List ℕ)) (bytes : List ℕ) (old : Control) (clears : Bool) (w : Wanted K) → IsClamped old → 1 ≤ old.rows → 1 ≤ (changed_by (effect (cleared clears old) w)).rows → bytes ≡ written_all (ops_of_step (drawing_of (cleared clears old) w) old (changed_by (effect (cleared clears old) w))) → b ≡ a → Appends b c bytes

@@ -17,7 +17,7 @@ use Rattle.minus_term.proofs.WrittenLaws.{written_all-nil}
 use Rattle.minus_term.proofs.PutsLaws.{puts-prompt}
 use Rattle.minus_term.proofs.ScrollLaws.{scroll_shows_lem, scroll_puts_lem, IsClean-scroll}
 use Rattle.minus_term.proofs.FullRedrawLaws.{full_redraw_lem, IsClean-full, IsClean-prompt, play_prompt}
-use Rattle.minus_state.specs.Control.{Control, Settings}
+use Rattle.minus_state.specs.Control.{Control, Saved, Settings}
 use Rattle.minus_state.specs.Page.{all_shown, shown, page}
 use Rattle.minus_state.specs.ShownPrompt.{prompt_row}
 use Rattle.minus.specs.declared.commands.Drawing.{Drawing}
@@ -88,16 +88,19 @@ whole_draws old new some = record {
   none = λ q. absurd (let drawn : Full ≡ Nothing = q.0 in cc);
 }
 
--- a prompt row that is another one than before is the drawing of a work that is not drawn
-pub quiet_draws : (c : Control) (s : Settings) → 1 ≤ c.rows → (let new : Control = record c { settings = s } in IsDrawing (changed_prompt c new) c (work_drawn Nothing new ∷ []) new)
-quiet_draws c s some =
-    let new : Control = record c { settings = s } in
+-- a prompt row that is another one than before is the drawing of a work that is not drawn, whatever is put aside
+pub aside_draws : (c : Control) (s : Settings) (help : Option Saved) → 1 ≤ c.rows → (let new : Control = record c { settings = s; help = help } in IsDrawing (changed_prompt c new) c (work_drawn Nothing new ∷ []) new)
+aside_draws c s help some =
+    let new : Control = record c { settings = s; help = help } in
     record {
       shows = next_prompt_shows c.rows (shown c) (prompt_row c) (prompt_row new) (shown_fits c some);
       clean = next_prompt_clean (page c ∷ page new ∷ []) c.rows (prompt_row c) (prompt_row new) (prompt_there c new);
       few = omega (arith, next_prompt_puts c.rows (prompt_row c) (prompt_row new) (screen_of (page c)) (page_size c some) some);
       none = λ q. (let same : bytes_eq (prompt_row new) (prompt_row c) ≡ true = (bytes_eq-Decides (prompt_row new) (prompt_row c)).1 q.1 in rw same refl);
     }
+
+pub quiet_draws : (c : Control) (s : Settings) → 1 ≤ c.rows → (let new : Control = record c { settings = s } in IsDrawing (changed_prompt c new) c (work_drawn Nothing new ∷ []) new)
+quiet_draws c s some = aside_draws c s c.help some
 
 -- the prompt row is the drawing of a work that draws it
 pub prompt_draws : (c : Control) (s : Settings) → 1 ≤ c.rows → (let new : Control = record c { settings = s } in IsDrawing (whole_prompt new) c (work_drawn Prompt new ∷ []) new)

@@ -7,19 +7,20 @@ use Rattle.minus_term.specs.Refusals.{Refusal, refusal_of, for_memory, for_newli
 use Rattle.minus.specs.declared.session.Answer.{Answer}
 use Rattle.minus.specs.declared.status.Status.TheVariants as status
 use Rattle.minus.specs.Answers.{ends_run}
+use Rattle.minus.specs.Classifying.{Classifies}
 use Rattle.minus_state.specs.Control.{Control}
 use Rattle.minus.specs.Reads.{Told}
 use Rattle.minus.specs.Works.{passed_in}
 use Rattle.minus.specs.Drawn.{Leaves}
 use Rattle.minus.specs.Seen.{Seen}
-use Rattle.minus.specs.Steps.{Allows, IsStep, Steps, none, more, Refuses}
+use Rattle.minus.specs.Steps.{IsStep, Steps, none, more, Refuses}
 use Rattle.minus.specs.Runs.{StopsSo, StopsAfter, IsRun}
 
-passed_as : {K : Type 0} {allows : Allows K} {a b : Seen K} {ts : List (Told K)} {answers : List Answer} {x y : Option (List ℕ)} (ps qs : List Control) → ps ≡ qs → Steps allows a ts ps answers b x y → Steps allows a ts qs answers b x y
-passed_as {K = K} {allows = allows} {a = a} {b = b} {ts = ts} {answers = answers} {x = x} {y = y} ps qs e h = subst (λ (cs : List Control). Steps {K = K} allows a ts cs answers b x y) e h
+passed_as : {K : Type 0} {says : Classifies K} {a b : Seen K} {ts : List (Told K)} {answers : List Answer} {x y : Option (List ℕ)} (ps qs : List Control) → ps ≡ qs → Steps says a ts ps answers b x y → Steps says a ts qs answers b x y
+passed_as {K = K} {says = says} {a = a} {b = b} {ts = ts} {answers = answers} {x = x} {y = y} ps qs e h = subst (λ (cs : List Control). Steps {K = K} says a ts cs answers b x y) e h
 
 -- steps, and one more
-pub Steps-snoc : {K : Type 0} {allows : Allows K} {a b c : Seen K} {ts : List (Told K)} {cs : List Control} {answers : List Answer} {x y z : Option (List ℕ)} (t : Told K) (answer : Answer) → Steps allows a ts cs answers b x y → (s : IsStep allows b t c answer y z) → Steps allows a (ts ++ t ∷ []) (cs ++ passed_in s.works) (answers ++ answer ∷ []) c x z
+pub Steps-snoc : {K : Type 0} {says : Classifies K} {a b c : Seen K} {ts : List (Told K)} {cs : List Control} {answers : List Answer} {x y z : Option (List ℕ)} (t : Told K) (answer : Answer) → Steps says a ts cs answers b x y → (s : IsStep says b t c answer y z) → Steps says a (ts ++ t ∷ []) (cs ++ passed_in s.works) (answers ++ answer ∷ []) c x z
 Steps-snoc t answer none s = passed_as (passed_in s.works ++ []) (passed_in s.works) (append-nil (passed_in s.works)) (more s none)
 Steps-snoc t answer (more {cs = cs} r rs) s = passed_as (passed_in r.works ++ (cs ++ passed_in s.works)) ((passed_in r.works ++ cs) ++ passed_in s.works) (sym (append_assoc (passed_in r.works) cs (passed_in s.works))) (more r (Steps-snoc t answer rs s))
 
@@ -66,42 +67,42 @@ stays_running : {K : Type 0} (reached new : Seen K) → new ≡ reached → new.
 stays_running reached new e r = ap (λ (x : Seen _). x.status) (sym e) ∙ r
 
 -- what a refused step leaves of the page
-leaves_refused : {K : Type 0} (allows : Allows K) (refusal : Refusal) (a b : Option (List ℕ)) (reached new : Seen K) (told : Told K) (passed : List Control) → Refuses allows refusal reached told new a b → (reached.status ≡ status.Running → Leaves a passed reached.control) → new.status ≡ status.Running → Leaves b passed new.control
-leaves_refused allows for_memory a b reached new told passed h k r = let stays = h.1 in let same = h.2 in let on = stays_running reached new stays r in rw (same, stays) (k on)
-leaves_refused allows for_newline a b reached new told passed h k r = let stays = h.0.stays in let same = h.1 in let on = stays_running reached new stays r in rw (same, stays) (k on)
-leaves_refused allows (for_size c d) a b reached new told passed h k r = let stays = h.0.stays in let same = h.1 in let on = stays_running reached new stays r in rw (same, stays) (k on)
-leaves_refused allows after_failure a b reached new told passed h k r = let stays = h.1 in let same = h.2 in let on = stays_running reached new stays r in rw (same, stays) (k on)
-leaves_refused allows after_exit a b reached new told passed h k r = let stays = h.1 in let same = h.2 in let on = stays_running reached new stays r in rw (same, stays) (k on)
-leaves_refused allows (at_cleanup cause) a b reached new told passed h k r = let both : status.Failed ≡ status.Running = sym h.3.worked.stands ∙ r in cc
-leaves_refused allows at_drawing a b reached new told passed h k r = let both : status.Failed ≡ status.Running = sym h.1.worked.stands ∙ r in cc
-leaves_refused allows for_mode a b reached new told passed h k r = absurd h
-leaves_refused allows (at_setup cause) a b reached new told passed h k r = absurd h
-leaves_refused allows of_no_call a b reached new told passed h k r = absurd h
+leaves_refused : {K : Type 0} (says : Classifies K) (refusal : Refusal) (a b : Option (List ℕ)) (reached new : Seen K) (told : Told K) (passed : List Control) → Refuses says refusal reached told new a b → (reached.status ≡ status.Running → Leaves a passed reached.control) → new.status ≡ status.Running → Leaves b passed new.control
+leaves_refused says for_memory a b reached new told passed h k r = let stays = h.1 in let same = h.2 in let on = stays_running reached new stays r in rw (same, stays) (k on)
+leaves_refused says for_newline a b reached new told passed h k r = let stays = h.0.stays in let same = h.1 in let on = stays_running reached new stays r in rw (same, stays) (k on)
+leaves_refused says (for_size c d) a b reached new told passed h k r = let stays = h.0.stays in let same = h.1 in let on = stays_running reached new stays r in rw (same, stays) (k on)
+leaves_refused says after_failure a b reached new told passed h k r = let stays = h.1 in let same = h.2 in let on = stays_running reached new stays r in rw (same, stays) (k on)
+leaves_refused says after_exit a b reached new told passed h k r = let stays = h.1 in let same = h.2 in let on = stays_running reached new stays r in rw (same, stays) (k on)
+leaves_refused says (at_cleanup cause) a b reached new told passed h k r = let both : status.Failed ≡ status.Running = sym h.3.worked.stands ∙ r in cc
+leaves_refused says at_drawing a b reached new told passed h k r = let both : status.Failed ≡ status.Running = sym h.1.worked.stands ∙ r in cc
+leaves_refused says for_mode a b reached new told passed h k r = absurd h
+leaves_refused says (at_setup cause) a b reached new told passed h k r = absurd h
+leaves_refused says of_no_call a b reached new told passed h k r = absurd h
 
 -- ---- a run so far
 
-pub record RunSoFar {A K : Type 0} (allows : Allows K) (told : A → Told K) (old now : Seen K) (inputs left : List A) (done : ℕ) (last : Option Answer) (old_bytes bytes : Option (List ℕ)) : Type 0 where
+pub record RunSoFar {A K : Type 0} (says : Classifies K) (told : A → Told K) (old now : Seen K) (inputs left : List A) (done : ℕ) (last : Option Answer) (old_bytes bytes : Option (List ℕ)) : Type 0 where
   pub taken : List A
   pub passed : List Control
   pub answers : List Answer
   pub all : inputs ≡ taken ++ reverse left
   pub count : done ≡ length taken
-  pub steps : Steps allows old (map told taken) passed answers now old_bytes bytes
+  pub steps : Steps says old (map told taken) passed answers now old_bytes bytes
   pub answer : last ≡ last_or None answers
   pub on : GoOn answers
   pub leaves : (before : List Control) → Leaves old_bytes before old.control → now.status ≡ status.Running → Leaves bytes (before ++ passed) now.control
 
-pub not_yet : {A K : Type 0} (allows : Allows K) (told : A → Told K) (old : Seen K) (left : List A) (bytes : Option (List ℕ)) → RunSoFar allows told old old (reverse left) left 0 None bytes bytes
-not_yet allows told old left bytes = record { taken = []; passed = []; answers = []; all = refl; count = refl; steps = none; answer = refl; on = tt; leaves = λ before h r. rw (append-nil before) h }
+pub not_yet : {A K : Type 0} (says : Classifies K) (told : A → Told K) (old : Seen K) (left : List A) (bytes : Option (List ℕ)) → RunSoFar says told old old (reverse left) left 0 None bytes bytes
+not_yet says told old left bytes = record { taken = []; passed = []; answers = []; all = refl; count = refl; steps = none; answer = refl; on = tt; leaves = λ before h r. rw (append-nil before) h }
 
-leaves_one : {A K : Type 0} (allows : Allows K) (told : A → Told K) (old now new : Seen K) (inputs left : List A) (x : A) (done : ℕ) (last : Option Answer) (answer : Answer) (first a b : Option (List ℕ)) → (h : RunSoFar allows told old now inputs left done last first a) → (s : IsStep allows now (told x) new answer a b) → (before : List Control) → Leaves first before old.control → new.status ≡ status.Running
+leaves_one : {A K : Type 0} (says : Classifies K) (told : A → Told K) (old now new : Seen K) (inputs left : List A) (x : A) (done : ℕ) (last : Option Answer) (answer : Answer) (first a b : Option (List ℕ)) → (h : RunSoFar says told old now inputs left done last first a) → (s : IsStep says now (told x) new answer a b) → (before : List Control) → Leaves first before old.control → new.status ≡ status.Running
     → Leaves b (before ++ (h.passed ++ passed_in s.works)) new.control
-leaves_one allows told old now new inputs left x done last answer first a b h s before k running = rw (← append_assoc before h.passed (passed_in s.works)) (s.leaves (before ++ h.passed) (h.leaves before k s.worked.running) running)
+leaves_one says told old now new inputs left x done last answer first a b h s before k running = rw (← append_assoc before h.passed (passed_in s.works)) (s.leaves (before ++ h.passed) (h.leaves before k s.worked.running) running)
 
 -- one more step, after which the run goes on
-pub one_step : {A K : Type 0} (allows : Allows K) (told : A → Told K) (old now new : Seen K) (inputs left rest : List A) (x : A) (done : ℕ) (last : Option Answer) (answer : Answer) (first a b : Option (List ℕ)) → RunSoFar allows told old now inputs left done last first a → left ≡ rest ++ x ∷ [] → IsStep allows now (told x) new answer a b → ends_run answer ≡ false
-    → RunSoFar allows told old new inputs rest (done + 1) (Some answer) first b
-one_step allows told old now new inputs left rest x done last answer first a b h e s on = record {
+pub one_step : {A K : Type 0} (says : Classifies K) (told : A → Told K) (old now new : Seen K) (inputs left rest : List A) (x : A) (done : ℕ) (last : Option Answer) (answer : Answer) (first a b : Option (List ℕ)) → RunSoFar says told old now inputs left done last first a → left ≡ rest ++ x ∷ [] → IsStep says now (told x) new answer a b → ends_run answer ≡ false
+    → RunSoFar says told old new inputs rest (done + 1) (Some answer) first b
+one_step says told old now new inputs left rest x done last answer first a b h e s on = record {
   taken = h.taken ++ x ∷ [];
   passed = h.passed ++ passed_in s.works;
   answers = h.answers ++ answer ∷ [];
@@ -110,7 +111,7 @@ one_step allows told old now new inputs left rest x done last answer first a b h
   steps = rw (map_push told h.taken x) (Steps-snoc (told x) answer h.steps s);
   answer = last_or-push None h.answers answer;
   on = go_on_more h.answers answer h.on on;
-  leaves = λ before k running. leaves_one allows told old now new inputs left x done last answer first a b h s before k running;
+  leaves = λ before k running. leaves_one says told old now new inputs left x done last answer first a b h s before k running;
 }
 
 is_empty : {A : Type 0} (xs : List A) → length xs ≡ 0 → xs ≡ []
@@ -118,8 +119,8 @@ is_empty [] e = refl
 is_empty (x ∷ xs) e = absurd (omega arith)
 
 -- a run that came to the end of its inputs
-pub run_over : {A K : Type 0} (allows : Allows K) (told : A → Told K) (old now : Seen K) (inputs left rest : List A) (done : ℕ) (last : Option Answer) (first a : Option (List ℕ)) → RunSoFar allows told old now inputs left done last first a → left ≡ rest ++ [] → length rest ≡ 0 → IsRun allows told old now inputs done last None (reverse rest) first a
-run_over allows told old now inputs left rest done last first a h e empty = record {
+pub run_over : {A K : Type 0} (says : Classifies K) (told : A → Told K) (old now : Seen K) (inputs left rest : List A) (done : ℕ) (last : Option Answer) (first a : Option (List ℕ)) → RunSoFar says told old now inputs left done last first a → left ≡ rest ++ [] → length rest ≡ 0 → IsRun says told old now inputs done last None (reverse rest) first a
+run_over says told old now inputs left rest done last first a h e empty = record {
   taken = h.taken;
   refused = [];
   passed = h.passed;
@@ -136,9 +137,9 @@ run_over allows told old now inputs left rest done last first a h e empty = reco
 }
 
 -- a run that a step ended
-pub run_ended : {A K : Type 0} (allows : Allows K) (told : A → Told K) (old now new : Seen K) (inputs left rest : List A) (x : A) (done : ℕ) (last : Option Answer) (answer : Answer) (first a b : Option (List ℕ)) → RunSoFar allows told old now inputs left done last first a → left ≡ rest ++ x ∷ [] → IsStep allows now (told x) new answer a b → ends_run answer ≡ true
-    → IsRun allows told old new inputs (done + 1) (Some answer) None (reverse rest) first b
-run_ended allows told old now new inputs left rest x done last answer first a b h e s ends = record {
+pub run_ended : {A K : Type 0} (says : Classifies K) (told : A → Told K) (old now new : Seen K) (inputs left rest : List A) (x : A) (done : ℕ) (last : Option Answer) (answer : Answer) (first a b : Option (List ℕ)) → RunSoFar says told old now inputs left done last first a → left ≡ rest ++ x ∷ [] → IsStep says now (told x) new answer a b → ends_run answer ≡ true
+    → IsRun says told old new inputs (done + 1) (Some answer) None (reverse rest) first b
+run_ended says told old now new inputs left rest x done last answer first a b h e s ends = record {
   taken = h.taken ++ x ∷ [];
   refused = [];
   passed = h.passed ++ passed_in s.works;
@@ -151,13 +152,13 @@ run_ended allows told old now new inputs left rest x done last answer first a b 
   stop = (refl, refl);
   stops = stops_last h.answers answer (reverse rest) h.on ends;
   answer = last_or-push None h.answers answer;
-  leaves = λ before k running. leaves_one allows told old now new inputs left x done last answer first a b h s before k running;
+  leaves = λ before k running. leaves_one says told old now new inputs left x done last answer first a b h s before k running;
 }
 
 -- a run that a refusal stopped
-pub run_stopped : {A K : Type 0} (allows : Allows K) (told : A → Told K) (old now new : Seen K) (inputs left rest : List A) (x : A) (done : ℕ) (last : Option Answer) (e : MinusError) (first a b : Option (List ℕ)) → RunSoFar allows told old now inputs left done last first a → left ≡ rest ++ x ∷ []
-    → Refuses allows (refusal_of e) now (told x) new a b → IsRun allows told old new inputs done last (Some e) (reverse rest) first b
-run_stopped allows told old now new inputs left rest x done last e first a b h f r = record {
+pub run_stopped : {A K : Type 0} (says : Classifies K) (told : A → Told K) (old now new : Seen K) (inputs left rest : List A) (x : A) (done : ℕ) (last : Option Answer) (e : MinusError) (first a b : Option (List ℕ)) → RunSoFar says told old now inputs left done last first a → left ≡ rest ++ x ∷ []
+    → Refuses says (refusal_of e) now (told x) new a b → IsRun says told old new inputs done last (Some e) (reverse rest) first b
+run_stopped says told old now new inputs left rest x done last e first a b h f r = record {
   taken = h.taken;
   refused = x ∷ [];
   passed = h.passed;
@@ -170,5 +171,5 @@ run_stopped allows told old now new inputs left rest x done last e first a b h f
   stop = r;
   stops = stops_on h.answers (Some e) (reverse rest) h.on (λ well. let both : Some e ≡ None = well in cc);
   answer = h.answer;
-  leaves = λ before k running. leaves_refused allows (refusal_of e) a b now new (told x) (before ++ h.passed) r (h.leaves before k) running;
+  leaves = λ before k running. leaves_refused says (refusal_of e) a b now new (told x) (before ++ h.passed) r (h.leaves before k) running;
 }

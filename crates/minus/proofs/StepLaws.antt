@@ -11,6 +11,7 @@ use Rattle.minus.specs.declared.session.Answer.{Answer}
 use Rattle.minus.specs.declared.status.Status.{Status}
 use Rattle.minus.specs.declared.status.Status.TheVariants as status
 use Rattle.minus.specs.Answers.{IsAnswer}
+use Rattle.minus.specs.Classifying.{Classifies}
 use Rattle.minus_state.specs.Control.{Control, IsClamped, cleared}
 use Rattle.minus.specs.Drawn.{Drawn, BrokenOff}
 use Rattle.minus.specs.Reads.{Told}
@@ -19,7 +20,7 @@ use Rattle.minus.specs.Seen.{Seen}
 use Rattle.minus.specs.Table.{Wanted, Exit, effect, changed_by, kept_after, drawing_of, IsPossible}
 use Rattle.minus.specs.Works.{Work, work_of, after, WorkedOff, all, one, up_to}
 use Rattle.minus.specs.Drawings.{ops_of_step}
-use Rattle.minus.specs.Steps.{Allows, Asks, Works, Writes, IsStep, IsBrokenStep, IsBrokenExit, status_after, clears_prefix, taken_by}
+use Rattle.minus.specs.Steps.{Asks, Works, Writes, IsStep, IsBrokenStep, IsBrokenExit, status_after, clears_prefix, taken_by}
 use Rattle.minus.proofs.TableLaws.{exit_still, exit_copies, none_handed, still_on, still_exits}
 use Rattle.minus.proofs.CommandLaws.{step_drawn, step_broken}
 use Rattle.minus.proofs.DrawnLaws.{nothing_drawn}
@@ -33,9 +34,9 @@ seen_as : {K : Type 0} (old new : Seen K) (w : Wanted K) (now : Status) → new 
 seen_as old new w now e = sym (ap (λ (x : Seen _). let r : Seen _ = record x { status = old.status } in r) e)
 
 -- a step, from what was worked off and written
-made_step : {K : Type 0} (allows : Allows K) (old new : Seen K) (told : Told K) (w : Wanted K) (clears : Bool) (works : List Work) (exit : Option Exit) (text : Option (List ℕ)) (answer : Answer) (a b : Option (List ℕ)) → Asks allows old told w → clears_prefix told w ≡ clears → Works (taken_by clears old) (w ∷ []) works exit text (status_after exit) new → IsAnswer exit text answer → Writes exit old.control works new.control a b
-    → IsStep allows old told new answer a b
-made_step allows old new told w clears works exit text answer a b asks is h answers writes = record {
+made_step : {K : Type 0} (says : Classifies K) (old new : Seen K) (told : Told K) (w : Wanted K) (clears : Bool) (works : List Work) (exit : Option Exit) (text : Option (List ℕ)) (answer : Answer) (a b : Option (List ℕ)) → Asks says old told w → clears_prefix told w ≡ clears → Works (taken_by clears old) (w ∷ []) works exit text (status_after exit) new → IsAnswer exit text answer → Writes exit old.control works new.control a b
+    → IsStep says old told new answer a b
+made_step says old new told w clears works exit text answer a b asks is h answers writes = record {
   wanted = w;
   works = works;
   exit = exit;
@@ -48,16 +49,16 @@ made_step allows old new told w clears works exit text answer a b asks is h answ
 }
 
 -- a command that is drawn
-pub drawn_step : {K : Type 0} (allows : Allows K) (old mid new : Seen K) (told : Told K) (w : Wanted K) (clears : Bool) (text : Option (List ℕ)) (answer : Answer) (a b c : Option (List ℕ)) (bytes : List ℕ) → Asks allows old told w → clears_prefix told w ≡ clears → (effect old.control w).exits_by ≡ None → IsClamped old.control → old.status ≡ status.Running → IsPossible w
-    → IsSize old.control.cols old.control.rows → IsSize mid.control.cols mid.control.rows → mid ≡ after (taken_by clears old) w → new ≡ mid → bytes ≡ written_all (ops_of_step (drawing_of (cleared clears old.control) w) old.control mid.control) → b ≡ a → Appends b c bytes → text ≡ (effect (cleared clears old.control) w).copies → IsAnswer None text answer → IsStep allows old told new answer a c
-drawn_step allows old mid new told w clears text answer a b c bytes asks is_clears on clamped running possible size new_size done same is s h copies answers =
+pub drawn_step : {K : Type 0} (says : Classifies K) (old mid new : Seen K) (told : Told K) (w : Wanted K) (clears : Bool) (text : Option (List ℕ)) (answer : Answer) (a b c : Option (List ℕ)) (bytes : List ℕ) → Asks says old told w → clears_prefix told w ≡ clears → (effect old.control w).exits_by ≡ None → IsClamped old.control → old.status ≡ status.Running → IsPossible w
+    → IsSize old.control.cols old.control.rows → IsSize mid.control.cols mid.control.rows → mid ≡ after (taken_by clears old) w → new ≡ mid → bytes ≡ written_all (ops_of_step (drawing_of (cleared clears old.control) w) old.control mid.control) → b ≡ a → Appends b c bytes → text ≡ (effect (cleared clears old.control) w).copies → IsAnswer None text answer → IsStep says old told new answer a c
+drawn_step says old mid new told w clears text answer a b c bytes asks is_clears on clamped running possible size new_size done same is s h copies answers =
     let taken : Seen _ = taken_by clears old in
     let left : mid.control ≡ changed_by (effect taken.control w) = ap (λ (x : Seen _). x.control) done in
     let control : new.control ≡ changed_by (effect taken.control w) = ap (λ (x : Seen _). x.control) same ∙ left in
     let some : 1 ≤ (changed_by (effect taken.control w)).rows = subst (λ (x : Control). 1 ≤ x.rows) left new_size.some_rows in
     let ops : bytes ≡ written_all (ops_of_step (drawing_of taken.control w) old.control (changed_by (effect taken.control w))) = is ∙ ap (λ (x : Control). written_all (ops_of_step (drawing_of taken.control w) old.control x)) left in
     let writes : Drawn a c old.control (work_of taken.control w ∷ []) new.control = subst (λ (x : Control). Drawn a c old.control (work_of taken.control w ∷ []) x) (sym control) (step_drawn a b c bytes old.control clears w clamped size.some_rows some ops s h) in
-    made_step allows old new told w clears (work_of taken.control w ∷ []) None text answer a c asks is_clears
+    made_step says old new told w clears (work_of taken.control w ∷ []) None text answer a c asks is_clears
     (record {
       running = running;
       worked = subst (λ (t : Option (List ℕ)). WorkedOff taken (w ∷ []) (work_of taken.control w ∷ []) None t (record new { status = old.status })) (sym copies) (one_work taken (record new { status = old.status }) w possible (still_on old.control clears w on) (seen_as taken new w old.status (same ∙ done)));
@@ -66,9 +67,9 @@ drawn_step allows old mid new told w clears text answer a b c bytes asks is_clea
     answers writes
 
 -- its drawing was refused
-pub drawn_broken : {K : Type 0} (allows : Allows K) (old mid new : Seen K) (told : Told K) (w : Wanted K) (clears : Bool) (a b c : Option (List ℕ)) (bytes : List ℕ) → Asks allows old told w → clears_prefix told w ≡ clears → 0 < length bytes → (effect old.control w).exits_by ≡ None → IsClamped old.control → old.status ≡ status.Running → IsPossible w
-    → IsSize old.control.cols old.control.rows → IsSize mid.control.cols mid.control.rows → mid ≡ after (taken_by clears old) w → new ≡ record mid { status = status.Failed } → bytes ≡ written_all (ops_of_step (drawing_of (cleared clears old.control) w) old.control mid.control) → b ≡ a → AppendsFront b c bytes → IsBrokenStep allows old told new a c
-drawn_broken allows old mid new told w clears a b c bytes asks is_clears drawn on clamped running possible size new_size done fails is s h =
+pub drawn_broken : {K : Type 0} (says : Classifies K) (old mid new : Seen K) (told : Told K) (w : Wanted K) (clears : Bool) (a b c : Option (List ℕ)) (bytes : List ℕ) → Asks says old told w → clears_prefix told w ≡ clears → 0 < length bytes → (effect old.control w).exits_by ≡ None → IsClamped old.control → old.status ≡ status.Running → IsPossible w
+    → IsSize old.control.cols old.control.rows → IsSize mid.control.cols mid.control.rows → mid ≡ after (taken_by clears old) w → new ≡ record mid { status = status.Failed } → bytes ≡ written_all (ops_of_step (drawing_of (cleared clears old.control) w) old.control mid.control) → b ≡ a → AppendsFront b c bytes → IsBrokenStep says old told new a c
+drawn_broken says old mid new told w clears a b c bytes asks is_clears drawn on clamped running possible size new_size done fails is s h =
     let taken : Seen _ = taken_by clears old in
     let failed : new ≡ record (after taken w) { status = status.Failed } = fails ∙ ap (λ (x : Seen _). let r : Seen _ = record x { status = status.Failed } in r) done in
     let left : mid.control ≡ changed_by (effect taken.control w) = ap (λ (x : Seen _). x.control) done in
@@ -95,10 +96,10 @@ drawn_broken allows old mid new told w clears a b c bytes asks is_clears drawn o
     )
 
 -- a command that is drawn by no bytes
-pub quiet_step : {K : Type 0} (allows : Allows K) (old new : Seen K) (told : Told K) (w : Wanted K) (clears : Bool) (text : Option (List ℕ)) (answer : Answer) (a b : Option (List ℕ)) (bytes : List ℕ) → Asks allows old told w → clears_prefix told w ≡ clears → bytes ≡ written_all (ops_of_step (drawing_of (cleared clears old.control) w) old.control new.control) → length bytes ≡ 0 → (effect old.control w).exits_by ≡ None → IsClamped old.control
-    → old.status ≡ status.Running → IsPossible w → IsSize old.control.cols old.control.rows → IsSize new.control.cols new.control.rows → new ≡ after (taken_by clears old) w → b ≡ a → text ≡ (effect (cleared clears old.control) w).copies → IsAnswer None text answer → IsStep allows old told new answer a b
-quiet_step allows old new told w clears text answer a b bytes asks is_clears is none on clamped running possible size new_size done same copies answers =
-    drawn_step allows old new new told w clears text answer a a b bytes asks is_clears on clamped running possible size new_size done refl is refl (rw (nil_from_length bytes none, same) (Appends-nil a)) copies answers
+pub quiet_step : {K : Type 0} (says : Classifies K) (old new : Seen K) (told : Told K) (w : Wanted K) (clears : Bool) (text : Option (List ℕ)) (answer : Answer) (a b : Option (List ℕ)) (bytes : List ℕ) → Asks says old told w → clears_prefix told w ≡ clears → bytes ≡ written_all (ops_of_step (drawing_of (cleared clears old.control) w) old.control new.control) → length bytes ≡ 0 → (effect old.control w).exits_by ≡ None → IsClamped old.control
+    → old.status ≡ status.Running → IsPossible w → IsSize old.control.cols old.control.rows → IsSize new.control.cols new.control.rows → new ≡ after (taken_by clears old) w → b ≡ a → text ≡ (effect (cleared clears old.control) w).copies → IsAnswer None text answer → IsStep says old told new answer a b
+quiet_step says old new told w clears text answer a b bytes asks is_clears is none on clamped running possible size new_size done same copies answers =
+    drawn_step says old new new told w clears text answer a a b bytes asks is_clears on clamped running possible size new_size done refl is refl (rw (nil_from_length bytes none, same) (Appends-nil a)) copies answers
 
 -- an exit leaves all as it is
 exit_keeps : {K : Type 0} (s : Seen K) (w : Wanted K) (x : Exit) → IsClamped s.control → (effect s.control w).exits_by ≡ Some x → after s w ≡ s
@@ -119,15 +120,15 @@ exit_works old new told w clears x now is_clears clamped is running ends = recor
 }
 
 -- an exit
-pub exit_step : {K : Type 0} (allows : Allows K) (old new : Seen K) (told : Told K) (w : Wanted K) (clears : Bool) (x : Exit) (answer : Answer) (a b : Option (List ℕ)) → Asks allows old told w → clears_prefix told w ≡ clears → IsClamped old.control → (effect old.control w).exits_by ≡ Some x → old.status ≡ status.Running → new ≡ record (taken_by clears old) { status = status.Ended } → Appends a b cleanup_bytes
-    → IsAnswer (Some x) None answer → IsStep allows old told new answer a b
-exit_step allows old new told w clears x answer a b asks is_clears clamped is running ends h answers =
-    made_step allows old new told w clears (work_of (cleared clears old.control) w ∷ []) (Some x) None answer a b asks is_clears (exit_works old new told w clears x status.Ended is_clears clamped is running ends) answers (a, nothing_drawn a old.control, h)
+pub exit_step : {K : Type 0} (says : Classifies K) (old new : Seen K) (told : Told K) (w : Wanted K) (clears : Bool) (x : Exit) (answer : Answer) (a b : Option (List ℕ)) → Asks says old told w → clears_prefix told w ≡ clears → IsClamped old.control → (effect old.control w).exits_by ≡ Some x → old.status ≡ status.Running → new ≡ record (taken_by clears old) { status = status.Ended } → Appends a b cleanup_bytes
+    → IsAnswer (Some x) None answer → IsStep says old told new answer a b
+exit_step says old new told w clears x answer a b asks is_clears clamped is running ends h answers =
+    made_step says old new told w clears (work_of (cleared clears old.control) w ∷ []) (Some x) None answer a b asks is_clears (exit_works old new told w clears x status.Ended is_clears clamped is running ends) answers (a, nothing_drawn a old.control, h)
 
 -- its cleanup was refused
-pub exit_broken : {K : Type 0} (allows : Allows K) (old new : Seen K) (told : Told K) (w : Wanted K) (clears : Bool) (x : Exit) (cause : CleanupError) (a b : Option (List ℕ)) → Asks allows old told w → clears_prefix told w ≡ clears → IsClamped old.control → (effect old.control w).exits_by ≡ Some x → old.status ≡ status.Running → new ≡ record (taken_by clears old) { status = status.Failed } → CleanupBreaksOff cause a b
-    → IsBrokenExit allows cause old told new a b
-exit_broken allows old new told w clears x cause a b asks is_clears clamped is running fails h = (
+pub exit_broken : {K : Type 0} (says : Classifies K) (old new : Seen K) (told : Told K) (w : Wanted K) (clears : Bool) (x : Exit) (cause : CleanupError) (a b : Option (List ℕ)) → Asks says old told w → clears_prefix told w ≡ clears → IsClamped old.control → (effect old.control w).exits_by ≡ Some x → old.status ≡ status.Running → new ≡ record (taken_by clears old) { status = status.Failed } → CleanupBreaksOff cause a b
+    → IsBrokenExit says cause old told new a b
+exit_broken says old new told w clears x cause a b asks is_clears clamped is running fails h = (
   work_of (cleared clears old.control) w ∷ [],
   x,
   a,

@@ -2,20 +2,25 @@
 use Rattle.std.proofs.Common.{◌≡◌, ℕ, ◌+◌, ◌<◌, List, [], ◌∷◌, ◌++◌, length, get_or, map, take, ap, ◌∙◌, sym, refl, arith, min, ◌||◌, Bool, true, false, Option, Some, None}
 use Rattle.std.proofs.lemmas.List.{map_more}
 use Rattle.minus_state.specs.declared.change.Redraw.{Redraw}
-use Rattle.minus_state.specs.Control.{Control, clamp, top, cleared, IsClamped, SameSize}
+use Rattle.minus_state.specs.Control.{Control, Saved, clamp, top, cleared, IsClamped, SameSize}
+use Rattle.minus_state.specs.Help.{left_help, restored}
 use Rattle.minus.specs.Seen.{Seen}
-use Rattle.minus.specs.Table.{Wanted, drawing_by, sets_data, appends_data, moves_mark, resizes, exits, ignores, sets_prompt, sends_message, shows_prompt, follows, types, restores_prompt, redraws_prompt, redraws_page, sets_classifier, sets_numbers, sets_wrapping, shifts, starts_selection, updates_selection, clears_selection, copies_selection, Exit, Effect, effect, changed_by, kept_after, drawing_of, IsPossible}
+use Rattle.minus.specs.Table.{Wanted, drawing_by, sets_data, appends_data, moves_mark, resizes, exits, ignores, sets_prompt, sends_message, shows_prompt, follows, types, restores_prompt, redraws_prompt, redraws_page, sets_classifier, sets_numbers, sets_wrapping, shifts, starts_selection, updates_selection, clears_selection, copies_selection, shows_help, Exit, Effect, effect, changed_by, kept_after, drawing_of, IsPossible}
 use Rattle.minus.specs.Works.{Work, WorkedOff, all, one, up_to, is_full, some_full, ResizesAreFull}
 use Rattle.minus.specs.Starts.{taken, taken_all, first_control}
 use Rattle.minus_state.specs.States.{at_start}
 
 -- what the clamp leaves
-clamp_still : (c : Control) → IsClamped c → clamp c ≡ c
+pub clamp_still : (c : Control) → IsClamped c → clamp c ≡ c
 clamp_still c h = let m : min c.mark (top c) ≡ c.mark = omega (arith, h) in ap (λ (n : ℕ). let k : Control = record c { mark = n } in k) m
 
 -- the clamp ends each change
 pub changed_is_clamped : (e : Effect) → IsClamped (changed_by e)
 changed_is_clamped e = omega arith
+
+exits_still : (K : Type 0) (c : Control) (help : Option Saved) (x : Exit) → (let k : Control = record c { help = help } in IsClamped k → (effect {K = K} k exits).exits_by ≡ Some x → changed_by (effect {K = K} k exits) ≡ k)
+exits_still K c None x h e = clamp_still (record c { help = None }) h
+exits_still K c (Some saved) x h e = cc
 
 -- an exit can be done, and leaves the control as it is
 pub exit_still : {K : Type 0} (c : Control) (w : Wanted K) (x : Exit) → IsClamped c → (effect c w).exits_by ≡ Some x → IsPossible w × (changed_by (effect c w) ≡ c)
@@ -23,7 +28,7 @@ exit_still c (sets_data text) x h e = cc
 exit_still c (appends_data text) x h e = cc
 exit_still c (moves_mark mark) x h e = cc
 exit_still c (resizes cols rows) x h e = cc
-exit_still c exits x h e = (tt, clamp_still c h)
+exit_still {K = K} c exits x h e = (tt, exits_still K c c.help x h e)
 exit_still c ignores x h e = cc
 exit_still c (sets_prompt text) x h e = cc
 exit_still c (sends_message text) x h e = cc
@@ -41,6 +46,7 @@ exit_still c (starts_selection a b) x h e = cc
 exit_still c (updates_selection a b) x h e = cc
 exit_still c clears_selection x h e = cc
 exit_still c copies_selection x h e = cc
+exit_still c (shows_help text) x h e = cc
 
 -- nor does it hand a classifier over
 pub none_handed : {K : Type 0} (s : Seen K) (w : Wanted K) (x : Exit) → (effect s.control w).exits_by ≡ Some x → kept_after s.classifier w ≡ s.classifier
@@ -66,6 +72,7 @@ none_handed s (starts_selection a b) x e = refl
 none_handed s (updates_selection a b) x e = refl
 none_handed s clears_selection x e = refl
 none_handed s copies_selection x e = refl
+none_handed s (shows_help text) x e = refl
 
 -- whether a command is an exit does not hang on the prefix
 same_exit : {K : Type 0} (c : Control) (clears : Bool) (w : Wanted K) → (effect (cleared clears c) w).exits_by ≡ (effect c w).exits_by
@@ -91,6 +98,7 @@ same_exit c clears (starts_selection x y) = refl
 same_exit c clears (updates_selection x y) = refl
 same_exit c clears clears_selection = refl
 same_exit c clears copies_selection = refl
+same_exit c clears (shows_help text) = refl
 
 pub still_on : {K : Type 0} (c : Control) (clears : Bool) (w : Wanted K) → (effect c w).exits_by ≡ None → (effect (cleared clears c) w).exits_by ≡ None
 still_on c clears w e = same_exit c clears w ∙ e
@@ -122,21 +130,35 @@ exit_copies c (starts_selection a b) x e = refl
 exit_copies c (updates_selection a b) x e = refl
 exit_copies c clears_selection x e = refl
 exit_copies c copies_selection x e = cc
+exit_copies c (shows_help text) x e = refl
+
+-- the size stays as help is left, and as a text is added
+left_size : (c : Control) (help : Option Saved) → SameSize c (left_help c help)
+left_size c None = record { same_cols = refl; same_rows = refl }
+left_size c (Some saved) = record { same_cols = refl; same_rows = refl }
+
+restored_size : (c : Control) (help : Option Saved) → SameSize c (restored c help)
+restored_size c None = record { same_cols = refl; same_rows = refl }
+restored_size c (Some saved) = record { same_cols = refl; same_rows = refl }
+
+added_size : (K : Type 0) (c : Control) (help : Option Saved) (text : List ℕ) → (let k : Control = record c { help = help } in SameSize k (changed_by (effect {K = K} k (appends_data text))))
+added_size K c None text = record { same_cols = refl; same_rows = refl }
+added_size K c (Some saved) text = record { same_cols = refl; same_rows = refl }
 
 -- what is not drawn in full keeps the size
 pub resizes_full_lem : {K : Type 0} → ResizesAreFull K
 resizes_full_lem c (sets_data text) e = record { same_cols = refl; same_rows = refl }
-resizes_full_lem c (appends_data text) e = record { same_cols = refl; same_rows = refl }
+resizes_full_lem {K = K} c (appends_data text) e = added_size K c c.help text
 resizes_full_lem c (moves_mark mark) e = record { same_cols = refl; same_rows = refl }
 resizes_full_lem c (resizes cols rows) e = absurd (let both : true ≡ false = e in cc)
-resizes_full_lem c exits e = record { same_cols = refl; same_rows = refl }
+resizes_full_lem c exits e = let size = left_size c c.help in record { same_cols = size.same_cols; same_rows = size.same_rows }
 resizes_full_lem c ignores e = record { same_cols = refl; same_rows = refl }
 resizes_full_lem c (sets_prompt text) e = record { same_cols = refl; same_rows = refl }
 resizes_full_lem c (sends_message text) e = record { same_cols = refl; same_rows = refl }
 resizes_full_lem c (shows_prompt is_shown) e = record { same_cols = refl; same_rows = refl }
 resizes_full_lem c (follows follow) e = record { same_cols = refl; same_rows = refl }
 resizes_full_lem c (types character) e = record { same_cols = refl; same_rows = refl }
-resizes_full_lem c restores_prompt e = record { same_cols = refl; same_rows = refl }
+resizes_full_lem c restores_prompt e = let size = restored_size c c.help in record { same_cols = size.same_cols; same_rows = size.same_rows }
 resizes_full_lem c redraws_prompt e = record { same_cols = refl; same_rows = refl }
 resizes_full_lem c redraws_page e = record { same_cols = refl; same_rows = refl }
 resizes_full_lem c (sets_classifier k) e = record { same_cols = refl; same_rows = refl }
@@ -147,6 +169,7 @@ resizes_full_lem c (starts_selection x y) e = record { same_cols = refl; same_ro
 resizes_full_lem c (updates_selection x y) e = record { same_cols = refl; same_rows = refl }
 resizes_full_lem c clears_selection e = record { same_cols = refl; same_rows = refl }
 resizes_full_lem c copies_selection e = record { same_cols = refl; same_rows = refl }
+resizes_full_lem c (shows_help text) e = absurd (let both : true ≡ false = e in cc)
 
 neither : (x y : Bool) → (x || y) ≡ false → (x ≡ false) × (y ≡ false)
 neither false y e = (refl, e)

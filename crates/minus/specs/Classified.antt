@@ -1,5 +1,5 @@
 -- What the classifier of a session answers to which none is given.
-use Rattle.std.specs.Prelude.{◌≡◌, ◌==◌, ◌&&◌, Option, Some, if◌then◌else◌}
+use Rattle.std.specs.Prelude.{◌≡◌, ℕ, ◌==◌, ◌&&◌, List, Option, None, Some, if◌then◌else◌}
 use Rattle.std.specs.Char.{is_ascii_digit}
 use Rattle.minus_term.specs.declared.event.Event.{Event}
 use Rattle.minus_term.specs.declared.event.Event.TheVariants.{Resize, Key}
@@ -11,6 +11,7 @@ use Rattle.minus_state.specs.declared.input.InputEvent.{InputEvent}
 use Rattle.minus_state.specs.declared.input.InputEvent.TheVariants.{UpdateTermArea, Number, Ignore}
 use Rattle.minus.specs.declared.stand_in.StandIn.{StandIn}
 use Rattle.minus_state.specs.declared.state.PagerState.{PagerState}
+use Rattle.minus.specs.Classifying.{Classifies, classifies}
 
 -- a digit without modifiers is typed to the prefix; any other key asks for nothing
 abbrev pub code_answer : KeyCode → KeyModifiers → InputEvent
@@ -26,6 +27,12 @@ stand_in_answer (Resize cols rows) = Some (UpdateTermArea cols rows)
 stand_in_answer (Key key) = Some (key_answer key)
 stand_in_answer event = Some Ignore
 
--- in every state it may answer that alone
+-- in every state it may answer that alone, and it gives no text for help
 abbrev pub stand_in : StandIn → Event → PagerState → Option InputEvent → Type 0
 stand_in classifier event state answer = answer ≡ stand_in_answer event
+
+abbrev pub stand_in_help : StandIn → Option (List ℕ) → Type 0
+stand_in_help classifier text = text ≡ None
+
+abbrev pub stand_in_says : Classifies StandIn
+stand_in_says = classifies stand_in stand_in_help

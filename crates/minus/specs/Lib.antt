@@ -1,6 +1,7 @@
 -- What the contracts cite.
 pub mod Seen
 pub mod Table
+pub mod Classifying
 pub mod Classified
 pub mod Works
 pub mod Drawings

@@ -1,6 +1,10 @@
 -- What contracts read of the state, of commands and inputs.
-use Rattle.std.specs.Prelude.{string_bytes, Option, None, Some}
+use Rattle.std.specs.Prelude.{◌≡◌, ℕ, List, string_bytes, Bool, true, false, Option, None, Some}
+use Rattle.std.specs.Option.{option_map}
 use Rattle.minus_term.specs.declared.event.Event.{Event}
+use Rattle.minus_text.specs.Searched.{searched}
+use Rattle.minus_state.specs.declared.selection.SelectionEnds.{SelectionEnds}
+use Rattle.minus_state.specs.declared.state.PagerState.{PagerState}
 use Rattle.minus.specs.declared.commands.CommandOf.{CommandOf}
 use Rattle.minus.specs.declared.commands.CommandOf.TheVariants.{SetData, AppendData, SetPrompt, SendMessage, ShowPrompt, SetLineNumbers, LineWrapping, FollowOutput, UserInput, Io, SetInputClassifier}
 use Rattle.minus.specs.declared.commands.IoCommand.{IoCommand}
@@ -9,7 +13,9 @@ use Rattle.minus.specs.declared.commands.InputOf.{InputOf}
 use Rattle.minus.specs.declared.commands.InputOf.TheVariants as input
 use Rattle.minus_state.specs.declared.input.InputEvent.{InputEvent}
 use Rattle.minus_state.specs.declared.input.InputEvent.TheVariants as events
-use Rattle.minus.specs.Table.{Wanted, sets_data, appends_data, moves_mark, resizes, exits, ignores, sets_prompt, sends_message, shows_prompt, follows, types, restores_prompt, redraws_prompt, redraws_page, sets_classifier, sets_numbers, sets_wrapping, shifts, starts_selection, updates_selection, clears_selection, copies_selection}
+use Rattle.minus_state.specs.Aside.{aside_of}
+use Rattle.minus_state.specs.Control.{Control, Settings, document_of}
+use Rattle.minus.specs.Table.{Wanted, sets_data, appends_data, moves_mark, resizes, exits, ignores, sets_prompt, sends_message, shows_prompt, follows, types, restores_prompt, redraws_prompt, redraws_page, sets_classifier, sets_numbers, sets_wrapping, shifts, starts_selection, updates_selection, clears_selection, copies_selection, shows_help, answered}
 
 -- what an event of the pager asks for
 abbrev pub event_wanted : {K : Type 0} → InputEvent → Wanted K
@@ -24,6 +30,7 @@ event_wanted events.CopySelection = copies_selection
 event_wanted (events.HorizontalScroll wrapping) = sets_wrapping wrapping
 event_wanted (events.FollowOutput follow) = follows follow
 event_wanted events.RestorePrompt = restores_prompt
+event_wanted events.ShowHelp = shows_help None
 event_wanted (events.Number character) = types character
 event_wanted events.Exit = exits
 event_wanted events.Ignore = ignores
@@ -53,6 +60,10 @@ wanted_of (FollowOutput follow) = follows follow
 wanted_of (UserInput event) = event_wanted event
 wanted_of (Io command) = io_wanted command
 wanted_of (SetInputClassifier classifier) = sets_classifier classifier
+
+-- the same with a text that help is opened with
+abbrev pub wanted_with : {P K : Type 0} → List ℕ → CommandOf P K → Wanted K
+wanted_with text command = answered text (wanted_of command)
 
 -- what a session is told: a command, or an event of the terminal
 pub data Told (K : Type 0) : Type 0 where

@@ -5,18 +5,19 @@ use Rattle.minus_term.specs.declared.error.MinusError.{MinusError}
 use Rattle.minus_term.specs.Refusals.{refusal_of}
 use Rattle.minus.specs.declared.session.Answer.{Answer}
 use Rattle.minus.specs.declared.status.Status.TheVariants as status
+use Rattle.minus.specs.Classifying.{Classifies}
 use Rattle.minus_state.specs.Control.{Control}
 use Rattle.minus.specs.Reads.{Told}
 use Rattle.minus.specs.Seen.{Seen}
-use Rattle.minus.specs.Steps.{Allows, Steps, Refuses, IsSinkFault}
+use Rattle.minus.specs.Steps.{Steps, Refuses, IsSinkFault}
 use Rattle.minus.specs.Answers.{ends_run}
 use Rattle.minus.specs.Drawn.{Leaves}
 
 -- how a run stopped: at the end of its inputs or after a step, or at an input that was refused
-abbrev pub Stops : {A K : Type 0} → Allows K → (A → Told K) → Option MinusError → List A → Seen K → Seen K → Option (List ℕ) → Option (List ℕ) → Type 0
-Stops allows told None [] reached new bytes new_bytes = (new ≡ reached) × (new_bytes ≡ bytes)
-Stops allows told (Some e) (x ∷ []) reached new bytes new_bytes = Refuses allows (refusal_of e) reached (told x) new bytes new_bytes
-Stops allows told stopped refused reached new bytes new_bytes = ⊥
+abbrev pub Stops : {A K : Type 0} → Classifies K → (A → Told K) → Option MinusError → List A → Seen K → Seen K → Option (List ℕ) → Option (List ℕ) → Type 0
+Stops says told None [] reached new bytes new_bytes = (new ≡ reached) × (new_bytes ≡ bytes)
+Stops says told (Some e) (x ∷ []) reached new bytes new_bytes = Refuses says (refusal_of e) reached (told x) new bytes new_bytes
+Stops says told stopped refused reached new bytes new_bytes = ⊥
 
 -- after a step that ends a run no input is refused; after any other one is, or there is none
 abbrev pub StopsSo : {A : Type 0} → Bool → Option MinusError → List A → Type 0
@@ -32,7 +33,7 @@ StopsAfter (answer ∷ next ∷ answers) stopped rest = (ends_run answer ≡ fal
 -- a run: the inputs that were done, in order, the one that was refused, if any, and the rest; the steps of those done, the
 -- controls that they passed, their answers and what they reached; and, where the sink's bytes ended with a list of
 -- operations that takes every screen to the page, they still do as long as the session runs
-pub record IsRun {A K : Type 0} (allows : Allows K) (told : A → Told K) (old new : Seen K) (inputs : List A) (done : ℕ) (last : Option Answer) (stopped : Option MinusError) (rest : List A) (old_bytes new_bytes : Option (List ℕ)) : Type 0 where
+pub record IsRun {A K : Type 0} (says : Classifies K) (told : A → Told K) (old new : Seen K) (inputs : List A) (done : ℕ) (last : Option Answer) (stopped : Option MinusError) (rest : List A) (old_bytes new_bytes : Option (List ℕ)) : Type 0 where
   pub taken : List A
   pub refused : List A
   pub passed : List Control
@@ -41,8 +42,8 @@ pub record IsRun {A K : Type 0} (allows : Allows K) (told : A → Told K) (old n
   pub bytes : Option (List ℕ)
   pub all : inputs ≡ taken ++ (refused ++ rest)
   pub count : done ≡ length taken
-  pub steps : Steps allows old (map told taken) passed answers reached old_bytes bytes
-  pub stop : Stops allows told stopped refused reached new bytes new_bytes
+  pub steps : Steps says old (map told taken) passed answers reached old_bytes bytes
+  pub stop : Stops says told stopped refused reached new bytes new_bytes
   pub stops : StopsAfter answers stopped rest
   pub answer : last ≡ last_or None answers
   pub leaves : (before : List Control) → Leaves old_bytes before old.control → new.status ≡ status.Running → Leaves new_bytes (before ++ passed) new.control

@@ -1,9 +1,12 @@
 -- The table of commands and events.
-use Rattle.std.specs.Prelude.{◌≡◌, ℕ, ◌==◌, is_some, List, ◌++◌, Bool, true, false, Option, None, Some, encode_utf8, if◌then◌else◌}
+use Rattle.std.specs.Prelude.{◌≡◌, ℕ, ◌+◌, ◌==◌, ◌||◌, nat_le, is_some, not, List, [], ◌++◌, Bool, true, false, Option, None, Some, encode_utf8, if◌then◌else◌}
+use Rattle.std.specs.List.{list_any}
 use Rattle.std.specs.Option.{unwrap_or}
 use Rattle.minus_text.specs.declared.line_numbers.LineNumbers.{LineNumbers}
+use Rattle.minus_text.specs.Document.{longest}
 use Rattle.minus_state.specs.Copied.{copied}
 use Rattle.minus_state.specs.Selection.{ends_in_order}
+use Rattle.minus_state.specs.View.{prefix_in}
 use Rattle.minus.specs.declared.commands.Drawing.{Drawing}
 use Rattle.minus.specs.declared.commands.Drawing.TheVariants.{Nothing, Full, Scroll, Append, Prompt}
 use Rattle.minus_state.specs.declared.change.Redraw.{Redraw}
@@ -15,8 +18,9 @@ use Rattle.minus_state.specs.Appending.{followed}
 use Rattle.minus_state.specs.Redraws.{append_redraw, shift_redraw, whole_where, led_redraw}
 use Rattle.minus_state.specs.Shifting.{left_after}
 use Rattle.minus_state.specs.ShownPrompt.{has_newline}
-use Rattle.minus_state.specs.Selecting.{no_ends, has_ends, end_at, ends_begun, mark_led, ends_led}
-use Rattle.minus_state.specs.Control.{Control, Settings, document_of, clamp, top}
+use Rattle.minus_state.specs.Selecting.{no_ends, has_ends, end_at, ends_begun, mark_led, ends_led, stays_led}
+use Rattle.minus_state.specs.Control.{Control, Settings, document_of, keeps_rows_with, clamp, top}
+use Rattle.minus_state.specs.Help.{help_open, left_help, restored, turned, with_text, with_more}
 
 -- a command, as values alone; a classifier is a value of the kind that the session keeps
 pub data Wanted (K : Type 0) : Type 0 where
@@ -42,6 +46,12 @@ pub data Wanted (K : Type 0) : Type 0 where
   updates_selection : (x y : ℕ) → Wanted K
   clears_selection : Wanted K
   copies_selection : Wanted K
+  shows_help : Option (List ℕ) → Wanted K
+
+-- the same, where help is asked for with the text that it is opened with
+abbrev pub answered : {K : Type 0} → List ℕ → Wanted K → Wanted K
+answered text (shows_help asked) = shows_help (Some text)
+answered text w = w
 
 -- an exit: how the program is to go on, and the code that it ends with if it is to end
 abbrev pub Exit : Type 0
@@ -67,23 +77,31 @@ sets c settings = changes (record c { settings = settings }) Stays
 abbrev pub appends : Control → List ℕ → Effect
 appends c text = let new : Control = record c { text = c.text ++ text } in record (changes new (append_redraw c text)) { moves_to = Some (followed c new) }
 
+-- the same, but while help is open nothing moves and nothing is drawn
+abbrev pub adds_text : Control → List ℕ → Effect
+adds_text c text = record (appends c text) {
+  changed = with_more c text;
+  moves_to = if help_open c then None else (appends c text).moves_to;
+  redraw = if help_open c then Stays else append_redraw c text;
+}
+
 -- nothing is selected any more
 abbrev pub unselects : Control → Effect
 unselects c = changes (record c { ends = no_ends }) (whole_where (has_ends c.ends))
 
 abbrev pub effect : {K : Type 0} → Control → Wanted K → Effect
-effect c (sets_data text) = changes (record c { text = text }) Whole
-effect c (appends_data text) = appends c text
+effect c (sets_data text) = changes (with_text c text) (whole_where (not (help_open c)))
+effect c (appends_data text) = adds_text c text
 effect c (moves_mark mark) = record (changes c Moved) { moves_to = Some mark }
 effect c (resizes cols rows) = changes (record c { cols = cols; rows = rows }) Whole
-effect c exits = record (changes c Stays) { exits_by = Some (ProcessQuit, 0) }
+effect c exits = record (changes (left_help c c.help) (whole_where (help_open c))) { exits_by = if help_open c then None else Some (ProcessQuit, 0) }
 effect c ignores = changes c Stays
-effect c (sets_prompt text) = sets c (record c.settings { prompt = text })
+effect c (sets_prompt text) = sets c (record c.settings { prompt = if help_open c then c.settings.prompt else text })
 effect c (sends_message text) = sets c (record c.settings { message = Some text })
 effect c (shows_prompt is_shown) = sets c (record c.settings { is_shown = is_shown })
 effect c (follows follow) = record (changes (record c { settings = record c.settings { follow = follow } }) Moved) { moves_to = Some (top c) }
 effect c (types character) = sets c (record c.settings { prefix = c.settings.prefix ++ encode_utf8 character })
-effect c restores_prompt = sets c (record c.settings { message = None })
+effect c restores_prompt = changes (restored c c.help) (whole_where (help_open c))
 effect c redraws_prompt = changes c PromptRow
 effect c redraws_page = changes c Whole
 effect c (sets_classifier k) = changes c Stays
@@ -94,6 +112,7 @@ effect c (starts_selection x y) = changes (record c { ends = ends_begun c.ends (
 effect c (updates_selection x y) = changes (record c { mark = mark_led c y; ends = ends_led c x y }) (led_redraw c x y)
 effect c clears_selection = unselects c
 effect c copies_selection = record (unselects c) { copies = copied (document_of c) (ends_in_order c.ends) }
+effect c (shows_help text) = changes (turned c c.help (unwrap_or text [])) Whole
 
 -- the classifier that a command hands over to be kept, if it does
 abbrev pub handed : {K : Type 0} → Wanted K → Option K

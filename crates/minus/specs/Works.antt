@@ -4,9 +4,9 @@ use Rattle.std.specs.List.{list_any}
 use Rattle.minus.specs.declared.commands.Drawing.{Drawing}
 use Rattle.minus.specs.declared.commands.Drawing.TheVariants.{Nothing, Full}
 use Rattle.minus_state.specs.ShownPrompt.{prompt_row}
-use Rattle.minus_state.specs.Control.{Control, SameSize}
+use Rattle.minus_state.specs.Control.{Control, IsClamped, SameSize}
 use Rattle.minus.specs.Seen.{Seen}
-use Rattle.minus.specs.Table.{Wanted, Exit, effect, kept_after, changed_by, drawing_of, IsPossible}
+use Rattle.minus.specs.Table.{Wanted, exits, restores_prompt, shows_help, Exit, effect, kept_after, changed_by, drawing_of, IsPossible}
 
 -- a work: how what comes of it is drawn, and the control that it leaves
 pub record Work : Type 0 where
@@ -67,3 +67,16 @@ IsQuiet old (w ∷ works) = (w.drawing ≡ Nothing) × (prompt_row w.left ≡ pr
 -- what is not drawn in full keeps the size
 abbrev pub ResizesAreFull : Type 0 → Type 0
 ResizesAreFull K = (c : Control) (w : Wanted K) → is_full (drawing_of c w) ≡ false → SameSize c (changed_by (effect c w))
+
+-- what leaves help where it is open
+abbrev pub LeavesHelp : {K : Type 0} → Wanted K → Type 0
+LeavesHelp restores_prompt = Unit {0}
+LeavesHelp (shows_help text) = Unit {0}
+LeavesHelp exits = Unit {0}
+LeavesHelp w = ⊥
+
+-- help that is opened and left at once leaves all as it was, but for the message, which is gone
+abbrev pub HelpLeavesNoTrace : Type 0 → Type 0
+HelpLeavesNoTrace K =
+    (c : Control) (text : Option (List ℕ)) (leaving : Wanted K) → c.help ≡ None → IsClamped c → LeavesHelp leaving
+    → changed_by (effect (changed_by (effect {K = K} c (shows_help text))) leaving) ≡ record c { settings = record c.settings { message = None } }

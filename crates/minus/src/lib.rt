@@ -68,6 +68,7 @@ pub use input::modifier_of;
 pub use input::parse_key_event;
 pub use input::parse_mouse_event;
 pub use laws::drawings_join;
+pub use laws::help_leaves_no_trace;
 pub use laws::resizes_are_full;
 pub use minus_input::KeySeq;
 pub use minus_state::PromptRow;

@@ -1,18 +1,18 @@
 //! What comes of commands, formed beside the state.
-ghost use Rattle.std.specs.Prelude.{◌≡◌, ◌+◌, ◌-◌, ◌==◌, ◌++◌, ◌<◌, ◌&&◌, nat_le, min, is_some, [], length, encode_utf8, string_bytes, false, if◌then◌else◌, OnOk, OnErr, IfOk, IfErr};
+ghost use Rattle.std.specs.Prelude.{◌≡◌, ℕ, List, ◌+◌, ◌-◌, ◌==◌, ◌++◌, ◌<◌, ◌&&◌, nat_le, min, is_some, [], length, encode_utf8, string_bytes, false, if◌then◌else◌, OnOk, OnErr, IfOk, IfErr};
 ghost use Rattle.std.specs.Option.{option_map};
 ghost use Rattle.minus_state.specs.Control.{cleared, top, moved_to};
 ghost use Rattle.minus_state.specs.Selecting.{no_ends, has_ends, end_at, ends_begun, is_led, mark_led_to, mark_led, ends_led_to, ends_led, is_same_end};
-ghost use Rattle.minus.specs.Table.{appends, effect, handed, moved_by, changed_by, IsPossible};
+ghost use Rattle.minus.specs.Table.{appends, effect, answered, handed, moved_by, changed_by, IsPossible};
 ghost use Rattle.minus_state.specs.Redraws.{append_redraw, shift_redraw, whole_where, led_redraw};
 ghost use Rattle.minus_state.specs.Shifting.{width, may_shift, left_after};
 ghost use Rattle.minus_term.specs.Refusals.{refusal_of};
 ghost use Rattle.minus_state.specs.States.{control_of, settings_of, ends_of, IsFormed};
-ghost use Rattle.minus.specs.Reads.{event_wanted, io_wanted, wanted_of};
+ghost use Rattle.minus.specs.Reads.{event_wanted, io_wanted, wanted_of, wanted_with};
 ghost use Rattle.minus_text.specs.Document.{rows_of, margin_in};
 ghost use Rattle.minus_state.specs.View.{prefix_in};
 ghost use Rattle.minus_state.specs.NextTexts.{next_document, IsNext};
-ghost use Rattle.minus_state.specs.Changes.{IsChange, settings_after, left_set, ends_set};
+ghost use Rattle.minus_state.specs.Changes.{IsChange, settings_after, left_set, ends_set, help_set};
 ghost use Rattle.minus.specs.Starts.{taken};
 ghost use Rattle.minus.specs.Unformed.{IsUnformed};
 ghost use Rattle.minus_state.specs.Sizes.{IsSize};
@@ -92,10 +92,12 @@ pub(crate) fn exit_of<P: Parts>(
     state: &PagerState,
     command: &CommandOf<P>,
 ) -> Option<(ExitStrategy, u8)>
-    ensures { result ≡ (effect (control_of state.now) (wanted_of command.now)).exits_by }
+    ensures { (text : List ℕ) → result ≡ (effect (control_of state.now) (wanted_with text command.now)).exits_by }
 {
     match command {
-        CommandOf::UserInput(InputEvent::Exit) => Some((ExitStrategy::ProcessQuit, 0)),
+        CommandOf::UserInput(InputEvent::Exit) if !state.help_open() => {
+            Some((ExitStrategy::ProcessQuit, 0))
+        }
         _ => None,
     }
 }
@@ -108,7 +110,7 @@ fn copied_by<P: Parts>(
     clears: bool,
 ) -> Result<Option<String>, AllocError>
     requires { IsFormed state.now }
-    ensures { IfOk result (λ text. option_map string_bytes text ≡ (effect (cleared clears (control_of state.now)) (wanted_of command.now)).copies) }
+    ensures { IfOk result (λ copied. (text : List ℕ) → option_map string_bytes copied ≡ (effect (cleared clears (control_of state.now)) (wanted_with text command.now)).copies) }
 {
     match command {
         CommandOf::UserInput(InputEvent::CopySelection) => {
@@ -124,14 +126,15 @@ fn next_of_event<P: Parts>(
     state: &PagerState,
     alloc: Global,
     event: InputEvent,
+    help: &str,
     clears: bool,
 ) -> Result<Change, MinusError>
     requires { IsFormed state.now }
     ensures next { IfOk result (λ c. IsChange (control_of state.now) c
-        (moved_by (effect {K = P.Classifier} (cleared clears (control_of state.now)) (event_wanted event)))) }
-    ensures redraw { IfOk result (λ c. c.redraw ≡ (effect {K = P.Classifier} (cleared clears (control_of state.now)) (event_wanted event)).redraw) }
-    ensures possible { OnOk result (IsPossible {K = P.Classifier} (event_wanted event)) }
-    ensures unformed { IfErr result (λ e. IsUnformed {K = P.Classifier} (refusal_of e) (event_wanted event)) }
+        (moved_by (effect {K = P.Classifier} (cleared clears (control_of state.now)) (answered help.now (event_wanted event))))) }
+    ensures redraw { IfOk result (λ c. c.redraw ≡ (effect {K = P.Classifier} (cleared clears (control_of state.now)) (answered help.now (event_wanted event))).redraw) }
+    ensures possible { OnOk result (IsPossible {K = P.Classifier} (answered help.now (event_wanted event))) }
+    ensures unformed { IfErr result (λ e. IsUnformed {K = P.Classifier} (refusal_of e) (answered help.now (event_wanted event))) }
 {
     match event {
         InputEvent::UpdateUpperMark(mark) => Ok(state.moved(mark, Setting::Same, clears)),
@@ -148,12 +151,14 @@ fn next_of_event<P: Parts>(
         InputEvent::FollowOutput(follow) => {
             Ok(state.moved(state.top(), Setting::Follow(follow), clears))
         }
-        InputEvent::RestorePrompt => Ok(state.set(Setting::Message(None), Redraw::Stays, clears)),
+        InputEvent::RestorePrompt => Ok(state.restored(alloc, clears)?),
+        InputEvent::ShowHelp => Ok(state.turned(alloc, help, clears)?),
         InputEvent::Number(character) => {
             let prefix = state.typed(alloc, character, clears)?;
             Ok(state.set(Setting::Prefix(prefix), Redraw::Stays, clears))
         }
-        InputEvent::Exit | InputEvent::Ignore => Ok(state.redrawn(Redraw::Stays, clears)),
+        InputEvent::Exit => Ok(state.left_help(alloc, clears)?),
+        InputEvent::Ignore => Ok(state.redrawn(Redraw::Stays, clears)),
     }
 }
 
@@ -179,23 +184,22 @@ fn next<P: Parts>(
     state: &PagerState,
     alloc: Global,
     command: CommandOf<P>,
+    help: &str,
     clears: bool,
 ) -> Result<Prepared<P>, MinusError>
     requires { IsFormed state.now }
     ensures next { IfOk result (λ p. IsChange (control_of state.now) p.change
-        (moved_by (effect (cleared clears (control_of state.now)) (wanted_of command)))) }
-    ensures redraw { IfOk result (λ p. p.change.redraw ≡ (effect (cleared clears (control_of state.now)) (wanted_of command)).redraw) }
-    ensures handed { IfOk result (λ p. p.classifier ≡ handed (wanted_of command)) }
-    ensures possible { OnOk result (IsPossible (wanted_of command)) }
-    ensures unformed { IfErr result (λ e. IsUnformed (refusal_of e) (wanted_of command)) }
+        (moved_by (effect (cleared clears (control_of state.now)) (wanted_with help.now command)))) }
+    ensures redraw { IfOk result (λ p. p.change.redraw ≡ (effect (cleared clears (control_of state.now)) (wanted_with help.now command)).redraw) }
+    ensures handed { IfOk result (λ p. p.classifier ≡ handed (wanted_with help.now command)) }
+    ensures possible { OnOk result (IsPossible (wanted_with help.now command)) }
+    ensures unformed { IfErr result (λ e. IsUnformed (refusal_of e) (wanted_with help.now command)) }
 {
     match command {
-        CommandOf::SetData(text) => Ok(Prepared::of(state.with_text(alloc, &text, clears)?)),
-        CommandOf::AppendData(text) => Ok(Prepared::of(state.appended(alloc, text, clears)?)),
+        CommandOf::SetData(text) => Ok(Prepared::of(state.replaced(alloc, text, clears)?)),
+        CommandOf::AppendData(text) => Ok(Prepared::of(state.added(alloc, text, clears)?)),
         CommandOf::SetPrompt(text) if has_newline(&text) => Err(MinusError::NewlineInPrompt),
-        CommandOf::SetPrompt(text) => {
-            Ok(Prepared::of(state.set(Setting::Prompt(text), Redraw::Stays, clears)))
-        }
+        CommandOf::SetPrompt(text) => Ok(Prepared::of(state.prompted(text, clears))),
         CommandOf::SendMessage(text) if has_newline(&text) => Err(MinusError::NewlineInPrompt),
         CommandOf::SendMessage(text) => {
             Ok(Prepared::of(state.set(Setting::Message(Some(text)), Redraw::Stays, clears)))
@@ -205,18 +209,18 @@ fn next<P: Parts>(
         }
         CommandOf::SetLineNumbers(numbers) => {
             let event = InputEvent::UpdateLineNumber(numbers);
-            Ok(Prepared::of(next_of_event::<P>(state, alloc, event, clears)?))
+            Ok(Prepared::of(next_of_event::<P>(state, alloc, event, help, clears)?))
         }
         CommandOf::LineWrapping(wrapping) => {
             let event = InputEvent::HorizontalScroll(wrapping);
-            Ok(Prepared::of(next_of_event::<P>(state, alloc, event, clears)?))
+            Ok(Prepared::of(next_of_event::<P>(state, alloc, event, help, clears)?))
         }
         CommandOf::FollowOutput(follow) => {
             let event = InputEvent::FollowOutput(follow);
-            Ok(Prepared::of(next_of_event::<P>(state, alloc, event, clears)?))
+            Ok(Prepared::of(next_of_event::<P>(state, alloc, event, help, clears)?))
         }
         CommandOf::UserInput(event) => {
-            Ok(Prepared::of(next_of_event::<P>(state, alloc, event, clears)?))
+            Ok(Prepared::of(next_of_event::<P>(state, alloc, event, help, clears)?))
         }
         CommandOf::Io(io) => Ok(Prepared::of(next_of_io::<P>(state, io, clears))),
         CommandOf::SetInputClassifier(classifier) => Ok(Prepared {
@@ -232,19 +236,20 @@ pub(crate) fn prepare<P: Parts>(
     state: &PagerState,
     alloc: Global,
     command: CommandOf<P>,
+    help: &str,
     clears: bool,
 ) -> Result<Prepared<P>, MinusError>
     requires { IsFormed state.now }
     ensures next { IfOk result (λ p. IsChange (control_of state.now) p.change
-        (changed_by (effect (cleared clears (control_of state.now)) (wanted_of command)))) }
-    ensures redraw { IfOk result (λ p. p.change.redraw ≡ (effect (cleared clears (control_of state.now)) (wanted_of command)).redraw) }
-    ensures handed { IfOk result (λ p. p.classifier ≡ handed (wanted_of command)) }
-    ensures copied { IfOk result (λ p. option_map string_bytes p.copied ≡ (effect (cleared clears (control_of state.now)) (wanted_of command)).copies) }
-    ensures possible { OnOk result (IsPossible (wanted_of command)) }
-    ensures unformed { IfErr result (λ e. IsUnformed (refusal_of e) (wanted_of command)) }
+        (changed_by (effect (cleared clears (control_of state.now)) (wanted_with help.now command)))) }
+    ensures redraw { IfOk result (λ p. p.change.redraw ≡ (effect (cleared clears (control_of state.now)) (wanted_with help.now command)).redraw) }
+    ensures handed { IfOk result (λ p. p.classifier ≡ handed (wanted_with help.now command)) }
+    ensures copied { IfOk result (λ p. option_map string_bytes p.copied ≡ (effect (cleared clears (control_of state.now)) (wanted_with help.now command)).copies) }
+    ensures possible { OnOk result (IsPossible (wanted_with help.now command)) }
+    ensures unformed { IfErr result (λ e. IsUnformed (refusal_of e) (wanted_with help.now command)) }
 {
     let copied = copied_by(state, alloc, &command, clears)?;
-    let mut prepared = next(state, alloc, command, clears)?;
+    let mut prepared = next(state, alloc, command, help, clears)?;
     let rows = prepared.change.text.rows_after(&state.screen);
     let top = rows.saturating_sub(prepared.change.rows - 1);
     prepared.change.mark = prepared.change.mark.min(top);

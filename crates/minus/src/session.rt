@@ -125,7 +125,7 @@ impl<S, P: Parts> Core<S, P> {
     ghost use Rattle.minus_state.specs.ShownPrompt.{prompt_row};
     ghost use Rattle.minus.specs.SessionDrawings.{DrawsBetween};
     ghost use Rattle.minus_state.specs.States.{control_of};
-    ghost use Rattle.minus.specs.Reads.{wanted_of};
+    ghost use Rattle.minus.specs.Reads.{wanted_with};
     ghost use Rattle.minus_state.specs.NextTexts.{IsNext};
     ghost use Rattle.minus_state.specs.Changes.{IsChange};
     ghost use Rattle.minus.specs.Unformed.{IsUnformed};
@@ -198,21 +198,26 @@ impl<S, P: Parts> Core<S, P> {
         Ok(())
     }
 
-    // Forms what comes of a command, draws it into the buffer and puts it in its place; the typed prefix goes before it, or
-    // stays. Answers the text that it copies, if it copies one. An `Err` changes nothing.
-    fn take(&mut self, command: CommandOf<P>, clears: bool) -> Result<Option<String>, MinusError>
+    // Forms what comes of a command, with the text that help is opened with, draws it into the buffer and puts it in its place;
+    // the typed prefix goes before it, or stays. Answers the text that it copies, if it copies one. An `Err` changes nothing.
+    fn take(
+        &mut self,
+        command: CommandOf<P>,
+        help: &str,
+        clears: bool,
+    ) -> Result<Option<String>, MinusError>
         requires { (seen_of self.old).status ≡ Status.Running }
-        ensures done { OnOk result (seen_of self.new ≡ after (taken_by clears (seen_of self.old)) (wanted_of command)) }
-        ensures possible { OnOk result (IsPossible (wanted_of command)) }
-        ensures drawn { OnOk result (DrawsBetween self.new (drawing_of (cleared clears (control_of self.old.state)) (wanted_of command))
+        ensures done { OnOk result (seen_of self.new ≡ after (taken_by clears (seen_of self.old)) (wanted_with help.now command)) }
+        ensures possible { OnOk result (IsPossible (wanted_with help.now command)) }
+        ensures drawn { OnOk result (DrawsBetween self.new (drawing_of (cleared clears (control_of self.old.state)) (wanted_with help.now command))
             (control_of self.old.state) (control_of self.new.state)) }
-        ensures copied { IfOk result (λ text. option_map string_bytes text ≡ (effect (cleared clears (control_of self.old.state)) (wanted_of command)).copies) }
+        ensures copied { IfOk result (λ text. option_map string_bytes text ≡ (effect (cleared clears (control_of self.old.state)) (wanted_with help.now command)).copies) }
         ensures size { OnOk result (IsSize self.new.state.cols self.new.state.rows) }
         ensures sink { self.new.sink ≡ self.old.sink }
         ensures err { OnErr result (seen_of self.new ≡ seen_of self.old) }
-        ensures unformed { IfErr result (λ e. IsUnformed (refusal_of e) (wanted_of command)) }
+        ensures unformed { IfErr result (λ e. IsUnformed (refusal_of e) (wanted_with help.now command)) }
     {
-        let prepared = prepare(&self.state, self.alloc, command, clears)?;
+        let prepared = prepare(&self.state, self.alloc, command, help, clears)?;
         let row = self.state.new_prompt_row(self.alloc, &prepared.change)?;
         let drawing = drawing_by(&prepared.change, self.state.upper_mark);
         self.draw_change(drawing, &prepared.change, &row)?;
@@ -228,22 +233,28 @@ impl<S: OutputSink + Drop, P: Calls> Core<S, P> {
     ghost use Rattle.std.specs.Io.KnownBytes.{Appends};
     ghost use Rattle.minus_term.specs.Counts.{Stays, Rises};
     ghost use Rattle.minus_term.specs.Terminal.{CleanupBreaksOff};
-    ghost use Rattle.minus.specs.Reads.{Told, wanted_of, told_of};
+    ghost use Rattle.minus.specs.Classifying.{classifies};
+    ghost use Rattle.minus.specs.Reads.{Told, wanted_of, wanted_with, told_of};
     ghost use Rattle.minus.specs.Table.{effect};
-    ghost use Rattle.minus.specs.Steps.{cleanup_after};
-    ghost use Rattle.minus.specs.SessionSteps.{IsAsked, IsStepOf, StepsOf, IsRefusedStepOf, RefusesStepOf, IsRunOf};
+    ghost use Rattle.minus.specs.Steps.{IsAnswered, cleanup_after};
+    ghost use Rattle.minus.specs.SessionSteps.{IsAsked, IsTold, IsStepOf, StepsOf, IsRefusedStepOf, RefusesStepOf, IsRunOf};
     ghost use Rattle.minus.specs.Answers.{IsAnswer};
     ghost use Rattle.minus.specs.Core.{seen_of};
 
     // Does what a command asks for that is no exit, and draws it. Answers the text that it copies, if it copies one. A refusal
     // of the sink fails the session.
-    fn change(&mut self, command: CommandOf<P>, clears: bool) -> Result<Option<String>, MinusError>
-        requires on { (effect (seen_of self.old).control (wanted_of command)).exits_by ≡ None }
+    fn change(
+        &mut self,
+        command: CommandOf<P>,
+        help: &str,
+        clears: bool,
+    ) -> Result<Option<String>, MinusError>
+        requires on { (effect (seen_of self.old).control (wanted_with help.now command)).exits_by ≡ None }
         requires running { (seen_of self.old).status ≡ stands.Running }
-        ensures step { IfOk result (λ text. StepsOf S.contents S.refused P.Classifier.allows self.old (wanted_of command) clears self.new None (option_map string_bytes text)) }
-        ensures refused { IfErr result (λ e. RefusesStepOf S.contents S.refused P.Classifier.allows self.old (wanted_of command) clears self.new e) }
+        ensures step { IfOk result (λ text. StepsOf S.contents S.refused (classifies P.Classifier.allows P.Classifier.helps) self.old (wanted_with help.now command) clears self.new None (option_map string_bytes text)) }
+        ensures refused { IfErr result (λ e. RefusesStepOf S.contents S.refused (classifies P.Classifier.allows P.Classifier.helps) self.old (wanted_with help.now command) clears self.new e) }
     {
-        let copied = self.take(command, clears)?;
+        let copied = self.take(command, help, clears)?;
         if self.drawing.is_empty() {
             return Ok(copied);
         }
@@ -258,14 +269,15 @@ impl<S: OutputSink + Drop, P: Calls> Core<S, P> {
     fn exit(
         &mut self,
         command: &CommandOf<P>,
+        help: &str,
         exit: (ExitStrategy, u8),
         clears: bool,
     ) -> Result<Answer, MinusError>
-        requires exits { (effect (seen_of self.old).control (wanted_of command.now)).exits_by ≡ Some exit }
+        requires exits { (effect (seen_of self.old).control (wanted_with help.now command.now)).exits_by ≡ Some exit }
         requires running { (seen_of self.old).status ≡ stands.Running }
-        ensures step { IfOk result (λ a. (told : Told P.Classifier) → IsAsked P.Classifier.allows self.old told (wanted_of command.now) clears →
-            IsStepOf S.contents S.refused P.Classifier.allows self.old told self.new a) }
-        ensures refused { IfErr result (λ e. RefusesStepOf S.contents S.refused P.Classifier.allows self.old (wanted_of command.now) clears self.new e) }
+        ensures step { IfOk result (λ a. (told : Told P.Classifier) → IsAsked (classifies P.Classifier.allows P.Classifier.helps) self.old told (wanted_with help.now command.now) clears →
+            IsStepOf S.contents S.refused (classifies P.Classifier.allows P.Classifier.helps) self.old told self.new a) }
+        ensures refused { IfErr result (λ e. RefusesStepOf S.contents S.refused (classifies P.Classifier.allows P.Classifier.helps) self.old (wanted_with help.now command.now) clears self.new e) }
     {
         if let Err(cause) = cleanup(&mut self.sink, true) {
             self.status = Status::Failed;
@@ -278,22 +290,27 @@ impl<S: OutputSink + Drop, P: Calls> Core<S, P> {
     }
 
     // Does what a command asks for, and draws it.
-    fn work_off(&mut self, command: CommandOf<P>, clears: bool) -> Result<Answer, MinusError>
+    fn work_off(
+        &mut self,
+        command: CommandOf<P>,
+        help: &str,
+        clears: bool,
+    ) -> Result<Answer, MinusError>
         requires { (seen_of self.old).status ≡ stands.Running }
-        ensures step { IfOk result (λ a. (told : Told P.Classifier) → IsAsked P.Classifier.allows self.old told (wanted_of command) clears →
-            IsStepOf S.contents S.refused P.Classifier.allows self.old told self.new a) }
-        ensures refused { IfErr result (λ e. RefusesStepOf S.contents S.refused P.Classifier.allows self.old (wanted_of command) clears self.new e) }
+        ensures step { IfOk result (λ a. (told : Told P.Classifier) → IsAsked (classifies P.Classifier.allows P.Classifier.helps) self.old told (wanted_with help.now command) clears →
+            IsStepOf S.contents S.refused (classifies P.Classifier.allows P.Classifier.helps) self.old told self.new a) }
+        ensures refused { IfErr result (λ e. RefusesStepOf S.contents S.refused (classifies P.Classifier.allows P.Classifier.helps) self.old (wanted_with help.now command) clears self.new e) }
     {
         if let Some(exit) = exit_of(&self.state, &command) {
-            return self.exit(&command, exit, clears);
+            return self.exit(&command, help, exit, clears);
         }
-        let copied = self.change(command, clears)?;
+        let copied = self.change(command, help, clears)?;
         Ok(Answer::of_step(self.alloc, None, copied))
     }
 
     // The command that an input is: for an event, what the classifier answers. And whether the typed prefix goes with it.
     fn command_of(&self, input: InputOf<P>) -> (CommandOf<P>, bool)
-        ensures { IsAsked P.Classifier.allows self.now (told_of input) (wanted_of result.0) result.1 }
+        ensures { IsTold (classifies P.Classifier.allows P.Classifier.helps) self.now (told_of input) (wanted_of result.0) result.1 }
     {
         match input {
             InputOf::Command(command) => (command, false),
@@ -303,6 +320,33 @@ impl<S: OutputSink + Drop, P: Calls> Core<S, P> {
                 (CommandOf::UserInput(answer), answer.clears_prefix())
             }
         }
+    }
+
+    // The text that help is opened with: where a command opens it, the one that the classifier gives, and else an empty one.
+    fn help_for(&self, command: &CommandOf<P>) -> Result<String, MinusError>
+        ensures answers { IfOk result (λ text. IsAnswered (classifies P.Classifier.allows P.Classifier.helps) (seen_of self.now) (wanted_of command.now) (wanted_with (string_bytes text) command.now)) }
+        ensures memory { IfErr result (λ e. e ≡ MinusError.Memory) }
+    {
+        match command {
+            CommandOf::UserInput(InputEvent::ShowHelp) if !self.state.help_open() => {
+                let text = self.classifier.format_help(self.alloc)?;
+                Ok(text.unwrap_or(String::new(self.alloc)))
+            }
+            _ => Ok(String::new(self.alloc)),
+        }
+    }
+
+    // Does what a command asks for, and draws it; where it opens help, with the text that the classifier gives.
+    fn answer(&mut self, command: CommandOf<P>, clears: bool) -> Result<Answer, MinusError>
+        requires { (seen_of self.old).status ≡ stands.Running }
+        ensures step { IfOk result (λ a. (told : Told P.Classifier) → IsTold (classifies P.Classifier.allows P.Classifier.helps) self.old told (wanted_of command) clears →
+            IsStepOf S.contents S.refused (classifies P.Classifier.allows P.Classifier.helps) self.old told self.new a) }
+        ensures refused { IfErr result (λ e. (told : Told P.Classifier) → IsTold (classifies P.Classifier.allows P.Classifier.helps) self.old told (wanted_of command) clears →
+            IsRefusedStepOf S.contents S.refused (classifies P.Classifier.allows P.Classifier.helps) self.old told self.new e) }
+    {
+        let help = self.help_for(&command)?;
+        let answer = self.work_off(command, &help, clears)?;
+        Ok(answer)
     }
 
     /// Works an input off, and draws what has changed. An event that types nothing lets the typed prefix go first; a
@@ -317,10 +361,10 @@ impl<S: OutputSink + Drop, P: Calls> Core<S, P> {
     /// where the sink refuses a write or the flush, or takes nothing: a beginning of the bytes was written, and the
     /// session has failed.
     pub fn step(&mut self, input: InputOf<P>) -> Result<Answer, MinusError>
-        ensures step { IfOk result (λ a. IsStepOf S.contents S.refused P.Classifier.allows self.old (told_of input) self.new a) }
+        ensures step { IfOk result (λ a. IsStepOf S.contents S.refused (classifies P.Classifier.allows P.Classifier.helps) self.old (told_of input) self.new a) }
 
         // A refusal: what it leaves, and when it comes.
-        ensures refused { IfErr result (λ e. IsRefusedStepOf S.contents S.refused P.Classifier.allows self.old (told_of input) self.new e) }
+        ensures refused { IfErr result (λ e. IsRefusedStepOf S.contents S.refused (classifies P.Classifier.allows P.Classifier.helps) self.old (told_of input) self.new e) }
         ensures failed { IsErrOf result MinusError.Failed ↔ ((seen_of self.old).status ≡ stands.Failed) }
         ensures ended { IsErrOf result MinusError.Ended ↔ ((seen_of self.old).status ≡ stands.Ended) }
     {
@@ -330,13 +374,13 @@ impl<S: OutputSink + Drop, P: Calls> Core<S, P> {
             Status::Failed => return Err(MinusError::Failed),
         }
         let (command, clears) = self.command_of(input);
-        let answer = self.work_off(command, clears)?;
+        let answer = self.answer(command, clears)?;
         Ok(answer)
     }
 
     // Works inputs off from the end of a list, until one is refused or the session has exited.
     fn run_from_end(&mut self, left: &mut Vec<InputOf<P>>) -> Progress
-        ensures { IsRunOf S.contents S.refused P.Classifier.allows self.old self.new (reverse left.old.items)
+        ensures { IsRunOf S.contents S.refused (classifies P.Classifier.allows P.Classifier.helps) self.old self.new (reverse left.old.items)
             result.done result.last result.stopped (reverse left.new.items) }
     {
         let mut done = 0;
@@ -373,7 +417,7 @@ impl<S: OutputSink + Drop, P: Calls> Core<S, P> {
     /// Works inputs off in order, until one is refused or the session has exited. An input that is refused is dropped,
     /// and those after it, or after an exit, are handed back.
     pub fn run(&mut self, inputs: Vec<InputOf<P>>) -> RanOf<P>
-        ensures { IsRunOf S.contents S.refused P.Classifier.allows self.old self.new inputs.items result.done result.last result.stopped result.rest.items }
+        ensures { IsRunOf S.contents S.refused (classifies P.Classifier.allows P.Classifier.helps) self.old self.new inputs.items result.done result.last result.stopped result.rest.items }
     {
         let mut left = inputs;
         left.reverse();

@@ -6,12 +6,13 @@ use crate::input::{InputClassifier, InputEvent};
 use crate::parts::Kinds;
 use crate::state::PagerState;
 use minus_term::{Event, KeyCode, KeyEvent, KeyModifiers};
+use std::alloc::{AllocError, Global};
 
 /// The kinds of a session to which no classifier is given.
 pub type StandIns = Kinds<StandIn>;
 
 /// The classifier of a session to which none is given: a resize asks for the terminal's new size, a digit without
-/// modifiers is typed to the prefix, and no other event asks for anything.
+/// modifiers is typed to the prefix, and no other event asks for anything. It gives no text for help.
 #[derive(Clone, Copy, Debug, Drop, PartialEq, Eq)]
 pub struct StandIn;
 
@@ -29,9 +30,11 @@ fn answer_key(key: &KeyEvent) -> InputEvent
 }
 
 impl InputClassifier for StandIn {
-    ghost use Rattle.minus.specs.Classified.{stand_in};
+    ghost use Rattle.minus.specs.Classified.{stand_in, stand_in_help};
 
     ghost allows = { stand_in };
+
+    ghost helps = { stand_in_help };
 
     fn classify_input(&self, event: Event, _state: &PagerState) -> Option<InputEvent> {
         match event {
@@ -42,5 +45,9 @@ impl InputClassifier for StandIn {
             Event::Key(key) => Some(answer_key(&key)),
             _ => Some(InputEvent::Ignore),
         }
+    }
+
+    fn format_help(&self, _alloc: Global) -> Result<Option<String>, AllocError> {
+        Ok(None)
     }
 }

@@ -7,7 +7,7 @@ use Rattle.minus_term.specs.Counts.{AppendsFront}
 use Rattle.minus.specs.declared.stand_in.StandIn.{StandIn}
 use Rattle.minus.specs.declared.session.Answer.{Answer}
 use Rattle.minus.specs.declared.state.RunMode.TheVariants.{Dynamic}
-use Rattle.minus.specs.Classified.{stand_in}
+use Rattle.minus.specs.Classified.{stand_in_says}
 use Rattle.minus.specs.Control.{Control}
 use Rattle.minus.specs.Page.{page}
 use Rattle.minus.specs.Reads.{Told}
@@ -34,7 +34,7 @@ pub record IsTaken (cols rows : ℕ) (told : List (Told StandIn)) (answers : Lis
   pub taken : List (Told StandIn)
   pub passed : List Control
   pub started : IsStarted first (record {}) [] Dynamic cols rows true (Some []) begun
-  pub steps : Steps stand_in first taken passed answers reached begun bytes
+  pub steps : Steps stand_in_says first taken passed answers reached begun bytes
   pub all : told ≡ taken ++ rest
 
 -- what is printed after an exit: the code that the program would end with
@@ -94,7 +94,7 @@ pub record IsSizeAsked (cols rows : ℕ) (told : List (Told StandIn)) : Type 0 w
   pub columns : ℕ
   pub lines : ℕ
   pub taken : IsTaken cols rows told answers reached bytes (refused ∷ rest)
-  pub asked : Asks stand_in reached refused (resizes columns lines)
+  pub asked : Asks stand_in_says reached refused (resizes columns lines)
   pub bad : IsSize columns lines → ⊥
 
 -- after a part of what it was told, the pager was asked for a prompt or a message with a newline
@@ -106,7 +106,7 @@ pub record IsPromptAsked (cols rows : ℕ) (told : List (Told StandIn)) : Type 0
   pub rest : List (Told StandIn)
   pub wanted : Wanted StandIn
   pub taken : IsTaken cols rows told answers reached bytes (refused ∷ rest)
-  pub asked : Asks stand_in reached refused wanted
+  pub asked : Asks stand_in_says reached refused wanted
   pub bad : HasNewline wanted
 
 -- memory ran out; the size of the start, or one that was asked for later, is none of a terminal; or a prompt has a newline

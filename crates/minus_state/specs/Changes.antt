@@ -6,21 +6,25 @@ use Rattle.minus_state.specs.declared.selection.SelectionEnds.{SelectionEnds}
 use Rattle.minus_state.specs.declared.state.PagerState.{PagerState}
 use Rattle.minus_state.specs.declared.change.Change.{Change}
 use Rattle.minus_state.specs.declared.change.Setting.{Setting}
-use Rattle.minus_state.specs.declared.change.Setting.TheVariants.{Prompt, Message, Prefix, Shown, Follow, Left, Ends}
-use Rattle.minus_state.specs.NextTexts.{next_document, IsNext}
-use Rattle.minus_state.specs.Control.{Control, Settings, document_of}
+use Rattle.minus_state.specs.declared.change.Setting.TheVariants.{Prompt, Message, Prefix, Shown, Follow, Left, Ends, Switch}
+use Rattle.minus_state.specs.declared.change.NextText.{NextText}
+use Rattle.minus_state.specs.NextTexts.{next_document, aside_with, IsNext}
+use Rattle.minus_state.specs.Control.{Control, Settings, Saved, document_of}
 use Rattle.minus_state.specs.Page.{shown_of}
+use Rattle.minus_state.specs.Aside.{aside_of}
 use Rattle.minus_state.specs.States.{ends_of}
 use Rattle.minus_state.specs.Sizes.{IsSize}
-use Rattle.minus_term.specs.Refusals.{Refusal, for_memory, for_size}
+use Rattle.minus_term.specs.Refusals.{Refusal, for_memory, for_newline, for_size}
 
 -- one thing that is set beside the text, and all others as they are
 abbrev pub prompt_set : Setting → List ℕ → List ℕ
 prompt_set (Prompt text) prompt = string_bytes text
+prompt_set (Switch next) prompt = string_bytes next.prompt
 prompt_set setting prompt = prompt
 
 abbrev pub message_set : Setting → Option (List ℕ) → Option (List ℕ)
 message_set (Message text) message = option_map string_bytes text
+message_set (Switch next) message = None
 message_set setting message = message
 
 abbrev pub prefix_set : Setting → List ℕ → List ℕ
@@ -33,17 +37,27 @@ shown_set setting is_shown = is_shown
 
 abbrev pub follow_set : Setting → Bool → Bool
 follow_set (Follow next) follow = next
+follow_set (Switch next) follow = next.follow
 follow_set setting follow = follow
 
 -- the left mark
 abbrev pub left_set : Setting → ℕ → ℕ
 left_set (Left next) left = next
+left_set (Switch next) left = next.left
 left_set setting left = left
 
 -- the ends of what is selected
 abbrev pub ends_set : Setting → SelectionEnds → SelectionEnds
 ends_set (Ends next) ends = next
 ends_set setting ends = ends
+
+-- what is put aside, after help was opened or left, and after its text was changed before that
+abbrev pub help_set : Setting → Option Saved → Option Saved
+help_set (Switch next) help = aside_of next.saved
+help_set setting help = help
+
+abbrev pub help_after : NextText → Setting → Option Saved → Option Saved
+help_after text setting help = help_set setting (aside_with text help)
 
 -- what there will be beside the text, where the typed prefix goes first, or stays
 abbrev pub settings_after : Settings → Bool → Setting → Settings
@@ -65,6 +79,7 @@ pub record IsChange (old : Control) (change : Change) (new : Control) : Type 0 w
   pub left_is : left_set change.setting old.left ≡ new.left
   pub ends_are : ends_set change.setting old.ends ≡ new.ends
   pub settings_are : settings_after old.settings change.clears change.setting ≡ new.settings
+  pub help_is : help_after change.text change.setting old.help ≡ new.help
 
 -- the rows of text on the page that a change of a state leads to
 abbrev pub shown_by : PagerState → Change → List (List ℕ)

@@ -13,8 +13,19 @@ pub record Settings : Type 0 where
   pub is_shown : Bool
   pub follow : Bool
 
+-- what is put aside while help is open: the text, whether its lines are wrapped and have numbers, the first row on the page, the
+-- columns that are cut off at the left, the prompt, and whether the page goes on with what is appended
+pub record Saved : Type 0 where
+  pub text : List ℕ
+  pub wrapping : Bool
+  pub numbers : LineNumbers
+  pub mark : ℕ
+  pub left : ℕ
+  pub prompt : List ℕ
+  pub follow : Bool
+
 -- the text, the size, whether lines have numbers and are wrapped, the first row on the page, the columns that are cut off at the
--- left where lines are not wrapped, the ends of a selection, and what is set beside them
+-- left where lines are not wrapped, the ends of a selection, and what is set beside them; and, while help is open, what is put aside
 pub record Control : Type 0 where
   pub text : List ℕ
   pub cols : ℕ
@@ -25,6 +36,7 @@ pub record Control : Type 0 where
   pub left : ℕ
   pub ends : SelectionEnds
   pub settings : Settings
+  pub help : Option Saved
 
 -- the document of the text on show
 abbrev pub document_of : Control → Document

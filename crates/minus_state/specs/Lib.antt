@@ -8,6 +8,8 @@ pub mod Copied
 pub mod ShownRow
 pub mod Sizes
 pub mod Control
+pub mod Help
+pub mod Aside
 pub mod Selecting
 pub mod Shifting
 pub mod Appending

@@ -1,11 +1,12 @@
 -- What contracts read of a state.
-use Rattle.std.specs.Prelude.{◌≡◌, ℕ, [], None, true, false, codes, string_bytes}
+use Rattle.std.specs.Prelude.{◌≡◌, ℕ, List, [], Option, None, Bool, true, false, codes, string_bytes}
 use Rattle.std.specs.Option.{option_map}
 use Rattle.minus_text.specs.declared.line_numbers.LineNumbers.TheVariants.{Disabled}
 use Rattle.minus_text.specs.Searched.{searched}
 use Rattle.minus_state.specs.declared.selection.SelectionEnds.{SelectionEnds}
 use Rattle.minus_state.specs.declared.state.PagerState.{PagerState}
 use Rattle.minus_state.specs.Control.{Control, Settings, document_of}
+use Rattle.minus_state.specs.Aside.{aside_of}
 
 -- what is set in a state beside its text
 abbrev pub settings_of : PagerState → Settings
@@ -27,6 +28,7 @@ control_of s = record {
   left = s.left_mark;
   ends = ends_of s;
   settings = settings_of s;
+  help = aside_of s.saved;
 }
 
 -- the stored rows are those of the control's document, which was searched for no term
@@ -49,4 +51,5 @@ at_start cols rows = record {
   left = 0;
   ends = record { anchor = None; selection = None };
   settings = first_settings;
+  help = None;
 }

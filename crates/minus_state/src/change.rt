@@ -1,7 +1,10 @@
 //! What a command leaves, formed beside the state.
 ghost use Rattle.minus_state.specs.Sizes.{IsSize};
 
-use crate::selection::SelectionEnds;
+use crate::commands::{Drawing, Redraw};
+use crate::parts::Parts;
+use crate::state::help::HelpSwitch;
+use minus_state::SelectionEnds;
 use minus_text::{Layout, PendingPush, Screen};
 use std::alloc::{AllocError, Global};
 
@@ -20,12 +23,15 @@ pub enum Redraw {
     PromptRow,
 }
 
-/// The text that there will be: as it is, another one, or as a push leaves it.
+/// The text that there will be: as it is, another one, or as a push leaves it; or as it is, where another one is put aside while
+/// help is open, or more is added to that.
 #[derive(Drop)]
 pub enum NextText {
     Same,
     Whole(Screen),
     Pushed(String, PendingPush),
+    SavedWhole(String),
+    SavedMore(String),
 }
 
 impl NextText {
@@ -40,9 +46,11 @@ impl NextText {
         ensures { result ≡ length (rows_of (next_document screen.now.document self.now)) }
     {
         match self {
-            NextText::Same => screen.formatted_lines_count(),
             NextText::Whole(next) => next.formatted_lines_count(),
             NextText::Pushed(_, pending) => screen.rows_after(pending),
+            NextText::Same | NextText::SavedWhole(_) | NextText::SavedMore(_) => {
+                screen.formatted_lines_count()
+            }
         }
     }
 
@@ -52,9 +60,9 @@ impl NextText {
         ensures { option_map (λ r. r.now) result ≡ slice_get (rows_of (next_document screen.now.document self.now)) i }
     {
         match self {
-            NextText::Same => screen.row_text(i),
             NextText::Whole(next) => next.row_text(i),
             NextText::Pushed(_, pending) => screen.row_after(pending, i),
+            NextText::Same | NextText::SavedWhole(_) | NextText::SavedMore(_) => screen.row_text(i),
         }
     }
 
@@ -65,7 +73,10 @@ impl NextText {
     {
         match self {
             NextText::Whole(next) => next.layout(),
-            NextText::Same | NextText::Pushed(..) => screen.layout(),
+            NextText::Same
+            | NextText::Pushed(..)
+            | NextText::SavedWhole(_)
+            | NextText::SavedMore(_) => screen.layout(),
         }
     }
 
@@ -75,9 +86,11 @@ impl NextText {
         ensures { result ≡ line_count (next_document screen.now.document self.now) }
     {
         match self {
-            NextText::Same => screen.line_count(),
             NextText::Whole(next) => next.line_count(),
             NextText::Pushed(_, pending) => screen.line_count_after(pending),
+            NextText::Same | NextText::SavedWhole(_) | NextText::SavedMore(_) => {
+                screen.line_count()
+            }
         }
     }
 
@@ -94,15 +107,17 @@ impl NextText {
             (string_bytes out.old) (string_bytes out.new) found) }
     {
         let found = match self {
-            NextText::Same => screen.push_row(alloc, out, i)?,
             NextText::Whole(next) => next.push_row(alloc, out, i)?,
             NextText::Pushed(_, pending) => screen.push_row_after(alloc, pending, out, i)?,
+            NextText::Same | NextText::SavedWhole(_) | NextText::SavedMore(_) => {
+                screen.push_row(alloc, out, i)?
+            }
         };
         Ok(found)
     }
 }
 
-/// What there will be beside the text: all as it is, or one thing set anew.
+/// What there will be beside the text: all as it is, or one thing set anew; or what help sets, as it is opened or left.
 #[derive(Drop)]
 pub enum Setting {
     Same,
@@ -113,6 +128,7 @@ pub enum Setting {
     Follow(bool),
     Left(usize),
     Ends(SelectionEnds),
+    Switch(HelpSwitch),
 }
 
 impl Setting {
@@ -126,6 +142,7 @@ impl Setting {
     {
         match self {
             Setting::Prompt(next) => next.as_str(),
+            Setting::Switch(switch) => switch.prompt.as_str(),
             _ => prompt,
         }
     }
@@ -136,7 +153,7 @@ impl Setting {
     {
         match self {
             Setting::Message(Some(next)) => Some(next.as_str()),
-            Setting::Message(None) => None,
+            Setting::Message(None) | Setting::Switch(_) => None,
             _ => message,
         }
     }
@@ -167,6 +184,7 @@ impl Setting {
     {
         match self {
             Setting::Follow(next) => *next,
+            Setting::Switch(switch) => switch.follow,
             _ => follow,
         }
     }
@@ -177,6 +195,7 @@ impl Setting {
     {
         match self {
             Setting::Left(next) => *next,
+            Setting::Switch(switch) => switch.left,
             _ => left,
         }
     }

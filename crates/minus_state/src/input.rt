@@ -38,11 +38,13 @@ pub enum InputEvent {
     CopySelection,
     /// Move to the last page, and go on with what is appended from now on, or no longer.
     FollowOutput(bool),
-    /// Drop the message, so that the prompt is shown again.
+    /// Drop the message, so that the prompt is shown again; where help is open, leave it.
     RestorePrompt,
+    /// Show the help text that the classifier gives in the place of the text; where help is open, leave it.
+    ShowHelp,
     /// Add this character to the typed prefix.
     Number(char),
-    /// End the session.
+    /// End the session; where help is open, leave it.
     Exit,
     /// Nothing.
     Ignore,
@@ -65,7 +67,7 @@ impl InputEvent {
 
 /// What decides about the events of a terminal.
 pub trait InputClassifier: Drop {
-    ghost use Rattle.std.specs.Prelude.{Option};
+    ghost use Rattle.std.specs.Prelude.{ℕ, List, Option, option_map, string_bytes, IfOk};
     ghost use Rattle.minus_term.specs.declared.event.Event.{Event};
     ghost use Rattle.minus_state.specs.declared.input.InputEvent.{InputEvent};
     ghost use Rattle.minus_state.specs.declared.state.PagerState.{PagerState};
@@ -73,7 +75,18 @@ pub trait InputClassifier: Drop {
     // Which answers it may give to an event in a state.
     ghost allows: { Self → Event → PagerState → Option InputEvent → Type 0 };
 
+    // Which texts it may give for help, or that it may give none.
+    ghost helps: { Self → Option (List ℕ) → Type 0 };
+
     /// What the event asks for in this state, if anything.
     fn classify_input(&self, event: Event, state: &PagerState) -> Option<InputEvent>
         ensures { allows self.now event state.now result };
+
+    /// The text that help shows, if there is one.
+    ///
+    /// # Errors
+    ///
+    /// [`AllocError`] where there is no memory for it.
+    fn format_help(&self, alloc: Global) -> Result<Option<String>, AllocError>
+        ensures { IfOk result (λ text. helps self.now (option_map string_bytes text)) };
 }

@@ -1,16 +1,19 @@
 //! What is on show, and how.
 ghost use Rattle.std.specs.Prelude.{◌≡◌, ◌↔◌, IsTrue, None, OnOk, OnErr, IfOk, IfErr};
-ghost use Rattle.minus_state.specs.NextTexts.{next_document, IsNext};
+ghost use Rattle.minus_state.specs.Aside.{aside_of};
+ghost use Rattle.minus_state.specs.NextTexts.{next_document, aside_with, IsNext};
 ghost use Rattle.minus_state.specs.ShownPrompt.{has_newline};
 ghost use Rattle.minus_state.specs.Sizes.{IsSize};
 ghost use Rattle.minus_text.specs.Searched.{searched};
 
 mod after;
 mod forming;
+pub mod help;
 mod selecting;
 
 use crate::change::{Change, NextText, Setting};
 use crate::selection::{Selection, SelectionEnds};
+use crate::state::help::{HelpSwitch, Saved, add_aside, replace_aside};
 use minus_term::MinusError;
 use minus_text::{Layout, LineNumbers, Screen};
 use std::alloc::Global;
@@ -37,11 +40,18 @@ fn formed(alloc: Global, text: &str, layout: Layout) -> Result<Screen, MinusErro
     }
 }
 
-// Puts a text that was formed in its place. An `Err` changes nothing.
-fn place_text(alloc: Global, screen: &mut Screen, text: NextText) -> Result<(), MinusError>
+// Puts a text that was formed in its place, or where one is put aside. An `Err` changes nothing.
+fn place_text(
+    alloc: Global,
+    screen: &mut Screen,
+    saved: &mut Option<Saved>,
+    text: NextText,
+) -> Result<(), MinusError>
     requires { IsNext screen.old text }
     ensures ok { OnOk result (screen.new ≡ searched None (next_document screen.old.document text)) }
+    ensures aside { OnOk result (aside_of saved.new ≡ aside_with text (aside_of saved.old)) }
     ensures err { OnErr result (screen.new ≡ screen.old) }
+    ensures stays { OnErr result (aside_of saved.new ≡ aside_of saved.old) }
     ensures memory { IfErr result (λ e. e ≡ MinusError.Memory) }
 {
     match text {
@@ -52,6 +62,14 @@ fn place_text(alloc: Global, screen: &mut Screen, text: NextText) -> Result<(), 
         }
         NextText::Pushed(piece, pending) => {
             let _ = screen.place_push(alloc, &piece, pending, None)?;
+            Ok(())
+        }
+        NextText::SavedWhole(text) => {
+            replace_aside(saved, text);
+            Ok(())
+        }
+        NextText::SavedMore(piece) => {
+            add_aside(saved, &piece)?;
             Ok(())
         }
     }
@@ -113,6 +131,7 @@ pub struct PagerState {
     pub prompt: String,
     pub prompt_shown: bool,
     pub follow: bool,
+    pub saved: Option<Saved>,
     pub ghost sized: { IsSize cols rows },
 }
 
@@ -121,10 +140,12 @@ impl PagerState {
     ghost use Rattle.std.specs.Option.{option_map};
     ghost use Rattle.minus_text.specs.Searched.{searched};
     ghost use Rattle.minus_state.specs.Control.{document_of, cleared};
+    ghost use Rattle.minus_state.specs.Help.{switched};
     ghost use Rattle.minus_term.specs.Refusals.{refusal_of};
     ghost use Rattle.minus_state.specs.States.{control_of, settings_of, ends_of, IsFormed, at_start};
     ghost use Rattle.minus_state.specs.NextTexts.{next_document, IsNext};
-    ghost use Rattle.minus_state.specs.Changes.{settings_after, left_set, ends_set, IsUnformedState};
+    ghost use Rattle.minus_state.specs.Aside.{aside_of};
+    ghost use Rattle.minus_state.specs.Changes.{settings_after, left_set, ends_set, help_set, help_after, IsUnformedState};
 
     /// No text yet, for a terminal of so many columns and rows.
     ///
@@ -155,6 +176,7 @@ impl PagerState {
             prompt: String::from_str(alloc, PROMPT)?,
             prompt_shown: true,
             follow: false,
+            saved: None,
         })
     }
 
@@ -216,6 +238,7 @@ impl PagerState {
         ensures mark { self.new.upper_mark ≡ self.old.upper_mark }
         ensures cols { self.new.cols ≡ self.old.cols }
         ensures rows { self.new.rows ≡ self.old.rows }
+        ensures help { aside_of self.new.saved ≡ help_set setting (aside_of self.old.saved) }
     {
         match setting {
             Setting::Same => {}
@@ -229,7 +252,33 @@ impl PagerState {
                 self.anchor = ends.anchor;
                 self.selection = ends.selection;
             }
+            Setting::Switch(switch) => self.switch_help(switch),
         }
+    }
+
+    // Sets what help sets, as it is opened or left.
+    fn switch_help(&mut self, switch: HelpSwitch)
+        ensures settings { settings_of self.new ≡ switched (settings_of self.old) (string_bytes switch.prompt) switch.follow }
+        ensures left { self.new.left_mark ≡ switch.left }
+        ensures help { self.new.saved ≡ switch.saved }
+        ensures ends { ends_of self.new ≡ ends_of self.old }
+        ensures numbers { self.new.line_numbers ≡ self.old.line_numbers }
+        ensures screen { self.new.screen ≡ self.old.screen }
+        ensures mark { self.new.upper_mark ≡ self.old.upper_mark }
+        ensures cols { self.new.cols ≡ self.old.cols }
+        ensures rows { self.new.rows ≡ self.old.rows }
+    {
+        let HelpSwitch {
+            prompt,
+            follow,
+            left,
+            saved,
+        } = switch;
+        self.prompt = prompt;
+        self.message = None;
+        self.follow = follow;
+        self.left_mark = left;
+        self.saved = saved;
     }
 
     /// Lets the typed prefix go, or leaves it.
@@ -244,6 +293,7 @@ impl PagerState {
         ensures mark { self.new.upper_mark ≡ self.old.upper_mark }
         ensures cols { self.new.cols ≡ self.old.cols }
         ensures rows { self.new.rows ≡ self.old.rows }
+        ensures saved { self.new.saved ≡ self.old.saved }
     {
         if clears {
             self.prefix_num.clear();
@@ -261,7 +311,9 @@ impl PagerState {
         ensures cols { OnOk result (self.new.cols ≡ change.cols) }
         ensures rows { OnOk result (self.new.rows ≡ change.rows) }
         ensures settings { OnOk result (settings_of self.new ≡ settings_after (settings_of self.old) change.clears change.setting) }
-        ensures err { OnErr result (self.new ≡ self.old) }
+        ensures help { OnOk result (aside_of self.new.saved ≡ help_after change.text change.setting (aside_of self.old.saved)) }
+        ensures err { OnErr result (control_of self.new ≡ control_of self.old) }
+        ensures kept { OnErr result (self.new.screen ≡ self.old.screen) }
         ensures memory { IfErr result (λ e. e ≡ MinusError.Memory) }
     {
         let Change {
@@ -273,7 +325,7 @@ impl PagerState {
             setting,
             redraw: _,
         } = change;
-        place_text(alloc, &mut self.screen, text)?;
+        place_text(alloc, &mut self.screen, &mut self.saved, text)?;
         self.line_numbers = self.screen.layout().numbers;
         self.upper_mark = mark;
         self.cols = cols;

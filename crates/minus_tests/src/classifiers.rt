@@ -4,7 +4,7 @@ use minus::{
     CommandOf, Core, Event, InputClassifier, InputEvent, InputOf, Kinds, PagerOf, PagerState,
     RunMode, WithTty, init_core_with,
 };
-use std::alloc::Global;
+use std::alloc::{AllocError, Global};
 use std::test::Fail;
 
 // A classifier that asks at each event for a move to one row.
@@ -13,9 +13,14 @@ struct ToRow(usize);
 
 impl InputClassifier for ToRow {
     ghost allows = { λ classifier event state answer. Unit {0} };
+    ghost helps = { λ classifier text. Unit {0} };
 
     fn classify_input(&self, _event: Event, _state: &PagerState) -> Option<InputEvent> {
         Some(InputEvent::UpdateUpperMark(self.0))
+    }
+
+    fn format_help(&self, _alloc: Global) -> Result<Option<String>, AllocError> {
+        Ok(None)
     }
 }
 

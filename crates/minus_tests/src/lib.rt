@@ -9,6 +9,8 @@ mod drawings;
 #[cfg(test)]
 mod endings;
 #[cfg(test)]
+mod helps;
+#[cfg(test)]
 mod inputs;
 #[cfg(test)]
 mod layouts;

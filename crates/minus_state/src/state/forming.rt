@@ -11,7 +11,7 @@ use minus_text::{Layout, LineNumbers, prefix_columns};
 use std::alloc::{AllocError, Global};
 
 impl PagerState {
-    ghost use Rattle.std.specs.Prelude.{◌≡◌, ◌+◌, ◌-◌, ◌==◌, ◌++◌, ◌<◌, ◌&&◌, nat_le, min, is_some, [], length, encode_utf8, string_bytes, false, if◌then◌else◌, OnOk, IfOk, IfErr};
+    ghost use Rattle.std.specs.Prelude.{◌≡◌, ℕ, List, ◌+◌, ◌-◌, ◌==◌, ◌++◌, ◌<◌, ◌&&◌, nat_le, min, is_some, [], length, encode_utf8, string_bytes, false, if◌then◌else◌, OnOk, IfOk, IfErr};
     ghost use Rattle.std.specs.Option.{option_map};
     ghost use Rattle.minus_state.specs.Control.{cleared, top, moved_to};
     ghost use Rattle.minus_state.specs.Selecting.{no_ends, has_ends, end_at, ends_begun, is_led, mark_led_to, mark_led, ends_led_to, ends_led, is_same_end};
@@ -23,7 +23,7 @@ impl PagerState {
     ghost use Rattle.minus_text.specs.Document.{rows_of, margin_in};
     ghost use Rattle.minus_state.specs.View.{prefix_in};
     ghost use Rattle.minus_state.specs.NextTexts.{next_document, IsNext};
-    ghost use Rattle.minus_state.specs.Changes.{IsChange, settings_after, left_set, ends_set};
+    ghost use Rattle.minus_state.specs.Changes.{IsChange, settings_after, left_set, ends_set, help_set};
     ghost use Rattle.minus_state.specs.Sizes.{IsSize};
 
     /// The state as it is, but for the text, and without the typed prefix where that goes.
@@ -55,6 +55,7 @@ impl PagerState {
           left = left_set setting self.now.left_mark;
           ends = ends_set setting (ends_of self.now);
           settings = settings_after (settings_of self.now) clears setting;
+          help = help_set setting (control_of self.now).help;
         }) }
         ensures redraw { result.redraw ≡ redraw }
     {
@@ -76,6 +77,7 @@ impl PagerState {
           left = left_set setting self.now.left_mark;
           ends = ends_set setting (ends_of self.now);
           settings = settings_after (settings_of self.now) clears setting;
+          help = help_set setting (control_of self.now).help;
         }) }
         ensures redraw { result.redraw ≡ redraw }
     {
@@ -99,6 +101,7 @@ impl PagerState {
           left = left_set setting self.now.left_mark;
           ends = ends_set setting (ends_of self.now);
           settings = settings_after (settings_of self.now) clears setting;
+          help = help_set setting (control_of self.now).help;
         }) }
         ensures redraw { result.redraw ≡ Redraw.Moved }
     {

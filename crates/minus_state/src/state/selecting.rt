@@ -30,7 +30,7 @@ fn is_same_end(one: Option<Selection>, other: Option<Selection>) -> bool
 }
 
 impl PagerState {
-    ghost use Rattle.std.specs.Prelude.{◌≡◌, ◌+◌, ◌-◌, ◌==◌, ◌++◌, ◌<◌, ◌&&◌, nat_le, min, is_some, [], length, encode_utf8, string_bytes, false, if◌then◌else◌, OnOk, IfOk, IfErr};
+    ghost use Rattle.std.specs.Prelude.{◌≡◌, ℕ, List, ◌+◌, ◌-◌, ◌==◌, ◌++◌, ◌<◌, ◌&&◌, nat_le, min, is_some, [], length, encode_utf8, string_bytes, false, if◌then◌else◌, OnOk, IfOk, IfErr};
     ghost use Rattle.std.specs.Option.{option_map};
     ghost use Rattle.minus_state.specs.Control.{cleared, top, moved_to};
     ghost use Rattle.minus_state.specs.Selecting.{no_ends, has_ends, end_at, ends_begun, is_led, mark_led_to, mark_led, ends_led_to, ends_led, is_same_end};
@@ -41,7 +41,7 @@ impl PagerState {
     ghost use Rattle.minus_text.specs.Document.{rows_of, margin_in};
     ghost use Rattle.minus_state.specs.View.{prefix_in};
     ghost use Rattle.minus_state.specs.NextTexts.{next_document, IsNext};
-    ghost use Rattle.minus_state.specs.Changes.{IsChange, settings_after, left_set, ends_set};
+    ghost use Rattle.minus_state.specs.Changes.{IsChange, settings_after, left_set, ends_set, help_set};
     ghost use Rattle.minus_state.specs.Sizes.{IsSize};
 
     // The end of a selection at a place of the page that begins at a mark.

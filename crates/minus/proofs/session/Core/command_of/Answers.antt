@@ -1,36 +1,49 @@
 -- The classifier's answer, or none, which asks for nothing.
-use Rattle.std.proofs.Common.{◌≡◌, Option, Some, None, refl, sym, ap, ◌∙◌}
+use Rattle.std.proofs.Common.{◌≡◌, Option, Some, None, refl, sym, ap, subst, ◌∙◌}
 use Rattle.std.specs.Option.{unwrap_or}
 use Rattle.minus_term.specs.declared.event.Event.{Event}
 use Rattle.minus_state.specs.declared.input.InputEvent.{InputEvent}
-use Rattle.minus_state.specs.declared.input.InputEvent.TheVariants.{UpdateUpperMark, UpdateTermArea, UpdateLeftMark, UpdateLineNumber, HorizontalScroll, StartSelection, UpdateSelection, ClearSelection, CopySelection, FollowOutput, RestorePrompt, Number, Exit, Ignore}
+use Rattle.minus_state.specs.declared.input.InputEvent.TheVariants.{UpdateUpperMark, UpdateTermArea, UpdateLeftMark, UpdateLineNumber, HorizontalScroll, StartSelection, UpdateSelection, ClearSelection, CopySelection, FollowOutput, RestorePrompt, ShowHelp, Number, Exit, Ignore}
 use Rattle.minus.specs.Reads.{event_wanted, answer_wanted, an_event}
 use Rattle.minus_state.specs.Events.{event_clears}
-use Rattle.minus.specs.Steps.{clears_prefix}
+use Rattle.minus.specs.Classifying.{Classifies, classifies}
+use Rattle.minus.specs.Core.{seen_of}
+use Rattle.minus.specs.Seen.{Seen}
+use Rattle.minus.specs.Steps.{IsAnswered, clears_prefix}
+use Rattle.minus.specs.Table.{Wanted}
 use Rattle.minus.proofs.session.Core.command_of.Goals as goal
 
-answered : {K : Type 0} (answer : Option InputEvent) → event_wanted {K = K} (unwrap_or answer Ignore) ≡ answer_wanted answer
-answered None = refl
-answered (Some event) = refl
+asked_as : {K : Type 0} (answer : Option InputEvent) → event_wanted {K = K} (unwrap_or answer Ignore) ≡ answer_wanted answer
+asked_as None = refl
+asked_as (Some event) = refl
 
-clears_as : (K : Type 0) (e : Event) (answer : InputEvent) → clears_prefix {K = K} (an_event e) (event_wanted answer) ≡ event_clears answer
-clears_as K e (UpdateUpperMark mark) = refl
-clears_as K e (UpdateTermArea cols rows) = refl
-clears_as K e (UpdateLeftMark left) = refl
-clears_as K e (UpdateLineNumber numbers) = refl
-clears_as K e (HorizontalScroll wrapping) = refl
-clears_as K e (StartSelection x y) = refl
-clears_as K e (UpdateSelection x y) = refl
-clears_as K e ClearSelection = refl
-clears_as K e CopySelection = refl
-clears_as K e (FollowOutput follow) = refl
-clears_as K e RestorePrompt = refl
-clears_as K e (Number character) = refl
-clears_as K e Exit = refl
-clears_as K e Ignore = refl
+same_clears : {K : Type 0} (e : Event) (a b : Wanted K) → a ≡ b → clears_prefix (an_event e) a ≡ clears_prefix (an_event e) b
+same_clears e a b is = ap (λ (w : Wanted _). clears_prefix (an_event e) w) is
+
+-- whether the prefix goes does not hang on the text of help
+clears_as : {K : Type 0} (says : Classifies K) (seen : Seen K) (e : Event) (answer : InputEvent) (wanted : Wanted K) → IsAnswered says seen (event_wanted answer) wanted → clears_prefix (an_event e) wanted ≡ event_clears answer
+clears_as says seen e (UpdateUpperMark mark) wanted h = same_clears e wanted _ h
+clears_as says seen e (UpdateTermArea cols rows) wanted h = same_clears e wanted _ h
+clears_as says seen e (UpdateLeftMark left) wanted h = same_clears e wanted _ h
+clears_as says seen e (UpdateLineNumber numbers) wanted h = same_clears e wanted _ h
+clears_as says seen e (HorizontalScroll wrapping) wanted h = same_clears e wanted _ h
+clears_as says seen e (StartSelection x y) wanted h = same_clears e wanted _ h
+clears_as says seen e (UpdateSelection x y) wanted h = same_clears e wanted _ h
+clears_as says seen e ClearSelection wanted h = same_clears e wanted _ h
+clears_as says seen e CopySelection wanted h = same_clears e wanted _ h
+clears_as says seen e (FollowOutput follow) wanted h = same_clears e wanted _ h
+clears_as says seen e RestorePrompt wanted h = same_clears e wanted _ h
+clears_as says seen e (Number character) wanted h = same_clears e wanted _ h
+clears_as says seen e Exit wanted h = same_clears e wanted _ h
+clears_as says seen e Ignore wanted h = same_clears e wanted _ h
+clears_as says seen e ShowHelp wanted h = same_clears e wanted _ h.2
 
 pub returns-in-Event : goal.returns-in-Event
-returns-in-Event g c = rw c.in-Event.is (
-  (c.args.self.now.state, c.classify_input-answer.result, c.args.self.now.formed, refl, c.classify_input-answer.ensures, ap event_wanted c.unwrap_or-answer.ensures ∙ answered c.classify_input-answer.result),
-  clears_as _ c.in-Event.event c.unwrap_or-answer.result ∙ sym c.clears_prefix.ensures,
-)
+returns-in-Event g c wanted h =
+    let says = classifies g.P.Classifier.InputClassifier.allows g.P.Classifier.InputClassifier.helps in
+    let seen = seen_of c.args.self.now in
+    let asked = ap event_wanted c.unwrap_or-answer.ensures ∙ asked_as c.classify_input-answer.result in
+    rw c.in-Event.is (
+      (c.args.self.now.state, c.classify_input-answer.result, c.args.self.now.formed, refl, c.classify_input-answer.ensures, subst (λ (w : Wanted _). IsAnswered says seen w wanted) asked h),
+      clears_as says seen c.in-Event.event c.unwrap_or-answer.result wanted h ∙ sym c.clears_prefix.ensures,
+    )

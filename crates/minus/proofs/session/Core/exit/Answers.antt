@@ -1,7 +1,7 @@
 -- The exit, or its cleanup broken off.
 use Rattle.std.proofs.Common.{ap}
 use Rattle.minus_state.specs.Control.{Control}
-use Rattle.minus.specs.Reads.{wanted_of}
+use Rattle.minus.specs.Reads.{wanted_with}
 use Rattle.minus.specs.Core.{seen_of}
 use Rattle.minus.specs.Seen.{Seen}
 use Rattle.minus.specs.declared.status.Status.TheVariants as status
@@ -11,7 +11,7 @@ use Rattle.minus.proofs.session.Core.exit.Goals as goal
 pub returns-in-Err-clause-refused : goal.returns-in-Err-clause-refused
 returns-in-Err-clause-refused g c told asked = record {
   refuses =
-      exit_broken _ (seen_of c.args.self.now) _ told (wanted_of c.args.command.now) c.args.clears c.args.exit c.in-Err.cause _ _ asked.0 asked.1 c.args.self.now.clamped c.requires.exits c.requires.running
+      exit_broken _ (seen_of c.args.self.now) _ told (wanted_with c.args.help.now c.args.command.now) c.args.clears c.args.exit c.in-Err.cause _ _ asked.0 asked.1 c.args.self.now.clamped c.requires.exits c.requires.running
       (ap (λ (x : Control). let r : Seen _ = record (seen_of c.args.self.now) { control = x; status = status.Failed } in r) c.clear_prefix.ensures.control) c.in-Err.ensures.broken;
   rises = λ fault. c.in-Err.ensures.rises;
   untouched = λ none. absurd (none tt);
@@ -20,7 +20,7 @@ returns-in-Err-clause-refused g c told asked = record {
 pub returns-clause-step : goal.returns-clause-step
 returns-clause-step g c told asked = record {
   step =
-      exit_step _ (seen_of c.args.self.now) _ told (wanted_of c.args.command.now) c.args.clears c.args.exit c.of_step.result _ _ asked.0 asked.1 c.args.self.now.clamped c.requires.exits c.requires.running
+      exit_step _ (seen_of c.args.self.now) _ told (wanted_with c.args.help.now c.args.command.now) c.args.clears c.args.exit c.of_step.result _ _ asked.0 asked.1 c.args.self.now.clamped c.requires.exits c.requires.running
       (ap (λ (x : Control). let r : Seen _ = record (seen_of c.args.self.now) { control = x; status = status.Ended } in r) c.clear_prefix-2.ensures.control) c.in_default.ensures.ok c.of_step.ensures;
   stays = c.in_default.ensures.stays;
 }

@@ -1,5 +1,6 @@
--- Found by search.
+-- What was told asks for what was worked off; the rest is found by search.
 use Rattle.std.proofs.Common.{rules}
+use Rattle.minus.specs.Reads.{told_of}
 use Rattle.minus.proofs.session.Core.step.Goals as goal
 
 pub returns-in-Ended-clause-refused : goal.returns-in-Ended-clause-refused
@@ -8,5 +9,8 @@ returns-in-Ended-clause-refused g c = search rules
 pub returns-in-Ended-clause-failed : goal.returns-in-Ended-clause-failed
 returns-in-Ended-clause-failed g c = search rules
 
-pub work_off-requires : goal.work_off-requires
-work_off-requires g c = search rules
+pub answer-requires : goal.answer-requires
+answer-requires g c = search rules
+
+pub returns-clause-step : goal.returns-clause-step
+returns-clause-step g c = c.in_ok-answer.ensures.step (told_of c.args.input) c.command_of-command.ensures

@@ -1,0 +1,76 @@
+-- Help: a text on show in the place of the one that is put aside.
+use Rattle.std.specs.Prelude.{ℕ, ◌++◌, List, is_some, Bool, false, Option, None, Some, codes, if◌then◌else◌}
+use Rattle.std.specs.Option.{option_map}
+use Rattle.minus_text.specs.declared.line_numbers.LineNumbers.TheVariants.{Disabled}
+use Rattle.minus_state.specs.Control.{Control, Saved, Settings}
+
+-- what the prompt says while help is open
+abbrev pub help_prompt : List ℕ
+help_prompt = codes "HELP -- Press q or Shift-m to return to pager"
+
+-- whether help is open
+abbrev pub help_open : Control → Bool
+help_open c = is_some c.help
+
+-- what is put aside as help is opened
+abbrev pub put_aside : Control → Saved
+put_aside c = record { text = c.text; wrapping = c.wrapping; numbers = c.numbers; mark = c.mark; left = c.left; prompt = c.settings.prompt; follow = c.settings.follow }
+
+-- what is set beside the text, with another prompt, without a message, and following what is appended or not
+abbrev pub switched : Settings → List ℕ → Bool → Settings
+switched s prompt follow = record s { prompt = prompt; message = None; follow = follow }
+
+-- help is opened with a text: its lines are not wrapped and have no numbers, the marks are at the first row and column, and the
+-- page stays where it is at an append; what is selected stays
+abbrev pub opened : Control → List ℕ → Control
+opened c text = record c {
+  text = text;
+  numbers = Disabled;
+  wrapping = false;
+  mark = 0;
+  left = 0;
+  settings = switched c.settings help_prompt false;
+  help = Some (put_aside c);
+}
+
+-- help is left: what was put aside returns, without a message
+abbrev pub closed : Control → Saved → Control
+closed c saved = record c {
+  text = saved.text;
+  numbers = saved.numbers;
+  wrapping = saved.wrapping;
+  mark = saved.mark;
+  left = saved.left;
+  settings = switched c.settings saved.prompt saved.follow;
+  help = None;
+}
+
+-- help is left where it is open
+abbrev pub left_help : Control → Option Saved → Control
+left_help c None = c
+left_help c (Some saved) = closed c saved
+
+-- help is left where it is open, and else the message goes
+abbrev pub restored : Control → Option Saved → Control
+restored c None = record c { settings = record c.settings { message = None } }
+restored c (Some saved) = closed c saved
+
+-- help is left where it is open, and else opened with a text
+abbrev pub turned : Control → Option Saved → List ℕ → Control
+turned c None text = opened c text
+turned c (Some saved) text = closed c saved
+
+-- another text in the place of the one that is put aside, if one is; or more after it
+abbrev pub text_aside : List ℕ → Option Saved → Option Saved
+text_aside text help = option_map (λ (s : Saved). let r : Saved = record s { text = text } in r) help
+
+abbrev pub more_aside : List ℕ → Option Saved → Option Saved
+more_aside text help = option_map (λ (s : Saved). let r : Saved = record s { text = s.text ++ text } in r) help
+
+-- another text is put in the place of that on show; while help is open, of the one that is put aside
+abbrev pub with_text : Control → List ℕ → Control
+with_text c text = record c { text = if help_open c then c.text else text; help = text_aside text c.help }
+
+-- a text is added to that on show; while help is open, to the one that is put aside
+abbrev pub with_more : Control → List ℕ → Control
+with_more c text = record c { text = if help_open c then c.text else c.text ++ text; help = more_aside text c.help }

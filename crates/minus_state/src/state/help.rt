@@ -1,0 +1,262 @@
+//! Help, which is shown in the place of the text.
+ghost use Rattle.std.specs.Prelude.{◌≡◌, string_bytes, OnOk, OnErr, IfErr};
+ghost use Rattle.minus_state.specs.Aside.{aside_of};
+ghost use Rattle.minus_state.specs.Help.{text_aside, more_aside};
+
+use crate::change::{Change, NextText, Redraw, Setting};
+use crate::state::{PagerState, formed};
+use minus_term::MinusError;
+use minus_text::{Layout, LineNumbers};
+use std::alloc::{AllocError, Global};
+
+// What the prompt says while help is open.
+const PROMPT: &str = "HELP -- Press q or Shift-m to return to pager";
+
+/// What is put aside while help is open.
+#[derive(Debug, Drop)]
+pub(crate) struct Saved {
+    pub(crate) text: String,
+    pub(crate) wrapping: bool,
+    pub(crate) numbers: LineNumbers,
+    pub(crate) upper_mark: usize,
+    pub(crate) left_mark: usize,
+    pub(crate) prompt: String,
+    pub(crate) follow: bool,
+}
+
+// What is set beside the text as help is opened or left, and what is put aside then. No message is shown.
+#[derive(Drop)]
+pub(crate) struct HelpSwitch {
+    pub(crate) prompt: String,
+    pub(crate) follow: bool,
+    pub(crate) left: usize,
+    pub(crate) saved: Option<Saved>,
+}
+
+// Puts another text in the place of the one that is put aside, if one is.
+pub(crate) fn replace_aside(saved: &mut Option<Saved>, text: String)
+    ensures { aside_of saved.new ≡ text_aside (string_bytes text) (aside_of saved.old) }
+{
+    if let Some(saved) = saved {
+        saved.text = text;
+    }
+}
+
+// Adds a text to the one that is put aside, if one is. An `Err` changes nothing.
+pub(crate) fn add_aside(saved: &mut Option<Saved>, text: &str) -> Result<(), MinusError>
+    ensures ok { OnOk result (aside_of saved.new ≡ more_aside text.now (aside_of saved.old)) }
+    ensures err { OnErr result (aside_of saved.new ≡ aside_of saved.old) }
+    ensures memory { IfErr result (λ e. e ≡ MinusError.Memory) }
+{
+    if let Some(saved) = saved {
+        saved.text.push_str(text)?;
+    }
+    Ok(())
+}
+
+impl PagerState {
+    ghost use Rattle.std.specs.Prelude.{◌≡◌, string_bytes, not, if◌then◌else◌, IfOk, IfErr};
+    ghost use Rattle.minus_state.specs.Changes.{IsChange};
+    ghost use Rattle.minus_state.specs.Control.{cleared};
+    ghost use Rattle.minus_state.specs.Help.{switched, help_open, put_aside, opened, closed, left_help, restored, turned, with_text};
+    ghost use Rattle.minus_state.specs.Aside.{aside_in, aside_of};
+    ghost use Rattle.minus_state.specs.States.{control_of, IsFormed};
+    ghost use Rattle.minus_state.specs.Redraws.{whole_where};
+
+    /// Whether help is open.
+    pub fn help_open(&self) -> bool
+        ensures { result ≡ help_open (control_of self.now) }
+    {
+        self.saved.is_some()
+    }
+
+    // The state with another text on show, formed anew, at a mark, as help is opened or left.
+    fn switched(
+        &self,
+        alloc: Global,
+        text: &str,
+        layout: Layout,
+        mark: usize,
+        switch: HelpSwitch,
+        clears: bool,
+    ) -> Result<Change, MinusError>
+        requires formed { IsFormed self.now }
+        requires cols { layout.cols ≡ self.now.cols }
+        ensures next { IfOk result (λ c. IsChange (control_of self.now) c (record (control_of self.now) {
+          text = text.now;
+          numbers = layout.numbers;
+          wrapping = layout.wrapping;
+          mark = mark;
+          left = switch.left;
+          settings = switched (cleared clears (control_of self.now)).settings (string_bytes switch.prompt) switch.follow;
+          help = aside_of switch.saved;
+        })) }
+        ensures redraw { IfOk result (λ c. c.redraw ≡ Redraw.Whole) }
+        ensures memory { IfErr result (λ e. e ≡ MinusError.Memory) }
+    {
+        let next = formed(alloc, text, layout)?;
+        Ok(Change {
+            text: NextText::Whole(next),
+            mark,
+            cols: self.cols,
+            rows: self.rows,
+            clears,
+            setting: Setting::Switch(switch),
+            redraw: Redraw::Whole,
+        })
+    }
+
+    // What is put aside as help is opened.
+    fn put_aside(&self, alloc: Global) -> Result<Saved, AllocError>
+        requires { IsFormed self.now }
+        ensures { IfOk result (λ s. aside_in s ≡ put_aside (control_of self.now)) }
+    {
+        Ok(Saved {
+            text: String::from_str(alloc, self.screen.orig_text())?,
+            wrapping: self.line_wrapping(),
+            numbers: self.line_numbers,
+            upper_mark: self.upper_mark,
+            left_mark: self.left_mark,
+            prompt: String::from_str(alloc, &self.prompt)?,
+            follow: self.follow,
+        })
+    }
+
+    // The state with help opened on a text.
+    fn helped(&self, alloc: Global, text: &str, clears: bool) -> Result<Change, MinusError>
+        requires { IsFormed self.now }
+        ensures next { IfOk result (λ c. IsChange (control_of self.now) c (opened (cleared clears (control_of self.now)) text.now)) }
+        ensures redraw { IfOk result (λ c. c.redraw ≡ Redraw.Whole) }
+        ensures memory { IfErr result (λ e. e ≡ MinusError.Memory) }
+    {
+        let layout = Layout {
+            cols: self.cols,
+            wrapping: false,
+            numbers: LineNumbers::Disabled,
+        };
+        let switch = HelpSwitch {
+            prompt: String::from_str(alloc, PROMPT)?,
+            follow: false,
+            left: 0,
+            saved: Some(self.put_aside(alloc)?),
+        };
+        let change = self.switched(alloc, text, layout, 0, switch, clears)?;
+        Ok(change)
+    }
+
+    // The state with help left, of what was put aside.
+    fn unhelped(&self, alloc: Global, saved: &Saved, clears: bool) -> Result<Change, MinusError>
+        requires { IsFormed self.now }
+        ensures next { IfOk result (λ c. IsChange (control_of self.now) c (closed (cleared clears (control_of self.now)) (aside_in saved.now))) }
+        ensures redraw { IfOk result (λ c. c.redraw ≡ Redraw.Whole) }
+        ensures memory { IfErr result (λ e. e ≡ MinusError.Memory) }
+    {
+        let layout = Layout {
+            cols: self.cols,
+            wrapping: saved.wrapping,
+            numbers: saved.numbers,
+        };
+        let switch = HelpSwitch {
+            prompt: String::from_str(alloc, &saved.prompt)?,
+            follow: saved.follow,
+            left: saved.left_mark,
+            saved: None,
+        };
+        let change = self.switched(alloc, &saved.text, layout, saved.upper_mark, switch, clears)?;
+        Ok(change)
+    }
+
+    // The state with help left where it is open.
+    pub(crate) fn left_help(&self, alloc: Global, clears: bool) -> Result<Change, MinusError>
+        requires { IsFormed self.now }
+        ensures next { IfOk result (λ c. IsChange (control_of self.now) c (left_help (cleared clears (control_of self.now)) (control_of self.now).help)) }
+        ensures redraw { IfOk result (λ c. c.redraw ≡ whole_where (help_open (control_of self.now))) }
+        ensures memory { IfErr result (λ e. e ≡ MinusError.Memory) }
+    {
+        match &self.saved {
+            Some(saved) => Ok(self.unhelped(alloc, saved, clears)?),
+            None => Ok(self.redrawn(Redraw::Stays, clears)),
+        }
+    }
+
+    // The state with help left where it is open, and else without the message.
+    pub(crate) fn restored(&self, alloc: Global, clears: bool) -> Result<Change, MinusError>
+        requires { IsFormed self.now }
+        ensures next { IfOk result (λ c. IsChange (control_of self.now) c (restored (cleared clears (control_of self.now)) (control_of self.now).help)) }
+        ensures redraw { IfOk result (λ c. c.redraw ≡ whole_where (help_open (control_of self.now))) }
+        ensures memory { IfErr result (λ e. e ≡ MinusError.Memory) }
+    {
+        match &self.saved {
+            Some(saved) => Ok(self.unhelped(alloc, saved, clears)?),
+            None => Ok(self.set(Setting::Message(None), Redraw::Stays, clears)),
+        }
+    }
+
+    // The state with help left where it is open, and else opened with a text.
+    pub(crate) fn turned(
+        &self,
+        alloc: Global,
+        text: &str,
+        clears: bool,
+    ) -> Result<Change, MinusError>
+        requires { IsFormed self.now }
+        ensures next { IfOk result (λ c. IsChange (control_of self.now) c (turned (cleared clears (control_of self.now)) (control_of self.now).help text.now)) }
+        ensures redraw { IfOk result (λ c. c.redraw ≡ Redraw.Whole) }
+        ensures memory { IfErr result (λ e. e ≡ MinusError.Memory) }
+    {
+        match &self.saved {
+            Some(saved) => Ok(self.unhelped(alloc, saved, clears)?),
+            None => Ok(self.helped(alloc, text, clears)?),
+        }
+    }
+
+    // The state with another text; while help is open, with another one put aside.
+    pub(crate) fn replaced(
+        &self,
+        alloc: Global,
+        text: String,
+        clears: bool,
+    ) -> Result<Change, MinusError>
+        requires { IsFormed self.now }
+        ensures next { IfOk result (λ c. IsChange (control_of self.now) c (with_text (cleared clears (control_of self.now)) (string_bytes text))) }
+        ensures redraw { IfOk result (λ c. c.redraw ≡ whole_where (not (help_open (control_of self.now)))) }
+        ensures memory { IfErr result (λ e. e ≡ MinusError.Memory) }
+    {
+        if self.help_open() {
+            return Ok(self.change_to(NextText::SavedWhole(text), Redraw::Stays, clears));
+        }
+        Ok(self.with_text(alloc, &text, clears)?)
+    }
+
+    // The state with a text added to its text; while help is open, to the one put aside.
+    pub(crate) fn added(
+        &self,
+        alloc: Global,
+        text: String,
+        clears: bool,
+    ) -> Result<Change, MinusError>
+        requires { IsFormed self.now }
+        ensures next { IfOk result (λ c. IsChange (control_of self.now) c (moved_by (adds_text (cleared clears (control_of self.now)) (string_bytes text)))) }
+        ensures redraw { IfOk result (λ c. c.redraw ≡ (adds_text (control_of self.now) (string_bytes text)).redraw) }
+        ensures memory { IfErr result (λ e. e ≡ MinusError.Memory) }
+    {
+        if self.help_open() {
+            return Ok(self.change_to(NextText::SavedMore(text), Redraw::Stays, clears));
+        }
+        Ok(self.appended(alloc, text, clears)?)
+    }
+
+    // The state with another prompt; while help is open, with that of help.
+    pub(crate) fn prompted(&self, prompt: String, clears: bool) -> Change
+        requires { IsFormed self.now }
+        ensures next { IsChange (control_of self.now) result (record (cleared clears (control_of self.now)) {
+          settings = record (cleared clears (control_of self.now)).settings { prompt = if help_open (control_of self.now) then (control_of self.now).settings.prompt else string_bytes prompt };
+        }) }
+        ensures redraw { result.redraw ≡ Redraw.Stays }
+    {
+        if self.help_open() {
+            return self.redrawn(Redraw::Stays, clears);
+        }
+        self.set(Setting::Prompt(prompt), Redraw::Stays, clears)
+    }
+}
