@@ -20,6 +20,15 @@ pub enum Redraw {
     PromptRow,
 }
 
+/// How a text was appended.
+#[derive(Clone, Copy, Debug, PartialEq, Eq)]
+pub enum AppendStyle {
+    /// The rows before the first of these numbers stayed, and the second is the number of rows then.
+    PartialUpdate((usize, usize)),
+    /// All rows were formed anew.
+    FullRedraw,
+}
+
 /// The text that there will be: as it is, another one, or as a push leaves it.
 #[derive(Drop)]
 pub enum NextText {

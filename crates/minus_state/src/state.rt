@@ -8,6 +8,8 @@ ghost use Rattle.minus_text.specs.Searched.{searched};
 mod after;
 mod forming;
 mod selecting;
+mod settings;
+mod texts;
 
 use crate::change::{Change, NextText, Setting};
 use crate::selection::{Selection, SelectionEnds};
@@ -117,7 +119,7 @@ pub struct PagerState {
 }
 
 impl PagerState {
-    ghost use Rattle.std.specs.Prelude.{◌≡◌, ◌-◌, ◌<◌, [], None, string_bytes, false, if◌then◌else◌, OnOk, OnErr, IfOk, IfErr};
+    ghost use Rattle.std.specs.Prelude.{◌≡◌, [], None, string_bytes, false, if◌then◌else◌, OnOk, OnErr, IfOk, IfErr};
     ghost use Rattle.std.specs.Option.{option_map};
     ghost use Rattle.minus_text.specs.Searched.{searched};
     ghost use Rattle.minus_state.specs.Control.{document_of, cleared};
