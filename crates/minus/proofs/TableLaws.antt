@@ -4,8 +4,9 @@ use Rattle.std.proofs.lemmas.List.{map_more}
 use Rattle.minus_state.specs.declared.change.Redraw.{Redraw}
 use Rattle.minus_state.specs.Control.{Control, Saved, clamp, top, cleared, IsClamped, SameSize}
 use Rattle.minus_state.specs.Help.{left_help, restored}
+use Rattle.minus_state.specs.Appending.{added}
 use Rattle.minus.specs.Seen.{Seen}
-use Rattle.minus.specs.Table.{Wanted, drawing_by, sets_data, appends_data, moves_mark, resizes, exits, ignores, sets_prompt, sends_message, shows_prompt, follows, types, restores_prompt, redraws_prompt, redraws_page, sets_classifier, sets_numbers, sets_wrapping, shifts, starts_selection, updates_selection, clears_selection, copies_selection, shows_help, Exit, Effect, effect, changed_by, kept_after, drawing_of, IsPossible}
+use Rattle.minus.specs.Table.{Wanted, adds_text, moved_by, drawing_by, sets_data, appends_data, moves_mark, resizes, exits, ignores, sets_prompt, sends_message, shows_prompt, follows, types, restores_prompt, redraws_prompt, redraws_page, sets_classifier, sets_numbers, sets_wrapping, shifts, starts_selection, updates_selection, clears_selection, copies_selection, shows_help, Exit, Effect, effect, changed_by, kept_after, drawing_of, IsPossible}
 use Rattle.minus.specs.Works.{Work, WorkedOff, all, one, up_to, is_full, some_full, ResizesAreFull}
 use Rattle.minus.specs.Starts.{taken, taken_all, first_control}
 use Rattle.minus_state.specs.States.{at_start}
@@ -206,3 +207,11 @@ take_one f commands i d x first now new l is so_far e =
 -- a change is drawn as the table says of its command
 pub drawn_as : {K : Type 0} (c : Control) (w : Wanted K) (redraw : Redraw) (mark : ℕ) → redraw ≡ (effect c w).redraw → mark ≡ (changed_by (effect c w)).mark → drawing_by redraw c.mark mark ≡ drawing_of c w
 drawn_as c w redraw mark r m = ap (λ (x : Redraw). drawing_by x c.mark mark) r ∙ ap (λ (n : ℕ). drawing_by (effect c w).redraw c.mark n) m
+
+-- a text that is added, to the one on show or to the one that is put aside
+added_with : (c : Control) (text : List ℕ) (help : Option Saved) → (let k : Control = record c { help = help } in added k text ≡ moved_by (adds_text k text))
+added_with c text None = refl
+added_with c text (Some saved) = refl
+
+pub added_is : (c : Control) (text : List ℕ) → added c text ≡ moved_by (adds_text c text)
+added_is c text = added_with c text c.help

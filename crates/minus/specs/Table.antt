@@ -15,7 +15,7 @@ use Rattle.minus_state.specs.declared.state.ExitStrategy.{ExitStrategy}
 use Rattle.minus_state.specs.declared.state.ExitStrategy.TheVariants.{ProcessQuit}
 use Rattle.minus_state.specs.Sizes.{IsSize}
 use Rattle.minus_state.specs.Appending.{followed}
-use Rattle.minus_state.specs.Redraws.{append_redraw, shift_redraw, whole_where, led_redraw}
+use Rattle.minus_state.specs.Redraws.{append_redraw, added_redraw, shift_redraw, whole_where, led_redraw}
 use Rattle.minus_state.specs.Shifting.{left_after}
 use Rattle.minus_state.specs.ShownPrompt.{has_newline}
 use Rattle.minus_state.specs.Selecting.{no_ends, has_ends, end_at, ends_begun, mark_led, ends_led, stays_led}
@@ -82,7 +82,7 @@ abbrev pub adds_text : Control → List ℕ → Effect
 adds_text c text = record (appends c text) {
   changed = with_more c text;
   moves_to = if help_open c then None else (appends c text).moves_to;
-  redraw = if help_open c then Stays else append_redraw c text;
+  redraw = added_redraw c text;
 }
 
 -- nothing is selected any more

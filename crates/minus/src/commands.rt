@@ -2,17 +2,9 @@
 use crate::input::InputEvent;
 use crate::parts::Parts;
 use crate::stand_in::StandIns;
+use minus_state::change::AppendStyle;
 use minus_term::Event;
 use minus_text::LineNumbers;
-
-/// How a text was appended.
-#[derive(Clone, Copy, Debug, PartialEq, Eq)]
-pub enum AppendStyle {
-    /// The rows before the first of these numbers stayed, and the second is the number of rows then.
-    PartialUpdate((usize, usize)),
-    /// All rows were formed anew.
-    FullRedraw,
-}
 
 /// A command that asks for a drawing.
 #[derive(Clone, Copy, Debug, PartialEq, Eq)]

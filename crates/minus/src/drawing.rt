@@ -1,16 +1,12 @@
 //! How what comes of a command is drawn.
-ghost use Rattle.std.specs.Prelude.{◌≡◌, true, ◌+◌, ◌-◌, ◌++◌, ◌^◌, ◌<◌, length, map, take, drop, string_bytes, false, if◌then◌else◌, OnOk, IfOk};
-ghost use Rattle.std.specs.Option.{option_map, unwrap_or};
-ghost use Rattle.minus_state.specs.Control.{Control, first_changed};
-ghost use Rattle.minus_state.specs.ShownPrompt.{shown_in, prompt_row, prompt_row_of};
-ghost use Rattle.minus_state.specs.PromptRow.{seen_prompt};
+ghost use Rattle.std.specs.Prelude.{◌≡◌, ◌+◌, ◌++◌, ◌^◌, ◌<◌, OnOk};
+ghost use Rattle.minus_state.specs.Control.{Control};
+ghost use Rattle.minus_state.specs.ShownPrompt.{prompt_row};
 ghost use Rattle.minus_term.specs.Written.{written_all};
 ghost use Rattle.minus.specs.Drawings.{rows_after, append_from, ops_between, ops_of_step};
-ghost use Rattle.minus_state.specs.Page.{rows_newly};
-ghost use Rattle.minus_state.specs.States.{control_of, settings_of, ends_of, IsFormed};
+ghost use Rattle.minus_state.specs.States.{control_of, IsFormed};
 ghost use Rattle.minus_state.specs.NextTexts.{IsNext};
-ghost use Rattle.minus_state.specs.Changes.{IsChange, settings_after, left_set, ends_set, shown_by};
-ghost use Rattle.minus_state.specs.Showing.{row_text};
+ghost use Rattle.minus_state.specs.Changes.{IsChange, shown_by};
 ghost use Rattle.minus.specs.Table.{drawing_by};
 
 use crate::commands::Drawing;

@@ -1,21 +1,14 @@
 //! What comes of commands, formed beside the state.
-ghost use Rattle.std.specs.Prelude.{◌≡◌, ℕ, List, ◌+◌, ◌-◌, ◌==◌, ◌++◌, ◌<◌, ◌&&◌, nat_le, min, is_some, [], length, encode_utf8, string_bytes, false, if◌then◌else◌, OnOk, OnErr, IfOk, IfErr};
+ghost use Rattle.std.specs.Prelude.{◌≡◌, ℕ, List, string_bytes, OnOk, OnErr, IfOk, IfErr};
 ghost use Rattle.std.specs.Option.{option_map};
-ghost use Rattle.minus_state.specs.Control.{cleared, top, moved_to};
-ghost use Rattle.minus_state.specs.Selecting.{no_ends, has_ends, end_at, ends_begun, is_led, mark_led_to, mark_led, ends_led_to, ends_led, is_same_end};
-ghost use Rattle.minus.specs.Table.{appends, effect, answered, handed, moved_by, changed_by, IsPossible};
-ghost use Rattle.minus_state.specs.Redraws.{append_redraw, shift_redraw, whole_where, led_redraw};
-ghost use Rattle.minus_state.specs.Shifting.{width, may_shift, left_after};
+ghost use Rattle.minus_state.specs.Control.{cleared};
+ghost use Rattle.minus.specs.Table.{effect, answered, handed, moved_by, changed_by, IsPossible};
 ghost use Rattle.minus_term.specs.Refusals.{refusal_of};
-ghost use Rattle.minus_state.specs.States.{control_of, settings_of, ends_of, IsFormed};
+ghost use Rattle.minus_state.specs.States.{control_of, IsFormed};
 ghost use Rattle.minus.specs.Reads.{event_wanted, io_wanted, wanted_of, wanted_with};
-ghost use Rattle.minus_text.specs.Document.{rows_of, margin_in};
-ghost use Rattle.minus_state.specs.View.{prefix_in};
-ghost use Rattle.minus_state.specs.NextTexts.{next_document, IsNext};
-ghost use Rattle.minus_state.specs.Changes.{IsChange, settings_after, left_set, ends_set, help_set};
+ghost use Rattle.minus_state.specs.Changes.{IsChange};
 ghost use Rattle.minus.specs.Starts.{taken};
 ghost use Rattle.minus.specs.Unformed.{IsUnformed};
-ghost use Rattle.minus_state.specs.Sizes.{IsSize};
 
 use crate::commands::{CommandOf, IoCommand};
 use crate::input::InputEvent;
@@ -70,9 +63,7 @@ pub(crate) fn take_text<P: Parts>(
             let _ = state.screen.set_text(alloc, text, layout, None)?;
         }
         CommandOf::AppendData(text) => {
-            let _ = state
-                .screen
-                .push_screen_buf(alloc, text, state.line_numbers, state.cols, None)?;
+            let _ = state.append_str(alloc, text)?;
         }
         CommandOf::SetPrompt(_)
         | CommandOf::SendMessage(_)

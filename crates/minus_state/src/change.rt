@@ -1,10 +1,8 @@
 //! What a command leaves, formed beside the state.
 ghost use Rattle.minus_state.specs.Sizes.{IsSize};
 
-use crate::commands::{Drawing, Redraw};
-use crate::parts::Parts;
+use crate::selection::SelectionEnds;
 use crate::state::help::HelpSwitch;
-use minus_state::SelectionEnds;
 use minus_text::{Layout, PendingPush, Screen};
 use std::alloc::{AllocError, Global};
 
@@ -21,6 +19,15 @@ pub enum Redraw {
     Appended,
     /// The prompt row.
     PromptRow,
+}
+
+/// How a text was appended.
+#[derive(Clone, Copy, Debug, PartialEq, Eq)]
+pub enum AppendStyle {
+    /// The rows before the first of these numbers stayed, and the second is the number of rows then.
+    PartialUpdate((usize, usize)),
+    /// All rows were formed anew.
+    FullRedraw,
 }
 
 /// The text that there will be: as it is, another one, or as a push leaves it; or as it is, where another one is put aside while

@@ -2,6 +2,7 @@
 use crate::state::PagerState;
 use minus_term::Event;
 use minus_text::LineNumbers;
+use std::alloc::{AllocError, Global};
 
 /// What an event asks for.
 #[derive(Clone, Copy, Debug, PartialEq, Eq)]

@@ -14,7 +14,7 @@ pub mod state;
 pub mod view;
 pub mod visible;
 
-pub use change::{Change, NextText, Redraw, Setting};
+pub use change::{AppendStyle, Change, NextText, Redraw, Setting};
 pub use copied::extract_selection;
 pub use input::{InputClassifier, InputEvent};
 pub use prompt::{PromptRow, format_prompt, prompt_fills_its_row};

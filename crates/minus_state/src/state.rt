@@ -10,6 +10,8 @@ mod after;
 mod forming;
 pub mod help;
 mod selecting;
+mod settings;
+mod texts;
 
 use crate::change::{Change, NextText, Setting};
 use crate::selection::{Selection, SelectionEnds};
@@ -127,16 +129,16 @@ pub struct PagerState {
     pub message: Option<String>,
     /// The prefix that is typed; empty where there is none.
     pub prefix_num: String,
-    pub anchor: Option<Selection>,
-    pub prompt: String,
-    pub prompt_shown: bool,
-    pub follow: bool,
-    pub saved: Option<Saved>,
+    pub(crate) anchor: Option<Selection>,
+    pub(crate) prompt: String,
+    pub(crate) prompt_shown: bool,
+    pub(crate) follow: bool,
+    pub(crate) saved: Option<Saved>,
     pub ghost sized: { IsSize cols rows },
 }
 
 impl PagerState {
-    ghost use Rattle.std.specs.Prelude.{◌≡◌, ◌-◌, ◌<◌, [], None, string_bytes, false, if◌then◌else◌, OnOk, OnErr, IfOk, IfErr};
+    ghost use Rattle.std.specs.Prelude.{◌≡◌, [], None, string_bytes, false, if◌then◌else◌, OnOk, OnErr, IfOk, IfErr};
     ghost use Rattle.std.specs.Option.{option_map};
     ghost use Rattle.minus_text.specs.Searched.{searched};
     ghost use Rattle.minus_state.specs.Control.{document_of, cleared};

@@ -23,12 +23,11 @@ fn push_some<'a>(rows: &mut Vec<ShownRow<'a>>, row: Option<ShownRow<'a>>) -> Res
 }
 
 impl PagerState {
-    ghost use Rattle.std.specs.Prelude.{◌≡◌, true, ◌+◌, ◌-◌, ◌++◌, ◌^◌, ◌<◌, length, map, take, drop, string_bytes, false, if◌then◌else◌, OnOk, IfOk};
+    ghost use Rattle.std.specs.Prelude.{◌≡◌, true, ◌+◌, ◌^◌, ◌<◌, length, map, take, drop, string_bytes, IfOk};
     ghost use Rattle.std.specs.Option.{option_map, unwrap_or};
     ghost use Rattle.minus_state.specs.Control.{Control, first_changed};
     ghost use Rattle.minus_state.specs.ShownPrompt.{shown_in, prompt_row, prompt_row_of};
     ghost use Rattle.minus_state.specs.PromptRow.{seen_prompt};
-    ghost use Rattle.minus_term.specs.Written.{written_all};
     ghost use Rattle.minus_state.specs.Page.{rows_newly};
     ghost use Rattle.minus_state.specs.States.{control_of, settings_of, ends_of, IsFormed};
     ghost use Rattle.minus_state.specs.NextTexts.{IsNext};

@@ -1,8 +1,4 @@
 //! What changes of a state leave, formed beside it.
-ghost use Rattle.std.specs.Prelude.{◌≡◌};
-ghost use Rattle.minus_state.specs.Selecting.{is_same_end};
-ghost use Rattle.minus_state.specs.ShownPrompt.{has_newline};
-ghost use Rattle.minus_state.specs.Redraws.{whole_where};
 
 use crate::change::{Change, NextText, Redraw, Setting};
 use crate::state::{PagerState, formed};
@@ -11,14 +7,11 @@ use minus_text::{Layout, LineNumbers, prefix_columns};
 use std::alloc::{AllocError, Global};
 
 impl PagerState {
-    ghost use Rattle.std.specs.Prelude.{◌≡◌, ℕ, List, ◌+◌, ◌-◌, ◌==◌, ◌++◌, ◌<◌, ◌&&◌, nat_le, min, is_some, [], length, encode_utf8, string_bytes, false, if◌then◌else◌, OnOk, IfOk, IfErr};
-    ghost use Rattle.std.specs.Option.{option_map};
+    ghost use Rattle.std.specs.Prelude.{◌≡◌, ◌+◌, ◌-◌, ◌==◌, ◌++◌, nat_le, [], length, encode_utf8, string_bytes, if◌then◌else◌, IfOk, IfErr};
     ghost use Rattle.minus_state.specs.Control.{cleared, top, moved_to};
-    ghost use Rattle.minus_state.specs.Selecting.{no_ends, has_ends, end_at, ends_begun, is_led, mark_led_to, mark_led, ends_led_to, ends_led, is_same_end};
-    ghost use Rattle.minus_state.specs.Redraws.{append_redraw, shift_redraw, whole_where, led_redraw};
+    ghost use Rattle.minus_state.specs.Redraws.{append_redraw, shift_redraw};
     ghost use Rattle.minus_state.specs.Appending.{appended};
     ghost use Rattle.minus_state.specs.Shifting.{width, may_shift, left_after};
-    ghost use Rattle.minus_term.specs.Refusals.{refusal_of};
     ghost use Rattle.minus_state.specs.States.{control_of, settings_of, ends_of, IsFormed};
     ghost use Rattle.minus_text.specs.Document.{rows_of, margin_in};
     ghost use Rattle.minus_state.specs.View.{prefix_in};
@@ -226,7 +219,7 @@ impl PagerState {
     }
 
     // The columns that stand before the text of each row.
-    fn prefix(&self) -> usize
+    pub(crate) fn prefix(&self) -> usize
         ensures { result ≡ prefix_in self.now.screen.document }
     {
         let numbers = self.screen.layout().numbers.is_on();

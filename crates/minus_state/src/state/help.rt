@@ -14,23 +14,23 @@ const PROMPT: &str = "HELP -- Press q or Shift-m to return to pager";
 
 /// What is put aside while help is open.
 #[derive(Debug, Drop)]
-pub(crate) struct Saved {
-    pub(crate) text: String,
-    pub(crate) wrapping: bool,
-    pub(crate) numbers: LineNumbers,
-    pub(crate) upper_mark: usize,
-    pub(crate) left_mark: usize,
-    pub(crate) prompt: String,
-    pub(crate) follow: bool,
+pub struct Saved {
+    pub text: String,
+    pub wrapping: bool,
+    pub numbers: LineNumbers,
+    pub upper_mark: usize,
+    pub left_mark: usize,
+    pub prompt: String,
+    pub follow: bool,
 }
 
-// What is set beside the text as help is opened or left, and what is put aside then. No message is shown.
+/// What is set beside the text as help is opened or left, and what is put aside then. No message is shown.
 #[derive(Drop)]
-pub(crate) struct HelpSwitch {
-    pub(crate) prompt: String,
-    pub(crate) follow: bool,
-    pub(crate) left: usize,
-    pub(crate) saved: Option<Saved>,
+pub struct HelpSwitch {
+    pub prompt: String,
+    pub follow: bool,
+    pub left: usize,
+    pub saved: Option<Saved>,
 }
 
 // Puts another text in the place of the one that is put aside, if one is.
@@ -61,7 +61,8 @@ impl PagerState {
     ghost use Rattle.minus_state.specs.Help.{switched, help_open, put_aside, opened, closed, left_help, restored, turned, with_text};
     ghost use Rattle.minus_state.specs.Aside.{aside_in, aside_of};
     ghost use Rattle.minus_state.specs.States.{control_of, IsFormed};
-    ghost use Rattle.minus_state.specs.Redraws.{whole_where};
+    ghost use Rattle.minus_state.specs.Appending.{added};
+    ghost use Rattle.minus_state.specs.Redraws.{whole_where, added_redraw};
 
     /// Whether help is open.
     pub fn help_open(&self) -> bool
@@ -166,8 +167,8 @@ impl PagerState {
         Ok(change)
     }
 
-    // The state with help left where it is open.
-    pub(crate) fn left_help(&self, alloc: Global, clears: bool) -> Result<Change, MinusError>
+    /// The state with help left where it is open.
+    pub fn left_help(&self, alloc: Global, clears: bool) -> Result<Change, MinusError>
         requires { IsFormed self.now }
         ensures next { IfOk result (λ c. IsChange (control_of self.now) c (left_help (cleared clears (control_of self.now)) (control_of self.now).help)) }
         ensures redraw { IfOk result (λ c. c.redraw ≡ whole_where (help_open (control_of self.now))) }
@@ -179,8 +180,8 @@ impl PagerState {
         }
     }
 
-    // The state with help left where it is open, and else without the message.
-    pub(crate) fn restored(&self, alloc: Global, clears: bool) -> Result<Change, MinusError>
+    /// The state with help left where it is open, and else without the message.
+    pub fn restored(&self, alloc: Global, clears: bool) -> Result<Change, MinusError>
         requires { IsFormed self.now }
         ensures next { IfOk result (λ c. IsChange (control_of self.now) c (restored (cleared clears (control_of self.now)) (control_of self.now).help)) }
         ensures redraw { IfOk result (λ c. c.redraw ≡ whole_where (help_open (control_of self.now))) }
@@ -192,8 +193,8 @@ impl PagerState {
         }
     }
 
-    // The state with help left where it is open, and else opened with a text.
-    pub(crate) fn turned(
+    /// The state with help left where it is open, and else opened with a text.
+    pub fn turned(
         &self,
         alloc: Global,
         text: &str,
@@ -210,8 +211,8 @@ impl PagerState {
         }
     }
 
-    // The state with another text; while help is open, with another one put aside.
-    pub(crate) fn replaced(
+    /// The state with another text; while help is open, with another one put aside.
+    pub fn replaced(
         &self,
         alloc: Global,
         text: String,
@@ -228,16 +229,16 @@ impl PagerState {
         Ok(self.with_text(alloc, &text, clears)?)
     }
 
-    // The state with a text added to its text; while help is open, to the one put aside.
-    pub(crate) fn added(
+    /// The state with a text added to its text; while help is open, to the one put aside.
+    pub fn added(
         &self,
         alloc: Global,
         text: String,
         clears: bool,
     ) -> Result<Change, MinusError>
         requires { IsFormed self.now }
-        ensures next { IfOk result (λ c. IsChange (control_of self.now) c (moved_by (adds_text (cleared clears (control_of self.now)) (string_bytes text)))) }
-        ensures redraw { IfOk result (λ c. c.redraw ≡ (adds_text (control_of self.now) (string_bytes text)).redraw) }
+        ensures next { IfOk result (λ c. IsChange (control_of self.now) c (added (cleared clears (control_of self.now)) (string_bytes text))) }
+        ensures redraw { IfOk result (λ c. c.redraw ≡ added_redraw (control_of self.now) (string_bytes text)) }
         ensures memory { IfErr result (λ e. e ≡ MinusError.Memory) }
     {
         if self.help_open() {
@@ -246,8 +247,8 @@ impl PagerState {
         Ok(self.appended(alloc, text, clears)?)
     }
 
-    // The state with another prompt; while help is open, with that of help.
-    pub(crate) fn prompted(&self, prompt: String, clears: bool) -> Change
+    /// The state with another prompt; while help is open, with that of help.
+    pub fn prompted(&self, prompt: String, clears: bool) -> Change
         requires { IsFormed self.now }
         ensures next { IsChange (control_of self.now) result (record (cleared clears (control_of self.now)) {
           settings = record (cleared clears (control_of self.now)).settings { prompt = if help_open (control_of self.now) then (control_of self.now).settings.prompt else string_bytes prompt };

@@ -30,19 +30,12 @@ fn is_same_end(one: Option<Selection>, other: Option<Selection>) -> bool
 }
 
 impl PagerState {
-    ghost use Rattle.std.specs.Prelude.{◌≡◌, ℕ, List, ◌+◌, ◌-◌, ◌==◌, ◌++◌, ◌<◌, ◌&&◌, nat_le, min, is_some, [], length, encode_utf8, string_bytes, false, if◌then◌else◌, OnOk, IfOk, IfErr};
-    ghost use Rattle.std.specs.Option.{option_map};
-    ghost use Rattle.minus_state.specs.Control.{cleared, top, moved_to};
+    ghost use Rattle.std.specs.Prelude.{◌≡◌, ◌-◌, ◌==◌, ◌<◌, ◌&&◌, min, is_some};
+    ghost use Rattle.minus_state.specs.Control.{cleared};
     ghost use Rattle.minus_state.specs.Selecting.{no_ends, has_ends, end_at, ends_begun, is_led, mark_led_to, mark_led, ends_led_to, ends_led, is_same_end};
-    ghost use Rattle.minus_state.specs.Redraws.{append_redraw, shift_redraw, whole_where, led_redraw};
-    ghost use Rattle.minus_state.specs.Shifting.{width, may_shift, left_after};
-    ghost use Rattle.minus_term.specs.Refusals.{refusal_of};
-    ghost use Rattle.minus_state.specs.States.{control_of, settings_of, ends_of, IsFormed};
-    ghost use Rattle.minus_text.specs.Document.{rows_of, margin_in};
-    ghost use Rattle.minus_state.specs.View.{prefix_in};
-    ghost use Rattle.minus_state.specs.NextTexts.{next_document, IsNext};
-    ghost use Rattle.minus_state.specs.Changes.{IsChange, settings_after, left_set, ends_set, help_set};
-    ghost use Rattle.minus_state.specs.Sizes.{IsSize};
+    ghost use Rattle.minus_state.specs.Redraws.{whole_where, led_redraw};
+    ghost use Rattle.minus_state.specs.States.{control_of, ends_of, IsFormed};
+    ghost use Rattle.minus_state.specs.Changes.{IsChange};
 
     // The end of a selection at a place of the page that begins at a mark.
     fn end_at(&self, mark: usize, x: u16, y: u16) -> Option<Selection>
