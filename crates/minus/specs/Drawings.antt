@@ -1,7 +1,8 @@
 -- How the page is drawn.
 use Rattle.std.specs.Prelude.{ℕ, ◌-◌, ◌++◌, nat_le, min, List, [], length, take, drop, bytes_eq, Bool, true, false, if◌then◌else◌}
 use Rattle.minus_term.specs.Operations.{Op}
-use Rattle.minus_term.specs.FullRedraw.{full_ops, prompt_ops}
+use Rattle.std.specs.List.{flat_map}
+use Rattle.minus_term.specs.FullRedraw.{full_ops, prompt_ops, row_ops}
 use Rattle.minus_term.specs.Scroll.{scroll_ops}
 use Rattle.minus_term.specs.Append.{append_ops}
 use Rattle.minus.specs.declared.commands.Drawing.{Drawing}
@@ -15,6 +16,10 @@ use Rattle.minus_state.specs.ShownPrompt.{prompt_row}
 -- the list that draws a page whole
 abbrev pub whole_page : Control → List Op
 whole_page c = full_ops c.rows (shown c) (prompt_row c)
+
+-- the list that puts the rows of text of a page, from where the cursor is
+abbrev pub page_rows : Control → List Op
+page_rows c = flat_map row_ops (shown c)
 
 -- the list that draws the rows of text of a page from one of them on, where so many were shown
 abbrev pub rows_after : ℕ → ℕ → List (List ℕ) → List Op

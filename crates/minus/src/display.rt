@@ -24,7 +24,11 @@ fn write_row(alloc: Global, out: &mut Vec<u8>, row: &ShownRow<'_>) -> Result<(),
 }
 
 // Adds rows of text.
-fn write_rows(alloc: Global, out: &mut Vec<u8>, shown: &[ShownRow<'_>]) -> Result<(), AllocError>
+pub(crate) fn write_rows(
+    alloc: Global,
+    out: &mut Vec<u8>,
+    shown: &[ShownRow<'_>],
+) -> Result<(), AllocError>
     ensures { OnOk result (out.new.items ≡ out.old.items ++ written_all (flat_map row_ops (map row_text shown.now))) }
 {
     for row in shown {

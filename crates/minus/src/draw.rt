@@ -1,13 +1,14 @@
 //! Drawings of a state on a sink.
-ghost use Rattle.std.specs.Prelude.{◌≡◌, OnOk, OnErr, IfErr};
+ghost use Rattle.std.specs.Prelude.{◌≡◌, OnOk, OnErr, IfOk, IfErr};
+ghost use Rattle.std.specs.List.{flat_map};
 ghost use Rattle.std.specs.Io.KnownBytes.{Appends};
 ghost use Rattle.minus_term.specs.Counts.{Stays};
-ghost use Rattle.minus_term.specs.FullRedraw.{prompt_ops};
+ghost use Rattle.minus_term.specs.FullRedraw.{prompt_ops, row_ops};
 ghost use Rattle.minus_term.specs.Writes.{WriteRefuses};
 ghost use Rattle.minus_term.specs.Written.{written_all};
 ghost use Rattle.minus_state.specs.Control.{Control, clamp, moved_to};
-ghost use Rattle.minus_state.specs.Changes.{IsChange};
-ghost use Rattle.minus.specs.Drawings.{whole_page, append_from, scroll_to, ops_between};
+ghost use Rattle.minus_state.specs.Changes.{IsChange, shown_by};
+ghost use Rattle.minus.specs.Drawings.{whole_page, page_rows, append_from, scroll_to, ops_between};
 ghost use Rattle.minus_state.specs.NextTexts.{IsNext};
 ghost use Rattle.minus_state.specs.States.{IsFormed, control_of};
 
@@ -17,7 +18,7 @@ use crate::drawing::{draw_after, draw_rows_from, drawing_by};
 use crate::state::PagerState;
 use minus_state::change::Change;
 use minus_term::{MinusError, OutputSink, draw_bytes};
-use std::alloc::Global;
+use std::alloc::{AllocError, Global};
 
 /// Draws the prompt row in the last of so many rows. An empty one is not put.
 ///
@@ -149,5 +150,45 @@ pub fn draw_append_text<W: OutputSink>(
     let mut bytes = Vec::new(alloc);
     draw_rows_from(state, alloc, &mut bytes, first, old_count)?;
     draw_bytes(out, &bytes)?;
+    Ok(())
+}
+
+// The bytes that put the rows of text on the page that a change of a state leads to.
+fn written_page(alloc: Global, state: &PagerState, change: &Change) -> Result<Vec<u8>, AllocError>
+    requires { IsNext state.now.screen change.now.text }
+    ensures { IfOk result (λ bytes. bytes.items ≡ written_all (flat_map row_ops (shown_by state.now change.now))) }
+{
+    let shown = state.shown_after(alloc, change, 0)?;
+    let mut bytes = Vec::new(alloc);
+    display::write_rows(alloc, &mut bytes, &shown)?;
+    Ok(bytes)
+}
+
+/// Writes the rows of text of a state's page, each between a carriage return and a newline. The mark of the state is
+/// clamped first: at most the one at which the last page is full.
+///
+/// # Errors
+///
+/// [`MinusError::Memory`] where there is none for the bytes: nothing was written then. [`MinusError::Draw`] where the
+/// sink refused a write or the flush: a beginning of the bytes was written. The state stays as it was.
+pub fn write_from_pagerstate<W: OutputSink>(
+    alloc: Global,
+    out: &mut W,
+    state: &mut PagerState,
+) -> Result<(), MinusError>
+    requires { IsFormed state.old }
+    ensures control { OnOk result (control_of state.new ≡ clamp (control_of state.old)) }
+    ensures formed { IsFormed state.new }
+    ensures ok { OnOk result (Appends (W.contents out.old) (W.contents out.new) (written_all (page_rows (clamp (control_of state.old))))) }
+    ensures stays { OnOk result (Stays (W.refused out.old) (W.refused out.new)) }
+    ensures err { IfErr result (λ e. WriteRefuses W.contents W.refused e out.old out.new (written_all (page_rows (clamp (control_of state.old))))) }
+    ensures kept { OnErr result (state.new ≡ state.old) }
+{
+    let change = state.moved_to(state.upper_mark);
+    let bytes = written_page(alloc, state, &change)?;
+    if let Err(cause) = draw_bytes(out, &bytes) {
+        return Err(MinusError::Draw(cause));
+    }
+    state.upper_mark = change.mark;
     Ok(())
 }

@@ -35,6 +35,7 @@ pub use commands::IoCommand;
 pub use draw::draw_append_text;
 pub use draw::draw_for_change;
 pub use draw::draw_full;
+pub use draw::write_from_pagerstate;
 pub use draw::write_prompt;
 pub use error::CleanupError;
 pub use error::DescriptionError;

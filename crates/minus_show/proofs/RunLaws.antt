@@ -8,17 +8,17 @@ use Rattle.minus_term.specs.declared.error.MinusError.TheVariants.{Memory, Newli
 use Rattle.minus_term.specs.Refusals.{number_of, refusal_of}
 use Rattle.minus.specs.declared.stand_in.StandIn.{StandIn}
 use Rattle.minus.specs.declared.session.Answer.{Answer}
-use Rattle.minus.specs.declared.state.RunMode.TheVariants.{Dynamic, Uninitialized}
+use Rattle.minus_state.specs.declared.state.RunMode.TheVariants.{Dynamic, Uninitialized}
 use Rattle.minus.specs.declared.status.Status.{Status}
 use Rattle.minus.specs.declared.status.Status.TheVariants as status
 use Rattle.minus.specs.Answers.{IsAnswer, ends_run}
 use Rattle.std.specs.List.{last_or}
 use Rattle.minus.specs.Classified.{stand_in_says}
 use Rattle.minus.specs.Classifying.{Classifies}
-use Rattle.minus.specs.Control.{Control}
+use Rattle.minus_state.specs.Control.{Control}
 use Rattle.minus.specs.Reads.{Told}
 use Rattle.minus.specs.Runs.{Stops, StopsSo, StopsAfter, IsRun}
-use Rattle.minus.specs.Sizes.{IsSize}
+use Rattle.minus_state.specs.Sizes.{IsSize}
 use Rattle.minus.specs.Starts.{IsStarted, IsStartRefused}
 use Rattle.minus.specs.Seen.{Seen}
 use Rattle.minus.specs.Steps.{IsStep, Steps, none, more, Refuses, status_after, cleanup_after}

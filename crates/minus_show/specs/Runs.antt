@@ -6,13 +6,13 @@ use Rattle.std.specs.Io.KnownBytes.{Appends, Consumes, IsAtEnd}
 use Rattle.minus_term.specs.Counts.{AppendsFront}
 use Rattle.minus.specs.declared.stand_in.StandIn.{StandIn}
 use Rattle.minus.specs.declared.session.Answer.{Answer}
-use Rattle.minus.specs.declared.state.RunMode.TheVariants.{Dynamic}
+use Rattle.minus_state.specs.declared.state.RunMode.TheVariants.{Dynamic}
 use Rattle.minus.specs.Classified.{stand_in_says}
-use Rattle.minus.specs.Control.{Control}
-use Rattle.minus.specs.Page.{page}
+use Rattle.minus_state.specs.Control.{Control}
+use Rattle.minus_state.specs.Page.{page}
 use Rattle.minus.specs.Reads.{Told}
 use Rattle.minus.specs.Runs.{StopsAfter}
-use Rattle.minus.specs.Sizes.{IsSize}
+use Rattle.minus_state.specs.Sizes.{IsSize}
 use Rattle.minus.specs.Starts.{IsStarted}
 use Rattle.minus.specs.Seen.{Seen}
 use Rattle.minus.specs.Steps.{Asks, Steps, cleanup_after}

@@ -50,6 +50,11 @@ abbrev pub left_help : Control → Option Saved → Control
 left_help c None = c
 left_help c (Some saved) = closed c saved
 
+-- help is opened with a text where it is not open
+abbrev pub shown_help : Control → Option Saved → List ℕ → Control
+shown_help c None text = opened c text
+shown_help c (Some saved) text = c
+
 -- help is left where it is open, and else the message goes
 abbrev pub restored : Control → Option Saved → Control
 restored c None = record c { settings = record c.settings { message = None } }

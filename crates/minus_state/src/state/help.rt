@@ -55,10 +55,10 @@ pub(crate) fn add_aside(saved: &mut Option<Saved>, text: &str) -> Result<(), Min
 }
 
 impl PagerState {
-    ghost use Rattle.std.specs.Prelude.{◌≡◌, string_bytes, not, if◌then◌else◌, IfOk, IfErr};
+    ghost use Rattle.std.specs.Prelude.{◌≡◌, string_bytes, not, if◌then◌else◌, OnOk, OnErr, IfOk, IfErr};
     ghost use Rattle.minus_state.specs.Changes.{IsChange};
     ghost use Rattle.minus_state.specs.Control.{cleared};
-    ghost use Rattle.minus_state.specs.Help.{switched, help_open, put_aside, opened, closed, left_help, restored, turned, with_text};
+    ghost use Rattle.minus_state.specs.Help.{switched, help_open, put_aside, opened, closed, shown_help, left_help, restored, turned, with_text};
     ghost use Rattle.minus_state.specs.Aside.{aside_in, aside_of};
     ghost use Rattle.minus_state.specs.States.{control_of, IsFormed};
     ghost use Rattle.minus_state.specs.Appending.{added};
@@ -194,12 +194,7 @@ impl PagerState {
     }
 
     /// The state with help left where it is open, and else opened with a text.
-    pub fn turned(
-        &self,
-        alloc: Global,
-        text: &str,
-        clears: bool,
-    ) -> Result<Change, MinusError>
+    pub fn turned(&self, alloc: Global, text: &str, clears: bool) -> Result<Change, MinusError>
         requires { IsFormed self.now }
         ensures next { IfOk result (λ c. IsChange (control_of self.now) c (turned (cleared clears (control_of self.now)) (control_of self.now).help text.now)) }
         ensures redraw { IfOk result (λ c. c.redraw ≡ Redraw.Whole) }
@@ -212,12 +207,7 @@ impl PagerState {
     }
 
     /// The state with another text; while help is open, with another one put aside.
-    pub fn replaced(
-        &self,
-        alloc: Global,
-        text: String,
-        clears: bool,
-    ) -> Result<Change, MinusError>
+    pub fn replaced(&self, alloc: Global, text: String, clears: bool) -> Result<Change, MinusError>
         requires { IsFormed self.now }
         ensures next { IfOk result (λ c. IsChange (control_of self.now) c (with_text (cleared clears (control_of self.now)) (string_bytes text))) }
         ensures redraw { IfOk result (λ c. c.redraw ≡ whole_where (not (help_open (control_of self.now)))) }
@@ -230,12 +220,7 @@ impl PagerState {
     }
 
     /// The state with a text added to its text; while help is open, to the one put aside.
-    pub fn added(
-        &self,
-        alloc: Global,
-        text: String,
-        clears: bool,
-    ) -> Result<Change, MinusError>
+    pub fn added(&self, alloc: Global, text: String, clears: bool) -> Result<Change, MinusError>
         requires { IsFormed self.now }
         ensures next { IfOk result (λ c. IsChange (control_of self.now) c (added (cleared clears (control_of self.now)) (string_bytes text))) }
         ensures redraw { IfOk result (λ c. c.redraw ≡ added_redraw (control_of self.now) (string_bytes text)) }
@@ -259,5 +244,43 @@ impl PagerState {
             return self.redrawn(Redraw::Stays, clears);
         }
         self.set(Setting::Prompt(prompt), Redraw::Stays, clears)
+    }
+
+    /// Opens help on a text, at its first row; what was on show is put aside. Where help is open, all stays as it is.
+    ///
+    /// # Errors
+    ///
+    /// [`MinusError::Memory`] where there is no memory, and nothing has changed.
+    pub fn show_help(&mut self, alloc: Global, text: &str) -> Result<(), MinusError>
+        requires { IsFormed self.old }
+        ensures control { OnOk result (control_of self.new ≡ shown_help (control_of self.old) (control_of self.old).help text.now) }
+        ensures formed { IsFormed self.new }
+        ensures err { OnErr result (control_of self.new ≡ control_of self.old) }
+        ensures memory { IfErr result (λ e. e ≡ MinusError.Memory) }
+    {
+        if self.help_open() {
+            return Ok(());
+        }
+        let change = self.helped(alloc, text, false)?;
+        self.place(alloc, change)?;
+        Ok(())
+    }
+
+    /// Leaves help: what was put aside returns, the mark too, and the message goes. Where help is not open, all stays as it
+    /// is.
+    ///
+    /// # Errors
+    ///
+    /// [`MinusError::Memory`] where there is no memory, and nothing has changed.
+    pub fn exit_help(&mut self, alloc: Global) -> Result<(), MinusError>
+        requires { IsFormed self.old }
+        ensures control { OnOk result (control_of self.new ≡ left_help (control_of self.old) (control_of self.old).help) }
+        ensures formed { IsFormed self.new }
+        ensures err { OnErr result (control_of self.new ≡ control_of self.old) }
+        ensures memory { IfErr result (λ e. e ≡ MinusError.Memory) }
+    {
+        let change = self.left_help(alloc, false)?;
+        self.place(alloc, change)?;
+        Ok(())
     }
 }
