@@ -3,8 +3,12 @@ use crate::sessions::{Asked, PROMPT_ROW, draws, shows};
 use minus::{AppendStyle, InputEvent, IoCommand, LineNumbers};
 use std::alloc::Global;
 
-// The prompt row of 12 columns.
-const SHORT_PROMPT: &str = "\x1b[2;40;37mminus       \x1b[0m";
+// The prompt rows of 3, 4 and 12 columns.
+const THREE: &str = "\x1b[2;40;37mmin\x1b[0m";
+
+const FOUR: &str = "\x1b[2;40;37mminu\x1b[0m";
+
+const TWELVE: &str = "\x1b[2;40;37mminus       \x1b[0m";
 
 // A line of ten columns, with its number and not wrapped.
 const TEXT: Asked<'static> = Asked::Push("abcdefghij");
@@ -20,13 +24,13 @@ fn left(mark: usize) -> Asked<'static> {
 // Whether that line shows this row on 12 columns after a move of the left mark, and another one.
 fn shows_numbered(alloc: Global, first: usize, second: usize, row: &str) -> bool {
     let asked = [TEXT, NUMBERS, UNWRAPPED, left(first), left(second)];
-    shows(alloc, 12, 3, &asked, &[row, "", SHORT_PROMPT])
+    shows(alloc, 12, 3, &asked, &[row, "", TWELVE])
 }
 
 #[test]
 fn a_left_mark_cuts_the_text_behind_its_number(rt: HostRuntime) {
     let asked = [TEXT, NUMBERS, UNWRAPPED, left(2)];
-    let rows = ["     \x1b[1m1.\x1b[0m cdef", "", SHORT_PROMPT];
+    let rows = ["     \x1b[1m1.\x1b[0m cdef", "", TWELVE];
     assert!(rt; shows(rt.alloc(), 12, 3, &asked, &rows));
 }
 
@@ -45,7 +49,7 @@ fn a_left_mark_goes_back(rt: HostRuntime) {
 fn a_left_mark_is_drawn_in_full(rt: HostRuntime) {
     let asked = [TEXT, NUMBERS, UNWRAPPED, left(2)];
     let row = "\x1b[1;1H\x1b[2J\r     \x1b[1m1.\x1b[0m cdef\n";
-    let texts = [row, "\x1b[4;1H\r\x1b[2K", SHORT_PROMPT];
+    let texts = [row, "\x1b[4;1H\r\x1b[2K", TWELVE];
     assert!(rt; draws(rt.alloc(), 12, 3, &asked, &texts));
 }
 
@@ -70,42 +74,43 @@ fn a_left_mark_stays_with_another_size_and_text(rt: HostRuntime) {
     assert!(rt; shows(rt.alloc(), 4, 3, &asked, &rows));
 }
 
-// Whether a line that is not wrapped shows this row on four columns after a move of the left mark.
-fn shows_wide(alloc: Global, mark: usize, row: &str) -> bool {
-    let asked = [UNWRAPPED, Asked::Push("日本語abc"), left(mark)];
-    shows(alloc, 4, 2, &asked, &[row, "\x1b[2;40;37mminu\x1b[0m"])
+// Whether a line that is not wrapped shows this row in so many columns after a move of the left mark.
+fn shows_scrolled(alloc: Global, cols: usize, text: &str, mark: usize, page: &[&str]) -> bool {
+    shows(
+        alloc,
+        cols,
+        2,
+        &[UNWRAPPED, Asked::Push(text), left(mark)],
+        page,
+    )
 }
 
 #[test]
 fn wide_characters_are_scrolled_by_columns(rt: HostRuntime) {
-    assert!(rt; shows_wide(rt.alloc(), 0, "日本"));
-    assert!(rt; shows_wide(rt.alloc(), 1, " 本 "));
-    assert!(rt; shows_wide(rt.alloc(), 2, "本語"));
-    assert!(rt; shows_wide(rt.alloc(), 5, " abc"));
+    let text = "日本語abc";
+    assert!(rt; shows_scrolled(rt.alloc(), 4, text, 0, &["日本", FOUR]));
+    assert!(rt; shows_scrolled(rt.alloc(), 4, text, 1, &[" 本 ", FOUR]));
+    assert!(rt; shows_scrolled(rt.alloc(), 4, text, 2, &["本語", FOUR]));
+    assert!(rt; shows_scrolled(rt.alloc(), 4, text, 5, &[" abc", FOUR]));
 }
 
 #[test]
 fn a_left_mark_stays_where_the_columns_of_wide_characters_end(rt: HostRuntime) {
     let asked = [UNWRAPPED, Asked::Push("日本語abc"), left(5), left(6)];
-    let rows = [" abc", "\x1b[2;40;37mminu\x1b[0m"];
-    assert!(rt; shows(rt.alloc(), 4, 2, &asked, &rows));
+    assert!(rt; shows(rt.alloc(), 4, 2, &asked, &[" abc", FOUR]));
 }
 
 #[test]
 fn escape_sequences_stay_in_a_scrolled_row(rt: HostRuntime) {
-    let asked = [UNWRAPPED, Asked::Push("\x1b[31mred\x1b[0m"), left(1)];
     let rows = ["\x1b[31med\x1b[0m", "\x1b[2;40;37mmi\x1b[0m"];
-    assert!(rt; shows(rt.alloc(), 2, 2, &asked, &rows));
+    assert!(rt; shows_scrolled(rt.alloc(), 2, "\x1b[31mred\x1b[0m", 1, &rows));
 }
 
 #[test]
 fn a_line_that_fits_its_columns_is_not_scrolled(rt: HostRuntime) {
-    // the sign takes three bytes and one column
-    let rows = ["a▲b", "\x1b[2;40;37mmin\x1b[0m"];
-    let asked = [UNWRAPPED, Asked::Push("a▲b"), left(0)];
-    assert!(rt; shows(rt.alloc(), 3, 2, &asked, &rows));
-    let asked = [UNWRAPPED, Asked::Push("a▲b"), left(1)];
-    assert!(rt; shows(rt.alloc(), 3, 2, &asked, &rows));
+    // the triangle takes three bytes and one column
+    assert!(rt; shows_scrolled(rt.alloc(), 3, "a▲b", 0, &["a▲b", THREE]));
+    assert!(rt; shows_scrolled(rt.alloc(), 3, "a▲b", 1, &["a▲b", THREE]));
 }
 
 #[test]
@@ -161,7 +166,7 @@ fn a_tenth_line_with_numbers_is_drawn_in_full(rt: HostRuntime) {
 #[test]
 fn lines_are_one_row_each_where_they_are_not_wrapped(rt: HostRuntime) {
     let asked = [Asked::Push("aaaa bbbb\ncccc"), UNWRAPPED];
-    let rows = ["aaaa", "cccc", "", "\x1b[2;40;37mminu\x1b[0m"];
+    let rows = ["aaaa", "cccc", "", FOUR];
     assert!(rt; shows(rt.alloc(), 4, 4, &asked, &rows));
 }
 
@@ -172,7 +177,7 @@ fn lines_are_wrapped_again(rt: HostRuntime) {
         UNWRAPPED,
         Asked::Does(InputEvent::HorizontalScroll(true)),
     ];
-    let rows = ["aaaa", "bbbb", "cccc", "\x1b[2;40;37mminu\x1b[0m"];
+    let rows = ["aaaa", "bbbb", "cccc", FOUR];
     assert!(rt; shows(rt.alloc(), 4, 4, &asked, &rows));
 }
 
@@ -186,7 +191,8 @@ fn a_scroll_of_cropped_lines_draws_the_rows_that_come(rt: HostRuntime) {
     ];
     let texts = [
         "\x1b[1S\x1b[2;1H\x1b[2K\rlmno\n",
-        "\x1b[4;1H\r\x1b[2K\x1b[2;40;37mminu\x1b[0m",
+        "\x1b[4;1H\r\x1b[2K",
+        FOUR,
     ];
     assert!(rt; draws(rt.alloc(), 4, 3, &asked, &texts));
 }

@@ -75,17 +75,22 @@ fn kind_of(refusal: &MinusError) -> Option<ErrorKind> {
     }
 }
 
-// Whether a session refuses what is asked of it by the sink's own error.
+// Whether a run was refused by the sink's own error.
+fn is_broken(ran: &Ran) -> bool {
+    match &ran.stopped {
+        Some(refusal) => kind_of(refusal) == Some(ErrorKind::BrokenPipe),
+        None => false,
+    }
+}
+
+// Whether a session refuses what is asked of it by that.
 fn hands_on<S: OutputSink + Drop>(
     alloc: Global,
     session: &mut Session<S>,
     asked: Asked<'_>,
 ) -> bool {
     match run(alloc, session, &[asked]) {
-        Some(ran) => match &ran.stopped {
-            Some(refusal) => kind_of(refusal) == Some(ErrorKind::BrokenPipe),
-            None => false,
-        },
+        Some(ran) => is_broken(&ran),
         None => false,
     }
 }

@@ -23,27 +23,21 @@ fn wait_in(pager: &mut Pager) -> bool {
         && write!(pager, "o\n{number}").is_ok()
 }
 
-// A pager in which texts wait.
-fn waiting(alloc: Global) -> Option<Pager> {
-    let mut pager = Pager::new(alloc);
-    if wait_in(&mut pager) {
-        Some(pager)
-    } else {
-        None
-    }
-}
-
-// Whether a static session of a pager in which texts wait writes these texts.
-fn writes_what_waits(alloc: Global, texts: &[&str]) -> bool {
-    let Some(pager) = waiting(alloc) else {
-        return false;
-    };
-    let Ok(session) = init_core(pager, RunMode::Static, terminal(alloc), 20, 5) else {
-        return false;
-    };
+// Whether a session is static, and writes these texts from its start to its end.
+fn is_static(session: Session<Terminal>, texts: &[&str]) -> bool {
     let is_static = session.mode() == RunMode::Static;
     let (sink, _) = session.finish();
     is_static && are_bytes(&sink.inner, texts)
+}
+
+// Whether one does of a pager in which texts wait.
+fn writes_what_waits(alloc: Global, texts: &[&str]) -> bool {
+    let mut pager = Pager::new(alloc);
+    let is_waited_in = wait_in(&mut pager);
+    match init_core(pager, RunMode::Static, terminal(alloc), 20, 5) {
+        Ok(session) => is_static(session, texts) && is_waited_in,
+        Err(_) => false,
+    }
 }
 
 #[test]
@@ -54,7 +48,7 @@ fn the_text_of_a_pager_is_on_the_first_page(rt: HostRuntime) {
 }
 
 // Whether a session is dynamic and shows these rows.
-fn is_dynamic(session: &Session<Terminal>, rows: &[&str]) -> bool {
+fn is_dynamic<S: OutputSink + Drop>(session: &Session<S>, rows: &[&str]) -> bool {
     session.mode() == RunMode::Dynamic && has_page(session, rows)
 }
 
@@ -99,14 +93,13 @@ fn came_back(refused: &StartError<Terminal>, number: u8) -> bool {
     refused.sink.inner.is_empty() && refused.pager.is_some() && refused.cause.number() == number
 }
 
-// Whether a start in a mode and a size is refused so.
+// Whether a start in a mode and a size, of a pager in which texts wait, is refused so.
 fn is_early(alloc: Global, mode: RunMode, cols: usize, rows: usize, number: u8) -> bool {
-    let Some(pager) = waiting(alloc) else {
-        return false;
-    };
+    let mut pager = Pager::new(alloc);
+    let is_waited_in = wait_in(&mut pager);
     match init_core(pager, mode, terminal(alloc), cols, rows) {
         Ok(_) => false,
-        Err(refused) => came_back(&refused, number),
+        Err(refused) => came_back(&refused, number) && is_waited_in,
     }
 }
 
@@ -136,11 +129,10 @@ fn starts(alloc: Global, pager: Pager, rows: &[&str]) -> bool {
 
 // Whether one does of a pager in which texts wait, that came back.
 fn starts_again(alloc: Global, rows: &[&str]) -> bool {
-    let Some(pager) = waiting(alloc) else {
-        return false;
-    };
+    let mut pager = Pager::new(alloc);
+    let is_waited_in = wait_in(&mut pager);
     match handed_back(alloc, pager) {
-        Some(pager) => starts(alloc, pager, rows),
+        Some(pager) => starts(alloc, pager, rows) && is_waited_in,
         None => false,
     }
 }
