@@ -39,12 +39,12 @@ fn leads_to(session: &mut Moving, input: InputOf<Own>, mark: usize) -> bool {
     session.step(input).is_ok() && session.state().upper_mark == mark
 }
 
-// Whether an event moves to the second row, and after another classifier was set, the next one to the fifth.
+// Whether an event moves to row 2, another classifier moves nothing when it is set, and the next event moves to row 5.
 fn exchanges(session: &mut Moving) -> bool {
     let other = CommandOf::SetInputClassifier(ToRow(5));
-    let is_second = leads_to(session, InputOf::Event(Event::FocusGained), 2);
-    let is_second_still = leads_to(session, InputOf::Command(other), 2);
-    is_second && is_second_still && leads_to(session, InputOf::Event(Event::FocusGained), 5)
+    let moves = leads_to(session, InputOf::Event(Event::FocusGained), 2);
+    let stays = leads_to(session, InputOf::Command(other), 2);
+    moves && stays && leads_to(session, InputOf::Event(Event::FocusGained), 5)
 }
 
 // Whether they do in a session of ten lines.

@@ -15,7 +15,7 @@ const SIXTH_ROW: &str = "\x1b[6;1H\r\x1b[2K";
 type Terminal = WithTty<Vec<u8>>;
 
 // Has texts wait in a pager, one of them formatted.
-fn wait_in(pager: &mut Pager) -> bool {
+fn fill(pager: &mut Pager) -> bool {
     let number = 2;
     pager.push_str("lost").is_ok()
         && pager.set_text("one\n").is_ok()
@@ -33,9 +33,9 @@ fn is_static(session: Session<Terminal>, texts: &[&str]) -> bool {
 // Whether one does of a pager in which texts wait.
 fn writes_what_waits(alloc: Global, texts: &[&str]) -> bool {
     let mut pager = Pager::new(alloc);
-    let is_waited_in = wait_in(&mut pager);
+    let is_filled = fill(&mut pager);
     match init_core(pager, RunMode::Static, terminal(alloc), 20, 5) {
-        Ok(session) => is_static(session, texts) && is_waited_in,
+        Ok(session) => is_static(session, texts) && is_filled,
         Err(_) => false,
     }
 }
@@ -96,10 +96,10 @@ fn came_back(refused: &StartError<Terminal>, number: u8) -> bool {
 // Whether a start in a mode and a size, of a pager in which texts wait, is refused so.
 fn is_early(alloc: Global, mode: RunMode, cols: usize, rows: usize, number: u8) -> bool {
     let mut pager = Pager::new(alloc);
-    let is_waited_in = wait_in(&mut pager);
+    let is_filled = fill(&mut pager);
     match init_core(pager, mode, terminal(alloc), cols, rows) {
         Ok(_) => false,
-        Err(refused) => came_back(&refused, number) && is_waited_in,
+        Err(refused) => came_back(&refused, number) && is_filled,
     }
 }
 
@@ -127,12 +127,12 @@ fn starts(alloc: Global, pager: Pager, rows: &[&str]) -> bool {
     }
 }
 
-// Whether one does of a pager in which texts wait, that came back.
+// Whether one does whose start was refused before, with texts waiting in it.
 fn starts_again(alloc: Global, rows: &[&str]) -> bool {
     let mut pager = Pager::new(alloc);
-    let is_waited_in = wait_in(&mut pager);
+    let is_filled = fill(&mut pager);
     match handed_back(alloc, pager) {
-        Some(pager) => starts(alloc, pager, rows) && is_waited_in,
+        Some(pager) => starts(alloc, pager, rows) && is_filled,
         None => false,
     }
 }
