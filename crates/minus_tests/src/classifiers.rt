@@ -1,11 +1,10 @@
 //! Classifiers of one's own.
-use crate::sessions::terminal;
+use crate::sessions::{TEN_LINES, terminal};
 use minus::{
     CommandOf, Core, Event, InputClassifier, InputEvent, InputOf, Kinds, PagerOf, PagerState,
     RunMode, WithTty, init_core_with,
 };
 use std::alloc::{AllocError, Global};
-use std::test::Fail;
 
 // A classifier that asks at each event for a move to one row.
 #[derive(Drop)]
@@ -26,29 +25,42 @@ impl InputClassifier for ToRow {
 
 type Own = Kinds<ToRow>;
 
-// A session of ten lines on four rows, whose events move to this row.
-fn moving_to(alloc: Global, row: usize) -> Result<Core<WithTty<Vec<u8>>, Own>, Fail> {
+type Moving = Core<WithTty<Vec<u8>>, Own>;
+
+// A session of a text on four rows, whose events move to this row.
+fn moving_to(alloc: Global, text: &str, row: usize) -> Option<Moving> {
     let mut pager: PagerOf<Own> = PagerOf::new(alloc);
-    pager.set_text("l0\nl1\nl2\nl3\nl4\nl5\nl6\nl7\nl8\nl9")?;
+    if pager.set_text(text).is_err() {
+        return None;
+    }
     match init_core_with(pager, RunMode::Static, terminal(alloc), 20, 4, ToRow(row)) {
-        Ok(session) => Ok(session),
-        Err(_) => Err(Fail::from("the session was to start")),
+        Ok(session) => Some(session),
+        Err(_) => None,
     }
 }
 
-// The marks after an event, after another classifier was set, and after one more event.
-fn marks(alloc: Global) -> Result<[usize; 3], Fail> {
-    let mut session = moving_to(alloc, 2)?;
-    let _ = session.step(InputOf::Event(Event::FocusGained))?;
-    let first = session.state().upper_mark;
-    let _ = session.step(InputOf::Command(CommandOf::SetInputClassifier(ToRow(5))))?;
-    let second = session.state().upper_mark;
-    let _ = session.step(InputOf::Event(Event::FocusGained))?;
-    Ok([first, second, session.state().upper_mark])
+// Whether a step leads to this mark.
+fn leads_to(session: &mut Moving, input: InputOf<Own>, mark: usize) -> bool {
+    session.step(input).is_ok() && session.state().upper_mark == mark
+}
+
+// Whether an event moves to row 2, another classifier moves nothing when it is set, and the next event moves to row 5.
+fn exchanges(session: &mut Moving) -> bool {
+    let other = CommandOf::SetInputClassifier(ToRow(5));
+    let moves = leads_to(session, InputOf::Event(Event::FocusGained), 2);
+    let stays = leads_to(session, InputOf::Command(other), 2);
+    moves && stays && leads_to(session, InputOf::Event(Event::FocusGained), 5)
+}
+
+// Whether they do in a session of ten lines.
+fn are_exchanged(alloc: Global) -> bool {
+    match moving_to(alloc, TEN_LINES, 2) {
+        Some(mut session) => exchanges(&mut session),
+        None => false,
+    }
 }
 
 #[test]
-fn the_classifier_last_set_decides(rt: HostRuntime) -> Result<(), Fail> {
-    assert!(rt; marks(rt.alloc())? == [2, 2, 5]);
-    Ok(())
+fn the_classifier_last_set_decides(rt: HostRuntime) {
+    assert!(rt; are_exchanged(rt.alloc()));
 }

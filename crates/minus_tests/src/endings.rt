@@ -1,78 +1,118 @@
 //! Exits and their cleanup.
-use crate::sessions::{Asked, CLEANUP, draws, inputs, number_of, session_on, terminal};
+use crate::sessions::{Asked, CLEANUP, draws, number_of, run, session_on, terminal};
 use crate::stubborn::{Stubborn, write};
-use minus::{Answer, CleanupError, ExitStrategy, MinusError, Ran, RunMode};
+use minus::{
+    CleanupError, Command, ExitStrategy, Input, InputEvent, MinusError, OutputSink, Ran, RunMode,
+    Session,
+};
 use std::alloc::Global;
-use std::test::Fail;
 
-// What a session of 6 columns and 2 rows came to that was asked for an exit.
-fn exited(alloc: Global) -> Result<(Option<(ExitStrategy, u8)>, u8, RunMode), Fail> {
-    let mut session = session_on(alloc, terminal(alloc), 6, 2)?;
-    let answer: Answer = session.step(crate::sessions::input(alloc, Asked::Exit)?)?;
-    let next = number_of(alloc, &mut session, Asked::Push("a"))?;
-    Ok((answer.exited, next, session.mode()))
+// How a session that is asked for an exit ends.
+fn exit_of<S: OutputSink + Drop>(session: &mut Session<S>) -> Option<(ExitStrategy, u8)> {
+    match session.step(Input::Command(Command::UserInput(InputEvent::Exit))) {
+        Ok(answer) => answer.exited,
+        Err(_) => None,
+    }
+}
+
+// Whether an exit ends a session, so that the next step is refused.
+fn ends_by_an_exit<S: OutputSink + Drop>(alloc: Global, session: &mut Session<S>) -> bool {
+    exit_of(session) == Some((ExitStrategy::ProcessQuit, 0))
+        && number_of(alloc, session, Asked::Push("a")) == 11
+        && session.mode() == RunMode::Uninitialized
+}
+
+// Whether it ends one over a terminal.
+fn is_ended(alloc: Global) -> bool {
+    match session_on(alloc, terminal(alloc), 6, 2) {
+        Some(mut session) => ends_by_an_exit(alloc, &mut session),
+        None => false,
+    }
 }
 
 #[test]
-fn an_exit_ends_the_session(rt: HostRuntime) -> Result<(), Fail> {
-    let wanted = (
-        Some((ExitStrategy::ProcessQuit, 0)),
-        11,
-        RunMode::Uninitialized,
-    );
-    assert!(rt; exited(rt.alloc())? == wanted);
-    Ok(())
+fn an_exit_ends_the_session(rt: HostRuntime) {
+    assert!(rt; is_ended(rt.alloc()));
 }
 
 // The cleanup is that of the exit, and `finish` writes none.
 #[test]
-fn an_exit_cleans_up_once(rt: HostRuntime) -> Result<(), Fail> {
-    assert!(rt; draws(rt.alloc(), 6, 2, &[Asked::Exit], "")?);
-    Ok(())
+fn an_exit_cleans_up_once(rt: HostRuntime) {
+    assert!(rt; draws(rt.alloc(), 6, 2, &[Asked::Exit], &[]));
 }
 
-// Whether a cleanup that is refused at its seventh write names its second part, and fails the session.
-fn is_refused(alloc: Global) -> Result<bool, Fail> {
-    let mut session = session_on(alloc, Stubborn::terminal(alloc, write(54 + 41 + 7)), 6, 2)?;
-    let refused = match session.step(crate::sessions::input(alloc, Asked::Exit)?) {
+// Whether a session refuses an exit by the second part of its cleanup.
+fn breaks_off<S: OutputSink + Drop>(session: &mut Session<S>) -> bool {
+    match session.step(Input::Command(Command::UserInput(InputEvent::Exit))) {
         Err(MinusError::Cleanup(CleanupError::DisableMouseCapture(_))) => true,
         _ => false,
+    }
+}
+
+// Whether bytes end with the first part of a cleanup, and a whole one.
+fn is_cleaned_twice(bytes: &[u8]) -> bool {
+    match bytes.strip_suffix(CLEANUP.as_bytes()) {
+        Some(before) => before.ends_with("\x1b[?25h".as_bytes()),
+        None => false,
+    }
+}
+
+// Whether a cleanup that is refused at its seventh write does so, fails the session, and is tried again by `finish`.
+fn is_refused(alloc: Global) -> bool {
+    let sink = Stubborn::terminal(alloc, write(54 + 41 + 7));
+    let Some(mut session) = session_on(alloc, sink, 6, 2) else {
+        return false;
     };
-    let next = number_of(alloc, &mut session, Asked::Exit)?;
+    let is_failed = breaks_off(&mut session) && number_of(alloc, &mut session, Asked::Exit) == 10;
     let (sink, _) = session.finish();
-    let bytes = format!(in alloc; "\x1b[?25h{CLEANUP}")?;
-    Ok(refused && next == 10 && sink.inner.held.as_slice().ends_with(bytes.as_bytes()))
+    is_failed && is_cleaned_twice(&sink.inner.held)
 }
 
 #[test]
-fn a_refused_cleanup_fails_the_session(rt: HostRuntime) -> Result<(), Fail> {
-    assert!(rt; is_refused(rt.alloc())?);
-    Ok(())
+fn a_refused_cleanup_fails_the_session(rt: HostRuntime) {
+    assert!(rt; is_refused(rt.alloc()));
 }
 
-// How a run with an exit in its middle stopped, and one of what it left.
-fn ran(alloc: Global) -> Result<(usize, Option<(ExitStrategy, u8)>, usize, Option<u8>), Fail> {
-    let mut session = session_on(alloc, terminal(alloc), 6, 2)?;
+// Whether the second step of a run exited, and so many inputs are left.
+fn has_exited(ran: &Ran, left: usize) -> bool {
+    let exited = match &ran.last {
+        Some(answer) => answer.exited,
+        None => None,
+    };
+    exited == Some((ExitStrategy::ProcessQuit, 0)) && ran.done == 2 && ran.rest.len() == left
+}
+
+// Whether a run of these inputs is refused by this number.
+fn refuses<S: OutputSink + Drop>(session: &mut Session<S>, inputs: Vec<Input>, number: u8) -> bool {
+    match session.run(inputs).stopped {
+        Some(refusal) => refusal.number() == number,
+        None => false,
+    }
+}
+
+// Whether a run with an exit in its middle stops there, and a run of the two inputs that it left is refused.
+fn stops_at_an_exit<S: OutputSink + Drop>(alloc: Global, session: &mut Session<S>) -> bool {
     let asked = [
         Asked::Push("a"),
         Asked::Exit,
         Asked::Push("b"),
         Asked::Push("c"),
     ];
-    let Ran {
-        done,
-        last,
-        rest,
-        ..
-    } = session.run(inputs(alloc, &asked)?);
-    let left = rest.len();
-    let again = session.run(rest).stopped.map(|refusal| refusal.number());
-    Ok((done, last.and_then(|answer| answer.exited), left, again))
+    let Some(ran) = run(alloc, session, &asked) else {
+        return false;
+    };
+    has_exited(&ran, 2) && refuses(session, ran.rest, 11)
+}
+
+// Whether one over a terminal does.
+fn is_stopped(alloc: Global) -> bool {
+    match session_on(alloc, terminal(alloc), 6, 2) {
+        Some(mut session) => stops_at_an_exit(alloc, &mut session),
+        None => false,
+    }
 }
 
 #[test]
-fn a_run_stops_after_an_exit(rt: HostRuntime) -> Result<(), Fail> {
-    let wanted = (2, Some((ExitStrategy::ProcessQuit, 0)), 2, Some(11));
-    assert!(rt; ran(rt.alloc())? == wanted);
-    Ok(())
+fn a_run_stops_after_an_exit(rt: HostRuntime) {
+    assert!(rt; is_stopped(rt.alloc()));
 }

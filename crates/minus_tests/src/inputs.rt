@@ -1,60 +1,63 @@
 //! What events and bad sizes come to.
-use crate::sessions::{Asked, draws, key, number_of, session_on, shows, terminal};
-use minus::{Event, KeyModifiers};
+use crate::sessions::{Asked, draws, has_len, key, number_of, session_on, shows, terminal};
+use minus::{Event, KeyModifiers, OutputSink, Session};
 use std::alloc::Global;
-use std::test::Fail;
 
 #[test]
-fn a_resize_event_shows_the_page_of_the_new_size(rt: HostRuntime) -> Result<(), Fail> {
+fn a_resize_event_shows_the_page_of_the_new_size(rt: HostRuntime) {
     let asked = [Asked::Push("one\ntwo"), Asked::Told(Event::Resize(4, 2))];
-    assert!(rt;
-        shows(
-            rt.alloc(),
-            20,
-            5,
-            &asked,
-            &["one", "\x1b[2;40;37mminu\x1b[0m"]
-        )?
-    );
-    Ok(())
+    let rows = ["one", "\x1b[2;40;37mminu\x1b[0m"];
+    assert!(rt; shows(rt.alloc(), 20, 5, &asked, &rows));
+}
+
+// Whether an event writes nothing.
+fn is_quiet(alloc: Global, event: Event) -> bool {
+    draws(alloc, 6, 2, &[Asked::Told(event)], &[])
 }
 
 #[test]
-fn other_events_write_nothing(rt: HostRuntime) -> Result<(), Fail> {
-    let letter = key('q', KeyModifiers::NONE);
-    let modified = key('1', KeyModifiers::CONTROL);
-    for event in [Event::FocusGained, Event::FocusLost, letter, modified] {
-        assert!(rt; draws(rt.alloc(), 6, 2, &[Asked::Told(event)], "")?);
+fn other_events_write_nothing(rt: HostRuntime) {
+    assert!(rt; is_quiet(rt.alloc(), Event::FocusGained));
+    assert!(rt; is_quiet(rt.alloc(), Event::FocusLost));
+    assert!(rt; is_quiet(rt.alloc(), key('q', KeyModifiers::NONE)));
+    assert!(rt; is_quiet(rt.alloc(), key('1', KeyModifiers::CONTROL)));
+}
+
+// Whether a size is answered by this number, the page has so many rows then, and the next step works.
+fn answers<S: OutputSink + Drop>(
+    alloc: Global,
+    session: &mut Session<S>,
+    asked: Asked<'_>,
+    number: u8,
+    rows: usize,
+) -> bool {
+    number_of(alloc, session, asked) == number
+        && has_len(session, rows)
+        && number_of(alloc, session, Asked::Push("a")) == 0
+}
+
+// Whether it is on a page of five rows.
+fn is_answered(alloc: Global, asked: Asked<'_>, number: u8, rows: usize) -> bool {
+    match session_on(alloc, terminal(alloc), 20, 5) {
+        Some(mut session) => answers(alloc, &mut session, asked, number, rows),
+        None => false,
     }
-    Ok(())
-}
-
-// The number of the refusal of a size, and the rows of the page after it and after one more step.
-fn after_size(alloc: Global, asked: Asked<'_>) -> Result<(u8, usize, u8), Fail> {
-    let mut session = session_on(alloc, terminal(alloc), 20, 5)?;
-    let refused = number_of(alloc, &mut session, asked)?;
-    let rows = session.page()?.rows.len();
-    let next = number_of(alloc, &mut session, Asked::Push("a"))?;
-    Ok((refused, rows, next))
 }
 
 #[test]
-fn a_size_of_no_terminal_changes_nothing(rt: HostRuntime) -> Result<(), Fail> {
-    for (cols, rows) in [(0, 10), (10, 0), (65_536, 1), (1, 65_536)] {
-        let after = after_size(rt.alloc(), Asked::Size(cols, rows))?;
-        assert!(rt; after == (5, 5, 0), "at {cols} x {rows}");
-    }
-    Ok(())
+fn a_size_of_no_terminal_changes_nothing(rt: HostRuntime) {
+    assert!(rt; is_answered(rt.alloc(), Asked::Size(0, 10), 5, 5));
+    assert!(rt; is_answered(rt.alloc(), Asked::Size(10, 0), 5, 5));
+    assert!(rt; is_answered(rt.alloc(), Asked::Size(65_536, 1), 5, 5));
+    assert!(rt; is_answered(rt.alloc(), Asked::Size(1, 65_536), 5, 5));
 }
 
 #[test]
-fn a_resize_event_of_no_terminal_is_refused(rt: HostRuntime) -> Result<(), Fail> {
-    assert!(rt; after_size(rt.alloc(), Asked::Told(Event::Resize(0, 10)))? == (5, 5, 0));
-    Ok(())
+fn a_resize_event_of_no_terminal_is_refused(rt: HostRuntime) {
+    assert!(rt; is_answered(rt.alloc(), Asked::Told(Event::Resize(0, 10)), 5, 5));
 }
 
 #[test]
-fn the_greatest_size_is_taken(rt: HostRuntime) -> Result<(), Fail> {
-    assert!(rt; after_size(rt.alloc(), Asked::Told(Event::Resize(65_535, 1)))? == (0, 1, 0));
-    Ok(())
+fn the_greatest_size_is_taken(rt: HostRuntime) {
+    assert!(rt; is_answered(rt.alloc(), Asked::Told(Event::Resize(65_535, 1)), 0, 1));
 }

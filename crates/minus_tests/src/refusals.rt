@@ -1,95 +1,113 @@
 //! Sinks that refuse a step.
-use crate::sessions::{Asked, CLEANUP, PROMPT_ROW, inputs, number_of, session_on};
+use crate::sessions::{Asked, CLEANUP, TEN_LINES, are_bytes, does, number_of, run, session_on};
 use crate::stubborn::{Refused, Stubborn, flush, write};
-use minus::{CleanupError, Command, Input, MinusError, Ran, RunMode, WithTty};
+use minus::{CleanupError, Command, Input, MinusError, OutputSink, Ran, RunMode, Session, WithTty};
 use std::alloc::Global;
 use std::io::ErrorKind;
-use std::test::Fail;
 
 // So many writes and flushes a start on 20 columns and 5 rows takes: the setup, and the first page.
 const START_WRITES: usize = 54 + 55;
 
 const START_FLUSHES: usize = 4;
 
-// What a session came to that was refused in its first step.
-#[derive(Drop)]
-struct Left {
-    numbers: [u8; 3],
-    is_over: bool,
+// Whether a first push fails a session, so that each later one is refused as failed.
+fn is_over<S: OutputSink + Drop>(alloc: Global, session: &mut Session<S>) -> bool {
+    number_of(alloc, session, Asked::Push("a")) == 14
+        && number_of(alloc, session, Asked::Push("b")) == 10
+        && number_of(alloc, session, Asked::Push("c")) == 10
+        && session.mode() == RunMode::Uninitialized
+}
+
+// Whether these texts stand in a sink behind a start, and it refused so many calls.
+fn holds(sink: &WithTty<Stubborn>, refusals: u64, texts: &[&str]) -> bool {
+    match sink.inner.held.get(START_WRITES..) {
+        Some(behind) => sink.refusals == refusals && are_bytes(behind, texts),
+        None => false,
+    }
+}
+
+// Whether the first step fails a session over a sink that refuses this of it, the cleanup ends it so, and these texts of
+// the step and of the cleanup are in the sink.
+fn is_failed(
+    alloc: Global,
+    refused: Refused,
+    is_cleaned: bool,
     refusals: u64,
-    cleaned: bool,
-    bytes: Vec<u8>,
-}
-
-// Pushes three texts on a sink that refuses something of the first of them, and finishes.
-fn left_by(alloc: Global, refused: Refused) -> Result<Left, Fail> {
-    let mut session = session_on(alloc, Stubborn::terminal(alloc, refused), 20, 5)?;
-    let first = number_of(alloc, &mut session, Asked::Push("a"))?;
-    let second = number_of(alloc, &mut session, Asked::Push("b"))?;
-    let third = number_of(alloc, &mut session, Asked::Push("c"))?;
-    let is_over = session.mode() == RunMode::Uninitialized;
+    texts: &[&str],
+) -> bool {
+    let Some(mut session) = session_on(alloc, Stubborn::terminal(alloc, refused), 20, 5) else {
+        return false;
+    };
+    let is_over = is_over(alloc, &mut session);
     let (sink, finished) = session.finish();
-    Ok(Left {
-        numbers: [first, second, third],
-        is_over,
-        refusals: sink.refusals,
-        cleaned: finished.is_ok(),
-        bytes: sink.inner.held,
-    })
-}
-
-// Whether the first step failed the session, and these bytes of it and of what came after are in the sink.
-fn is_failed(left: &Left, refusals: u64, bytes: &str) -> bool {
-    let behind = left.bytes.get(START_WRITES..);
-    let is_as_wanted = left.numbers == [14, 10, 10] && left.is_over && left.refusals == refusals;
-    is_as_wanted && behind == Some(bytes.as_bytes())
+    is_over && finished.is_ok() == is_cleaned && holds(&sink, refusals, texts)
 }
 
 #[test]
-fn a_refused_write_fails_the_session(rt: HostRuntime) -> Result<(), Fail> {
-    let left = left_by(rt.alloc(), write(START_WRITES + 3))?;
-    let bytes = format!(in rt.alloc(); "\x1b[{CLEANUP}")?;
-    assert!(rt; left.cleaned && is_failed(&left, 1, bytes.as_str()));
-    Ok(())
+fn a_refused_write_fails_the_session(rt: HostRuntime) {
+    let refused = write(START_WRITES + 3);
+    assert!(rt; is_failed(rt.alloc(), refused, true, 1, &["\x1b[", CLEANUP]));
 }
 
 #[test]
-fn a_refused_flush_fails_the_session(rt: HostRuntime) -> Result<(), Fail> {
-    let left = left_by(rt.alloc(), flush(START_FLUSHES + 1))?;
-    let bytes = format!(in rt.alloc(); "\x1b[1;1H\x1b[2Ka{CLEANUP}")?;
-    assert!(rt; left.cleaned && is_failed(&left, 1, bytes.as_str()));
-    Ok(())
+fn a_refused_flush_fails_the_session(rt: HostRuntime) {
+    let refused = flush(START_FLUSHES + 1);
+    let texts = ["\x1b[1;1H\x1b[2Ka", CLEANUP];
+    assert!(rt; is_failed(rt.alloc(), refused, true, 1, &texts));
 }
 
 #[test]
-fn finish_hands_back_a_sink_that_still_refuses(rt: HostRuntime) -> Result<(), Fail> {
+fn finish_hands_back_a_sink_that_still_refuses(rt: HostRuntime) {
     let refused = Refused {
         write: START_WRITES + 3,
         writes: 2,
         flush: 0,
     };
-    let left = left_by(rt.alloc(), refused)?;
-    assert!(rt; !left.cleaned && is_failed(&left, 2, "\x1b["));
-    Ok(())
+    assert!(rt; is_failed(rt.alloc(), refused, false, 2, &["\x1b["]));
 }
 
-// The kinds of the errors that a refused drawing and a refused cleanup hand on.
-fn kinds(alloc: Global, asked: Asked<'_>) -> Result<Option<ErrorKind>, Fail> {
+// The kind of the sink's error that a refusal of a drawing or a cleanup hands on.
+fn kind_of(refusal: &MinusError) -> Option<ErrorKind> {
+    match refusal {
+        MinusError::Draw(cause) => Some(cause.kind()),
+        MinusError::Cleanup(CleanupError::ShowCursor(cause)) => Some(cause.0.kind()),
+        _ => None,
+    }
+}
+
+// Whether a run was refused by the sink's own error.
+fn is_broken(ran: &Ran) -> bool {
+    match &ran.stopped {
+        Some(refusal) => kind_of(refusal) == Some(ErrorKind::BrokenPipe),
+        None => false,
+    }
+}
+
+// Whether a session refuses what is asked of it by that.
+fn hands_on<S: OutputSink + Drop>(
+    alloc: Global,
+    session: &mut Session<S>,
+    asked: Asked<'_>,
+) -> bool {
+    match run(alloc, session, &[asked]) {
+        Some(ran) => is_broken(&ran),
+        None => false,
+    }
+}
+
+// Whether one does whose sink refuses its next write.
+fn is_handed_on(alloc: Global, asked: Asked<'_>) -> bool {
     let sink = Stubborn::terminal(alloc, write(START_WRITES + 1));
-    let mut session = session_on(alloc, sink, 20, 5)?;
-    match session.step(crate::sessions::input(alloc, asked)?) {
-        Err(MinusError::Draw(cause)) => Ok(Some(cause.kind())),
-        Err(MinusError::Cleanup(CleanupError::ShowCursor(cause))) => Ok(Some(cause.0.kind())),
-        _ => Ok(None),
+    match session_on(alloc, sink, 20, 5) {
+        Some(mut session) => hands_on(alloc, &mut session, asked),
+        None => false,
     }
 }
 
 #[test]
-fn a_refusal_hands_on_the_sinks_error(rt: HostRuntime) -> Result<(), Fail> {
-    let drawing = kinds(rt.alloc(), Asked::Push("a"))?;
-    let cleanup = kinds(rt.alloc(), Asked::Exit)?;
-    assert!(rt; [drawing, cleanup] == [Some(ErrorKind::BrokenPipe), Some(ErrorKind::BrokenPipe)]);
-    Ok(())
+fn a_refusal_hands_on_the_sinks_error(rt: HostRuntime) {
+    assert!(rt; is_handed_on(rt.alloc(), Asked::Push("a")));
+    assert!(rt; is_handed_on(rt.alloc(), Asked::Exit));
 }
 
 // Whether the inputs that a run left are the push of this text.
@@ -100,51 +118,72 @@ fn is_left(rest: &[Input], text: &str) -> bool {
     }
 }
 
-#[test]
-fn a_run_stops_at_a_refused_write(rt: HostRuntime) -> Result<(), Fail> {
-    let alloc = rt.alloc();
-    let sink = Stubborn::terminal(alloc, write(START_WRITES + 20));
-    let mut session = session_on(alloc, sink, 20, 5)?;
-    let asked = [Asked::Push("a"), Asked::Push("b"), Asked::Push("c")];
-    let Ran {
-        done,
-        last,
-        stopped,
-        rest,
-    } = session.run(inputs(alloc, &asked)?);
-    let number = stopped.map(|refusal| refusal.number());
-    assert!(rt; done == 1 && last.is_some() && number == Some(14) && is_left(&rest, "c"));
-    Ok(())
+// Whether a run stopped at a refused write behind its first step, with the push of a text left.
+fn is_stopped(ran: &Ran, text: &str) -> bool {
+    let is_refused = match &ran.stopped {
+        Some(refusal) => refusal.number() == 14,
+        None => false,
+    };
+    is_refused && ran.done == 1 && ran.last.is_some() && is_left(&ran.rest, text)
 }
 
-// A scroll is asked for again where memory was wanted: the numbers, the mark between them, and all bytes of the session.
-// The sink has its room before, so that it refuses nothing.
-fn scrolled(alloc: Global) -> Result<([u8; 2], usize, Vec<u8>), Fail> {
-    let sink = WithTty::new(Vec::with_capacity(alloc, 4096)?, true);
-    let mut session = session_on(alloc, sink, 20, 4)?;
-    let pushed = session.run(inputs(
-        alloc,
-        &[Asked::Push("l0\nl1\nl2\nl3\nl4\nl5\nl6\nl7\nl8\nl9")],
-    )?);
-    if pushed.stopped.is_some() {
-        return Err(Fail::from("memory was wanted before the scroll"));
+// Whether a run of three pushes, of which the second is refused a write, stops so.
+fn stops<S: OutputSink + Drop>(alloc: Global, session: &mut Session<S>) -> bool {
+    let asked = [Asked::Push("a"), Asked::Push("b"), Asked::Push("c")];
+    match run(alloc, session, &asked) {
+        Some(ran) => is_stopped(&ran, "c"),
+        None => false,
     }
-    let first = number_of(alloc, &mut session, Asked::Mark(2))?;
+}
+
+// Whether one does whose sink refuses its 20th write.
+fn stops_on_its_way(alloc: Global) -> bool {
+    let sink = Stubborn::terminal(alloc, write(START_WRITES + 20));
+    match session_on(alloc, sink, 20, 5) {
+        Some(mut session) => stops(alloc, &mut session),
+        None => false,
+    }
+}
+
+#[test]
+fn a_run_stops_at_a_refused_write(rt: HostRuntime) {
+    assert!(rt; stops_on_its_way(rt.alloc()));
+}
+
+// Whether a scroll is done, or refused for want of memory with the mark as it was, and done when it is asked for again.
+fn scrolls<S: OutputSink + Drop>(alloc: Global, session: &mut Session<S>) -> bool {
+    let first = number_of(alloc, session, Asked::Mark(2));
     let mark = session.state().upper_mark;
-    let again = number_of(alloc, &mut session, Asked::Mark(2))?;
+    let again = number_of(alloc, session, Asked::Mark(2));
+    again == 0 && ((first == 0 && mark == 2) || (first == 1 && mark == 0))
+}
+
+// Whether these bytes end with a text and a cleanup.
+fn ends_with(bytes: &[u8], text: &str) -> bool {
+    match bytes.strip_suffix(CLEANUP.as_bytes()) {
+        Some(before) => before.ends_with(text.as_bytes()),
+        None => false,
+    }
+}
+
+// Whether it is, on four rows, and drawn so at last. The sink has its room before, so that it refuses nothing.
+fn scrolls_to(alloc: Global, drawn: &str) -> bool {
+    let Ok(held) = Vec::with_capacity(alloc, 4096) else {
+        return false;
+    };
+    let Some(mut session) = session_on(alloc, WithTty::new(held, true), 20, 4) else {
+        return false;
+    };
+    let is_scrolled = does(alloc, &mut session, &[Asked::Push(TEN_LINES)])
+        && scrolls(alloc, &mut session);
     let (sink, _) = session.finish();
-    Ok(([first, again], mark, sink.inner))
+    is_scrolled && ends_with(&sink.inner, drawn)
 }
 
 // Run as it is, memory suffices. `rt try --test --fail-alloc N` has the Nth request refused.
 #[test]
-fn a_scroll_that_wants_memory_changes_nothing(rt: HostRuntime) -> Result<(), Fail> {
-    let (numbers, mark, bytes) = scrolled(rt.alloc())?;
-    let scroll = format!(in rt.alloc();
-        "\x1b[2S\x1b[2;1H\x1b[2K\rl3\n\rl4\n\x1b[5;1H\r\x1b[2K{PROMPT_ROW}{CLEANUP}"
-    )?;
-    let is_refused = numbers == [1, 0] && mark == 0;
-    let is_done = numbers == [0, 0] && mark == 2;
-    assert!(rt; (is_refused || is_done) && bytes.as_slice().ends_with(scroll.as_bytes()));
-    Ok(())
+fn a_scroll_that_wants_memory_changes_nothing(rt: HostRuntime) {
+    let rows =
+        "\x1b[2S\x1b[2;1H\x1b[2K\rl3\n\rl4\n\x1b[5;1H\r\x1b[2K\x1b[2;40;37mminus               \x1b[0m";
+    assert!(rt; scrolls_to(rt.alloc(), rows));
 }

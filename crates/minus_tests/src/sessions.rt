@@ -1,11 +1,9 @@
-//! Sessions for the tests, started and stepped in one place.
+//! Sessions for the tests, started and stepped in one place. Where memory runs out, each answer is `false` or none.
 use minus::{
-    Answer, Command, Event, Input, InputEvent, IoCommand, KeyCode, KeyEvent, KeyEventKind,
-    KeyEventState, KeyModifiers, LineNumbers, MinusError, OutputSink, Page, Pager, RunMode,
-    Session, WithTty, init_core,
+    Command, Event, Input, InputEvent, IoCommand, KeyCode, KeyEvent, KeyEventKind, KeyEventState,
+    KeyModifiers, LineNumbers, OutputSink, Page, Pager, Ran, RunMode, Session, WithTty, init_core,
 };
 use std::alloc::{AllocError, Global};
-use std::test::Fail;
 
 pub const SETUP: &str =
     "\x1b[?1049h\x1b[?1000h\x1b[?1002h\x1b[?1003h\x1b[?1015h\x1b[?1006h\x1b[?25l";
@@ -15,6 +13,9 @@ pub const CLEANUP: &str =
 
 /// The prompt row of 20 columns.
 pub const PROMPT_ROW: &str = "\x1b[2;40;37mminus               \x1b[0m";
+
+/// Ten lines of a row each.
+pub const TEN_LINES: &str = "l0\nl1\nl2\nl3\nl4\nl5\nl6\nl7\nl8\nl9";
 
 /// What a test asks of a session.
 #[derive(Clone, Copy)]
@@ -68,8 +69,8 @@ pub fn input(alloc: Global, asked: Asked<'_>) -> Result<Input, AllocError> {
     Ok(Input::Command(command))
 }
 
-/// The inputs that ask for all of it.
-pub fn inputs(alloc: Global, asked: &[Asked<'_>]) -> Result<Vec<Input>, Fail> {
+// The inputs that ask for all of it.
+fn inputs(alloc: Global, asked: &[Asked<'_>]) -> Result<Vec<Input>, AllocError> {
     let mut given = Vec::new(alloc);
     for it in asked {
         given.push(input(alloc, *it)?)?;
@@ -82,91 +83,165 @@ pub fn terminal(alloc: Global) -> WithTty<Vec<u8>> {
     WithTty::new(Vec::new(alloc), true)
 }
 
-/// A session over a sink, without a text.
+/// A session over a sink, without a text; none where its start is refused.
 pub fn session_on<S: OutputSink + Drop>(
     alloc: Global,
     sink: S,
     cols: usize,
     rows: usize,
-) -> Result<Session<S>, Fail> {
+) -> Option<Session<S>> {
     match init_core(Pager::new(alloc), RunMode::Static, sink, cols, rows) {
-        Ok(session) => Ok(session),
-        Err(_) => Err(Fail::from("the session was to start")),
+        Ok(session) => Some(session),
+        Err(_) => None,
     }
 }
 
-/// The number by which a session refuses what is asked of it; 0 where it does it.
+/// The number by which a session refuses what is asked of it, or the want of memory to ask for it; 0 where it does it.
 pub fn number_of<S: OutputSink + Drop>(
     alloc: Global,
     session: &mut Session<S>,
     asked: Asked<'_>,
-) -> Result<u8, Fail> {
-    let stepped: Result<Answer, MinusError> = session.step(input(alloc, asked)?);
-    match stepped {
-        Ok(_) => Ok(0),
-        Err(refusal) => Ok(refusal.number()),
+) -> u8 {
+    let Ok(input) = input(alloc, asked) else {
+        return 1;
+    };
+    match session.step(input) {
+        Ok(_) => 0,
+        Err(refusal) => refusal.number(),
     }
 }
 
-/// Whether a page has these rows, no others and no cursor.
-pub fn has_rows(page: &Page, rows: &[&str]) -> bool {
-    let same = page
-        .rows
-        .iter()
-        .zip(rows)
-        .all(|(have, want)| have.as_str() == *want);
-    same && page.rows.len() == rows.len() && page.cursor.is_none()
+/// What comes of a run of all of this in a session; none where there is no memory to ask for it.
+pub fn run<S: OutputSink + Drop>(
+    alloc: Global,
+    session: &mut Session<S>,
+    asked: &[Asked<'_>],
+) -> Option<Ran> {
+    match inputs(alloc, asked) {
+        Ok(inputs) => Some(session.run(inputs)),
+        Err(_) => None,
+    }
 }
 
-/// The terminal after a session that was asked for all of this, and whether its last page has these rows.
-fn ran(
+/// Whether a session does all of this, in one run.
+pub fn does<S: OutputSink + Drop>(
     alloc: Global,
-    cols: usize,
-    rows: usize,
+    session: &mut Session<S>,
+    asked: &[Asked<'_>],
+) -> bool {
+    match run(alloc, session, asked) {
+        Some(ran) => ran.done == asked.len(),
+        None => false,
+    }
+}
+
+/// Whether these bytes are these texts, one behind the other.
+pub fn are_bytes(bytes: &[u8], texts: &[&str]) -> bool {
+    let mut rest = bytes;
+    for text in texts {
+        match rest.strip_prefix(text.as_bytes()) {
+            Some(behind) => rest = behind,
+            None => return false,
+        }
+    }
+    rest.is_empty()
+}
+
+// Whether a page has these rows, no others and no cursor.
+fn has_rows(page: &Page, rows: &[&str]) -> bool {
+    let mut wanted = rows.iter();
+    for row in &page.rows {
+        match wanted.next() {
+            Some(text) if row.as_str() == *text => {}
+            _ => return false,
+        }
+    }
+    wanted.next().is_none() && page.cursor.is_none()
+}
+
+/// Whether a session's page has so many rows.
+pub fn has_len<S: OutputSink + Drop>(session: &Session<S>, rows: usize) -> bool {
+    match session.page() {
+        Ok(page) => page.rows.len() == rows,
+        Err(_) => false,
+    }
+}
+
+/// Whether a session's page has these rows, no others and no cursor.
+pub fn has_page<S: OutputSink + Drop>(session: &Session<S>, rows: &[&str]) -> bool {
+    match session.page() {
+        Ok(page) => has_rows(&page, rows),
+        Err(_) => false,
+    }
+}
+
+// Whether a session does all of this, and its page has these rows then.
+fn leads_to<S: OutputSink + Drop>(
+    alloc: Global,
+    session: &mut Session<S>,
     asked: &[Asked<'_>],
     page: &[&str],
-) -> Result<(Vec<u8>, bool), Fail> {
+) -> bool {
+    does(alloc, session, asked) && has_page(session, page)
+}
+
+/// Whether a session does all of this, and its page has these rows then.
+pub fn shows(alloc: Global, cols: usize, rows: usize, asked: &[Asked<'_>], page: &[&str]) -> bool {
+    match session_on(alloc, terminal(alloc), cols, rows) {
+        Some(mut session) => leads_to(alloc, &mut session, asked, page),
+        None => false,
+    }
+}
+
+// The bytes of a session that does all of this, setup and cleanup among them.
+fn bytes_of(alloc: Global, cols: usize, rows: usize, asked: &[Asked<'_>]) -> Option<Vec<u8>> {
     let mut session = session_on(alloc, terminal(alloc), cols, rows)?;
-    let is_done = session.run(inputs(alloc, asked)?).stopped.is_none();
-    let is_there = is_done && has_rows(&session.page()?, page);
+    let is_done = does(alloc, &mut session, asked);
     let (sink, _) = session.finish();
-    Ok((sink.inner, is_there))
+    is_done.then_some(sink.inner)
 }
 
-/// All bytes of a session that is asked for all of this, setup and cleanup among them.
-pub fn all_bytes(
+/// Whether a session that does all of this writes these texts, setup and cleanup among them.
+pub fn writes(
     alloc: Global,
     cols: usize,
     rows: usize,
     asked: &[Asked<'_>],
-) -> Result<String, Fail> {
-    Ok(String::from_utf8(ran(alloc, cols, rows, asked, &[])?.0)?)
+    texts: &[&str],
+) -> bool {
+    match bytes_of(alloc, cols, rows, asked) {
+        Some(bytes) => are_bytes(&bytes, texts),
+        None => false,
+    }
 }
 
-/// Whether the page has these rows after all of this was asked for.
-pub fn shows(
-    alloc: Global,
-    cols: usize,
-    rows: usize,
-    asked: &[Asked<'_>],
-    page: &[&str],
-) -> Result<bool, Fail> {
-    Ok(ran(alloc, cols, rows, asked, page)?.1)
+// Whether these are the texts by which the bytes of one session go on behind those of another, both cleaned up.
+fn go_on(before: &[u8], after: &[u8], texts: &[&str]) -> bool {
+    let cleanup = CLEANUP.as_bytes();
+    let (Some(before), Some(after)) = (before.strip_suffix(cleanup), after.strip_suffix(cleanup))
+    else {
+        return false;
+    };
+    match after.strip_prefix(before) {
+        Some(behind) => are_bytes(behind, texts),
+        None => false,
+    }
 }
 
-/// Whether these are the bytes that the last input asks for.
-pub fn draws(
-    alloc: Global,
-    cols: usize,
-    rows: usize,
-    asked: &[Asked<'_>],
-    bytes: &str,
-) -> Result<bool, Fail> {
-    let before = all_bytes(alloc, cols, rows, &asked[..asked.len().saturating_sub(1)])?;
-    let after = all_bytes(alloc, cols, rows, asked)?;
-    let kept = before
-        .as_str()
-        .strip_suffix(CLEANUP)
-        .ok_or("the terminal was to be cleaned up")?;
-    Ok(after.as_str() == format!(in alloc; "{kept}{bytes}{CLEANUP}")?.as_str())
+// The same, where there are such bytes.
+fn are_there_and_go_on(before: &Option<Vec<u8>>, after: &Option<Vec<u8>>, texts: &[&str]) -> bool {
+    match (before, after) {
+        (Some(before), Some(after)) => go_on(before, after, texts),
+        _ => false,
+    }
+}
+
+/// Whether these texts are what the last of this asks for.
+pub fn draws(alloc: Global, cols: usize, rows: usize, asked: &[Asked<'_>], texts: &[&str]) -> bool {
+    let Some((_, first)) = asked.split_last() else {
+        return false;
+    };
+    let before = bytes_of(alloc, cols, rows, first);
+    let after = bytes_of(alloc, cols, rows, asked);
+    are_there_and_go_on(&before, &after, texts)
 }

@@ -1,164 +1,200 @@
 //! Starts, and sinks that refuse them.
-use crate::sessions::{CLEANUP, PROMPT_ROW, SETUP, has_rows, terminal};
+use crate::sessions::{CLEANUP, PROMPT_ROW, SETUP, are_bytes, has_page, terminal};
 use crate::stubborn::{Refused, Stubborn, flush, write};
 use minus::{
-    MinusError, OutputSink, Pager, RunMode, SetupError, StartError, dynamic_paging, init_core,
+    MinusError, OutputSink, Pager, RunMode, Session, SetupError, StartError, WithTty,
+    dynamic_paging, init_core,
 };
 use std::alloc::Global;
 use std::fmt::Write;
-use std::test::Fail;
 
-// What is between the text of a page of five rows and its prompt row.
-const FIFTH_ROW: &str = "\x1b[6;1H\r\x1b[2K";
+// What stands before the prompt row of a page of five rows.
+const SIXTH_ROW: &str = "\x1b[6;1H\r\x1b[2K";
 
-// A pager in which texts wait, one of them formatted.
-fn waiting(alloc: Global) -> Result<Pager, Fail> {
-    let mut pager = Pager::new(alloc);
-    pager.push_str("lost")?;
-    pager.set_text("one\n")?;
-    pager.push_str("tw")?;
+// A terminal in memory.
+type Terminal = WithTty<Vec<u8>>;
+
+// Has texts wait in a pager, one of them formatted.
+fn fill(pager: &mut Pager) -> bool {
     let number = 2;
-    write!(pager, "o\n{number}")?;
-    Ok(pager)
+    pager.push_str("lost").is_ok()
+        && pager.set_text("one\n").is_ok()
+        && pager.push_str("tw").is_ok()
+        && write!(pager, "o\n{number}").is_ok()
 }
 
-#[test]
-fn the_text_of_a_pager_is_on_the_first_page(rt: HostRuntime) -> Result<(), Fail> {
-    let alloc = rt.alloc();
-    let session = init_core(waiting(alloc)?, RunMode::Static, terminal(alloc), 20, 5)?;
+// Whether a session is static, and writes these texts from its start to its end.
+fn is_static(session: Session<Terminal>, texts: &[&str]) -> bool {
     let is_static = session.mode() == RunMode::Static;
     let (sink, _) = session.finish();
-    let bytes = format!(in alloc;
-        "{SETUP}\x1b[1;1H\x1b[2J\rone\n\rtwo\n\r2\n{FIFTH_ROW}{PROMPT_ROW}{CLEANUP}"
-    )?;
-    assert!(rt; is_static && sink.inner.as_slice() == bytes.as_bytes());
-    Ok(())
+    is_static && are_bytes(&sink.inner, texts)
+}
+
+// Whether one does of a pager in which texts wait.
+fn writes_what_waits(alloc: Global, texts: &[&str]) -> bool {
+    let mut pager = Pager::new(alloc);
+    let is_filled = fill(&mut pager);
+    match init_core(pager, RunMode::Static, terminal(alloc), 20, 5) {
+        Ok(session) => is_static(session, texts) && is_filled,
+        Err(_) => false,
+    }
 }
 
 #[test]
-fn a_dynamic_start_shows_what_a_push_would(rt: HostRuntime) -> Result<(), Fail> {
-    let alloc = rt.alloc();
-    let mut pager = Pager::new(alloc);
-    pager.push_str("one\ntwo")?;
-    let session = dynamic_paging(pager, terminal(alloc), 20, 5)?;
-    let is_dynamic = session.mode() == RunMode::Dynamic;
-    assert!(rt; is_dynamic && has_rows(&session.page()?, &["one", "two", "", "", PROMPT_ROW]));
-    Ok(())
+fn the_text_of_a_pager_is_on_the_first_page(rt: HostRuntime) {
+    let page = "\x1b[1;1H\x1b[2J\rone\n\rtwo\n\r2\n";
+    let texts = [SETUP, page, SIXTH_ROW, PROMPT_ROW, CLEANUP];
+    assert!(rt; writes_what_waits(rt.alloc(), &texts));
 }
 
-// The number of the refusal of a start on a sink, and whether the pager came back.
-fn refused<S: OutputSink + Drop>(alloc: Global, sink: S) -> Option<(u8, bool)> {
+// Whether a session is dynamic and shows these rows.
+fn is_dynamic<S: OutputSink + Drop>(session: &Session<S>, rows: &[&str]) -> bool {
+    session.mode() == RunMode::Dynamic && has_page(session, rows)
+}
+
+// Whether a dynamic session of a pager that was given a text shows these rows.
+fn shows_what_was_pushed(alloc: Global, text: &str, rows: &[&str]) -> bool {
+    let mut pager = Pager::new(alloc);
+    let is_pushed = pager.push_str(text).is_ok();
+    match dynamic_paging(pager, terminal(alloc), 20, 5) {
+        Ok(session) => is_dynamic(&session, rows) && is_pushed,
+        Err(_) => false,
+    }
+}
+
+#[test]
+fn a_dynamic_start_shows_what_a_push_would(rt: HostRuntime) {
+    let rows = ["one", "two", "", "", PROMPT_ROW];
+    assert!(rt; shows_what_was_pushed(rt.alloc(), "one\ntwo", &rows));
+}
+
+// Whether a start on a sink is refused as it is no terminal, and the pager is gone.
+fn is_no_terminal<S: OutputSink + Drop>(alloc: Global, sink: S) -> bool {
     match init_core(Pager::new(alloc), RunMode::Static, sink, 20, 5) {
-        Ok(_) => None,
-        Err(refused) => Some((refused.cause.number(), refused.pager.is_some())),
+        Ok(_) => false,
+        Err(refused) => refused.cause.number() == 12 && refused.pager.is_none(),
     }
 }
 
 #[test]
 fn a_sink_that_is_no_terminal_is_refused(rt: HostRuntime) {
-    assert!(rt; refused(rt.alloc(), Vec::new(rt.alloc())) == Some((12, false)));
+    assert!(rt; is_no_terminal(rt.alloc(), Vec::new(rt.alloc())));
 }
 
 // A stream is no terminal by itself, so that nothing is written to those of the tests.
 #[test]
 fn the_standard_streams_are_no_terminals(rt: HostRuntime) {
-    let out = refused(rt.alloc(), rt.stdout());
-    let err = refused(rt.alloc(), rt.stderr());
-    assert!(rt; out == Some((12, false)) && err == Some((12, false)));
+    assert!(rt; is_no_terminal(rt.alloc(), rt.stdout()));
+    assert!(rt; is_no_terminal(rt.alloc(), rt.stderr()));
 }
 
-// Whether a start is refused by this number, and hands back the pager and a sink that is empty.
-fn is_early(
-    alloc: Global,
-    mode: RunMode,
-    cols: usize,
-    rows: usize,
-    number: u8,
-) -> Result<bool, Fail> {
-    match init_core(waiting(alloc)?, mode, terminal(alloc), cols, rows) {
-        Ok(_) => Ok(false),
-        Err(StartError { sink, pager, cause }) => {
-            Ok(sink.inner.is_empty() && pager.is_some() && cause.number() == number)
-        }
+// Whether a start was refused by this number before anything was written, with the pager handed back.
+fn came_back(refused: &StartError<Terminal>, number: u8) -> bool {
+    refused.sink.inner.is_empty() && refused.pager.is_some() && refused.cause.number() == number
+}
+
+// Whether a start in a mode and a size, of a pager in which texts wait, is refused so.
+fn is_early(alloc: Global, mode: RunMode, cols: usize, rows: usize, number: u8) -> bool {
+    let mut pager = Pager::new(alloc);
+    let is_filled = fill(&mut pager);
+    match init_core(pager, mode, terminal(alloc), cols, rows) {
+        Ok(_) => false,
+        Err(refused) => came_back(&refused, number) && is_filled,
     }
 }
 
 #[test]
-fn an_early_refusal_hands_the_pager_back(rt: HostRuntime) -> Result<(), Fail> {
-    let table = [
-        (RunMode::Uninitialized, 20, 5, 9),
-        (RunMode::Uninitialized, 0, 10, 9),
-        (RunMode::Static, 0, 10, 5),
-        (RunMode::Dynamic, 65_536, 1, 5),
-    ];
-    for (mode, cols, rows, number) in table {
-        assert!(rt;
-            is_early(rt.alloc(), mode, cols, rows, number)?,
-            "at {cols} x {rows}"
-        );
+fn an_early_refusal_hands_the_pager_back(rt: HostRuntime) {
+    assert!(rt; is_early(rt.alloc(), RunMode::Uninitialized, 20, 5, 9));
+    assert!(rt; is_early(rt.alloc(), RunMode::Uninitialized, 0, 10, 9));
+    assert!(rt; is_early(rt.alloc(), RunMode::Static, 0, 10, 5));
+    assert!(rt; is_early(rt.alloc(), RunMode::Dynamic, 65_536, 1, 5));
+}
+
+// The pager that a refused start hands back.
+fn handed_back(alloc: Global, pager: Pager) -> Option<Pager> {
+    match init_core(pager, RunMode::Static, terminal(alloc), 0, 5) {
+        Ok(_) => None,
+        Err(refused) => refused.pager,
     }
-    Ok(())
+}
+
+// Whether a session of a pager shows these rows.
+fn starts(alloc: Global, pager: Pager, rows: &[&str]) -> bool {
+    match init_core(pager, RunMode::Static, terminal(alloc), 20, 5) {
+        Ok(session) => has_page(&session, rows),
+        Err(_) => false,
+    }
+}
+
+// Whether one does whose start was refused before, with texts waiting in it.
+fn starts_again(alloc: Global, rows: &[&str]) -> bool {
+    let mut pager = Pager::new(alloc);
+    let is_filled = fill(&mut pager);
+    match handed_back(alloc, pager) {
+        Some(pager) => starts(alloc, pager, rows) && is_filled,
+        None => false,
+    }
 }
 
 #[test]
-fn a_pager_that_came_back_starts(rt: HostRuntime) -> Result<(), Fail> {
-    let alloc = rt.alloc();
-    let started = init_core(waiting(alloc)?, RunMode::Static, terminal(alloc), 0, 5);
-    let pager = started.err().and_then(|refused| refused.pager);
-    let pager = pager.ok_or("the pager was to be handed back")?;
-    let session = init_core(pager, RunMode::Static, terminal(alloc), 20, 5)?;
-    assert!(rt; has_rows(&session.page()?, &["one", "two", "2", "", PROMPT_ROW]));
-    Ok(())
+fn a_pager_that_came_back_starts(rt: HostRuntime) {
+    let rows = ["one", "two", "2", "", PROMPT_ROW];
+    assert!(rt; starts_again(rt.alloc(), &rows));
 }
 
-// The number of a refused start and the part of what it writes at which it was refused; and what the sink holds then.
-fn broken(alloc: Global, calls: Refused) -> Option<(u8, &'static str, Vec<u8>)> {
-    let sink = Stubborn::terminal(alloc, calls);
-    let refused = match init_core(Pager::new(alloc), RunMode::Static, sink, 20, 5) {
-        Ok(_) => return None,
-        Err(refused) => refused,
-    };
-    let part = match &refused.cause {
+// The part of what a start writes at which it was refused.
+fn part_of(cause: &MinusError) -> &'static str {
+    match cause {
         MinusError::Setup(SetupError::AlternateScreen(_)) => "the alternate screen",
         MinusError::Setup(SetupError::EnableMouseCapture(_)) => "the mouse",
         MinusError::Setup(SetupError::HideCursor(_)) => "the cursor",
         MinusError::Draw(_) => "the page",
         _ => "none",
-    };
-    Some((refused.cause.number(), part, refused.sink.inner.held))
-}
-
-#[test]
-fn a_refused_start_names_the_part(rt: HostRuntime) -> Result<(), Fail> {
-    let table = [
-        (1, 12, "the alternate screen"),
-        (8, 12, "the alternate screen"),
-        (9, 12, "the mouse"),
-        (48, 12, "the mouse"),
-        (49, 12, "the cursor"),
-        (54, 12, "the cursor"),
-        (55, 14, "the page"),
-    ];
-    for (at, number, name) in table {
-        let told = broken(rt.alloc(), write(at)).map(|(number, part, _)| (number, part));
-        assert!(rt; told == Some((number, name)), "at write {at}");
     }
-    Ok(())
+}
+
+// A start over a sink that refuses this of it; none where it is not refused.
+fn broken(alloc: Global, calls: Refused) -> Option<StartError<WithTty<Stubborn>>> {
+    let sink = Stubborn::terminal(alloc, calls);
+    match init_core(Pager::new(alloc), RunMode::Static, sink, 20, 5) {
+        Ok(_) => None,
+        Err(refused) => Some(refused),
+    }
+}
+
+// Whether a start that is refused a write names this part, and has this number.
+fn names(alloc: Global, at: usize, part: &str, number: u8) -> bool {
+    match broken(alloc, write(at)) {
+        Some(refused) => part_of(&refused.cause) == part && refused.cause.number() == number,
+        None => false,
+    }
 }
 
 #[test]
-fn a_start_refused_after_the_setup_cleans_up(rt: HostRuntime) -> Result<(), Fail> {
+fn a_refused_start_names_the_part(rt: HostRuntime) {
+    assert!(rt; names(rt.alloc(), 1, "the alternate screen", 12));
+    assert!(rt; names(rt.alloc(), 8, "the alternate screen", 12));
+    assert!(rt; names(rt.alloc(), 9, "the mouse", 12));
+    assert!(rt; names(rt.alloc(), 48, "the mouse", 12));
+    assert!(rt; names(rt.alloc(), 49, "the cursor", 12));
+    assert!(rt; names(rt.alloc(), 54, "the cursor", 12));
+    assert!(rt; names(rt.alloc(), 55, "the page", 14));
+}
+
+// Whether a start that is refused this leaves these texts in its sink.
+fn leaves(alloc: Global, calls: Refused, texts: &[&str]) -> bool {
+    match broken(alloc, calls) {
+        Some(refused) => are_bytes(&refused.sink.inner.held, texts),
+        None => false,
+    }
+}
+
+#[test]
+fn a_start_refused_after_the_setup_cleans_up(rt: HostRuntime) {
     let alloc = rt.alloc();
-    let page = format!(in alloc; "\x1b[1;1H\x1b[2J{FIFTH_ROW}{PROMPT_ROW}")?;
-    let table = [
-        (write(55), ""),
-        (write(57), "\x1b["),
-        (flush(4), page.as_str()),
-    ];
-    for (calls, drawn) in table {
-        let bytes = format!(in alloc; "{SETUP}{drawn}{CLEANUP}")?;
-        let held = broken(alloc, calls).map(|(_, _, held)| held);
-        assert!(rt; held.is_some_and(|held| held.as_slice() == bytes.as_bytes()));
-    }
-    Ok(())
+    assert!(rt; leaves(alloc, write(55), &[SETUP, CLEANUP]));
+    assert!(rt; leaves(alloc, write(57), &[SETUP, "\x1b[", CLEANUP]));
+    let page = [SETUP, "\x1b[1;1H\x1b[2J", SIXTH_ROW, PROMPT_ROW, CLEANUP];
+    assert!(rt; leaves(alloc, flush(4), &page));
 }
