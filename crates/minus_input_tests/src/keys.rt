@@ -1,7 +1,7 @@
 //! Worked descriptions of keys.
 use minus_input::parse_key_event;
 use minus_term::{DescriptionError, KeyCode, KeyModifiers};
-use std::test::Fail;
+use std::process::Abort;
 
 // Whether a text describes a key with this code and these modifiers.
 fn is_key(text: &str, code: KeyCode, modifiers: KeyModifiers) -> bool {
@@ -13,9 +13,16 @@ fn is_refused(text: &str, fault: DescriptionError) -> bool {
     parse_key_event(text).err() == Some(fault)
 }
 
+// Fails where a text does not describe a key with this code and these modifiers.
+fn assert_keys(rt: &impl Abort, cases: &[(&str, KeyCode, KeyModifiers)]) {
+    for (text, code, modifiers) in cases {
+        assert!(rt; is_key(text, *code, *modifiers), "at {text}");
+    }
+}
+
 #[test]
 fn modifiers_and_keys_are_read(rt: HostRuntime) {
-    let table = [
+    let cases = &[
         ("c--x", KeyCode::Char('x'), KeyModifiers::CONTROL),
         ("c-", KeyCode::Null, KeyModifiers::CONTROL),
         ("-", KeyCode::Null, KeyModifiers::NONE),
@@ -24,14 +31,19 @@ fn modifiers_and_keys_are_read(rt: HostRuntime) {
         ("s-g", KeyCode::Char('g'), KeyModifiers::SHIFT),
         (" x\n", KeyCode::Char('x'), KeyModifiers::NONE),
     ];
-    for (text, code, modifiers) in table {
-        assert!(rt; is_key(text, code, modifiers), "at {text}");
+    assert_keys(&rt, cases);
+}
+
+// Fails where a text describes a key, or none for another reason.
+fn assert_refused(rt: &impl Abort, cases: &[(&str, DescriptionError)]) {
+    for (text, fault) in cases {
+        assert!(rt; is_refused(text, *fault), "at {text}");
     }
 }
 
 #[test]
 fn the_first_fault_from_the_left_is_told(rt: HostRuntime) {
-    let table = [
+    let cases = &[
         ("a--x", DescriptionError::EmptySegment),
         ("q-c", DescriptionError::SecondKey),
         ("--", DescriptionError::EmptySegment),
@@ -47,14 +59,19 @@ fn the_first_fault_from_the_left_is_told(rt: HostRuntime) {
         ("x-foo", DescriptionError::UnknownName),
         ("C-x", DescriptionError::SecondKey),
     ];
-    for (text, fault) in table {
-        assert!(rt; is_refused(text, fault), "at {text}");
+    assert_refused(&rt, cases);
+}
+
+// Fails where a name is not that of a key with this code.
+fn assert_named(rt: &impl Abort, cases: &[(&str, KeyCode)]) {
+    for (name, code) in cases {
+        assert!(rt; is_key(name, *code, KeyModifiers::NONE), "at {name}");
     }
 }
 
 #[test]
 fn names_are_read_in_any_case(rt: HostRuntime) {
-    let table = [
+    let cases = &[
         ("Enter", KeyCode::Enter),
         ("TAB", KeyCode::Tab),
         ("backTab", KeyCode::BackTab),
@@ -85,7 +102,5 @@ fn names_are_read_in_any_case(rt: HostRuntime) {
         ("F11", KeyCode::F(11)),
         ("f12", KeyCode::F(12)),
     ];
-    for (name, code) in table {
-        assert!(rt; is_key(name, code, KeyModifiers::NONE), "at {name}");
-    }
+    assert_named(&rt, cases);
 }

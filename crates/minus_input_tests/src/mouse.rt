@@ -1,7 +1,7 @@
 //! Worked descriptions of the mouse's actions.
 use minus_input::parse_mouse_event;
 use minus_term::{DescriptionError, KeyModifiers, MouseButton, MouseEventKind};
-use std::test::Fail;
+use std::process::Abort;
 
 // Whether a text describes this action of the mouse with these modifiers.
 fn is_mouse(text: &str, kind: MouseEventKind, modifiers: KeyModifiers) -> bool {
@@ -13,9 +13,16 @@ fn is_refused(text: &str, fault: DescriptionError) -> bool {
     parse_mouse_event(text).err() == Some(fault)
 }
 
+// Fails where a text does not describe this action of the mouse without modifiers.
+fn assert_actions(rt: &impl Abort, cases: &[(&str, MouseEventKind)]) {
+    for (text, kind) in cases {
+        assert!(rt; is_mouse(text, *kind, KeyModifiers::NONE), "at {text}");
+    }
+}
+
 #[test]
 fn buttons_and_wheel_are_read(rt: HostRuntime) {
-    let table = [
+    let cases = &[
         ("Left:Down", MouseEventKind::Down(MouseButton::Left)),
         ("left:up", MouseEventKind::Up(MouseButton::Left)),
         ("LEFT:drag", MouseEventKind::Drag(MouseButton::Left)),
@@ -27,9 +34,7 @@ fn buttons_and_wheel_are_read(rt: HostRuntime) {
         ("scroll:UP", MouseEventKind::ScrollUp),
         ("Scroll:down", MouseEventKind::ScrollDown),
     ];
-    for (name, kind) in table {
-        assert!(rt; is_mouse(name, kind, KeyModifiers::NONE), "at {name}");
-    }
+    assert_actions(&rt, cases);
 }
 
 #[test]
@@ -44,15 +49,10 @@ fn modifiers_are_read_before_an_action(rt: HostRuntime) {
 
 #[test]
 fn what_is_no_action_is_refused(rt: HostRuntime) {
-    let table = [
-        ("é", DescriptionError::NotAscii),
-        ("  ", DescriptionError::Empty),
-        ("m", DescriptionError::UnknownName),
-        ("c-", DescriptionError::NoAction),
-        ("x-left:up", DescriptionError::UnknownName),
-        ("left:up-move", DescriptionError::SecondKey),
-    ];
-    for (text, fault) in table {
-        assert!(rt; is_refused(text, fault), "at {text}");
-    }
+    assert!(rt; is_refused("é", DescriptionError::NotAscii));
+    assert!(rt; is_refused("  ", DescriptionError::Empty));
+    assert!(rt; is_refused("m", DescriptionError::UnknownName));
+    assert!(rt; is_refused("c-", DescriptionError::NoAction));
+    assert!(rt; is_refused("x-left:up", DescriptionError::UnknownName));
+    assert!(rt; is_refused("left:up-move", DescriptionError::SecondKey));
 }

@@ -6,3 +6,4 @@ mod printing;
 mod program;
 mod reading;
 mod runs;
+mod words;

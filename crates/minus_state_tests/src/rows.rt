@@ -3,23 +3,27 @@ use minus_state::{
     Selection, get_horizontal_scroll_bounds, highlight_visible_range, marked_range,
     place_after_visible, place_of_visible,
 };
-use std::test::Fail;
+use std::alloc::Global;
+
+// Whether a row is marked so between two columns.
+fn is_marked(alloc: Global, row: &str, start: usize, end: usize, marked: &str) -> bool {
+    match highlight_visible_range(alloc, row, start, end) {
+        Ok(text) => text.as_str() == marked,
+        Err(_) => false,
+    }
+}
 
 #[test]
-fn selected_characters_are_marked(rt: HostRuntime) -> Result<(), Fail> {
-    let table = [
-        ("ab\x1b[0mc", 0, 2, "\x1b[7mab\x1b[0m\x1b[27mc"),
-        // to the row's end, past a sequence there
-        ("ab\x1b[0m", 1, 9, "a\x1b[7mb\x1b[0m\x1b[27m"),
-        // nothing is marked in a row that is shorter, or between no columns
-        ("ab", 2, 3, "ab"),
-        ("ab", 1, 1, "ab"),
-    ];
-    for (row, start, end, marked) in table {
-        let text = highlight_visible_range(rt.alloc(), row, start, end)?;
-        assert!(rt; text.as_str() == marked, "at {row}");
-    }
-    Ok(())
+fn selected_characters_are_marked(rt: HostRuntime) {
+    let alloc = rt.alloc();
+    let before = "\x1b[7mab\x1b[0m\x1b[27mc";
+    assert!(rt; is_marked(alloc, "ab\x1b[0mc", 0, 2, before));
+    // to the row's end, past a sequence there
+    let to_the_end = "a\x1b[7mb\x1b[0m\x1b[27m";
+    assert!(rt; is_marked(alloc, "ab\x1b[0m", 1, 9, to_the_end));
+    // nothing is marked in a row that is shorter, or between no columns
+    assert!(rt; is_marked(alloc, "ab", 2, 3, "ab"));
+    assert!(rt; is_marked(alloc, "ab", 1, 1, "ab"));
 }
 
 #[test]
@@ -51,16 +55,11 @@ fn places_are_those_of_visible_characters(rt: HostRuntime) {
 
 #[test]
 fn bounds_are_those_of_whole_units(rt: HostRuntime) {
+    // with numbers, the columns behind the prefix
     let row = "     \x1b[1m1.\x1b[0m abcdefghij";
-    let table = [
-        // with numbers, the columns behind the prefix
-        (row, 12, 2, true, (16, 18, 22)),
-        (row, 12, 6, true, (16, 22, 26)),
-        ("日本語abc", 4, 1, false, (0, 3, 6)),
-        ("日本語abc", 4, 99, false, (0, 12, 12)),
-    ];
-    for (line, cols, start, numbers, bounds) in table {
-        let found = get_horizontal_scroll_bounds(line, cols, start, numbers, 1);
-        assert!(rt; found == bounds, "at {line} from {start}");
-    }
+    let numbered = get_horizontal_scroll_bounds(row, 12, 2, true, 1) == (16, 18, 22)
+        && get_horizontal_scroll_bounds(row, 12, 6, true, 1) == (16, 22, 26);
+    let wide = get_horizontal_scroll_bounds("日本語abc", 4, 1, false, 1) == (0, 3, 6)
+        && get_horizontal_scroll_bounds("日本語abc", 4, 99, false, 1) == (0, 12, 12);
+    assert!(rt; numbered && wide);
 }

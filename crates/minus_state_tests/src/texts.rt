@@ -1,42 +1,30 @@
-//! Texts with their rows, and what is selected of them.
+//! Texts with their rows, and what is selected of them. Where memory runs out, each answer is `false`.
 use minus_state::{Selection, SelectionEnds};
-use minus_term::MinusError;
-use minus_term::error::RegexError;
 use minus_text::{Layout, Patterns, Screen, Term};
 use regex::Regex;
 use std::alloc::Global;
 
-// A text in a layout.
-pub(crate) fn formed(alloc: Global, text: &str, layout: Layout) -> Result<Screen, MinusError> {
-    let mut screen = Screen::new(alloc);
-    let _ = screen.set_text(alloc, text, layout, None)?;
-    Ok(screen)
+// Forms a text in a layout.
+pub(crate) fn form(alloc: Global, screen: &mut Screen, text: &str, layout: Layout) -> bool {
+    screen.set_text(alloc, text, layout, None).is_ok()
 }
 
-// A pattern built of its text.
-fn pattern(alloc: Global, text: &str) -> Result<Regex, MinusError> {
-    match Regex::new(alloc, text) {
-        Ok(pattern) => Ok(pattern),
-        Err(cause) => Err(MinusError::SearchExpError(RegexError(cause))),
-    }
-}
-
-// A text in a layout, searched for a term.
-pub(crate) fn searched(
+// Forms a text in a layout, searched for a term.
+pub(crate) fn form_searched(
     alloc: Global,
+    screen: &mut Screen,
     text: &str,
     layout: Layout,
     term: &str,
-) -> Result<Screen, MinusError> {
-    let patterns = Patterns::new(alloc)?;
-    let pattern = pattern(alloc, term)?;
+) -> bool {
+    let (Ok(patterns), Ok(pattern)) = (Patterns::new(alloc), Regex::new(alloc, term)) else {
+        return false;
+    };
     let term = Some(Term {
         patterns: &patterns,
         pattern: &pattern,
     });
-    let mut screen = Screen::new(alloc);
-    let _ = screen.set_text(alloc, text, layout, term)?;
-    Ok(screen)
+    screen.set_text(alloc, text, layout, term).is_ok()
 }
 
 // An end of a selection.

@@ -1,155 +1,127 @@
 //! The texts and numbers of the errors.
 use minus_term::{CleanupError, Hook, MinusError, RegexError, SetupError, TermError};
-use std::alloc::{AllocError, Global};
+use std::alloc::Global;
 use std::io::ErrorKind;
-use std::test::Fail;
 use std::{fmt, io};
 
+// The fault of an operation on a terminal.
 fn broken() -> TermError {
     TermError::from(io::Error::from(ErrorKind::BrokenPipe))
 }
 
 // Whether a value is shown as this text.
-fn is_shown<T: fmt::Display>(alloc: Global, value: &T, text: &str) -> Result<bool, AllocError> {
-    Ok(format!(in alloc; "{value}")?.as_str() == text)
+fn is_shown<T: fmt::Display>(alloc: Global, value: &T, text: &str) -> bool {
+    let mut shown = String::new(alloc);
+    write!(shown, "{value}").is_ok() && shown.as_str() == text
 }
 
 // Whether an error has this number and text.
-fn is_named(alloc: Global, error: &MinusError, number: u8, text: &str) -> Result<bool, AllocError> {
-    Ok(error.number() == number && is_shown(alloc, error, text)?)
+fn is_named(alloc: Global, error: MinusError, number: u8, text: &str) -> bool {
+    error.number() == number && is_shown(alloc, &error, text)
 }
 
 #[test]
-fn names_each_error(rt: HostRuntime) -> Result<(), Fail> {
+fn names_each_error(rt: HostRuntime) {
     let alloc = rt.alloc();
-    let table = [
-        (MinusError::Memory, 1, "refused 1"),
-        (MinusError::NewlineInPrompt, 2, "refused 2"),
-        (MinusError::BadSize(1, 2), 5, "refused 5"),
-        (MinusError::BadMode, 9, "refused 9"),
-        (MinusError::Failed, 10, "refused 10"),
-        (MinusError::Ended, 11, "refused 11"),
-        (
-            MinusError::from(SetupError::InvalidTerminal),
-            12,
-            "Failed to initialize the terminal",
-        ),
-        (
-            MinusError::from(CleanupError::ShowCursor(broken())),
-            13,
-            "Failed to clean up the terminal",
-        ),
-        (
-            MinusError::from(io::Error::from(ErrorKind::BrokenPipe)),
-            14,
-            "Failed to draw the new data",
-        ),
-        (
-            MinusError::from(fmt::Error),
-            16,
-            "Failed to send formatted data to the pager",
-        ),
-        (
-            MinusError::HandleEvent(broken()),
-            0,
-            "Failed to handle terminal event",
-        ),
-        (
-            MinusError::from(broken()),
-            0,
-            "Failed to do an operation on the cursor",
-        ),
-        (
-            MinusError::Conversion,
-            0,
-            "Failed to convert between some primitives",
-        ),
-    ];
-    for (error, number, text) in &table {
-        assert!(rt; is_named(alloc, error, *number, text)?, "at {text}");
-    }
-    Ok(())
+    assert!(rt; is_named(alloc, MinusError::Memory, 1, "refused 1"));
+    assert!(rt; is_named(alloc, MinusError::NewlineInPrompt, 2, "refused 2"));
+    assert!(rt; is_named(alloc, MinusError::BadSize(1, 2), 5, "refused 5"));
+    assert!(rt; is_named(alloc, MinusError::BadMode, 9, "refused 9"));
+    assert!(rt; is_named(alloc, MinusError::Failed, 10, "refused 10"));
+    assert!(rt; is_named(alloc, MinusError::Ended, 11, "refused 11"));
+    let conversion = "Failed to convert between some primitives";
+    assert!(rt; is_named(alloc, MinusError::Conversion, 0, conversion));
+    let format = "Failed to send formatted data to the pager";
+    assert!(rt; is_named(alloc, MinusError::from(fmt::Error), 16, format));
 }
 
 #[test]
-fn names_each_error_of_a_setup(rt: HostRuntime) -> Result<(), Fail> {
-    let table = [
-        (
-            SetupError::InvalidTerminal,
-            "The standard output is not a valid terminal",
-        ),
-        (
-            SetupError::AlternateScreen(broken()),
-            "Failed to switch to alternate screen",
-        ),
-        (SetupError::RawMode(broken()), "Failed to enable raw mode"),
-        (
-            SetupError::HideCursor(broken()),
-            "Failed to hide the cursor",
-        ),
-        (
-            SetupError::EnableMouseCapture(broken()),
-            "Failed to enable mouse capture",
-        ),
-        (
-            SetupError::TerminalSize(broken()),
-            "Couldn't determine the terminal size",
-        ),
-    ];
-    for (error, text) in &table {
-        assert!(rt; is_shown(rt.alloc(), error, text)?, "at {text}");
-    }
-    Ok(())
-}
-
-#[test]
-fn names_each_error_of_a_cleanup(rt: HostRuntime) -> Result<(), Fail> {
-    let table = [
-        (
-            CleanupError::DisableMouseCapture(broken()),
-            "Failed to disable mouse capture",
-        ),
-        (
-            CleanupError::ShowCursor(broken()),
-            "Failed to show the cursor",
-        ),
-        (
-            CleanupError::DisableRawMode(broken()),
-            "Failed to disable raw mode",
-        ),
-        (
-            CleanupError::LeaveAlternateScreen(broken()),
-            "Failed to switch back to main screen",
-        ),
-    ];
-    for (error, text) in &table {
-        assert!(rt; is_shown(rt.alloc(), error, text)?, "at {text}");
-    }
-    Ok(())
-}
-
-#[test]
-fn names_a_cause_by_its_own_text(rt: HostRuntime) -> Result<(), Fail> {
-    assert!(rt; is_shown(rt.alloc(), &broken(), "broken pipe")?);
-    Ok(())
-}
-
-#[test]
-fn names_a_faulty_pattern_by_its_cause(rt: HostRuntime) -> Result<(), Fail> {
+fn names_each_error_of_a_terminal(rt: HostRuntime) {
     let alloc = rt.alloc();
-    let cause = regex::Error::CompiledTooBig;
-    let text = format!(in alloc; "{cause}")?;
-    let error = RegexError::from(cause);
-    let is_shown_so = is_shown(alloc, &error, text.as_str())?;
-    assert!(rt; is_shown_so && is_named(alloc, &MinusError::from(error), 15, text.as_str())?);
-    Ok(())
+    let setup = MinusError::from(SetupError::InvalidTerminal);
+    assert!(rt; is_named(alloc, setup, 12, "Failed to initialize the terminal"));
+    let cleanup = MinusError::from(CleanupError::ShowCursor(broken()));
+    assert!(rt; is_named(alloc, cleanup, 13, "Failed to clean up the terminal"));
+    let draw = MinusError::from(io::Error::from(ErrorKind::BrokenPipe));
+    assert!(rt; is_named(alloc, draw, 14, "Failed to draw the new data"));
+    let event = MinusError::HandleEvent(broken());
+    assert!(rt; is_named(alloc, event, 0, "Failed to handle terminal event"));
+    let cursor = MinusError::from(broken());
+    assert!(rt; is_named(alloc, cursor, 0, "Failed to do an operation on the cursor"));
+}
+
+// Whether an error of a setup has this text.
+fn is_setup(alloc: Global, error: SetupError, text: &str) -> bool {
+    is_shown(alloc, &error, text)
 }
 
 #[test]
-fn names_a_hook(rt: HostRuntime) -> Result<(), Fail> {
+fn names_each_error_of_a_setup(rt: HostRuntime) {
+    let alloc = rt.alloc();
+    let invalid = "The standard output is not a valid terminal";
+    assert!(rt; is_setup(alloc, SetupError::InvalidTerminal, invalid));
+    let screen = "Failed to switch to alternate screen";
+    assert!(rt; is_setup(alloc, SetupError::AlternateScreen(broken()), screen));
+    let raw = "Failed to enable raw mode";
+    assert!(rt; is_setup(alloc, SetupError::RawMode(broken()), raw));
+    let cursor = "Failed to hide the cursor";
+    assert!(rt; is_setup(alloc, SetupError::HideCursor(broken()), cursor));
+    let mouse = "Failed to enable mouse capture";
+    assert!(rt; is_setup(alloc, SetupError::EnableMouseCapture(broken()), mouse));
+    let size = "Couldn't determine the terminal size";
+    assert!(rt; is_setup(alloc, SetupError::TerminalSize(broken()), size));
+}
+
+// Whether an error of a cleanup has this text.
+fn is_cleanup(alloc: Global, error: CleanupError, text: &str) -> bool {
+    is_shown(alloc, &error, text)
+}
+
+#[test]
+fn names_each_error_of_a_cleanup(rt: HostRuntime) {
+    let alloc = rt.alloc();
+    let mouse = "Failed to disable mouse capture";
+    assert!(rt; is_cleanup(alloc, CleanupError::DisableMouseCapture(broken()), mouse));
+    let cursor = "Failed to show the cursor";
+    assert!(rt; is_cleanup(alloc, CleanupError::ShowCursor(broken()), cursor));
+    let raw = "Failed to disable raw mode";
+    assert!(rt; is_cleanup(alloc, CleanupError::DisableRawMode(broken()), raw));
+    let screen = "Failed to switch back to main screen";
+    assert!(rt; is_cleanup(alloc, CleanupError::LeaveAlternateScreen(broken()), screen));
+}
+
+#[test]
+fn names_a_cause_by_its_own_text(rt: HostRuntime) {
+    assert!(rt; is_shown(rt.alloc(), &broken(), "broken pipe"));
+}
+
+// The fault of a pattern that is too big.
+fn too_big() -> RegexError {
+    RegexError::from(regex::Error::CompiledTooBig)
+}
+
+// Whether a pattern's fault, by itself and as an error, has the text of its cause, which is put into `text`.
+fn is_named_by_its_cause(alloc: Global, text: &mut String) -> bool {
+    write!(text, "{}", regex::Error::CompiledTooBig).is_ok()
+        && is_shown(alloc, &too_big(), text.as_str())
+        && is_named(alloc, MinusError::from(too_big()), 15, text.as_str())
+}
+
+#[test]
+fn names_a_faulty_pattern_by_its_cause(rt: HostRuntime) {
+    let mut text = String::new(rt.alloc());
+    assert!(rt; is_named_by_its_cause(rt.alloc(), &mut text));
+}
+
+// Whether a hook has this name.
+fn is_hook(alloc: Global, hook: Hook, name: &str) -> bool {
+    let mut text = String::new(alloc);
+    write!(text, "{hook:?}").is_ok() && text.as_str() == name
+}
+
+#[test]
+fn names_a_hook(rt: HostRuntime) {
     let hook = Hook::PostPagerExit;
     let is_told_apart = hook == Hook::PostPagerExit && hook != Hook::PrePagerExit;
-    let name = format!(in rt.alloc(); "{hook:?}")?;
-    assert!(rt; is_told_apart && name.as_str() == "PostPagerExit");
-    Ok(())
+    assert!(rt; is_told_apart && is_hook(rt.alloc(), hook, "PostPagerExit"));
 }

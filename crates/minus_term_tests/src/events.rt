@@ -5,7 +5,6 @@ use minus_term::{
     MouseEventKind,
 };
 use std::hash::{DefaultHasher, Hash, Hasher};
-use std::test::Fail;
 
 // A character's key, pressed.
 fn pressed(character: char, modifiers: KeyModifiers) -> KeyEvent {
@@ -24,20 +23,24 @@ fn hashed(key: &KeyEvent) -> u64 {
     hasher.finish()
 }
 
+// Whether two keys are equal and hash alike.
+fn are_equal(one: KeyEvent, other: KeyEvent) -> bool {
+    one == other && hashed(&one) == hashed(&other)
+}
+
+// Whether two keys are not equal and hash apart.
+fn are_apart(one: KeyEvent, other: KeyEvent) -> bool {
+    one != other && hashed(&one) != hashed(&other)
+}
+
 #[test]
 fn letters_with_shift_equal_their_capitals(rt: HostRuntime) {
     let small = pressed('a', KeyModifiers::SHIFT);
-    let table = [
-        (pressed('A', KeyModifiers::NONE), true),
-        (pressed('A', KeyModifiers::SHIFT), true),
-        (pressed('a', KeyModifiers::NONE), false),
-        (pressed('A', KeyModifiers::CONTROL), false),
-        (pressed('B', KeyModifiers::SHIFT), false),
-    ];
-    for (key, equal) in table {
-        let hashes = hashed(&small) == hashed(&key);
-        assert!(rt; (small == key) == equal && hashes == equal, "at {key:?}");
-    }
+    assert!(rt; are_equal(small, pressed('A', KeyModifiers::NONE)));
+    assert!(rt; are_equal(small, pressed('A', KeyModifiers::SHIFT)));
+    assert!(rt; are_apart(small, pressed('a', KeyModifiers::NONE)));
+    assert!(rt; are_apart(small, pressed('A', KeyModifiers::CONTROL)));
+    assert!(rt; are_apart(small, pressed('B', KeyModifiers::SHIFT)));
 }
 
 #[test]
@@ -76,36 +79,34 @@ fn events_of_other_kinds_compare_all_they_hold(rt: HostRuntime) {
     assert!(rt; sizes && same && apart);
 }
 
+// Whether modifiers have these bits, and these bits are read as them.
+fn are_modifiers(modifiers: KeyModifiers, bits: u8) -> bool {
+    KeyModifiers::from_bits(bits) == Some(modifiers) && modifiers.bits() == bits
+}
+
 #[test]
 fn modifiers_have_their_bits(rt: HostRuntime) {
-    let table = [
-        (KeyModifiers::NONE, 0),
-        (KeyModifiers::SHIFT, 1),
-        (KeyModifiers::CONTROL, 2),
-        (KeyModifiers::ALT, 4),
-        (KeyModifiers::SUPER, 8),
-        (KeyModifiers::HYPER, 16),
-        (KeyModifiers::META, 32),
-        (KeyModifiers::SHIFT | KeyModifiers::ALT, 5),
-    ];
-    for (modifiers, bits) in table {
-        let back = KeyModifiers::from_bits(bits) == Some(modifiers);
-        assert!(rt; back && modifiers.bits() == bits, "at {bits}");
-    }
+    assert!(rt; are_modifiers(KeyModifiers::NONE, 0));
+    assert!(rt; are_modifiers(KeyModifiers::SHIFT, 1));
+    assert!(rt; are_modifiers(KeyModifiers::CONTROL, 2));
+    assert!(rt; are_modifiers(KeyModifiers::ALT, 4));
+    assert!(rt; are_modifiers(KeyModifiers::SUPER, 8));
+    assert!(rt; are_modifiers(KeyModifiers::HYPER, 16));
+    assert!(rt; are_modifiers(KeyModifiers::META, 32));
+    assert!(rt; are_modifiers(KeyModifiers::SHIFT | KeyModifiers::ALT, 5));
+}
+
+// Whether a state has these bits, and these bits are read as it.
+fn is_state(state: KeyEventState, bits: u8) -> bool {
+    KeyEventState::from_bits(bits) == Some(state) && state.bits() == bits
 }
 
 #[test]
 fn states_have_their_bits(rt: HostRuntime) {
-    let table = [
-        (KeyEventState::NONE, 0),
-        (KeyEventState::KEYPAD, 1),
-        (KeyEventState::CAPS_LOCK, 2),
-        (KeyEventState::NUM_LOCK, 4),
-    ];
-    for (state, bits) in table {
-        let back = KeyEventState::from_bits(bits) == Some(state);
-        assert!(rt; back && state.bits() == bits, "at {bits}");
-    }
+    assert!(rt; is_state(KeyEventState::NONE, 0));
+    assert!(rt; is_state(KeyEventState::KEYPAD, 1));
+    assert!(rt; is_state(KeyEventState::CAPS_LOCK, 2));
+    assert!(rt; is_state(KeyEventState::NUM_LOCK, 4));
 }
 
 #[test]

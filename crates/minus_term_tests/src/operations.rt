@@ -1,20 +1,27 @@
 //! The bytes of each operation, and how they reach a sink.
 use crate::stubborn::{Refusal, Stubborn};
 use minus_term::{DrawOp, OutputSink, draw_bytes, write_bytes, write_op};
-use std::alloc::{AllocError, Global};
+use std::alloc::Global;
+use std::io;
 use std::io::ErrorKind;
-use std::test::Fail;
+use std::process::Abort;
 
 // Whether an operation is written as these bytes.
-fn is_written(alloc: Global, op: &DrawOp<'_>, bytes: &str) -> Result<bool, AllocError> {
+fn is_written(alloc: Global, op: &DrawOp<'_>, bytes: &str) -> bool {
     let mut out = Vec::new(alloc);
-    write_op(alloc, &mut out, op)?;
-    Ok(out.as_slice() == bytes.as_bytes())
+    write_op(alloc, &mut out, op).is_ok() && out.as_slice() == bytes.as_bytes()
+}
+
+// Fails where an operation is written otherwise.
+fn assert_written(rt: &impl Abort, alloc: Global, cases: &[(DrawOp<'_>, &str)]) {
+    for (op, bytes) in cases {
+        assert!(rt; is_written(alloc, op, bytes), "at {op:?}");
+    }
 }
 
 #[test]
-fn writes_each_operation(rt: HostRuntime) -> Result<(), Fail> {
-    let table = [
+fn writes_each_operation(rt: HostRuntime) {
+    let cases = &[
         (DrawOp::ClearAll, "\x1b[2J"),
         (DrawOp::ClearRow, "\x1b[2K"),
         (DrawOp::GoTo(4, 9), "\x1b[10;5H"),
@@ -29,21 +36,21 @@ fn writes_each_operation(rt: HostRuntime) -> Result<(), Fail> {
         (DrawOp::ShowCursor, "\x1b[?25h"),
         (DrawOp::HideCursor, "\x1b[?25l"),
     ];
-    for (op, bytes) in table {
-        assert!(rt; is_written(rt.alloc(), &op, bytes)?, "at {op:?}");
-    }
-    Ok(())
+    assert_written(&rt, rt.alloc(), cases);
+}
+
+// Whether a vector takes drawings of texts, one after another.
+fn takes_three(sink: &mut Vec<u8>) -> bool {
+    draw_bytes(sink, b"one").is_ok()
+        && draw_bytes(sink, b"").is_ok()
+        && draw_bytes(sink, b"two").is_ok()
 }
 
 #[test]
-fn draws_to_a_vector(rt: HostRuntime) -> Result<(), Fail> {
+fn draws_to_a_vector(rt: HostRuntime) {
     let mut sink = Vec::new(rt.alloc());
-    for bytes in ["one", "", "two"] {
-        draw_bytes(&mut sink, bytes.as_bytes())?;
-    }
-    let passed = sink.as_slice() == b"onetwo".as_slice() && !sink.is_tty();
-    assert!(rt; passed);
-    Ok(())
+    let taken = takes_three(&mut sink) && !sink.is_tty();
+    assert!(rt; taken && sink.as_slice() == b"onetwo".as_slice());
 }
 
 #[test]
@@ -53,20 +60,24 @@ fn settles_once_after_all_bytes(rt: HostRuntime) {
     assert!(rt; drawn && sink.has_taken(b"xyz", 3, 1));
 }
 
+// The kind of a refusal.
+fn kind_of(outcome: io::Result<()>) -> Option<ErrorKind> {
+    match outcome {
+        Ok(()) => None,
+        Err(cause) => Some(cause.kind()),
+    }
+}
+
 #[test]
 fn hands_on_the_first_refusal(rt: HostRuntime) {
     let mut sink = Stubborn::new(rt.alloc(), 3, Refusal::Interrupted);
-    let kind = draw_bytes(&mut sink, b"xyz!")
-        .err()
-        .map(|cause| cause.kind());
+    let kind = kind_of(draw_bytes(&mut sink, b"xyz!"));
     assert!(rt; kind == Some(ErrorKind::Interrupted) && sink.has_taken(b"xy", 3, 0));
 }
 
 #[test]
 fn takes_nothing_for_a_refusal(rt: HostRuntime) {
     let mut sink = Stubborn::new(rt.alloc(), 2, Refusal::NothingTaken);
-    let kind = write_bytes(&mut sink, b"xyz")
-        .err()
-        .map(|cause| cause.kind());
+    let kind = kind_of(write_bytes(&mut sink, b"xyz"));
     assert!(rt; kind == Some(ErrorKind::WriteZero) && sink.has_taken(b"x", 2, 0));
 }

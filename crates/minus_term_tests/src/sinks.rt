@@ -3,7 +3,6 @@ use crate::stubborn::{Refusal, Stubborn};
 use minus_term::{OutputSink, WithTty, draw_bytes};
 use std::alloc::Global;
 use std::io::{Cursor, Read};
-use std::test::Fail;
 use std::{fs, io};
 
 // Whether a sink takes a drawing, and says that it is no terminal.
@@ -18,21 +17,31 @@ fn draws_to_a_cursor(rt: HostRuntime) {
     assert!(rt; taken && cursor.into_inner().as_slice() == b"to a cursor".as_slice());
 }
 
-#[test]
-fn draws_to_a_box(rt: HostRuntime) -> Result<(), Fail> {
-    let mut boxed = Box::new(rt.alloc(), Vec::new(rt.alloc()))?;
-    let taken = takes(&mut boxed, b"to a box");
-    assert!(rt; taken && boxed.as_slice() == b"to a box".as_slice());
-    Ok(())
+// Whether a box of a vector takes a drawing.
+fn boxed_takes(alloc: Global, bytes: &[u8]) -> bool {
+    match Box::new(alloc, Vec::new(alloc)) {
+        Ok(mut boxed) => takes(&mut boxed, bytes) && boxed.as_slice() == bytes,
+        Err(_) => false,
+    }
 }
 
 #[test]
-fn a_box_settles_what_it_holds(rt: HostRuntime) -> Result<(), Fail> {
+fn draws_to_a_box(rt: HostRuntime) {
+    assert!(rt; boxed_takes(rt.alloc(), b"to a box"));
+}
+
+// Whether a box settles the sink that it holds, once for a drawing.
+fn boxed_settles(alloc: Global, inner: Stubborn, bytes: &[u8]) -> bool {
+    match Box::new(alloc, inner) {
+        Ok(mut boxed) => takes(&mut boxed, bytes) && boxed.flushes == 1,
+        Err(_) => false,
+    }
+}
+
+#[test]
+fn a_box_settles_what_it_holds(rt: HostRuntime) {
     let inner = Stubborn::new(rt.alloc(), 0, Refusal::Interrupted);
-    let mut boxed = Box::new(rt.alloc(), inner)?;
-    let taken = takes(&mut boxed, b"settled");
-    assert!(rt; taken && boxed.flushes == 1);
-    Ok(())
+    assert!(rt; boxed_settles(rt.alloc(), inner, b"settled"));
 }
 
 #[test]
@@ -49,38 +58,51 @@ fn draws_to_each_standard_stream(rt: HostRuntime) {
     assert!(rt; streams && puts);
 }
 
-#[test]
-fn draws_to_a_file(rt: HostRuntime) -> Result<(), Fail> {
-    let path = "draws_to_a_file.txt";
-    let taken = takes(&mut fs::create(&rt, path)?, b"to a file");
-    let mut text = Vec::new(rt.alloc());
-    let _ = fs::open(&rt, path)?.read_to_end(&mut text)?;
-    assert!(rt; taken && text.as_slice() == b"to a file".as_slice());
-    Ok(())
+// Whether a new file takes a drawing.
+fn file_takes(rt: &HostRuntime, path: &str, bytes: &[u8]) -> bool {
+    match fs::create(rt, path) {
+        Ok(mut file) => takes(&mut file, bytes),
+        Err(_) => false,
+    }
 }
 
-// The counts after a write that takes nothing, an interrupted one, a refused flush and a drawing that ends well.
-fn counts_of(alloc: Global) -> [u64; 4] {
-    let mut sink = WithTty::new(Stubborn::new(alloc, 2, Refusal::NothingTaken), true);
-    let _ = draw_bytes(&mut sink, b"xyz");
-    let nothing_taken = sink.refusals;
+// Whether a file holds these bytes.
+fn file_holds(rt: &HostRuntime, path: &str, bytes: &[u8]) -> bool {
+    let mut held = Vec::new(rt.alloc());
+    match fs::open(rt, path) {
+        Ok(mut file) => file.read_to_end(&mut held).is_ok() && held.as_slice() == bytes,
+        Err(_) => false,
+    }
+}
+
+#[test]
+fn draws_to_a_file(rt: HostRuntime) {
+    let path = "draws_to_a_file.txt";
+    let taken = file_takes(&rt, path, b"to a file");
+    assert!(rt; taken && file_holds(&rt, path, b"to a file"));
+}
+
+// Whether a drawing is refused, as the last of so many.
+fn is_refused(sink: &mut WithTty<Stubborn>, bytes: &[u8], refusals: u64) -> bool {
+    draw_bytes(sink, bytes).is_err() && sink.refusals == refusals
+}
+
+// Whether a write that takes nothing, an interrupted one and a refused flush are counted, and a drawing that ends well
+// is not.
+fn counts(sink: &mut WithTty<Stubborn>) -> bool {
+    let nothing_taken = is_refused(sink, b"xyz", 1);
     sink.inner.refused_write = 4;
     sink.inner.refusal = Refusal::Interrupted;
-    let _ = draw_bytes(&mut sink, b"yz");
-    let interrupted = sink.refusals;
+    let interrupted = is_refused(sink, b"yz", 2);
     sink.inner.refused_flush = 1;
-    let _ = draw_bytes(&mut sink, b"z");
-    let flush_refused = sink.refusals;
-    let _ = draw_bytes(&mut sink, b"!");
-    let drawn = if sink.inner.held.as_slice() == b"xyz!".as_slice() {
-        sink.refusals
-    } else {
-        0
-    };
-    [nothing_taken, interrupted, flush_refused, drawn]
+    let flush_refused = is_refused(sink, b"z", 3);
+    let drawn = draw_bytes(sink, b"!").is_ok() && sink.refusals == 3;
+    nothing_taken && interrupted && flush_refused && drawn
 }
 
 #[test]
 fn counts_each_refusal(rt: HostRuntime) {
-    assert!(rt; counts_of(rt.alloc()) == [1, 2, 3, 3]);
+    let stubborn = Stubborn::new(rt.alloc(), 2, Refusal::NothingTaken);
+    let mut sink = WithTty::new(stubborn, true);
+    assert!(rt; counts(&mut sink) && sink.inner.held.as_slice() == b"xyz!".as_slice());
 }

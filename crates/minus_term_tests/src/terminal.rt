@@ -1,9 +1,8 @@
 //! What sets a terminal up and cleans it up, and which part of it a sink refused.
 use crate::stubborn::{Refusal, Stubborn};
 use minus_term::{SetupError, WithTty, cleanup, setup};
-use std::alloc::{AllocError, Global};
+use std::alloc::Global;
 use std::fmt;
-use std::test::Fail;
 
 const SETUP: &[u8] = b"\x1b[?1049h\x1b[?1000h\x1b[?1002h\x1b[?1003h\x1b[?1015h\x1b[?1006h\x1b[?25l";
 
@@ -19,14 +18,11 @@ fn terminal(alloc: Global, refused_write: u32) -> WithTty<Stubborn> {
 }
 
 // Whether a result is an error with this text.
-fn is_refused<E: fmt::Display + Drop>(
-    alloc: Global,
-    outcome: Result<(), E>,
-    text: &str,
-) -> Result<bool, AllocError> {
+fn is_refused<E: fmt::Display + Drop>(alloc: Global, outcome: Result<(), E>, text: &str) -> bool {
+    let mut shown = String::new(alloc);
     match outcome {
-        Ok(()) => Ok(false),
-        Err(error) => Ok(format!(in alloc; "{error}")?.as_str() == text),
+        Ok(()) => false,
+        Err(error) => write!(shown, "{error}").is_ok() && shown.as_str() == text,
     }
 }
 
@@ -59,53 +55,54 @@ fn a_vector_is_no_terminal(rt: HostRuntime) {
 }
 
 #[test]
-fn sets_up_a_vector_under_the_flag(rt: HostRuntime) -> Result<(), Fail> {
+fn sets_up_a_vector_under_the_flag(rt: HostRuntime) {
     let mut sink = WithTty::new(Vec::new(rt.alloc()), true);
-    setup(&mut sink)?;
-    let is_set_up = sink.inner.as_slice() == SETUP;
-    cleanup(&mut sink.inner, true)?;
-    assert!(rt; is_set_up && sink.inner.len() == SETUP.len() + CLEANUP.len());
-    Ok(())
+    let is_set_up = setup(&mut sink).is_ok() && sink.inner.as_slice() == SETUP;
+    let is_cleaned_up = cleanup(&mut sink.inner, true).is_ok();
+    let has_both = sink.inner.len() == SETUP.len() + CLEANUP.len();
+    assert!(rt; is_set_up && is_cleaned_up && has_both);
+}
+
+// Whether a terminal that refuses a write is not set up, for this reason, and was settled so often before.
+fn is_setup_refused(alloc: Global, write: u32, flushes: u32, text: &str) -> bool {
+    let mut sink = terminal(alloc, write);
+    let is_named = is_refused(alloc, setup(&mut sink), text);
+    is_named && sink.inner.writes == write && sink.inner.flushes == flushes
 }
 
 #[test]
-fn names_the_part_of_a_setup(rt: HostRuntime) -> Result<(), Fail> {
+fn names_the_part_of_a_setup(rt: HostRuntime) {
     let alloc = rt.alloc();
-    let table = [
-        (1, 0, "Failed to switch to alternate screen"),
-        (8, 0, "Failed to switch to alternate screen"),
-        (9, 1, "Failed to enable mouse capture"),
-        (48, 1, "Failed to enable mouse capture"),
-        (49, 2, "Failed to hide the cursor"),
-        (54, 2, "Failed to hide the cursor"),
-    ];
-    for (write, flushes, text) in table {
-        let mut sink = terminal(alloc, write);
-        let is_named = is_refused(alloc, setup(&mut sink), text)?;
-        let is_there = sink.inner.writes == write && sink.inner.flushes == flushes;
-        assert!(rt; is_named && is_there, "at write {write}");
-    }
-    Ok(())
+    let screen = "Failed to switch to alternate screen";
+    assert!(rt; is_setup_refused(alloc, 1, 0, screen));
+    assert!(rt; is_setup_refused(alloc, 8, 0, screen));
+    let mouse = "Failed to enable mouse capture";
+    assert!(rt; is_setup_refused(alloc, 9, 1, mouse));
+    assert!(rt; is_setup_refused(alloc, 48, 1, mouse));
+    let cursor = "Failed to hide the cursor";
+    assert!(rt; is_setup_refused(alloc, 49, 2, cursor));
+    assert!(rt; is_setup_refused(alloc, 54, 2, cursor));
+}
+
+// Whether a sink that takes nothing at a write is not cleaned up, for this reason, and was settled so often before.
+fn is_cleanup_refused(alloc: Global, write: u32, flushes: u32, text: &str) -> bool {
+    let mut sink = Stubborn::new(alloc, write, Refusal::NothingTaken);
+    let is_named = is_refused(alloc, cleanup(&mut sink, true), text);
+    is_named && sink.writes == write && sink.flushes == flushes
 }
 
 #[test]
-fn names_the_part_of_a_cleanup(rt: HostRuntime) -> Result<(), Fail> {
+fn names_the_part_of_a_cleanup(rt: HostRuntime) {
     let alloc = rt.alloc();
-    let table = [
-        (1, 0, "Failed to show the cursor"),
-        (6, 0, "Failed to show the cursor"),
-        (7, 1, "Failed to disable mouse capture"),
-        (46, 1, "Failed to disable mouse capture"),
-        (47, 2, "Failed to switch back to main screen"),
-        (54, 2, "Failed to switch back to main screen"),
-    ];
-    for (write, flushes, text) in table {
-        let mut sink = Stubborn::new(alloc, write, Refusal::NothingTaken);
-        let is_named = is_refused(alloc, cleanup(&mut sink, true), text)?;
-        let is_there = sink.writes == write && sink.flushes == flushes;
-        assert!(rt; is_named && is_there, "at write {write}");
-    }
-    Ok(())
+    let cursor = "Failed to show the cursor";
+    assert!(rt; is_cleanup_refused(alloc, 1, 0, cursor));
+    assert!(rt; is_cleanup_refused(alloc, 6, 0, cursor));
+    let mouse = "Failed to disable mouse capture";
+    assert!(rt; is_cleanup_refused(alloc, 7, 1, mouse));
+    assert!(rt; is_cleanup_refused(alloc, 46, 1, mouse));
+    let screen = "Failed to switch back to main screen";
+    assert!(rt; is_cleanup_refused(alloc, 47, 2, screen));
+    assert!(rt; is_cleanup_refused(alloc, 54, 2, screen));
 }
 
 #[test]

@@ -4,7 +4,6 @@ use minus_term::{MinusError, clear_entire_screen, move_cursor, write_raw_lines};
 use std::alloc::Global;
 use std::convert::AsStr;
 use std::io::ErrorKind;
-use std::test::Fail;
 
 // A sink that refuses nothing.
 fn sink(alloc: Global) -> Stubborn {
@@ -20,23 +19,21 @@ fn kind_of(outcome: Result<(), MinusError>) -> Option<ErrorKind> {
 }
 
 #[test]
-fn moves_the_cursor_and_settles_if_asked_to(rt: HostRuntime) -> Result<(), Fail> {
-    let mut out = sink(rt.alloc());
-    move_cursor(rt.alloc(), &mut out, 4, 9, false)?;
-    let is_left = out.flushes == 0;
-    move_cursor(rt.alloc(), &mut out, 0, 65535, true)?;
-    assert!(rt; is_left && out.has_taken(b"\x1b[10;5H\x1b[65536;1H", 17, 1));
-    Ok(())
+fn moves_the_cursor_and_settles_if_asked_to(rt: HostRuntime) {
+    let alloc = rt.alloc();
+    let mut out = sink(alloc);
+    let is_left = move_cursor(alloc, &mut out, 4, 9, false).is_ok() && out.flushes == 0;
+    let is_moved = move_cursor(alloc, &mut out, 0, 65535, true).is_ok();
+    let is_taken = out.has_taken(b"\x1b[10;5H\x1b[65536;1H", 17, 1);
+    assert!(rt; is_left && is_moved && is_taken);
 }
 
 #[test]
-fn clears_the_screen_and_settles_if_asked_to(rt: HostRuntime) -> Result<(), Fail> {
+fn clears_the_screen_and_settles_if_asked_to(rt: HostRuntime) {
     let mut out = sink(rt.alloc());
-    clear_entire_screen(&mut out, false)?;
-    let is_left = out.flushes == 0;
-    clear_entire_screen(&mut out, true)?;
-    assert!(rt; is_left && out.has_taken(b"\x1b[2J\x1b[2J", 8, 1));
-    Ok(())
+    let is_left = clear_entire_screen(&mut out, false).is_ok() && out.flushes == 0;
+    let is_cleared = clear_entire_screen(&mut out, true).is_ok();
+    assert!(rt; is_left && is_cleared && out.has_taken(b"\x1b[2J\x1b[2J", 8, 1));
 }
 
 // Whether some lines are written as these bytes, and the sink is not settled.
@@ -46,15 +43,21 @@ fn are_written<L: AsStr>(alloc: Global, lines: &[L], initial: Option<&str>, byte
     written && out.held.as_slice() == bytes.as_bytes() && out.flushes == 0
 }
 
+// Whether a string that holds a line is written as the line.
+fn is_string_written(alloc: Global, line: &str, bytes: &str) -> bool {
+    match String::from_str(alloc, line) {
+        Ok(line) => are_written(alloc, [line].as_slice(), None, bytes),
+        Err(_) => false,
+    }
+}
+
 #[test]
-fn writes_raw_lines(rt: HostRuntime) -> Result<(), Fail> {
+fn writes_raw_lines(rt: HostRuntime) {
     let alloc = rt.alloc();
-    let three = [String::from_str(alloc, "three")?];
-    let texts = are_written(alloc, &["one", "", "two"], Some("\r"), "\rone\n\r\n\rtwo\n");
-    let strings = are_written(alloc, three.as_slice(), None, "three\n");
-    let nothing = are_written(alloc, &three[..0], Some("\r"), "");
-    assert!(rt; texts && strings && nothing);
-    Ok(())
+    let lines = &["one", "", "two"];
+    assert!(rt; are_written(alloc, lines, Some("\r"), "\rone\n\r\n\rtwo\n"));
+    assert!(rt; is_string_written(alloc, "three", "three\n"));
+    assert!(rt; are_written(alloc, &lines[..0], Some("\r"), ""));
 }
 
 #[test]

@@ -1,37 +1,35 @@
 //! Scripts as a person writes them, and their faulty lines.
-use crate::parse_script;
+use crate::{ScriptFault, parse_script};
 use minus::{
     Command, Event, Input, InputEvent, KeyCode, KeyEvent, KeyEventKind, KeyEventState, KeyModifiers,
 };
 use std::alloc::Global;
-use std::test::Fail;
+use std::process::Abort;
 
-// What a command is, as its word and its argument.
-fn command_text(alloc: Global, command: &Command) -> Result<String, Fail> {
-    let text = match command {
-        Command::AppendData(added) => format!(in alloc; "push[{added}]")?,
-        Command::SetData(put) => format!(in alloc; "set[{put}]")?,
-        Command::UserInput(InputEvent::UpdateUpperMark(row)) => format!(in alloc; "mark[{row}]")?,
+// Adds what a command is, as its word and its argument.
+fn add_command(text: &mut String, command: &Command) -> bool {
+    let added = match command {
+        Command::AppendData(added) => write!(text, "push[{added}]"),
+        Command::SetData(put) => write!(text, "set[{put}]"),
+        Command::UserInput(InputEvent::UpdateUpperMark(row)) => write!(text, "mark[{row}]"),
         Command::UserInput(InputEvent::UpdateTermArea(cols, rows)) => {
-            format!(in alloc; "resize[{cols} {rows}]")?
+            write!(text, "resize[{cols} {rows}]")
         }
-        Command::SetPrompt(text) => format!(in alloc; "prompt[{text}]")?,
-        Command::SendMessage(text) => format!(in alloc; "message[{text}]")?,
-        Command::FollowOutput(follow) => format!(in alloc; "follow[{follow}]")?,
-        Command::ShowPrompt(is_shown) => format!(in alloc; "showprompt[{is_shown}]")?,
-        Command::LineWrapping(wrapping) => format!(in alloc; "wrap[{wrapping}]")?,
-        Command::SetLineNumbers(numbers) => format!(in alloc; "numbers[{numbers:?}]")?,
-        Command::UserInput(_) | Command::Io(_) | Command::SetInputClassifier(_) => {
-            String::new(alloc)
-        }
+        Command::SetPrompt(prompt) => write!(text, "prompt[{prompt}]"),
+        Command::SendMessage(message) => write!(text, "message[{message}]"),
+        Command::FollowOutput(follow) => write!(text, "follow[{follow}]"),
+        Command::ShowPrompt(is_shown) => write!(text, "showprompt[{is_shown}]"),
+        Command::LineWrapping(wrapping) => write!(text, "wrap[{wrapping}]"),
+        Command::SetLineNumbers(numbers) => write!(text, "numbers[{numbers:?}]"),
+        Command::UserInput(_) | Command::Io(_) | Command::SetInputClassifier(_) => return false,
     };
-    Ok(text)
+    added.is_ok()
 }
 
-// What an input is: a command, or the key that is pressed.
-fn input_text(alloc: Global, input: &Input) -> Result<String, Fail> {
+// Adds what an input is: a command, or the key that is pressed.
+fn add_input(text: &mut String, input: &Input) -> bool {
     match input {
-        Input::Command(command) => command_text(alloc, command),
+        Input::Command(command) => add_command(text, command),
         Input::Event(
             Event::Key(
                 KeyEvent {
@@ -41,28 +39,40 @@ fn input_text(alloc: Global, input: &Input) -> Result<String, Fail> {
                     state: KeyEventState::NONE,
                 },
             ),
-        ) => Ok(format!(in alloc; "key[{character}]")?),
-        Input::Event(_) => Ok(String::new(alloc)),
+        ) => write!(text, "key[{character}]").is_ok(),
+        Input::Event(_) => false,
     }
 }
 
-// The inputs of a script, or the text of its fault.
-fn shown(alloc: Global, script: &[u8]) -> Result<String, Fail> {
+// Adds what inputs are, one after another.
+fn add_inputs(text: &mut String, inputs: &[Input]) -> bool {
+    for input in inputs {
+        if !add_input(text, input) {
+            return false;
+        }
+    }
+    true
+}
+
+// Whether a script has these inputs.
+fn reads(alloc: Global, script: &[u8], wanted: &str) -> bool {
     let mut text = String::new(alloc);
     match parse_script(alloc, script) {
-        Ok(inputs) => {
-            for input in &inputs {
-                text.push_str(input_text(alloc, input)?.as_str())?;
-            }
-        }
-        Err(fault) => text.push_str(format!(in alloc; "{fault}")?.as_str())?,
+        Ok(inputs) => add_inputs(&mut text, &inputs) && text.as_str() == wanted,
+        Err(_) => false,
     }
-    Ok(text)
+}
+
+// Fails where a script has other inputs than these.
+fn assert_reads(rt: &impl Abort, alloc: Global, cases: &[(&[u8], &str)]) {
+    for (script, wanted) in cases {
+        assert!(rt; reads(alloc, script, wanted), "at {wanted}");
+    }
 }
 
 #[test]
-fn reads_each_word(rt: HostRuntime) -> Result<(), Fail> {
-    let table: [(&[u8], &str); 19] = [
+fn reads_each_word(rt: HostRuntime) {
+    let cases: &[(&[u8], &str)] = &[
         (b"", ""),
         (b"push ", "push[]"),
         (b"push \n", "push[]"),
@@ -92,49 +102,58 @@ fn reads_each_word(rt: HostRuntime) -> Result<(), Fail> {
             "numbers[AlwaysOn]numbers[Enabled]numbers[Disabled]numbers[AlwaysOff]",
         ),
     ];
-    for (script, text) in table {
-        assert_eq!(rt; shown(rt.alloc(), script)?.as_str(), text);
+    assert_reads(&rt, rt.alloc(), cases);
+}
+
+// The number of a script's first faulty line.
+fn faulty_line(alloc: Global, script: &[u8]) -> Option<usize> {
+    match parse_script(alloc, script) {
+        Err(ScriptFault::Line(number)) => Some(number),
+        _ => None,
     }
-    Ok(())
+}
+
+// Fails where another line of a script is the first faulty one.
+fn assert_faulty(rt: &impl Abort, alloc: Global, cases: &[(&[u8], usize)]) {
+    for (script, line) in cases {
+        assert_eq!(rt; faulty_line(alloc, script), Some(*line), "of {script:?}");
+    }
 }
 
 #[test]
-fn names_the_first_faulty_line(rt: HostRuntime) -> Result<(), Fail> {
-    let table: [(&[u8], &str); 31] = [
-        (b"\n", "script line 1"),
-        (b"push a\n\npush", "script line 2"),
-        (b"push", "script line 1"),
-        (b"set", "script line 1"),
-        (b"push\n", "script line 1"),
-        (b"pull a", "script line 1"),
-        (b"Push a", "script line 1"),
-        (b" push a", "script line 1"),
-        (b"push\ta", "script line 1"),
-        (b"push a\r\nset b\\", "script line 2"),
-        (b"push \\t", "script line 1"),
-        (b"push a\\", "script line 1"),
-        (b"mark ", "script line 1"),
-        (b"mark  1", "script line 1"),
-        (b"mark 1\r\n", "script line 1"),
-        (b"mark -1", "script line 1"),
-        (b"mark 18446744073709551616", "script line 1"),
-        (b"push a\nset \xff\nmark x\n", "script line 2"),
-        (b"type ab\npull a", "script line 2"),
-        (b"type", "script line 1"),
-        (b"type \\x", "script line 1"),
-        (b"resize 30", "script line 1"),
-        (b"resize 30  6", "script line 1"),
-        (b"resize 30 6 ", "script line 1"),
-        (b"resize 30 x", "script line 1"),
-        (b"prompt", "script line 1"),
-        (b"follow On", "script line 1"),
-        (b"showprompt on ", "script line 1"),
-        (b"wrap yes", "script line 1"),
-        (b"numbers always", "script line 1"),
-        (b"numbers On", "script line 1"),
+fn names_the_first_faulty_line(rt: HostRuntime) {
+    let cases: &[(&[u8], usize)] = &[
+        (b"\n", 1),
+        (b"push a\n\npush", 2),
+        (b"push", 1),
+        (b"set", 1),
+        (b"push\n", 1),
+        (b"pull a", 1),
+        (b"Push a", 1),
+        (b" push a", 1),
+        (b"push\ta", 1),
+        (b"push a\r\nset b\\", 2),
+        (b"push \\t", 1),
+        (b"push a\\", 1),
+        (b"mark ", 1),
+        (b"mark  1", 1),
+        (b"mark 1\r\n", 1),
+        (b"mark -1", 1),
+        (b"mark 18446744073709551616", 1),
+        (b"push a\nset \xff\nmark x\n", 2),
+        (b"type ab\npull a", 2),
+        (b"type", 1),
+        (b"type \\x", 1),
+        (b"resize 30", 1),
+        (b"resize 30  6", 1),
+        (b"resize 30 6 ", 1),
+        (b"resize 30 x", 1),
+        (b"prompt", 1),
+        (b"follow On", 1),
+        (b"showprompt on ", 1),
+        (b"wrap yes", 1),
+        (b"numbers always", 1),
+        (b"numbers On", 1),
     ];
-    for (script, text) in table {
-        assert_eq!(rt; shown(rt.alloc(), script)?.as_str(), text);
-    }
-    Ok(())
+    assert_faulty(&rt, rt.alloc(), cases);
 }

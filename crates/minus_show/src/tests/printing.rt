@@ -1,37 +1,41 @@
 //! Rows as they are printed, numbers and arguments.
+use super::words::add_words;
 use crate::{Arguments, Mode, parse_arguments, parse_usize, print_row, print_rows};
 use std::alloc::Global;
-use std::test::Fail;
 
-#[test]
-fn prints_a_row_with_escapes(rt: HostRuntime) -> Result<(), Fail> {
-    let mut out = Vec::new(rt.alloc());
-    print_row(&mut out, "a\x1b[1m\r\\né")?;
-    assert_eq!(rt; out.as_slice(), "a\\e[1m\\r\\\\né\n".as_bytes());
-    Ok(())
-}
-
-#[test]
-fn prints_rows(rt: HostRuntime) -> Result<(), Fail> {
-    let alloc = rt.alloc();
-    let rows = [String::new(alloc), String::from_str(alloc, "b")?];
+// Whether a row is printed so.
+fn prints(alloc: Global, row: &str, printed: &str) -> bool {
     let mut out = Vec::new(alloc);
-    print_rows(&mut out, rows.as_slice())?;
-    assert_eq!(rt; out.as_slice(), "\nb\n".as_bytes());
-    Ok(())
-}
-
-// The arguments in these words.
-fn arguments_in(alloc: Global, words: &[&str]) -> Result<Option<Arguments>, Fail> {
-    let mut arguments = Vec::new(alloc);
-    for word in words {
-        arguments.push(String::from_str(alloc, word)?)?;
-    }
-    Ok(parse_arguments(&arguments))
+    print_row(&mut out, row).is_ok() && out.as_slice() == printed.as_bytes()
 }
 
 #[test]
-fn reads_arguments(rt: HostRuntime) -> Result<(), Fail> {
+fn prints_a_row_with_escapes(rt: HostRuntime) {
+    assert!(rt; prints(rt.alloc(), "a\x1b[1m\r\\né", "a\\e[1m\\r\\\\né\n"));
+}
+
+// Whether rows are printed so.
+fn prints_all(alloc: Global, texts: &[&str], printed: &str) -> bool {
+    let mut rows = Vec::new(alloc);
+    let mut out = Vec::new(alloc);
+    add_words(alloc, &mut rows, texts)
+        && print_rows(&mut out, &rows).is_ok()
+        && out.as_slice() == printed.as_bytes()
+}
+
+#[test]
+fn prints_rows(rt: HostRuntime) {
+    assert!(rt; prints_all(rt.alloc(), &["", "b"], "\nb\n"));
+}
+
+// Whether these words are these arguments, or none.
+fn reads(alloc: Global, texts: &[&str], arguments: Option<Arguments>) -> bool {
+    let mut words = Vec::new(alloc);
+    add_words(alloc, &mut words, texts) && parse_arguments(&words) == arguments
+}
+
+#[test]
+fn reads_arguments(rt: HostRuntime) {
     let page = Arguments {
         mode: Mode::Page,
         cols: 80,
@@ -42,22 +46,17 @@ fn reads_arguments(rt: HostRuntime) -> Result<(), Fail> {
         cols: 0,
         rows: 1,
     };
-    let table: [(&[&str], Option<Arguments>); 10] = [
-        (&["page", "80", "24"], Some(page)),
-        (&["bytes", "0", "1"], Some(bytes)),
-        (&[], None),
-        (&["page", "80"], None),
-        (&["page", "80", "24", ""], None),
-        (&["Page", "80", "24"], None),
-        (&["lines", "80", "24"], None),
-        (&["page", "", "24"], None),
-        (&["page", "80", "-1"], None),
-        (&["page", "80", "18446744073709551616"], None),
-    ];
-    for (words, arguments) in table {
-        assert_eq!(rt; arguments_in(rt.alloc(), words)?, arguments);
-    }
-    Ok(())
+    let alloc = rt.alloc();
+    assert!(rt; reads(alloc, &["page", "80", "24"], Some(page)));
+    assert!(rt; reads(alloc, &["bytes", "0", "1"], Some(bytes)));
+    assert!(rt; reads(alloc, &[], None));
+    assert!(rt; reads(alloc, &["page", "80"], None));
+    assert!(rt; reads(alloc, &["page", "80", "24", ""], None));
+    assert!(rt; reads(alloc, &["Page", "80", "24"], None));
+    assert!(rt; reads(alloc, &["lines", "80", "24"], None));
+    assert!(rt; reads(alloc, &["page", "", "24"], None));
+    assert!(rt; reads(alloc, &["page", "80", "-1"], None));
+    assert!(rt; reads(alloc, &["page", "80", "18446744073709551616"], None));
 }
 
 #[test]

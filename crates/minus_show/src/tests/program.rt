@@ -1,110 +1,92 @@
 //! The program's statuses, and what it says of its faults.
 use super::doubles::{Broken, Refusal, Refusing};
+use super::words::add_words;
 use crate::program::run_to_end;
 use crate::{ProgramFault, run_words};
-use std::alloc::Global;
+use std::alloc::{AllocError, Global};
 use std::io::{Read, Write};
 use std::process::ExitCode;
-use std::test::Fail;
 
-// The status of a run on these words, and the text of its fault.
-fn ended<R: Read, W: Write>(
+// Whether a fault has this status and text.
+fn is_told(alloc: Global, fault: &ProgramFault, told: &str) -> bool {
+    let mut text = String::new(alloc);
+    write!(text, "{}: {fault}", fault.status()).is_ok() && text.as_str() == told
+}
+
+// Whether a run on these words ends with this status and, where that is not 0, this text.
+fn ends<R: Read, W: Write>(
     alloc: Global,
-    words: &[&str],
+    texts: &[&str],
     reader: &mut R,
     writer: &mut W,
-) -> Result<String, Fail> {
-    let mut given = Vec::new(alloc);
-    for word in words {
-        given.push(String::from_str(alloc, word)?)?;
-    }
-    match run_words(alloc, &given, reader, writer) {
-        Ok(()) => Ok(String::from_str(alloc, "0")?),
-        Err(fault) => Ok(format!(in alloc; "{}: {fault}", fault.status())?),
+    told: &str,
+) -> bool {
+    let mut words = Vec::new(alloc);
+    let is_given = add_words(alloc, &mut words, texts);
+    match run_words(alloc, &words, reader, writer) {
+        Ok(()) => is_given && told == "0",
+        Err(fault) => is_given && is_told(alloc, &fault, told),
     }
 }
 
-// The same, of a script on a page of 20 columns and 3 rows, with how many bytes were printed.
-fn ended_on(alloc: Global, words: &[&str], script: &str) -> Result<String, Fail> {
+// The same, of a script, with how many bytes are printed.
+fn ends_on(alloc: Global, texts: &[&str], script: &str, told: &str, printed: usize) -> bool {
     let mut out = Vec::new(alloc);
-    let text = ended(alloc, words, &mut script.as_bytes(), &mut out)?;
-    Ok(format!(in alloc; "{text}, {} bytes", out.len())?)
+    ends(alloc, texts, &mut script.as_bytes(), &mut out, told) && out.len() == printed
 }
 
 #[test]
-fn each_status_has_its_cause(rt: HostRuntime) -> Result<(), Fail> {
-    let table: [(&[&str], &str, &str); 5] = [
-        (&["page", "20", "3"], "push a", "0, 40 bytes"),
-        (
-            &["page", "20"],
-            "",
-            "2: usage: minus_show page|bytes COLS ROWS, 0 bytes",
-        ),
-        (&["page", "20", "3"], "pull a", "2: script line 1, 0 bytes"),
-        (&["bytes", "20", "0"], "", "3: refused 5, 0 bytes"),
-        (&["bytes", "20", "3"], "resize 0 1", "3: refused 5, 0 bytes"),
-    ];
-    for (words, script, text) in table {
-        assert_eq!(rt; ended_on(rt.alloc(), words, script)?.as_str(), text);
-    }
-    Ok(())
-}
-
-#[test]
-fn a_reader_that_fails_is_told(rt: HostRuntime) -> Result<(), Fail> {
+fn each_status_has_its_cause(rt: HostRuntime) {
     let alloc = rt.alloc();
-    let mut out = Vec::new(alloc);
-    let text = ended(
-        alloc,
+    let usage = "2: usage: minus_show page|bytes COLS ROWS";
+    let page = &["page", "20", "3"];
+    assert!(rt; ends_on(alloc, page, "push a", "0", 40));
+    assert!(rt; ends_on(alloc, &["page", "20"], "", usage, 0));
+    assert!(rt; ends_on(alloc, page, "pull a", "2: script line 1", 0));
+    assert!(rt; ends_on(alloc, &["bytes", "20", "0"], "", "3: refused 5", 0));
+    let bytes = &["bytes", "20", "3"];
+    assert!(rt; ends_on(alloc, bytes, "resize 0 1", "3: refused 5", 0));
+}
+
+#[test]
+fn a_reader_that_fails_is_told(rt: HostRuntime) {
+    let mut broken = Broken { failed: false };
+    let mut out = Vec::new(rt.alloc());
+    let told = "1: standard input failed";
+    let is_told = ends(
+        rt.alloc(),
         &["page", "20", "3"],
-        &mut Broken { failed: false },
+        &mut broken,
         &mut out,
-    )?;
-    assert!(rt; text.as_str() == "1: standard input failed" && out.is_empty());
-    Ok(())
+        told,
+    );
+    assert!(rt; is_told && out.is_empty());
 }
 
-// What comes of a writer that refuses so.
-fn refused(alloc: Global, refusal: Refusal) -> Result<String, Fail> {
+// Whether a writer that refuses so is told.
+fn tells_of_output(alloc: Global, refusal: Refusal) -> bool {
     let mut writer = Refusing { refusal, taken: 0 };
-    ended(
-        alloc,
-        &["page", "20", "3"],
-        &mut "push a".as_bytes(),
-        &mut writer,
-    )
+    let mut script = "push a".as_bytes();
+    let told = "1: standard output failed";
+    ends(alloc, &["page", "20", "3"], &mut script, &mut writer, told)
 }
 
 #[test]
-fn a_writer_that_refuses_is_told(rt: HostRuntime) -> Result<(), Fail> {
-    let refusals = [
-        Refusal::Write,
-        Refusal::Flush,
-        Refusal::Nothing,
-        Refusal::Interrupted,
-    ];
-    for refusal in refusals {
-        assert_eq!(rt;
-            refused(rt.alloc(), refusal)?.as_str(),
-            "1: standard output failed"
-        );
-    }
-    Ok(())
+fn a_writer_that_refuses_is_told(rt: HostRuntime) {
+    assert!(rt; tells_of_output(rt.alloc(), Refusal::Write));
+    assert!(rt; tells_of_output(rt.alloc(), Refusal::Flush));
+    assert!(rt; tells_of_output(rt.alloc(), Refusal::Nothing));
+    assert!(rt; tells_of_output(rt.alloc(), Refusal::Interrupted));
 }
 
 #[test]
-fn want_of_memory_is_a_refusal(rt: HostRuntime) -> Result<(), Fail> {
-    let fault = ProgramFault::from(std::alloc::AllocError);
-    let text = format!(in rt.alloc(); "{}: {fault}", fault.status())?;
-    assert_eq!(rt; text.as_str(), "3: refused 1");
-    Ok(())
+fn want_of_memory_is_a_refusal(rt: HostRuntime) {
+    let fault = ProgramFault::from(AllocError);
+    assert!(rt; is_told(rt.alloc(), &fault, "3: refused 1"));
 }
 
 // A test is started with other words than the program's.
 #[test]
-fn the_program_ends_with_the_status_of_its_fault(rt: HostRuntime) -> Result<(), Fail> {
-    if run_to_end(&rt) == ExitCode::from(2) {
-        return Ok(());
-    }
-    Err(Fail::from("words that are no arguments were to be told by the status"))
+fn the_program_ends_with_the_status_of_its_fault(rt: HostRuntime) {
+    assert!(rt; run_to_end(&rt) == ExitCode::from(2));
 }
