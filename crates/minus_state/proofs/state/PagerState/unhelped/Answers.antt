@@ -1,0 +1,6 @@
+-- Found by search.
+use Rattle.std.proofs.Common.{rules}
+use Rattle.minus_state.proofs.state.PagerState.unhelped.Goals as goal
+
+pub returns-clause-next : goal.returns-clause-next
+returns-clause-next c = search rules
