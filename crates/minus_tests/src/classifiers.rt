@@ -12,6 +12,7 @@ struct ToRow(usize);
 
 impl InputClassifier for ToRow {
     ghost allows = { λ classifier event state answer. Unit {0} };
+
     ghost helps = { λ classifier text. Unit {0} };
 
     fn classify_input(&self, _event: Event, _state: &PagerState) -> Option<InputEvent> {

@@ -1,7 +1,8 @@
 //! Sessions for the tests, started and stepped in one place. Where memory runs out, each answer is `false` or none.
 use minus::{
-    Command, Event, Input, InputEvent, IoCommand, KeyCode, KeyEvent, KeyEventKind, KeyEventState,
-    KeyModifiers, LineNumbers, OutputSink, Page, Pager, Ran, RunMode, Session, WithTty, init_core,
+    Calls, Command, Core, Event, Input, InputEvent, IoCommand, KeyCode, KeyEvent, KeyEventKind,
+    KeyEventState, KeyModifiers, LineNumbers, OutputSink, Page, Pager, Ran, RunMode, Session,
+    WithTty, init_core,
 };
 use std::alloc::{AllocError, Global};
 
@@ -168,7 +169,7 @@ pub fn has_len<S: OutputSink + Drop>(session: &Session<S>, rows: usize) -> bool 
 }
 
 /// Whether a session's page has these rows, no others and no cursor.
-pub fn has_page<S: OutputSink + Drop>(session: &Session<S>, rows: &[&str]) -> bool {
+pub fn has_page<S: OutputSink + Drop, P: Calls>(session: &Core<S, P>, rows: &[&str]) -> bool {
     match session.page() {
         Ok(page) => has_rows(&page, rows),
         Err(_) => false,
