@@ -46,7 +46,7 @@ fn page_rows(
     let mut page = Vec::new(alloc);
     push_copies(alloc, &mut page, shown)?;
     push_blanks(alloc, &mut page, state.rows - 1 - shown.len())?;
-    page.push(state.prompt_row(alloc)?)?;
+    page.push(state.displayed_prompt(alloc)?)?;
     Ok(page)
 }
 

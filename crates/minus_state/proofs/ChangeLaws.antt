@@ -9,7 +9,6 @@ use Rattle.minus_state.specs.declared.change.Change.{Change}
 use Rattle.minus_state.specs.declared.change.NextText.{NextText}
 use Rattle.minus_state.specs.declared.change.NextText.TheVariants.{Same, Whole}
 use Rattle.minus_state.specs.Control.{Control, Saved, Settings, document_of}
-use Rattle.minus_state.specs.declared.change.Redraw.{Redraw}
 use Rattle.minus_state.specs.Page.{shown_of, all_shown, shown}
 use Rattle.minus_state.specs.NextTexts.{next_document}
 use Rattle.minus_state.specs.Changes.{IsChange, shown_by, left_set, ends_set, help_set, help_after, settings_after}

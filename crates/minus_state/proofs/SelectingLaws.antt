@@ -1,5 +1,5 @@
 -- A selection that is led on, and one that stays.
-use Rattle.std.proofs.Common.{◌≡◌, ℕ, ◌==◌, ◌&&◌, ◌||◌, eqb, min, is_some, Bool, true, false, Option, None, Some, ◌-◌, refl, sym, ap, ◌∙◌, arith, inl, inr}
+use Rattle.std.proofs.Common.{◌≡◌, ℕ, ◌==◌, ◌&&◌, ◌||◌, eqb, min, is_some, Bool, true, false, Option, None, Some, ◌-◌, refl, ap, ◌∙◌, inl, inr}
 use Rattle.std.specs.Prelude.{if◌then◌else◌}
 use Rattle.std.proofs.lemmas.Bool.{cases_Bool, and_parts, eqb-true, eq-eqb}
 use Rattle.minus_state.specs.declared.selection.Selection.{Selection}

@@ -14,7 +14,7 @@ use Rattle.minus_state.specs.Page.{shown_of}
 use Rattle.minus_state.specs.Aside.{aside_of}
 use Rattle.minus_state.specs.States.{ends_of}
 use Rattle.minus_state.specs.Sizes.{IsSize}
-use Rattle.minus_term.specs.Refusals.{Refusal, for_memory, for_newline, for_size}
+use Rattle.minus_term.specs.Refusals.{Refusal, for_memory, for_size}
 
 -- one thing that is set beside the text, and all others as they are
 abbrev pub prompt_set : Setting → List ℕ → List ℕ

@@ -1,5 +1,5 @@
 -- What contracts read of a state.
-use Rattle.std.specs.Prelude.{◌≡◌, ℕ, List, [], Option, None, Bool, true, false, codes, string_bytes}
+use Rattle.std.specs.Prelude.{◌≡◌, ℕ, [], None, true, false, codes, string_bytes}
 use Rattle.std.specs.Option.{option_map}
 use Rattle.minus_text.specs.declared.line_numbers.LineNumbers.TheVariants.{Disabled}
 use Rattle.minus_text.specs.Searched.{searched}

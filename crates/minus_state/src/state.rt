@@ -9,6 +9,7 @@ ghost use Rattle.minus_text.specs.Searched.{searched};
 mod after;
 mod forming;
 pub mod help;
+mod readers;
 mod selecting;
 mod settings;
 mod texts;

@@ -59,8 +59,8 @@ impl PagerState {
         Ok(text)
     }
 
-    /// The prompt row.
-    pub fn prompt_row(&self, alloc: Global) -> Result<String, AllocError>
+    /// The text of the prompt row; empty where it is hidden.
+    pub fn displayed_prompt(&self, alloc: Global) -> Result<String, AllocError>
         ensures { IfOk result (λ row. string_bytes row ≡ prompt_row (control_of self.now)) }
     {
         let stays = self.change_to(NextText::Same, Redraw::Stays, false);

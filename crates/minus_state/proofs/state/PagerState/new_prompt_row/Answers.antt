@@ -1,6 +1,6 @@
 -- It stays, or it is the one after the change.
 use Rattle.std.proofs.Common.{ℕ, ap, sym, ◌∙◌}
-use Rattle.minus_state.specs.Control.{Control, Settings}
+use Rattle.minus_state.specs.Control.{Settings}
 use Rattle.minus_state.specs.Changes.{settings_after}
 use Rattle.minus_state.specs.ShownPrompt.{prompt_row_of}
 use Rattle.minus_state.specs.States.{settings_of}

@@ -1,9 +1,9 @@
 -- What it is formed of after the change.
 use Rattle.std.proofs.Common.{ℕ, ap, ◌∙◌}
-use Rattle.minus_state.specs.Control.{Control, Settings}
+use Rattle.minus_state.specs.Control.{Settings}
 use Rattle.minus_state.specs.Changes.{settings_after}
-use Rattle.minus_state.specs.ShownPrompt.{shown_in, prompt_row_of}
-use Rattle.minus_state.specs.PromptRow.{PromptRow, prompt_row}
+use Rattle.minus_state.specs.ShownPrompt.{prompt_row_of}
+use Rattle.minus_state.specs.PromptRow.{prompt_row}
 use Rattle.minus_state.specs.States.{settings_of}
 use Rattle.minus_state.proofs.state.PagerState.prompt_row_after.Goals as goal
 

@@ -1,7 +1,7 @@
 -- It is that of the change that changes nothing.
 use Rattle.minus_state.specs.States.{control_of}
 use Rattle.minus_state.proofs.ChangeLaws.{unchanged}
-use Rattle.minus_state.proofs.state.PagerState.prompt_row.Goals as goal
+use Rattle.minus_state.proofs.state.PagerState.displayed_prompt.Goals as goal
 
 pub returns : goal.returns
 returns c =
