@@ -1,5 +1,5 @@
 -- How the page is drawn.
-use Rattle.std.specs.Prelude.{ℕ, ◌-◌, ◌++◌, nat_le, min, List, [], length, take, drop, bytes_eq, Bool, true, false, if◌then◌else◌}
+use Rattle.std.specs.Prelude.{ℕ, ◌-◌, ◌++◌, min, List, [], length, bytes_eq, Bool, true, false, if◌then◌else◌}
 use Rattle.minus_term.specs.Operations.{Op}
 use Rattle.std.specs.List.{flat_map}
 use Rattle.minus_term.specs.FullRedraw.{full_ops, prompt_ops, row_ops}

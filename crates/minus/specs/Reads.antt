@@ -1,10 +1,6 @@
 -- What contracts read of the state, of commands and inputs.
-use Rattle.std.specs.Prelude.{◌≡◌, ℕ, List, string_bytes, Bool, true, false, Option, None, Some}
-use Rattle.std.specs.Option.{option_map}
+use Rattle.std.specs.Prelude.{ℕ, List, string_bytes, Option, None, Some}
 use Rattle.minus_term.specs.declared.event.Event.{Event}
-use Rattle.minus_text.specs.Searched.{searched}
-use Rattle.minus_state.specs.declared.selection.SelectionEnds.{SelectionEnds}
-use Rattle.minus_state.specs.declared.state.PagerState.{PagerState}
 use Rattle.minus.specs.declared.commands.CommandOf.{CommandOf}
 use Rattle.minus.specs.declared.commands.CommandOf.TheVariants.{SetData, AppendData, SetPrompt, SendMessage, ShowPrompt, SetLineNumbers, LineWrapping, FollowOutput, UserInput, Io, SetInputClassifier}
 use Rattle.minus.specs.declared.commands.IoCommand.{IoCommand}
@@ -13,8 +9,6 @@ use Rattle.minus.specs.declared.commands.InputOf.{InputOf}
 use Rattle.minus.specs.declared.commands.InputOf.TheVariants as input
 use Rattle.minus_state.specs.declared.input.InputEvent.{InputEvent}
 use Rattle.minus_state.specs.declared.input.InputEvent.TheVariants as events
-use Rattle.minus_state.specs.Aside.{aside_of}
-use Rattle.minus_state.specs.Control.{Control, Settings, document_of}
 use Rattle.minus.specs.Table.{Wanted, sets_data, appends_data, moves_mark, resizes, exits, ignores, sets_prompt, sends_message, shows_prompt, follows, types, restores_prompt, redraws_prompt, redraws_page, sets_classifier, sets_numbers, sets_wrapping, shifts, starts_selection, updates_selection, clears_selection, copies_selection, shows_help, answered}
 
 -- what an event of the pager asks for

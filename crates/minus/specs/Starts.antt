@@ -1,5 +1,5 @@
 -- The start of a session.
-use Rattle.std.specs.Prelude.{◌≡◌, ℕ, List, [], ◌∷◌, ◌++◌, Bool, true, false, Option, None, codes, ◌⊎◌}
+use Rattle.std.specs.Prelude.{◌≡◌, ℕ, List, [], ◌∷◌, ◌++◌, Bool, true, false, Option, ◌⊎◌}
 use Rattle.std.specs.Io.KnownBytes.{Appends}
 use Rattle.minus_term.specs.Refusals.{Refusal, for_memory, for_size, for_mode, at_setup, at_drawing}
 use Rattle.minus_term.specs.declared.error.SetupError.{SetupError}
@@ -8,13 +8,12 @@ use Rattle.minus_term.specs.Operations.{Op}
 use Rattle.minus_term.specs.Written.{written_all}
 use Rattle.minus_term.specs.Counts.{AppendsFront, Stays, Rises}
 use Rattle.minus_term.specs.Terminal.{setup_bytes, cleanup_bytes, SetupBreaksOff}
-use Rattle.minus_text.specs.declared.line_numbers.LineNumbers.TheVariants.{Disabled}
 use Rattle.minus_state.specs.declared.state.RunMode.{RunMode}
 use Rattle.minus_state.specs.declared.state.RunMode.TheVariants.{Uninitialized}
 use Rattle.minus.specs.declared.status.Status.TheVariants as status
 use Rattle.minus_state.specs.Sizes.{IsSize}
 use Rattle.minus_state.specs.States.{at_start}
-use Rattle.minus_state.specs.Control.{Control, Settings}
+use Rattle.minus_state.specs.Control.{Control}
 use Rattle.minus.specs.Drawn.{Begins, IsWholeDrawing}
 use Rattle.minus.specs.Seen.{Seen}
 use Rattle.minus.specs.Table.{Wanted, sets_data, appends_data}

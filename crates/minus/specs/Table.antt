@@ -1,12 +1,9 @@
 -- The table of commands and events.
-use Rattle.std.specs.Prelude.{◌≡◌, ℕ, ◌+◌, ◌==◌, ◌||◌, nat_le, is_some, not, List, [], ◌++◌, Bool, true, false, Option, None, Some, encode_utf8, if◌then◌else◌}
-use Rattle.std.specs.List.{list_any}
+use Rattle.std.specs.Prelude.{◌≡◌, ℕ, ◌==◌, is_some, not, List, [], ◌++◌, Bool, true, false, Option, None, Some, encode_utf8, if◌then◌else◌}
 use Rattle.std.specs.Option.{unwrap_or}
 use Rattle.minus_text.specs.declared.line_numbers.LineNumbers.{LineNumbers}
-use Rattle.minus_text.specs.Document.{longest}
 use Rattle.minus_state.specs.Copied.{copied}
 use Rattle.minus_state.specs.Selection.{ends_in_order}
-use Rattle.minus_state.specs.View.{prefix_in}
 use Rattle.minus.specs.declared.commands.Drawing.{Drawing}
 use Rattle.minus.specs.declared.commands.Drawing.TheVariants.{Nothing, Full, Scroll, Append, Prompt}
 use Rattle.minus_state.specs.declared.change.Redraw.{Redraw}
@@ -18,8 +15,8 @@ use Rattle.minus_state.specs.Appending.{followed}
 use Rattle.minus_state.specs.Redraws.{append_redraw, added_redraw, shift_redraw, whole_where, led_redraw}
 use Rattle.minus_state.specs.Shifting.{left_after}
 use Rattle.minus_state.specs.ShownPrompt.{has_newline}
-use Rattle.minus_state.specs.Selecting.{no_ends, has_ends, end_at, ends_begun, mark_led, ends_led, stays_led}
-use Rattle.minus_state.specs.Control.{Control, Settings, document_of, keeps_rows_with, clamp, top}
+use Rattle.minus_state.specs.Selecting.{no_ends, has_ends, end_at, ends_begun, mark_led, ends_led}
+use Rattle.minus_state.specs.Control.{Control, Settings, document_of, clamp, top}
 use Rattle.minus_state.specs.Help.{help_open, left_help, restored, turned, with_text, with_more}
 
 -- a command, as values alone; a classifier is a value of the kind that the session keeps
