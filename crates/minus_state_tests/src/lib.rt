@@ -12,4 +12,6 @@ mod selections;
 #[cfg(test)]
 mod shown_rows;
 #[cfg(test)]
+mod states;
+#[cfg(test)]
 mod texts;

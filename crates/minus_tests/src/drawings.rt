@@ -1,6 +1,6 @@
 //! The bytes of partial drawings, as a person works them out.
 ghost use Rattle.std.specs.Prelude.{IfSome};
-ghost use Rattle.minus.specs.Reads.{IsFormed};
+ghost use Rattle.minus_state.specs.States.{IsFormed};
 
 use crate::sessions::{Asked, CLEANUP, PROMPT_ROW, SETUP, TEN_LINES, are_bytes, draws, writes};
 use minus::{Layout, PagerState, draw_append_text, draw_for_change, draw_full, write_prompt};

@@ -29,6 +29,8 @@ mod sinks;
 #[cfg(test)]
 mod starts;
 #[cfg(test)]
+mod states;
+#[cfg(test)]
 mod stubborn;
 #[cfg(test)]
 mod written_rows;

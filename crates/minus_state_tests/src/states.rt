@@ -1,0 +1,203 @@
+//! A state that a caller holds, without a session. Where memory runs out, each answer is `false`.
+ghost use Rattle.std.specs.Prelude.{IfSome};
+ghost use Rattle.minus_state.specs.States.{IsFormed};
+
+use minus_state::{AppendStyle, PagerState};
+use minus_text::LineNumbers;
+use std::alloc::Global;
+
+// The prompt row of 20 columns.
+const PROMPT_ROW: &str = "\x1b[2;40;37mminus               \x1b[0m";
+
+// A line that takes two rows of 20 columns.
+const LONG: &str = "abcdefghijklmnopqrstuvwxy";
+
+// A state of 20 columns and four rows without a text.
+fn empty(alloc: Global) -> Option<PagerState>
+    ensures { IfSome result IsFormed }
+{
+    match PagerState::new(alloc, 20, 4) {
+        Ok(state) => Some(state),
+        Err(_) => None,
+    }
+}
+
+// Whether the rows of text are these.
+fn has_rows(state: &PagerState, rows: &[&str]) -> bool {
+    for (i, row) in rows.iter().enumerate() {
+        if state.screen.row_text(i) != Some(*row) {
+            return false;
+        }
+    }
+    state.screen.formatted_lines_count() == rows.len()
+}
+
+// Whether the prompt row is this one.
+fn has_prompt_row(alloc: Global, state: &PagerState, row: &str) -> bool {
+    match state.displayed_prompt(alloc) {
+        Ok(text) => text.as_str() == row,
+        Err(_) => false,
+    }
+}
+
+// Whether an append is answered so.
+fn appends(alloc: Global, state: &mut PagerState, text: &str, style: AppendStyle) -> bool
+    requires { IsFormed state.old }
+    ensures { IsFormed state.new }
+{
+    match state.append_str(alloc, text) {
+        Ok(told) => told == style,
+        Err(_) => false,
+    }
+}
+
+// Whether a text goes on in its unfinished line, which is told.
+fn goes_on(alloc: Global) -> bool {
+    let Some(mut state) = empty(alloc) else {
+        return false;
+    };
+    appends(
+        alloc,
+        &mut state,
+        "one\ntwo",
+        AppendStyle::PartialUpdate((0, 2)),
+    ) && appends(
+        alloc,
+        &mut state,
+        "x\nthree",
+        AppendStyle::PartialUpdate((1, 3)),
+    ) && has_rows(&state, &["one", "twox", "three"])
+}
+
+#[test]
+fn an_append_tells_the_first_row_that_it_changes(rt: HostRuntime) {
+    assert!(rt; goes_on(rt.alloc()));
+}
+
+// Numbers before nine lines, and a tenth line.
+fn counts_to_ten(alloc: Global, state: &mut PagerState) -> bool {
+    state.line_numbers = LineNumbers::Enabled;
+    state.reformat_display(alloc).is_ok()
+        && appends(
+            alloc,
+            state,
+            "1\n2\n3\n4\n5\n6\n7\n8\n9\n",
+            AppendStyle::PartialUpdate((0, 9)),
+        )
+        && appends(alloc, state, "10", AppendStyle::FullRedraw)
+}
+
+// Whether that forms all rows anew.
+fn forms_anew(alloc: Global) -> bool {
+    match empty(alloc) {
+        Some(mut state) => counts_to_ten(alloc, &mut state),
+        None => false,
+    }
+}
+
+#[test]
+fn a_line_whose_number_has_one_more_digit_forms_all_rows_anew(rt: HostRuntime) {
+    assert!(rt; forms_anew(rt.alloc()));
+}
+
+// A line of two rows, and of one where lines are not wrapped.
+fn wraps(alloc: Global, state: &mut PagerState) -> bool
+    requires { IsFormed state.old }
+{
+    state.append_str(alloc, "one\n").is_ok()
+        && state.append_str(alloc, LONG).is_ok()
+        && has_rows(state, &["one", "abcdefghijklmnopqrst", "uvwxy"])
+        && state.set_line_wrapping(alloc, false).is_ok()
+        && has_rows(state, &["one", LONG])
+}
+
+// Whether lines are wrapped so.
+fn are_wrapped(alloc: Global) -> bool {
+    match empty(alloc) {
+        Some(mut state) => wraps(alloc, &mut state),
+        None => false,
+    }
+}
+
+#[test]
+fn lines_are_one_row_where_they_are_not_wrapped(rt: HostRuntime) {
+    assert!(rt; are_wrapped(rt.alloc()));
+}
+
+// The first rows of three lines, of which the second takes two.
+fn has_first_rows(alloc: Global, state: &mut PagerState) -> bool
+    requires { IsFormed state.old }
+{
+    state.append_str(alloc, "one\n").is_ok()
+        && state.append_str(alloc, LONG).is_ok()
+        && state.line_first_row(1) == Some(1)
+        && state.append_str(alloc, "\nthree").is_ok()
+        && state.line_first_row(2) == Some(3)
+        && state.line_first_row(3).is_none()
+}
+
+// Whether lines have these first rows.
+fn are_first_rows(alloc: Global) -> bool {
+    match empty(alloc) {
+        Some(mut state) => has_first_rows(alloc, &mut state),
+        None => false,
+    }
+}
+
+#[test]
+fn lines_tell_their_first_rows(rt: HostRuntime) {
+    assert!(rt; are_first_rows(rt.alloc()));
+}
+
+// Help over a text, opened and left.
+fn opens_and_leaves(alloc: Global, state: &mut PagerState) -> bool
+    requires { IsFormed state.old }
+{
+    state.append_str(alloc, "a").is_ok()
+        && state.show_help(alloc, "one\ntwo").is_ok()
+        && has_rows(state, &["one", "two"])
+        && has_prompt_row(alloc, state, "\x1b[2;40;37mHELP -- Press q or S\x1b[0m")
+        && state.exit_help(alloc).is_ok()
+        && has_rows(state, &["a"])
+        && has_prompt_row(alloc, state, PROMPT_ROW)
+}
+
+// Whether help comes and goes so.
+fn help_comes_and_goes(alloc: Global) -> bool {
+    match empty(alloc) {
+        Some(mut state) => opens_and_leaves(alloc, &mut state),
+        None => false,
+    }
+}
+
+#[test]
+fn help_is_opened_and_left(rt: HostRuntime) {
+    assert!(rt; help_comes_and_goes(rt.alloc()));
+}
+
+// The number by which a prompt is refused, or the want of memory for it; 0 where it is taken.
+fn refusal_of(alloc: Global, state: &mut PagerState, prompt: &str) -> u8 {
+    let Ok(prompt) = String::from_str(alloc, prompt) else {
+        return 1;
+    };
+    match state.set_prompt(prompt) {
+        Ok(()) => 0,
+        Err(refusal) => refusal.number(),
+    }
+}
+
+// Whether a prompt of two lines is refused, and another one taken.
+fn takes_one_line(alloc: Global) -> bool {
+    let Some(mut state) = empty(alloc) else {
+        return false;
+    };
+    refusal_of(alloc, &mut state, "a\nb") == 2
+        && has_prompt_row(alloc, &state, PROMPT_ROW)
+        && refusal_of(alloc, &mut state, "日本") == 0
+        && has_prompt_row(alloc, &state, "\x1b[2;40;37m日本                \x1b[0m")
+}
+
+#[test]
+fn a_prompt_of_two_lines_is_refused(rt: HostRuntime) {
+    assert!(rt; takes_one_line(rt.alloc()));
+}
