@@ -22,74 +22,74 @@ fn a_start_draws_the_whole_page(rt: HostRuntime) {
 
 #[test]
 fn a_scroll_down_by_two_rows(rt: HostRuntime) {
-    let asked = [Asked::Push(TEN_LINES), Asked::Mark(2)];
+    let asked = &[Asked::Push(TEN_LINES), Asked::Mark(2)];
     let rows = "\x1b[2S\x1b[2;1H\x1b[2K\rl3\n\rl4\n";
-    assert!(rt; moves(rt.alloc(), &asked, rows));
+    assert!(rt; moves(rt.alloc(), asked, rows));
 }
 
 #[test]
 fn a_scroll_up_by_one_row(rt: HostRuntime) {
-    let asked = [Asked::Push(TEN_LINES), Asked::Mark(2), Asked::Mark(1)];
-    assert!(rt; moves(rt.alloc(), &asked, "\x1b[1T\x1b[1;1H\rl1\n"));
+    let asked = &[Asked::Push(TEN_LINES), Asked::Mark(2), Asked::Mark(1)];
+    assert!(rt; moves(rt.alloc(), asked, "\x1b[1T\x1b[1;1H\rl1\n"));
 }
 
 #[test]
 fn a_scroll_by_more_rows_than_a_page_has(rt: HostRuntime) {
-    let asked = [Asked::Push(TEN_LINES), Asked::Mark(7)];
+    let asked = &[Asked::Push(TEN_LINES), Asked::Mark(7)];
     let rows = "\x1b[3S\x1b[1;1H\x1b[2K\rl7\n\rl8\n\rl9\n";
-    assert!(rt; moves(rt.alloc(), &asked, rows));
+    assert!(rt; moves(rt.alloc(), asked, rows));
 }
 
 #[test]
 fn a_scroll_on_a_page_of_the_prompt_alone(rt: HostRuntime) {
-    let asked = [Asked::Push(TEN_LINES), Asked::Mark(5)];
-    let texts = ["\x1b[1;1H\x1b[2K\x1b[2;1H\r\x1b[2K", PROMPT_ROW];
-    assert!(rt; draws(rt.alloc(), 20, 1, &asked, &texts));
+    let asked = &[Asked::Push(TEN_LINES), Asked::Mark(5)];
+    let texts = &["\x1b[1;1H\x1b[2K\x1b[2;1H\r\x1b[2K", PROMPT_ROW];
+    assert!(rt; draws(rt.alloc(), 20, 1, asked, texts));
 }
 
 #[test]
 fn a_move_by_no_rows_writes_nothing(rt: HostRuntime) {
-    let asked = [Asked::Push(TEN_LINES), Asked::Mark(7), Asked::Mark(8)];
-    assert!(rt; draws(rt.alloc(), 20, 4, &asked, &[]));
+    let asked = &[Asked::Push(TEN_LINES), Asked::Mark(7), Asked::Mark(8)];
+    assert!(rt; draws(rt.alloc(), 20, 4, asked, &[]));
 }
 
 #[test]
 fn an_append_goes_on_in_the_unfinished_line(rt: HostRuntime) {
-    let asked = [Asked::Push("one\ntwo"), Asked::Push("x\nthree")];
+    let asked = &[Asked::Push("one\ntwo"), Asked::Push("x\nthree")];
     let rows = "\x1b[2;1H\x1b[2Ktwox\x1b[3;1H\x1b[2Kthree";
-    assert!(rt; draws(rt.alloc(), 20, 5, &asked, &[rows]));
+    assert!(rt; draws(rt.alloc(), 20, 5, asked, &[rows]));
 }
 
 #[test]
 fn an_append_clears_a_row_that_went(rt: HostRuntime) {
-    let asked = [Asked::Push("aaaa    \r"), Asked::Push("\n")];
+    let asked = &[Asked::Push("aaaa    \r"), Asked::Push("\n")];
     let rows = "\x1b[1;1H\x1b[2Kaaaa\x1b[2;1H\x1b[2K";
-    assert!(rt; draws(rt.alloc(), 4, 4, &asked, &[rows]));
+    assert!(rt; draws(rt.alloc(), 4, 4, asked, &[rows]));
 }
 
 #[test]
 fn an_append_at_the_end_of_a_full_page(rt: HostRuntime) {
-    let asked = [Asked::Push(TEN_LINES), Asked::Mark(7), Asked::Push("x")];
-    assert!(rt; draws(rt.alloc(), 20, 4, &asked, &["\x1b[3;1H\x1b[2Kl9x"]));
+    let asked = &[Asked::Push(TEN_LINES), Asked::Mark(7), Asked::Push("x")];
+    assert!(rt; draws(rt.alloc(), 20, 4, asked, &["\x1b[3;1H\x1b[2Kl9x"]));
 }
 
 #[test]
 fn an_append_below_the_page_writes_nothing(rt: HostRuntime) {
-    let asked = [Asked::Push(TEN_LINES), Asked::Push("x")];
-    assert!(rt; draws(rt.alloc(), 20, 4, &asked, &[]));
+    let asked = &[Asked::Push(TEN_LINES), Asked::Push("x")];
+    assert!(rt; draws(rt.alloc(), 20, 4, asked, &[]));
 }
 
 #[test]
 fn an_append_of_nothing_draws_the_unfinished_line(rt: HostRuntime) {
-    let asked = [Asked::Push("one\ntwo"), Asked::Push("")];
-    assert!(rt; draws(rt.alloc(), 20, 5, &asked, &["\x1b[2;1H\x1b[2Ktwo"]));
+    let asked = &[Asked::Push("one\ntwo"), Asked::Push("")];
+    assert!(rt; draws(rt.alloc(), 20, 5, asked, &["\x1b[2;1H\x1b[2Ktwo"]));
 }
 
 #[test]
 fn a_resize_draws_the_whole_page(rt: HostRuntime) {
-    let asked = [Asked::Push("one\ntwo\nthree"), Asked::Size(20, 3)];
+    let asked = &[Asked::Push("one\ntwo\nthree"), Asked::Size(20, 3)];
     let rows = "\x1b[1;1H\x1b[2J\rone\n\rtwo\n\x1b[4;1H\r\x1b[2K";
-    assert!(rt; draws(rt.alloc(), 6, 2, &asked, &[rows, PROMPT_ROW]));
+    assert!(rt; draws(rt.alloc(), 6, 2, asked, &[rows, PROMPT_ROW]));
 }
 
 // A state of 20 columns and 4 rows with ten lines.
@@ -131,7 +131,7 @@ fn is_drawn_by_itself(alloc: Global, texts: &[&str]) -> bool {
 
 #[test]
 fn a_state_is_drawn_by_itself(rt: HostRuntime) {
-    let texts = [
+    let texts = &[
         "\x1b[1;1H\x1b[2J\rl0\n\rl1\n\rl2\n",
         FIFTH_ROW,
         PROMPT_ROW,
@@ -140,5 +140,5 @@ fn a_state_is_drawn_by_itself(rt: HostRuntime) {
         PROMPT_ROW,
         "\x1b[3;1H\x1b[2Kl9\x1b[5;1H\r\x1b[2Kend",
     ];
-    assert!(rt; is_drawn_by_itself(rt.alloc(), &texts));
+    assert!(rt; is_drawn_by_itself(rt.alloc(), texts));
 }

@@ -49,6 +49,11 @@ fn breaks_off<S: OutputSink + Drop>(session: &mut Session<S>) -> bool {
     }
 }
 
+// Whether an exit that is refused so fails a session.
+fn fails_at_its_exit<S: OutputSink + Drop>(alloc: Global, session: &mut Session<S>) -> bool {
+    breaks_off(session) && number_of(alloc, session, Asked::Exit) == 10
+}
+
 // Whether bytes end with the first part of a cleanup, and a whole one.
 fn is_cleaned_twice(bytes: &[u8]) -> bool {
     match bytes.strip_suffix(CLEANUP.as_bytes()) {
@@ -57,13 +62,13 @@ fn is_cleaned_twice(bytes: &[u8]) -> bool {
     }
 }
 
-// Whether a cleanup that is refused at its seventh write does so, fails the session, and is tried again by `finish`.
+// Whether a cleanup that is refused at its seventh write fails the session, and is tried again by `finish`.
 fn is_refused(alloc: Global) -> bool {
     let sink = Stubborn::terminal(alloc, write(54 + 41 + 7));
     let Some(mut session) = session_on(alloc, sink, 6, 2) else {
         return false;
     };
-    let is_failed = breaks_off(&mut session) && number_of(alloc, &mut session, Asked::Exit) == 10;
+    let is_failed = fails_at_its_exit(alloc, &mut session);
     let (sink, _) = session.finish();
     is_failed && is_cleaned_twice(&sink.inner.held)
 }
@@ -92,13 +97,13 @@ fn refuses<S: OutputSink + Drop>(session: &mut Session<S>, inputs: Vec<Input>, n
 
 // Whether a run with an exit in its middle stops there, and a run of the two inputs that it left is refused.
 fn stops_at_an_exit<S: OutputSink + Drop>(alloc: Global, session: &mut Session<S>) -> bool {
-    let asked = [
+    let asked = &[
         Asked::Push("a"),
         Asked::Exit,
         Asked::Push("b"),
         Asked::Push("c"),
     ];
-    let Some(ran) = run(alloc, session, &asked) else {
+    let Some(ran) = run(alloc, session, asked) else {
         return false;
     };
     has_exited(&ran, 2) && refuses(session, ran.rest, 11)

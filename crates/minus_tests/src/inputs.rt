@@ -5,9 +5,9 @@ use std::alloc::Global;
 
 #[test]
 fn a_resize_event_shows_the_page_of_the_new_size(rt: HostRuntime) {
-    let asked = [Asked::Push("one\ntwo"), Asked::Told(Event::Resize(4, 2))];
-    let rows = ["one", "\x1b[2;40;37mminu\x1b[0m"];
-    assert!(rt; shows(rt.alloc(), 20, 5, &asked, &rows));
+    let asked = &[Asked::Push("one\ntwo"), Asked::Told(Event::Resize(4, 2))];
+    let rows = &["one", "\x1b[2;40;37mminu\x1b[0m"];
+    assert!(rt; shows(rt.alloc(), 20, 5, asked, rows));
 }
 
 // Whether an event writes nothing.

@@ -7,22 +7,22 @@ use std::alloc::Global;
 
 #[test]
 fn three_lines_leave_a_blank_row(rt: HostRuntime) {
-    let rows = ["one", "two", "three", "", PROMPT_ROW];
-    assert!(rt; shows(rt.alloc(), 20, 5, &[Asked::Push("one\ntwo\nthree")], &rows));
+    let rows = &["one", "two", "three", "", PROMPT_ROW];
+    assert!(rt; shows(rt.alloc(), 20, 5, &[Asked::Push("one\ntwo\nthree")], rows));
 }
 
 #[test]
 fn a_mark_past_the_end_is_clamped(rt: HostRuntime) {
-    let asked = [Asked::Push("a\nb\nc\nd"), Asked::Mark(9)];
-    let rows = ["c", "d", "\x1b[2;40;37mminu\x1b[0m"];
-    assert!(rt; shows(rt.alloc(), 4, 3, &asked, &rows));
+    let asked = &[Asked::Push("a\nb\nc\nd"), Asked::Mark(9)];
+    let rows = &["c", "d", "\x1b[2;40;37mminu\x1b[0m"];
+    assert!(rt; shows(rt.alloc(), 4, 3, asked, rows));
 }
 
 #[test]
 fn the_empty_text_leaves_blank_rows(rt: HostRuntime) {
-    let rows = ["", "", PROMPT_ROW];
-    assert!(rt; shows(rt.alloc(), 20, 3, &[], &rows));
-    assert!(rt; shows(rt.alloc(), 20, 3, &[Asked::Push("")], &rows));
+    let rows = &["", "", PROMPT_ROW];
+    assert!(rt; shows(rt.alloc(), 20, 3, &[], rows));
+    assert!(rt; shows(rt.alloc(), 20, 3, &[Asked::Push("")], rows));
 }
 
 #[test]
@@ -65,12 +65,12 @@ fn follows_to(alloc: Global, mark: usize, page: &[&str]) -> bool {
         return false;
     };
     let lines = "l0\nl1\nl2\nl3\nl4\nl5\nl6\nl7\nl8\nl9\n";
-    let asked = [
+    let asked = &[
         Asked::Follow(true),
         Asked::Push(lines),
         Asked::Push("l10\n"),
     ];
-    does(alloc, &mut session, &asked)
+    does(alloc, &mut session, asked)
         && session.state().upper_mark == mark
         && has_page(&session, page)
 }

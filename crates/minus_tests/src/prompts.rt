@@ -18,44 +18,44 @@ fn typed(digit: char) -> Asked<'static> {
 
 #[test]
 fn a_scroll_leaves_a_hidden_prompts_row_blank(rt: HostRuntime) {
-    let asked = [
+    let asked = &[
         Asked::Push(TEN_LINES),
         Asked::Shown(false),
         Asked::Mark(2),
         Asked::Mark(1),
     ];
     let row = "\x1b[1T\x1b[1;1H\rl1\n\x1b[5;1H\r\x1b[2K";
-    assert!(rt; draws(rt.alloc(), 20, 4, &asked, &[row]));
-    assert!(rt; shows(rt.alloc(), 20, 4, &asked, &["l1", "l2", "l3", ""]));
+    assert!(rt; draws(rt.alloc(), 20, 4, asked, &[row]));
+    assert!(rt; shows(rt.alloc(), 20, 4, asked, &["l1", "l2", "l3", ""]));
 }
 
 #[test]
 fn a_message_is_cut_before_the_indicator(rt: HostRuntime) {
-    let asked = [
+    let asked = &[
         Asked::Message("Help: q:quit | j/k:scroll | Space:page"),
         Asked::Follow(true),
     ];
     let row = "\x1b[30;1;41mHelp: q:quit | j/\x1b[1m[F]\x1b[0m";
-    assert!(rt; shows(rt.alloc(), 20, 2, &asked, &["", row]));
+    assert!(rt; shows(rt.alloc(), 20, 2, asked, &["", row]));
 }
 
 #[test]
 fn digits_are_typed_into_the_prompt_row(rt: HostRuntime) {
-    let asked = [typed('1'), typed('2')];
-    let texts = ["\x1b[5;1H\r\x1b[2K", TYPED];
-    assert!(rt; draws(rt.alloc(), 20, 4, &asked, &texts));
+    let asked = &[typed('1'), typed('2')];
+    let texts = &["\x1b[5;1H\r\x1b[2K", TYPED];
+    assert!(rt; draws(rt.alloc(), 20, 4, asked, texts));
 }
 
 #[test]
 fn an_event_that_types_nothing_clears_the_prefix(rt: HostRuntime) {
-    let asked = [typed('1'), typed('2'), Asked::Told(Event::FocusGained)];
-    assert!(rt; draws(rt.alloc(), 20, 2, &asked, &[THIRD_ROW, PROMPT_ROW]));
+    let asked = &[typed('1'), typed('2'), Asked::Told(Event::FocusGained)];
+    assert!(rt; draws(rt.alloc(), 20, 2, asked, &[THIRD_ROW, PROMPT_ROW]));
 }
 
 #[test]
 fn a_command_keeps_the_prefix(rt: HostRuntime) {
-    let asked = [typed('1'), typed('2'), Asked::Push("a")];
-    assert!(rt; shows(rt.alloc(), 20, 2, &asked, &["a", TYPED]));
+    let asked = &[typed('1'), typed('2'), Asked::Push("a")];
+    assert!(rt; shows(rt.alloc(), 20, 2, asked, &["a", TYPED]));
 }
 
 #[test]
@@ -122,20 +122,20 @@ fn a_prompt_row_that_stays_is_drawn_when_asked_for_alone(rt: HostRuntime) {
     let alloc = rt.alloc();
     assert!(rt; draws(alloc, 20, 2, &[Asked::Prompt("minus")], &[]));
     assert!(rt; draws(alloc, 20, 2, &[Asked::Restored], &[]));
-    let asked = [Asked::Io(IoCommand::RedrawPrompt)];
-    assert!(rt; draws(alloc, 20, 2, &asked, &[THIRD_ROW, PROMPT_ROW]));
+    let asked = &[Asked::Io(IoCommand::RedrawPrompt)];
+    assert!(rt; draws(alloc, 20, 2, asked, &[THIRD_ROW, PROMPT_ROW]));
 }
 
 #[test]
 fn a_message_goes_and_the_prompt_is_back(rt: HostRuntime) {
-    let asked = [Asked::Message("m"), Asked::Prompt("p"), Asked::Restored];
+    let asked = &[Asked::Message("m"), Asked::Prompt("p"), Asked::Restored];
     let row = "\x1b[2;40;37mp                   \x1b[0m";
-    assert!(rt; draws(rt.alloc(), 20, 2, &asked, &[THIRD_ROW, row]));
+    assert!(rt; draws(rt.alloc(), 20, 2, asked, &[THIRD_ROW, row]));
 }
 
 #[test]
 fn the_whole_page_is_drawn_when_asked_for(rt: HostRuntime) {
-    let asked = [
+    let asked = &[
         Asked::Push("a"),
         Asked::Shown(false),
         Asked::Io(IoCommand::RedrawDisplay),
@@ -145,7 +145,7 @@ fn the_whole_page_is_drawn_when_asked_for(rt: HostRuntime) {
             rt.alloc(),
             20,
             2,
-            &asked,
+            asked,
             &["\x1b[1;1H\x1b[2J\ra\n", THIRD_ROW]
         )
     );
@@ -153,10 +153,10 @@ fn the_whole_page_is_drawn_when_asked_for(rt: HostRuntime) {
 
 #[test]
 fn a_mark_is_set_by_a_command_of_its_own(rt: HostRuntime) {
-    let asked = [
+    let asked = &[
         Asked::Push(TEN_LINES),
         Asked::Shown(false),
         Asked::Io(IoCommand::SetUpperMark(100)),
     ];
-    assert!(rt; shows(rt.alloc(), 20, 4, &asked, &["l7", "l8", "l9", ""]));
+    assert!(rt; shows(rt.alloc(), 20, 4, asked, &["l7", "l8", "l9", ""]));
 }

@@ -52,8 +52,8 @@ fn a_refused_write_fails_the_session(rt: HostRuntime) {
 #[test]
 fn a_refused_flush_fails_the_session(rt: HostRuntime) {
     let refused = flush(START_FLUSHES + 1);
-    let texts = ["\x1b[1;1H\x1b[2Ka", CLEANUP];
-    assert!(rt; is_failed(rt.alloc(), refused, true, 1, &texts));
+    let texts = &["\x1b[1;1H\x1b[2Ka", CLEANUP];
+    assert!(rt; is_failed(rt.alloc(), refused, true, 1, texts));
 }
 
 #[test]
@@ -129,8 +129,8 @@ fn is_stopped(ran: &Ran, text: &str) -> bool {
 
 // Whether a run of three pushes, of which the second is refused a write, stops so.
 fn stops<S: OutputSink + Drop>(alloc: Global, session: &mut Session<S>) -> bool {
-    let asked = [Asked::Push("a"), Asked::Push("b"), Asked::Push("c")];
-    match run(alloc, session, &asked) {
+    let asked = &[Asked::Push("a"), Asked::Push("b"), Asked::Push("c")];
+    match run(alloc, session, asked) {
         Some(ran) => is_stopped(&ran, "c"),
         None => false,
     }
@@ -150,8 +150,12 @@ fn a_run_stops_at_a_refused_write(rt: HostRuntime) {
     assert!(rt; stops_on_its_way(rt.alloc()));
 }
 
-// Whether a scroll is done, or refused for want of memory with the mark as it was, and done when it is asked for again.
+// Whether a scroll of ten lines is done, or refused for want of memory with the mark as it was, and done when it is asked
+// for again.
 fn scrolls<S: OutputSink + Drop>(alloc: Global, session: &mut Session<S>) -> bool {
+    if !does(alloc, session, &[Asked::Push(TEN_LINES)]) {
+        return false;
+    }
     let first = number_of(alloc, session, Asked::Mark(2));
     let mark = session.state().upper_mark;
     let again = number_of(alloc, session, Asked::Mark(2));
@@ -174,8 +178,7 @@ fn scrolls_to(alloc: Global, drawn: &str) -> bool {
     let Some(mut session) = session_on(alloc, WithTty::new(held, true), 20, 4) else {
         return false;
     };
-    let is_scrolled = does(alloc, &mut session, &[Asked::Push(TEN_LINES)])
-        && scrolls(alloc, &mut session);
+    let is_scrolled = scrolls(alloc, &mut session);
     let (sink, _) = session.finish();
     is_scrolled && ends_with(&sink.inner, drawn)
 }

@@ -34,13 +34,13 @@ fn leads(alloc: Global, text: &str, mark: usize, y: u16, to: (usize, usize, usiz
     let Some(mut session) = session_on(alloc, terminal(alloc), 20, 5) else {
         return false;
     };
-    let asked = [
+    let asked = &[
         Asked::Push(text),
         Asked::Mark(mark),
         start(0, 0),
         update(0, y),
     ];
-    does(alloc, &mut session, &asked) && is_led(session.state(), to.0, to.1, to.2)
+    does(alloc, &mut session, asked) && is_led(session.state(), to.0, to.1, to.2)
 }
 
 #[test]
@@ -60,35 +60,35 @@ fn a_selection_goes_down_as_far_as_the_text(rt: HostRuntime) {
 
 #[test]
 fn what_is_selected_is_shown_in_reverse(rt: HostRuntime) {
-    let asked = [Asked::Push("ab\x1b[0mc"), start(0, 0), update(1, 0)];
-    let rows = ["\x1b[7mab\x1b[0m\x1b[27mc", "", PROMPT_ROW];
-    assert!(rt; shows(rt.alloc(), 20, 3, &asked, &rows));
+    let asked = &[Asked::Push("ab\x1b[0mc"), start(0, 0), update(1, 0)];
+    let rows = &["\x1b[7mab\x1b[0m\x1b[27mc", "", PROMPT_ROW];
+    assert!(rt; shows(rt.alloc(), 20, 3, asked, rows));
 }
 
 #[test]
 fn a_selection_is_drawn_in_full(rt: HostRuntime) {
-    let asked = [Asked::Push("abc"), start(1, 0)];
+    let asked = &[Asked::Push("abc"), start(1, 0)];
     let row = "\x1b[1;1H\x1b[2J\ra\x1b[7mb\x1b[27mc\n\x1b[4;1H\r\x1b[2K";
-    assert!(rt; draws(rt.alloc(), 20, 3, &asked, &[row, PROMPT_ROW]));
+    assert!(rt; draws(rt.alloc(), 20, 3, asked, &[row, PROMPT_ROW]));
 }
 
 #[test]
 fn a_selection_that_stays_writes_nothing(rt: HostRuntime) {
-    let twice = [Asked::Push("abc\ndef"), start(1, 1), update(1, 1)];
-    assert!(rt; draws(rt.alloc(), 20, 5, &twice, &[]));
-    let below = [Asked::Push("abc"), start(1, 4)];
-    assert!(rt; draws(rt.alloc(), 20, 5, &below, &[]));
-    let without = [Asked::Push("abc"), update(1, 0)];
-    assert!(rt; draws(rt.alloc(), 20, 5, &without, &[]));
+    let twice = &[Asked::Push("abc\ndef"), start(1, 1), update(1, 1)];
+    assert!(rt; draws(rt.alloc(), 20, 5, twice, &[]));
+    let below = &[Asked::Push("abc"), start(1, 4)];
+    assert!(rt; draws(rt.alloc(), 20, 5, below, &[]));
+    let without = &[Asked::Push("abc"), update(1, 0)];
+    assert!(rt; draws(rt.alloc(), 20, 5, without, &[]));
 }
 
 #[test]
 fn a_selection_is_cleared_once(rt: HostRuntime) {
-    let once = [Asked::Push("abc"), start(1, 0), CLEAR];
+    let once = &[Asked::Push("abc"), start(1, 0), CLEAR];
     let row = "\x1b[1;1H\x1b[2J\rabc\n\x1b[4;1H\r\x1b[2K";
-    assert!(rt; draws(rt.alloc(), 20, 3, &once, &[row, PROMPT_ROW]));
-    let twice = [Asked::Push("abc"), start(1, 0), CLEAR, CLEAR];
-    assert!(rt; draws(rt.alloc(), 20, 3, &twice, &[]));
+    assert!(rt; draws(rt.alloc(), 20, 3, once, &[row, PROMPT_ROW]));
+    let twice = &[Asked::Push("abc"), start(1, 0), CLEAR, CLEAR];
+    assert!(rt; draws(rt.alloc(), 20, 3, twice, &[]));
 }
 
 // Whether the last step of a run copied this text, or nothing where there is none.
@@ -123,13 +123,13 @@ fn copies(alloc: Global, cols: usize, asked: &[Asked<'_>], text: Option<&str>) -
 #[test]
 fn copies_lines_and_the_spaces_between_their_rows(rt: HostRuntime) {
     let text = Asked::Push("abcdefghi\njklmnop\n");
-    let asked = [text, start(2, 0), update(3, 2), COPY];
-    assert!(rt; copies(rt.alloc(), 6, &asked, Some("cdefghi\njklm")));
+    let asked = &[text, start(2, 0), update(3, 2), COPY];
+    assert!(rt; copies(rt.alloc(), 6, asked, Some("cdefghi\njklm")));
 }
 
 #[test]
 fn copies_behind_numbers_from_a_left_mark(rt: HostRuntime) {
-    let asked = [
+    let asked = &[
         Asked::Numbers(LineNumbers::Enabled),
         Asked::Wrapped(false),
         Asked::Push("abcdefghij\nklmnopqrst\nuvwxyz\n"),
@@ -139,20 +139,20 @@ fn copies_behind_numbers_from_a_left_mark(rt: HostRuntime) {
         COPY,
     ];
     let text = "efghij\nklmnopqrst\nuvwxy";
-    assert!(rt; copies(rt.alloc(), 11, &asked, Some(text)));
+    assert!(rt; copies(rt.alloc(), 11, asked, Some(text)));
 }
 
 #[test]
 fn nothing_is_copied_twice(rt: HostRuntime) {
-    let once = [Asked::Push("abc"), start(0, 0), COPY];
-    assert!(rt; copies(rt.alloc(), 20, &once, Some("a")));
-    let none = [Asked::Push("abc"), start(0, 0), CLEAR, COPY];
-    assert!(rt; copies(rt.alloc(), 20, &none, None));
-    assert!(rt; draws(rt.alloc(), 20, 3, &none, &[]));
+    let once = &[Asked::Push("abc"), start(0, 0), COPY];
+    assert!(rt; copies(rt.alloc(), 20, once, Some("a")));
+    let none = &[Asked::Push("abc"), start(0, 0), CLEAR, COPY];
+    assert!(rt; copies(rt.alloc(), 20, none, None));
+    assert!(rt; draws(rt.alloc(), 20, 3, none, &[]));
 }
 
 #[test]
 fn a_copied_selection_goes(rt: HostRuntime) {
-    let asked = [Asked::Push("abc"), start(0, 0), COPY];
-    assert!(rt; shows(rt.alloc(), 20, 3, &asked, &["abc", "", PROMPT_ROW]));
+    let asked = &[Asked::Push("abc"), start(0, 0), COPY];
+    assert!(rt; shows(rt.alloc(), 20, 3, asked, &["abc", "", PROMPT_ROW]));
 }

@@ -43,8 +43,8 @@ fn writes_what_waits(alloc: Global, texts: &[&str]) -> bool {
 #[test]
 fn the_text_of_a_pager_is_on_the_first_page(rt: HostRuntime) {
     let page = "\x1b[1;1H\x1b[2J\rone\n\rtwo\n\r2\n";
-    let texts = [SETUP, page, SIXTH_ROW, PROMPT_ROW, CLEANUP];
-    assert!(rt; writes_what_waits(rt.alloc(), &texts));
+    let texts = &[SETUP, page, SIXTH_ROW, PROMPT_ROW, CLEANUP];
+    assert!(rt; writes_what_waits(rt.alloc(), texts));
 }
 
 // Whether a session is dynamic and shows these rows.
@@ -64,8 +64,8 @@ fn shows_what_was_pushed(alloc: Global, text: &str, rows: &[&str]) -> bool {
 
 #[test]
 fn a_dynamic_start_shows_what_a_push_would(rt: HostRuntime) {
-    let rows = ["one", "two", "", "", PROMPT_ROW];
-    assert!(rt; shows_what_was_pushed(rt.alloc(), "one\ntwo", &rows));
+    let rows = &["one", "two", "", "", PROMPT_ROW];
+    assert!(rt; shows_what_was_pushed(rt.alloc(), "one\ntwo", rows));
 }
 
 // Whether a start on a sink is refused as it is no terminal, and the pager is gone.
@@ -139,8 +139,8 @@ fn starts_again(alloc: Global, rows: &[&str]) -> bool {
 
 #[test]
 fn a_pager_that_came_back_starts(rt: HostRuntime) {
-    let rows = ["one", "two", "2", "", PROMPT_ROW];
-    assert!(rt; starts_again(rt.alloc(), &rows));
+    let rows = &["one", "two", "2", "", PROMPT_ROW];
+    assert!(rt; starts_again(rt.alloc(), rows));
 }
 
 // The part of what a start writes at which it was refused.
@@ -195,6 +195,6 @@ fn a_start_refused_after_the_setup_cleans_up(rt: HostRuntime) {
     let alloc = rt.alloc();
     assert!(rt; leaves(alloc, write(55), &[SETUP, CLEANUP]));
     assert!(rt; leaves(alloc, write(57), &[SETUP, "\x1b[", CLEANUP]));
-    let page = [SETUP, "\x1b[1;1H\x1b[2J", SIXTH_ROW, PROMPT_ROW, CLEANUP];
-    assert!(rt; leaves(alloc, flush(4), &page));
+    let page = &[SETUP, "\x1b[1;1H\x1b[2J", SIXTH_ROW, PROMPT_ROW, CLEANUP];
+    assert!(rt; leaves(alloc, flush(4), page));
 }

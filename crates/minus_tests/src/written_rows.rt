@@ -44,11 +44,11 @@ fn a_mark_past_the_last_full_page_is_clamped(rt: HostRuntime) {
 
 #[test]
 fn a_page_with_room_shows_each_row(rt: HostRuntime) {
-    let texts = [
+    let texts = &[
         "\x1b[1;1H\x1b[2J\r     \x1b[1m1.\x1b[0m \n",
         "\r     \x1b[1m2.\x1b[0m  abc\n\r     \x1b[1m3.\x1b[0m \n",
     ];
-    assert!(rt; is_page(rt.alloc(), 2, 9, 5, &texts));
+    assert!(rt; is_page(rt.alloc(), 2, 9, 5, texts));
 }
 
 #[test]
@@ -75,18 +75,18 @@ fn a_page_without_numbers_is_cropped_at_the_row_start(rt: HostRuntime) {
 
 #[test]
 fn wide_characters_are_cropped_by_columns(rt: HostRuntime) {
-    let lines = ["日本語abc"];
-    assert!(rt; is_scrolled(rt.alloc(), &lines, 4, 0, "\r日本\n"));
-    assert!(rt; is_scrolled(rt.alloc(), &lines, 4, 1, "\r 本 \n"));
-    assert!(rt; is_scrolled(rt.alloc(), &lines, 4, 2, "\r本語\n"));
-    assert!(rt; is_scrolled(rt.alloc(), &lines, 4, 5, "\r abc\n"));
-    assert!(rt; is_scrolled(rt.alloc(), &lines, 4, 9, "\r\n"));
+    let lines = &["日本語abc"];
+    assert!(rt; is_scrolled(rt.alloc(), lines, 4, 0, "\r日本\n"));
+    assert!(rt; is_scrolled(rt.alloc(), lines, 4, 1, "\r 本 \n"));
+    assert!(rt; is_scrolled(rt.alloc(), lines, 4, 2, "\r本語\n"));
+    assert!(rt; is_scrolled(rt.alloc(), lines, 4, 5, "\r abc\n"));
+    assert!(rt; is_scrolled(rt.alloc(), lines, 4, 9, "\r\n"));
 }
 
 #[test]
 fn sequences_stay_in_cropped_rows(rt: HostRuntime) {
-    let red = ["\x1b[31mred\x1b[0m"];
-    assert!(rt; is_scrolled(rt.alloc(), &red, 2, 1, "\r\x1b[31med\x1b[0m\n"));
+    let red = &["\x1b[31mred\x1b[0m"];
+    assert!(rt; is_scrolled(rt.alloc(), red, 2, 1, "\r\x1b[31med\x1b[0m\n"));
     assert!(rt; is_scrolled(rt.alloc(), &["a▲b", "c"], 3, 0, "\ra▲b\n\rc\n"));
 }
 
@@ -99,16 +99,16 @@ fn is_written(alloc: Global, rows: &[&str], wrapping: bool, lines: usize, texts:
 
 #[test]
 fn wrapped_rows_are_written_as_they_are(rt: HostRuntime) {
-    let rows = ["     \x1b[1m1.\x1b[0m one", "        two"];
-    let texts = ["\r     \x1b[1m1.\x1b[0m one\n", "\r        two\n"];
-    assert!(rt; is_written(rt.alloc(), &rows, true, 1, &texts));
+    let rows = &["     \x1b[1m1.\x1b[0m one", "        two"];
+    let texts = &["\r     \x1b[1m1.\x1b[0m one\n", "\r        two\n"];
+    assert!(rt; is_written(rt.alloc(), rows, true, 1, texts));
 }
 
 #[test]
 fn rows_that_are_not_wrapped_are_cropped_behind_their_numbers(rt: HostRuntime) {
-    let texts = [
+    let texts = &[
         "\r     \x1b[1m2.\x1b[0m   \n",
         "\r     \x1b[1m3.\x1b[0m bc\n",
     ];
-    assert!(rt; is_written(rt.alloc(), &NUMBERED[1..], false, 3, &texts));
+    assert!(rt; is_written(rt.alloc(), &NUMBERED[1..], false, 3, texts));
 }
