@@ -303,7 +303,7 @@ impl PagerState {
         }
     }
 
-    /// Puts what was formed in its place. An `Err` changes nothing.
+    /// Puts what was formed in its place. An `Err` leaves the control and the screen as they were.
     pub fn place(&mut self, alloc: Global, change: Change) -> Result<(), MinusError>
         requires { IsNext self.old.screen change.text }
         ensures screen { OnOk result (self.new.screen ≡ searched None (next_document self.old.screen.document change.text)) }
