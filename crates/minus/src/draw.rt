@@ -184,11 +184,11 @@ pub fn write_from_pagerstate<W: OutputSink>(
     ensures err { IfErr result (λ e. WriteRefuses W.contents W.refused e out.old out.new (written_all (page_rows (clamp (control_of state.old))))) }
     ensures kept { OnErr result (state.new ≡ state.old) }
 {
-    let change = state.moved_to(state.upper_mark);
-    let bytes = written_page(alloc, state, &change)?;
+    let clamped = state.moved_to(state.upper_mark);
+    let bytes = written_page(alloc, state, &clamped)?;
     if let Err(cause) = draw_bytes(out, &bytes) {
         return Err(MinusError::Draw(cause));
     }
-    state.upper_mark = change.mark;
+    state.upper_mark = clamped.mark;
     Ok(())
 }

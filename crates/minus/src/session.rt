@@ -186,8 +186,9 @@ impl<S, P: Parts> Core<S, P> {
         self.drawing.clear();
         let kept = self.prompt_row.as_str();
         let prompt = row_of(row, kept);
+        let state = &self.state;
         draw_step(
-            &self.state,
+            state,
             self.alloc,
             &mut self.drawing,
             drawing,
