@@ -5,7 +5,10 @@ use std::process::Abort;
 
 // Whether a text describes a key with this code and these modifiers.
 fn is_key(text: &str, code: KeyCode, modifiers: KeyModifiers) -> bool {
-    parse_key_event(text).map(|key| (key.code, key.modifiers)) == Ok((code, modifiers))
+    match parse_key_event(text) {
+        Ok(key) => key.code == code && key.modifiers == modifiers,
+        Err(_) => false,
+    }
 }
 
 // Whether a text describes no key, for this reason.

@@ -5,7 +5,10 @@ use std::process::Abort;
 
 // Whether a text describes this action of the mouse with these modifiers.
 fn is_mouse(text: &str, kind: MouseEventKind, modifiers: KeyModifiers) -> bool {
-    parse_mouse_event(text).map(|mouse| (mouse.kind, mouse.modifiers)) == Ok((kind, modifiers))
+    match parse_mouse_event(text) {
+        Ok(mouse) => mouse.kind == kind && mouse.modifiers == modifiers,
+        Err(_) => false,
+    }
 }
 
 // Whether a text describes no action, for this reason.
@@ -47,12 +50,22 @@ fn modifiers_are_read_before_an_action(rt: HostRuntime) {
     assert!(rt; has_two && has_all);
 }
 
+// Fails where a text describes an action, or none for another reason.
+fn assert_refused(rt: &impl Abort, cases: &[(&str, DescriptionError)]) {
+    for (text, fault) in cases {
+        assert!(rt; is_refused(text, *fault), "at {text}");
+    }
+}
+
 #[test]
 fn what_is_no_action_is_refused(rt: HostRuntime) {
-    assert!(rt; is_refused("é", DescriptionError::NotAscii));
-    assert!(rt; is_refused("  ", DescriptionError::Empty));
-    assert!(rt; is_refused("m", DescriptionError::UnknownName));
-    assert!(rt; is_refused("c-", DescriptionError::NoAction));
-    assert!(rt; is_refused("x-left:up", DescriptionError::UnknownName));
-    assert!(rt; is_refused("left:up-move", DescriptionError::SecondKey));
+    let cases = &[
+        ("é", DescriptionError::NotAscii),
+        ("  ", DescriptionError::Empty),
+        ("m", DescriptionError::UnknownName),
+        ("c-", DescriptionError::NoAction),
+        ("x-left:up", DescriptionError::UnknownName),
+        ("left:up-move", DescriptionError::SecondKey),
+    ];
+    assert_refused(&rt, cases);
 }

@@ -3,6 +3,7 @@ use bitflags::Flags;
 use minus_input::{KeySeq, format_help_table_from_entries, format_key, modifier_of};
 use minus_term::{KeyCode, KeyEvent, KeyEventKind, KeyEventState, KeyModifiers};
 use std::alloc::Global;
+use std::process::Abort;
 
 // A key that is pressed.
 fn pressed(code: KeyCode, modifiers: KeyModifiers) -> KeyEvent {
@@ -32,28 +33,37 @@ fn a_sequence_begins_with_nothing(rt: HostRuntime) {
     assert!(rt; seq.code.is_none() && seq.modifiers == KeyModifiers::NONE);
 }
 
-// Whether a key that is pressed with these modifiers has this name.
-fn is_named(alloc: Global, code: KeyCode, modifiers: KeyModifiers, name: &str) -> bool {
-    match format_key(alloc, &pressed(code, modifiers)) {
+// Whether a key has this name.
+fn is_named(alloc: Global, key: &KeyEvent, name: &str) -> bool {
+    match format_key(alloc, key) {
         Ok(text) => text.as_str() == name,
         Err(_) => false,
     }
 }
 
+// Fails where a key that is pressed with some modifiers has another name.
+fn assert_named(rt: &impl Abort, alloc: Global, cases: &[(KeyCode, KeyModifiers, &str)]) {
+    for (code, modifiers, name) in cases {
+        let key = pressed(*code, *modifiers);
+        assert!(rt; is_named(alloc, &key, name), "at {name}");
+    }
+}
+
 #[test]
 fn keys_have_their_names(rt: HostRuntime) {
-    let alloc = rt.alloc();
-    let none = KeyModifiers::NONE;
     let all = KeyModifiers::CONTROL | KeyModifiers::ALT | KeyModifiers::SHIFT;
-    assert!(rt; is_named(alloc, KeyCode::Char('q'), none, "q"));
-    assert!(rt; is_named(alloc, KeyCode::Char('x'), all, "Ctrl-Alt-Shift-x"));
-    assert!(rt; is_named(alloc, KeyCode::Char('X'), all, "Ctrl-Alt-X"));
-    assert!(rt; is_named(alloc, KeyCode::Char('É'), KeyModifiers::SHIFT, "Shift-É"));
-    assert!(rt; is_named(alloc, KeyCode::Char(' '), KeyModifiers::ALT, "Alt-<Space>"));
-    assert!(rt; is_named(alloc, KeyCode::F(12), none, "F12"));
-    assert!(rt; is_named(alloc, KeyCode::PageDown, none, "PageDown"));
-    assert!(rt; is_named(alloc, KeyCode::Null, KeyModifiers::CONTROL, "Ctrl-Null"));
-    assert!(rt; is_named(alloc, KeyCode::Menu, none, "Unknown"));
+    let cases = &[
+        (KeyCode::Char('q'), KeyModifiers::NONE, "q"),
+        (KeyCode::Char('x'), all, "Ctrl-Alt-Shift-x"),
+        (KeyCode::Char('X'), all, "Ctrl-Alt-X"),
+        (KeyCode::Char('É'), KeyModifiers::SHIFT, "Shift-É"),
+        (KeyCode::Char(' '), KeyModifiers::ALT, "Alt-<Space>"),
+        (KeyCode::F(12), KeyModifiers::NONE, "F12"),
+        (KeyCode::PageDown, KeyModifiers::NONE, "PageDown"),
+        (KeyCode::Null, KeyModifiers::CONTROL, "Ctrl-Null"),
+        (KeyCode::Menu, KeyModifiers::NONE, "Unknown"),
+    ];
+    assert_named(&rt, rt.alloc(), cases);
 }
 
 // Whether the help table of some keys and their descriptions is this text.

@@ -6,4 +6,5 @@ mod printing;
 mod program;
 mod reading;
 mod runs;
+mod shown;
 mod words;

@@ -1,4 +1,5 @@
 //! The texts and numbers of the errors.
+use crate::shown::is_shown;
 use minus_term::{CleanupError, Hook, MinusError, RegexError, SetupError, TermError};
 use std::alloc::Global;
 use std::io::ErrorKind;
@@ -7,12 +8,6 @@ use std::{fmt, io};
 // The fault of an operation on a terminal.
 fn broken() -> TermError {
     TermError::from(io::Error::from(ErrorKind::BrokenPipe))
-}
-
-// Whether a value is shown as this text.
-fn is_shown<T: fmt::Display>(alloc: Global, value: &T, text: &str) -> bool {
-    let mut shown = String::new(alloc);
-    write!(shown, "{value}").is_ok() && shown.as_str() == text
 }
 
 // Whether an error has this number and text.

@@ -5,6 +5,7 @@ use minus_term::{
     MouseEventKind,
 };
 use std::hash::{DefaultHasher, Hash, Hasher};
+use std::process::Abort;
 
 // A character's key, pressed.
 fn pressed(character: char, modifiers: KeyModifiers) -> KeyEvent {
@@ -79,34 +80,46 @@ fn events_of_other_kinds_compare_all_they_hold(rt: HostRuntime) {
     assert!(rt; sizes && same && apart);
 }
 
-// Whether modifiers have these bits, and these bits are read as them.
-fn are_modifiers(modifiers: KeyModifiers, bits: u8) -> bool {
-    KeyModifiers::from_bits(bits) == Some(modifiers) && modifiers.bits() == bits
+// Fails where modifiers have other bits, or bits are read as other modifiers.
+fn assert_modifiers(rt: &impl Abort, cases: &[(KeyModifiers, u8)]) {
+    for (modifiers, bits) in cases {
+        let back = KeyModifiers::from_bits(*bits) == Some(*modifiers);
+        assert!(rt; back && modifiers.bits() == *bits, "at {bits}");
+    }
 }
 
 #[test]
 fn modifiers_have_their_bits(rt: HostRuntime) {
-    assert!(rt; are_modifiers(KeyModifiers::NONE, 0));
-    assert!(rt; are_modifiers(KeyModifiers::SHIFT, 1));
-    assert!(rt; are_modifiers(KeyModifiers::CONTROL, 2));
-    assert!(rt; are_modifiers(KeyModifiers::ALT, 4));
-    assert!(rt; are_modifiers(KeyModifiers::SUPER, 8));
-    assert!(rt; are_modifiers(KeyModifiers::HYPER, 16));
-    assert!(rt; are_modifiers(KeyModifiers::META, 32));
-    assert!(rt; are_modifiers(KeyModifiers::SHIFT | KeyModifiers::ALT, 5));
+    let cases = &[
+        (KeyModifiers::NONE, 0),
+        (KeyModifiers::SHIFT, 1),
+        (KeyModifiers::CONTROL, 2),
+        (KeyModifiers::ALT, 4),
+        (KeyModifiers::SUPER, 8),
+        (KeyModifiers::HYPER, 16),
+        (KeyModifiers::META, 32),
+        (KeyModifiers::SHIFT | KeyModifiers::ALT, 5),
+    ];
+    assert_modifiers(&rt, cases);
 }
 
-// Whether a state has these bits, and these bits are read as it.
-fn is_state(state: KeyEventState, bits: u8) -> bool {
-    KeyEventState::from_bits(bits) == Some(state) && state.bits() == bits
+// Fails where a state has other bits, or bits are read as another state.
+fn assert_states(rt: &impl Abort, cases: &[(KeyEventState, u8)]) {
+    for (state, bits) in cases {
+        let back = KeyEventState::from_bits(*bits) == Some(*state);
+        assert!(rt; back && state.bits() == *bits, "at {bits}");
+    }
 }
 
 #[test]
 fn states_have_their_bits(rt: HostRuntime) {
-    assert!(rt; is_state(KeyEventState::NONE, 0));
-    assert!(rt; is_state(KeyEventState::KEYPAD, 1));
-    assert!(rt; is_state(KeyEventState::CAPS_LOCK, 2));
-    assert!(rt; is_state(KeyEventState::NUM_LOCK, 4));
+    let cases = &[
+        (KeyEventState::NONE, 0),
+        (KeyEventState::KEYPAD, 1),
+        (KeyEventState::CAPS_LOCK, 2),
+        (KeyEventState::NUM_LOCK, 4),
+    ];
+    assert_states(&rt, cases);
 }
 
 #[test]

@@ -9,6 +9,8 @@ mod events;
 #[cfg(test)]
 mod operations;
 #[cfg(test)]
+mod shown;
+#[cfg(test)]
 mod sinks;
 #[cfg(test)]
 mod stubborn;

@@ -1,4 +1,5 @@
 //! The bytes of each operation, and how they reach a sink.
+use crate::sinks::draws;
 use crate::stubborn::{Refusal, Stubborn};
 use minus_term::{DrawOp, OutputSink, draw_bytes, write_bytes, write_op};
 use std::alloc::Global;
@@ -39,24 +40,17 @@ fn writes_each_operation(rt: HostRuntime) {
     assert_written(&rt, rt.alloc(), cases);
 }
 
-// Whether a vector takes drawings of texts, one after another.
-fn takes_three(sink: &mut Vec<u8>) -> bool {
-    draw_bytes(sink, b"one").is_ok()
-        && draw_bytes(sink, b"").is_ok()
-        && draw_bytes(sink, b"two").is_ok()
-}
-
 #[test]
 fn draws_to_a_vector(rt: HostRuntime) {
     let mut sink = Vec::new(rt.alloc());
-    let taken = takes_three(&mut sink) && !sink.is_tty();
-    assert!(rt; taken && sink.as_slice() == b"onetwo".as_slice());
+    let drawn = draws(&mut sink, b"one") && draws(&mut sink, b"") && draws(&mut sink, b"two");
+    assert!(rt; drawn && sink.as_slice() == b"onetwo".as_slice() && !sink.is_tty());
 }
 
 #[test]
 fn settles_once_after_all_bytes(rt: HostRuntime) {
     let mut sink = Stubborn::new(rt.alloc(), 0, Refusal::Interrupted);
-    let drawn = draw_bytes(&mut sink, b"xyz").is_ok();
+    let drawn = draws(&mut sink, b"xyz");
     assert!(rt; drawn && sink.has_taken(b"xyz", 3, 1));
 }
 

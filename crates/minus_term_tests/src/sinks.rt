@@ -5,16 +5,21 @@ use std::alloc::Global;
 use std::io::{Cursor, Read};
 use std::{fs, io};
 
+// Whether a sink takes a drawing.
+pub(crate) fn draws<S: OutputSink>(sink: &mut S, bytes: &[u8]) -> bool {
+    draw_bytes(sink, bytes).is_ok()
+}
+
 // Whether a sink takes a drawing, and says that it is no terminal.
 fn takes<S: OutputSink>(sink: &mut S, bytes: &[u8]) -> bool {
-    draw_bytes(sink, bytes).is_ok() && !sink.is_tty()
+    draws(sink, bytes) && !sink.is_tty()
 }
 
 #[test]
 fn draws_to_a_cursor(rt: HostRuntime) {
     let mut cursor = Cursor::new(Vec::new(rt.alloc()));
     let taken = takes(&mut cursor, b"to a cursor");
-    assert!(rt; taken && cursor.into_inner().as_slice() == b"to a cursor".as_slice());
+    assert!(rt; taken && cursor.get_ref().as_slice() == b"to a cursor".as_slice());
 }
 
 // Whether a box of a vector takes a drawing.
@@ -84,7 +89,7 @@ fn draws_to_a_file(rt: HostRuntime) {
 
 // Whether a drawing is refused, as the last of so many.
 fn is_refused(sink: &mut WithTty<Stubborn>, bytes: &[u8], refusals: u64) -> bool {
-    draw_bytes(sink, bytes).is_err() && sink.refusals == refusals
+    !draws(sink, bytes) && sink.refusals == refusals
 }
 
 // Whether a write that takes nothing, an interrupted one and a refused flush are counted, and a drawing that ends well
@@ -96,7 +101,7 @@ fn counts(sink: &mut WithTty<Stubborn>) -> bool {
     let interrupted = is_refused(sink, b"yz", 2);
     sink.inner.refused_flush = 1;
     let flush_refused = is_refused(sink, b"z", 3);
-    let drawn = draw_bytes(sink, b"!").is_ok() && sink.refusals == 3;
+    let drawn = draws(sink, b"!") && sink.refusals == 3;
     nothing_taken && interrupted && flush_refused && drawn
 }
 

@@ -7,7 +7,7 @@ use std::io;
 use std::io::{ErrorKind, Write};
 
 /// How a write is refused.
-#[derive(Clone, Copy, Debug)]
+#[derive(Clone, Copy)]
 pub enum Refusal {
     Interrupted,
     NothingTaken,
@@ -15,7 +15,7 @@ pub enum Refusal {
 
 /// Takes one byte a write, and refuses one write and one flush, each named by its number from 1; 0
 /// names none.
-#[derive(Debug, Drop)]
+#[derive(Drop)]
 pub struct Stubborn {
     pub held: Vec<u8>,
     pub writes: u32,

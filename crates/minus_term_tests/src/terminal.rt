@@ -1,8 +1,8 @@
 //! What sets a terminal up and cleans it up, and which part of it a sink refused.
+use crate::shown::is_shown;
 use crate::stubborn::{Refusal, Stubborn};
-use minus_term::{SetupError, WithTty, cleanup, setup};
+use minus_term::{OutputSink, SetupError, WithTty, cleanup, setup};
 use std::alloc::Global;
-use std::fmt;
 
 const SETUP: &[u8] = b"\x1b[?1049h\x1b[?1000h\x1b[?1002h\x1b[?1003h\x1b[?1015h\x1b[?1006h\x1b[?25l";
 
@@ -17,56 +17,69 @@ fn terminal(alloc: Global, refused_write: u32) -> WithTty<Stubborn> {
     )
 }
 
-// Whether a result is an error with this text.
-fn is_refused<E: fmt::Display + Drop>(alloc: Global, outcome: Result<(), E>, text: &str) -> bool {
-    let mut shown = String::new(alloc);
-    match outcome {
-        Ok(()) => false,
-        Err(error) => write!(shown, "{error}").is_ok() && shown.as_str() == text,
-    }
+// Whether a sink is set up.
+fn is_set_up<S: OutputSink>(sink: &mut S) -> bool {
+    setup(sink).is_ok()
+}
+
+// Whether a sink is cleaned up, or left where it was not set up.
+fn is_cleaned_up<S: OutputSink>(sink: &mut S, was_set_up: bool) -> bool {
+    cleanup(sink, was_set_up).is_ok()
 }
 
 #[test]
 fn sets_a_terminal_up(rt: HostRuntime) {
     let mut sink = terminal(rt.alloc(), 0);
-    let is_set_up = setup(&mut sink).is_ok() && sink.refusals == 0;
-    assert!(rt; is_set_up && sink.inner.has_taken(SETUP, 54, 3));
+    let is_done = is_set_up(&mut sink) && sink.refusals == 0;
+    assert!(rt; is_done && sink.inner.has_taken(SETUP, 54, 3));
 }
 
 #[test]
 fn cleans_a_terminal_up(rt: HostRuntime) {
     let mut sink = terminal(rt.alloc(), 0);
-    let is_cleaned_up = cleanup(&mut sink, true).is_ok() && sink.refusals == 0;
-    assert!(rt; is_cleaned_up && sink.inner.has_taken(CLEANUP, 54, 3));
+    let is_done = is_cleaned_up(&mut sink, true) && sink.refusals == 0;
+    assert!(rt; is_done && sink.inner.has_taken(CLEANUP, 54, 3));
 }
 
 #[test]
 fn cleans_nothing_up_unless_asked_to(rt: HostRuntime) {
     let mut sink = terminal(rt.alloc(), 0);
-    let is_left = cleanup(&mut sink, false).is_ok();
+    let is_left = is_cleaned_up(&mut sink, false);
     assert!(rt; is_left && sink.inner.has_taken(b"", 0, 0));
+}
+
+// Whether a sink is not set up since it is no terminal.
+fn is_no_terminal<S: OutputSink>(sink: &mut S) -> bool {
+    matches!(setup(sink), Err(SetupError::InvalidTerminal))
 }
 
 #[test]
 fn a_vector_is_no_terminal(rt: HostRuntime) {
     let mut bare = Vec::new(rt.alloc());
-    let is_refused = matches!(setup(&mut bare), Err(SetupError::InvalidTerminal));
-    assert!(rt; is_refused && bare.is_empty());
+    assert!(rt; is_no_terminal(&mut bare) && bare.is_empty());
 }
 
 #[test]
 fn sets_up_a_vector_under_the_flag(rt: HostRuntime) {
     let mut sink = WithTty::new(Vec::new(rt.alloc()), true);
-    let is_set_up = setup(&mut sink).is_ok() && sink.inner.as_slice() == SETUP;
-    let is_cleaned_up = cleanup(&mut sink.inner, true).is_ok();
+    let has_setup = is_set_up(&mut sink) && sink.inner.as_slice() == SETUP;
+    let is_done = is_cleaned_up(&mut sink.inner, true);
     let has_both = sink.inner.len() == SETUP.len() + CLEANUP.len();
-    assert!(rt; is_set_up && is_cleaned_up && has_both);
+    assert!(rt; has_setup && is_done && has_both);
 }
 
-// Whether a terminal that refuses a write is not set up, for this reason, and was settled so often before.
+// Whether a terminal that refuses a write is not set up for this reason.
+fn is_refused_for(alloc: Global, sink: &mut WithTty<Stubborn>, text: &str) -> bool {
+    match setup(sink) {
+        Ok(()) => false,
+        Err(error) => is_shown(alloc, &error, text),
+    }
+}
+
+// The same of one that refuses this write, and that was settled so often before.
 fn is_setup_refused(alloc: Global, write: u32, flushes: u32, text: &str) -> bool {
     let mut sink = terminal(alloc, write);
-    let is_named = is_refused(alloc, setup(&mut sink), text);
+    let is_named = is_refused_for(alloc, &mut sink, text);
     is_named && sink.inner.writes == write && sink.inner.flushes == flushes
 }
 
@@ -84,10 +97,18 @@ fn names_the_part_of_a_setup(rt: HostRuntime) {
     assert!(rt; is_setup_refused(alloc, 54, 2, cursor));
 }
 
-// Whether a sink that takes nothing at a write is not cleaned up, for this reason, and was settled so often before.
+// Whether a sink that takes nothing at a write is not cleaned up for this reason.
+fn is_left_for(alloc: Global, sink: &mut Stubborn, text: &str) -> bool {
+    match cleanup(sink, true) {
+        Ok(()) => false,
+        Err(error) => is_shown(alloc, &error, text),
+    }
+}
+
+// The same of one that takes nothing at this write, and that was settled so often before.
 fn is_cleanup_refused(alloc: Global, write: u32, flushes: u32, text: &str) -> bool {
     let mut sink = Stubborn::new(alloc, write, Refusal::NothingTaken);
-    let is_named = is_refused(alloc, cleanup(&mut sink, true), text);
+    let is_named = is_left_for(alloc, &mut sink, text);
     is_named && sink.writes == write && sink.flushes == flushes
 }
 
@@ -105,10 +126,14 @@ fn names_the_part_of_a_cleanup(rt: HostRuntime) {
     assert!(rt; is_cleanup_refused(alloc, 54, 2, screen));
 }
 
+// Whether a sink is not set up since its mouse is not captured.
+fn is_without_mouse<S: OutputSink>(sink: &mut S) -> bool {
+    matches!(setup(sink), Err(SetupError::EnableMouseCapture(_)))
+}
+
 #[test]
 fn hands_on_a_refused_flush(rt: HostRuntime) {
     let mut sink = terminal(rt.alloc(), 0);
     sink.inner.refused_flush = 2;
-    let is_named = matches!(setup(&mut sink), Err(SetupError::EnableMouseCapture(_)));
-    assert!(rt; is_named && sink.inner.writes == 48);
+    assert!(rt; is_without_mouse(&mut sink) && sink.inner.writes == 48);
 }

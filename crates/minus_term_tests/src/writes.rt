@@ -18,21 +18,31 @@ fn kind_of(outcome: Result<(), MinusError>) -> Option<ErrorKind> {
     }
 }
 
+// Whether the cursor is moved to a column and a row.
+fn moves(alloc: Global, out: &mut Stubborn, col: u16, row: u16, flush: bool) -> bool {
+    move_cursor(alloc, out, col, row, flush).is_ok()
+}
+
 #[test]
 fn moves_the_cursor_and_settles_if_asked_to(rt: HostRuntime) {
     let alloc = rt.alloc();
     let mut out = sink(alloc);
-    let is_left = move_cursor(alloc, &mut out, 4, 9, false).is_ok() && out.flushes == 0;
-    let is_moved = move_cursor(alloc, &mut out, 0, 65535, true).is_ok();
+    let is_left = moves(alloc, &mut out, 4, 9, false) && out.flushes == 0;
+    let is_moved = moves(alloc, &mut out, 0, 65535, true);
     let is_taken = out.has_taken(b"\x1b[10;5H\x1b[65536;1H", 17, 1);
     assert!(rt; is_left && is_moved && is_taken);
+}
+
+// Whether the screen is cleared.
+fn clears(out: &mut Stubborn, flush: bool) -> bool {
+    clear_entire_screen(out, flush).is_ok()
 }
 
 #[test]
 fn clears_the_screen_and_settles_if_asked_to(rt: HostRuntime) {
     let mut out = sink(rt.alloc());
-    let is_left = clear_entire_screen(&mut out, false).is_ok() && out.flushes == 0;
-    let is_cleared = clear_entire_screen(&mut out, true).is_ok();
+    let is_left = clears(&mut out, false) && out.flushes == 0;
+    let is_cleared = clears(&mut out, true);
     assert!(rt; is_left && is_cleared && out.has_taken(b"\x1b[2J\x1b[2J", 8, 1));
 }
 
@@ -45,8 +55,9 @@ fn are_written<L: AsStr>(alloc: Global, lines: &[L], initial: Option<&str>, byte
 
 // Whether a string that holds a line is written as the line.
 fn is_string_written(alloc: Global, line: &str, bytes: &str) -> bool {
+    let mut lines = Vec::new(alloc);
     match String::from_str(alloc, line) {
-        Ok(line) => are_written(alloc, [line].as_slice(), None, bytes),
+        Ok(line) => lines.push(line).is_ok() && are_written(alloc, &lines, None, bytes),
         Err(_) => false,
     }
 }

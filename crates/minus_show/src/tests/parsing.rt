@@ -4,26 +4,31 @@ use minus::{
     Command, Event, Input, InputEvent, KeyCode, KeyEvent, KeyEventKind, KeyEventState, KeyModifiers,
 };
 use std::alloc::Global;
+use std::fmt;
 use std::process::Abort;
+
+// Adds a word with its argument.
+fn add<T: fmt::Display>(text: &mut String, word: &str, argument: &T) -> bool {
+    write!(text, "{word}[{argument}]").is_ok()
+}
 
 // Adds what a command is, as its word and its argument.
 fn add_command(text: &mut String, command: &Command) -> bool {
-    let added = match command {
-        Command::AppendData(added) => write!(text, "push[{added}]"),
-        Command::SetData(put) => write!(text, "set[{put}]"),
-        Command::UserInput(InputEvent::UpdateUpperMark(row)) => write!(text, "mark[{row}]"),
+    match command {
+        Command::AppendData(added) => add(text, "push", added),
+        Command::SetData(put) => add(text, "set", put),
+        Command::UserInput(InputEvent::UpdateUpperMark(row)) => add(text, "mark", row),
         Command::UserInput(InputEvent::UpdateTermArea(cols, rows)) => {
-            write!(text, "resize[{cols} {rows}]")
+            write!(text, "resize[{cols} {rows}]").is_ok()
         }
-        Command::SetPrompt(prompt) => write!(text, "prompt[{prompt}]"),
-        Command::SendMessage(message) => write!(text, "message[{message}]"),
-        Command::FollowOutput(follow) => write!(text, "follow[{follow}]"),
-        Command::ShowPrompt(is_shown) => write!(text, "showprompt[{is_shown}]"),
-        Command::LineWrapping(wrapping) => write!(text, "wrap[{wrapping}]"),
-        Command::SetLineNumbers(numbers) => write!(text, "numbers[{numbers:?}]"),
-        Command::UserInput(_) | Command::Io(_) | Command::SetInputClassifier(_) => return false,
-    };
-    added.is_ok()
+        Command::SetPrompt(prompt) => add(text, "prompt", prompt),
+        Command::SendMessage(message) => add(text, "message", message),
+        Command::FollowOutput(follow) => add(text, "follow", follow),
+        Command::ShowPrompt(is_shown) => add(text, "showprompt", is_shown),
+        Command::LineWrapping(wrapping) => add(text, "wrap", wrapping),
+        Command::SetLineNumbers(numbers) => write!(text, "numbers[{numbers:?}]").is_ok(),
+        Command::UserInput(_) | Command::Io(_) | Command::SetInputClassifier(_) => false,
+    }
 }
 
 // Adds what an input is: a command, or the key that is pressed.
@@ -39,7 +44,7 @@ fn add_input(text: &mut String, input: &Input) -> bool {
                     state: KeyEventState::NONE,
                 },
             ),
-        ) => write!(text, "key[{character}]").is_ok(),
+        ) => add(text, "key", character),
         Input::Event(_) => false,
     }
 }

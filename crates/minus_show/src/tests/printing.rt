@@ -2,6 +2,7 @@
 use super::words::add_words;
 use crate::{Arguments, Mode, parse_arguments, parse_usize, print_row, print_rows};
 use std::alloc::Global;
+use std::process::Abort;
 
 // Whether a row is printed so.
 fn prints(alloc: Global, row: &str, printed: &str) -> bool {
@@ -34,6 +35,13 @@ fn reads(alloc: Global, texts: &[&str], arguments: Option<Arguments>) -> bool {
     add_words(alloc, &mut words, texts) && parse_arguments(&words) == arguments
 }
 
+// Fails where words are other arguments than these.
+fn assert_reads(rt: &impl Abort, alloc: Global, cases: &[(&[&str], Option<Arguments>)]) {
+    for (texts, arguments) in cases {
+        assert!(rt; reads(alloc, texts, *arguments), "of {texts:?}");
+    }
+}
+
 #[test]
 fn reads_arguments(rt: HostRuntime) {
     let page = Arguments {
@@ -46,17 +54,19 @@ fn reads_arguments(rt: HostRuntime) {
         cols: 0,
         rows: 1,
     };
-    let alloc = rt.alloc();
-    assert!(rt; reads(alloc, &["page", "80", "24"], Some(page)));
-    assert!(rt; reads(alloc, &["bytes", "0", "1"], Some(bytes)));
-    assert!(rt; reads(alloc, &[], None));
-    assert!(rt; reads(alloc, &["page", "80"], None));
-    assert!(rt; reads(alloc, &["page", "80", "24", ""], None));
-    assert!(rt; reads(alloc, &["Page", "80", "24"], None));
-    assert!(rt; reads(alloc, &["lines", "80", "24"], None));
-    assert!(rt; reads(alloc, &["page", "", "24"], None));
-    assert!(rt; reads(alloc, &["page", "80", "-1"], None));
-    assert!(rt; reads(alloc, &["page", "80", "18446744073709551616"], None));
+    let cases: &[(&[&str], Option<Arguments>)] = &[
+        (&["page", "80", "24"], Some(page)),
+        (&["bytes", "0", "1"], Some(bytes)),
+        (&[], None),
+        (&["page", "80"], None),
+        (&["page", "80", "24", ""], None),
+        (&["Page", "80", "24"], None),
+        (&["lines", "80", "24"], None),
+        (&["page", "", "24"], None),
+        (&["page", "80", "-1"], None),
+        (&["page", "80", "18446744073709551616"], None),
+    ];
+    assert_reads(&rt, rt.alloc(), cases);
 }
 
 #[test]

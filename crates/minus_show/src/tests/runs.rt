@@ -1,5 +1,6 @@
 //! Runs of scripts with what they must print.
-use crate::{Mode, ScriptFault, run_script};
+use super::shown::is_shown;
+use crate::{Mode, run_script};
 use std::alloc::Global;
 use std::process::Abort;
 
@@ -115,19 +116,13 @@ fn a_page_may_have_hundreds_of_rows(rt: HostRuntime) {
     assert!(rt; fills_hundreds(rt.alloc(), "push a", "a\n\n"));
 }
 
-// Whether a fault has this text.
-fn is_told(alloc: Global, fault: &ScriptFault, told: &str) -> bool {
-    let mut text = String::new(alloc);
-    write!(text, "{fault}").is_ok() && text.as_str() == told
-}
-
 // Whether a run of a script ends with this fault, and prints nothing.
 fn is_refused(alloc: Global, cols: usize, rows: usize, script: &str, told: &str) -> bool {
     let mut script = script.as_bytes();
     let mut out = Vec::new(alloc);
     match run_script(alloc, Mode::Page, cols, rows, &mut script, &mut out) {
         Ok(()) => false,
-        Err(fault) => out.is_empty() && is_told(alloc, &fault, told),
+        Err(fault) => out.is_empty() && is_shown(alloc, &fault, told),
     }
 }
 
