@@ -1,6 +1,5 @@
 //! What is selected by events of the mouse, formed beside a state.
 ghost use Rattle.std.specs.Prelude.{◌≡◌};
-ghost use Rattle.minus_state.specs.Selecting.{is_same_end};
 ghost use Rattle.minus_state.specs.Redraws.{whole_where};
 
 use crate::change::{Change, Redraw, Setting};
@@ -16,17 +15,6 @@ fn whole_where(changed: bool) -> Redraw
         return Redraw::Whole;
     }
     Redraw::Stays
-}
-
-// Whether two ends of a selection are the same, or both missing.
-fn is_same_end(one: Option<Selection>, other: Option<Selection>) -> bool
-    ensures { result ≡ is_same_end one other }
-{
-    match (one, other) {
-        (None, None) => true,
-        (Some(a), Some(b)) => a.absolute_row == b.absolute_row && a.col == b.col,
-        (None, Some(_)) | (Some(_), None) => false,
-    }
 }
 
 impl PagerState {
@@ -126,7 +114,7 @@ impl PagerState {
     fn stays_at(&self, mark: usize, ends: SelectionEnds) -> bool
         ensures { result ≡ ((mark == self.now.upper_mark) && is_same_end ends.selection self.now.selection) }
     {
-        mark == self.upper_mark && is_same_end(ends.selection, self.selection)
+        mark == self.upper_mark && ends.selection == self.selection
     }
 
     /// The state with its selection led to a place of the page.
