@@ -52,11 +52,11 @@ fn numbers_and_the_left_mark_return_after_help(rt: HostRuntime) {
     assert!(rt; shows(rt.alloc(), 20, 3, &asked, &[row, "", PROMPT_ROW]));
 }
 
-// A classifier whose help is this text.
+// A classifier that asks at each event for help, which is two lines.
 #[derive(Drop)]
-struct Offers(&'static str);
+struct TwoLines;
 
-impl InputClassifier for Offers {
+impl InputClassifier for TwoLines {
     ghost allows = { λ classifier event state answer. Unit {0} };
 
     ghost helps = { λ classifier text. Unit {0} };
@@ -66,11 +66,11 @@ impl InputClassifier for Offers {
     }
 
     fn format_help(&self, alloc: Global) -> Result<Option<String>, AllocError> {
-        Ok(Some(String::from_str(alloc, self.0)?))
+        Ok(Some(String::from_str(alloc, "one\ntwo")?))
     }
 }
 
-type Own = Kinds<Offers>;
+type Own = Kinds<TwoLines>;
 
 type Offering = Core<WithTty<Vec<u8>>, Own>;
 
@@ -80,8 +80,7 @@ fn offering(alloc: Global) -> Option<Offering> {
     if pager.set_text("a").is_err() {
         return None;
     }
-    let offers = Offers("one\ntwo");
-    match init_core_with(pager, RunMode::Static, terminal(alloc), 20, 3, offers) {
+    match init_core_with(pager, RunMode::Static, terminal(alloc), 20, 3, TwoLines) {
         Ok(session) => Some(session),
         Err(_) => None,
     }
