@@ -61,8 +61,8 @@ impl NextText {
         }
     }
 
-    /// The text of a row, counted from 0, as it will be.
-    pub fn row_after<'a>(&'a self, screen: &'a Screen, i: usize) -> Option<&'a str>
+    // The text of a row, counted from 0, as it will be.
+    pub(crate) fn row_after<'a>(&'a self, screen: &'a Screen, i: usize) -> Option<&'a str>
         requires { IsNext screen.now self.now }
         ensures { option_map (λ r. r.now) result ≡ slice_get (rows_of (next_document screen.now.document self.now)) i }
     {
@@ -73,8 +73,8 @@ impl NextText {
         }
     }
 
-    /// How its rows will be laid out.
-    pub fn layout_after(&self, screen: &Screen) -> Layout
+    // How its rows will be laid out.
+    pub(crate) fn layout_after(&self, screen: &Screen) -> Layout
         requires { IsNext screen.now self.now }
         ensures { result ≡ (next_document screen.now.document self.now).layout }
     {
@@ -87,8 +87,8 @@ impl NextText {
         }
     }
 
-    /// How many lines there will be.
-    pub fn line_count_after(&self, screen: &Screen) -> usize
+    // How many lines there will be.
+    pub(crate) fn line_count_after(&self, screen: &Screen) -> usize
         requires { IsNext screen.now self.now }
         ensures { result ≡ line_count (next_document screen.now.document self.now) }
     {
@@ -101,8 +101,8 @@ impl NextText {
         }
     }
 
-    /// Adds a row as it will be stored, counted from 0, and answers whether there will be one.
-    pub fn push_row_after(
+    // Adds a row as it will be stored, counted from 0, and answers whether there will be one.
+    pub(crate) fn push_row_after(
         &self,
         alloc: Global,
         screen: &Screen,
@@ -143,8 +143,8 @@ impl Setting {
     ghost use Rattle.std.specs.Option.{option_map};
     ghost use Rattle.minus_state.specs.Changes.{prompt_set, message_set, prefix_set, shown_set, follow_set, left_set, ends_set};
 
-    /// The prompt that there will be.
-    pub fn prompt<'a>(&'a self, prompt: &'a str) -> &'a str
+    // The prompt that there will be.
+    pub(crate) fn prompt<'a>(&'a self, prompt: &'a str) -> &'a str
         ensures { result.now ≡ prompt_set self.now prompt.now }
     {
         match self {
@@ -154,8 +154,8 @@ impl Setting {
         }
     }
 
-    /// The message.
-    pub fn message<'a>(&'a self, message: Option<&'a str>) -> Option<&'a str>
+    // The message.
+    pub(crate) fn message<'a>(&'a self, message: Option<&'a str>) -> Option<&'a str>
         ensures { option_map (λ m. m.now) result ≡ message_set self.now (option_map (λ m. m.now) message.entry) }
     {
         match self {
@@ -165,8 +165,8 @@ impl Setting {
         }
     }
 
-    /// The typed prefix.
-    pub fn prefix<'a>(&'a self, prefix: &'a str) -> &'a str
+    // The typed prefix.
+    pub(crate) fn prefix<'a>(&'a self, prefix: &'a str) -> &'a str
         ensures { result.now ≡ prefix_set self.now prefix.now }
     {
         match self {
@@ -175,8 +175,8 @@ impl Setting {
         }
     }
 
-    /// Whether the prompt row will be shown.
-    pub fn is_shown(&self, is_shown: bool) -> bool
+    // Whether the prompt row will be shown.
+    pub(crate) fn is_shown(&self, is_shown: bool) -> bool
         ensures { result ≡ shown_set self.now is_shown }
     {
         match self {
@@ -185,8 +185,8 @@ impl Setting {
         }
     }
 
-    /// Whether the page will go on with what is appended.
-    pub fn follow(&self, follow: bool) -> bool
+    // Whether the page will go on with what is appended.
+    pub(crate) fn follow(&self, follow: bool) -> bool
         ensures { result ≡ follow_set self.now follow }
     {
         match self {
@@ -196,8 +196,8 @@ impl Setting {
         }
     }
 
-    /// The left mark.
-    pub fn left(&self, left: usize) -> usize
+    // The left mark.
+    pub(crate) fn left(&self, left: usize) -> usize
         ensures { result ≡ left_set self.now left }
     {
         match self {
@@ -207,8 +207,8 @@ impl Setting {
         }
     }
 
-    /// The ends of what is selected.
-    pub fn ends(&self, ends: SelectionEnds) -> SelectionEnds
+    // The ends of what is selected.
+    pub(crate) fn ends(&self, ends: SelectionEnds) -> SelectionEnds
         ensures { result ≡ ends_set self.now ends }
     {
         match self {

@@ -50,13 +50,13 @@ fn with_marks<'a>(
     Ok(ShownRow::Formed(marked))
 }
 
-/// What rows are shown of, and how: the text that there will be beside that of a screen, from a left mark on, with a selection.
+// What rows are shown of, and how: the text that there will be beside that of a screen, from a left mark on, with a selection.
 #[derive(Clone, Copy)]
-pub struct Showing<'a> {
-    pub screen: &'a Screen,
-    pub text: &'a NextText,
-    pub left: usize,
-    pub ends: SelectionEnds,
+pub(crate) struct Showing<'a> {
+    pub(crate) screen: &'a Screen,
+    pub(crate) text: &'a NextText,
+    pub(crate) left: usize,
+    pub(crate) ends: SelectionEnds,
 }
 
 impl<'a> Showing<'a> {
@@ -156,8 +156,8 @@ impl<'a> Showing<'a> {
         }
     }
 
-    /// What is shown of a row, counted from 0, if there is one.
-    pub fn row(&self, alloc: Global, i: usize) -> Result<Option<ShownRow<'a>>, AllocError>
+    // What is shown of a row, counted from 0, if there is one.
+    pub(crate) fn row(&self, alloc: Global, i: usize) -> Result<Option<ShownRow<'a>>, AllocError>
         requires showing { IsShowing self.now }
         requires few { i + 1 < 2 ^ 64 }
         ensures { IfOk result (λ row. option_map row_text row

@@ -40,8 +40,14 @@ impl PagerState {
         }
     }
 
-    /// The state at a mark, with one thing set beside its text.
-    pub fn changed(&self, mark: usize, setting: Setting, redraw: Redraw, clears: bool) -> Change
+    // The state at a mark, with one thing set beside its text.
+    pub(crate) fn changed(
+        &self,
+        mark: usize,
+        setting: Setting,
+        redraw: Redraw,
+        clears: bool,
+    ) -> Change
         requires { IsFormed self.now }
         ensures next { IsChange (control_of self.now) result (record (control_of self.now) {
           mark = mark;
@@ -138,8 +144,13 @@ impl PagerState {
         Ok(self.change_to(NextText::Whole(next), Redraw::Whole, clears))
     }
 
-    /// The state with another text.
-    pub fn with_text(&self, alloc: Global, text: &str, clears: bool) -> Result<Change, MinusError>
+    // The state with another text.
+    pub(crate) fn with_text(
+        &self,
+        alloc: Global,
+        text: &str,
+        clears: bool,
+    ) -> Result<Change, MinusError>
         requires { IsFormed self.now }
         ensures next { IfOk result (λ c. IsChange (control_of self.now) c (record (cleared clears (control_of self.now)) { text = text.now })) }
         ensures redraw { IfOk result (λ c. c.redraw ≡ Redraw.Whole) }
@@ -285,8 +296,13 @@ impl PagerState {
         Redraw::Whole
     }
 
-    /// The state with a text added to its text.
-    pub fn appended(&self, alloc: Global, text: String, clears: bool) -> Result<Change, MinusError>
+    // The state with a text added to its text.
+    pub(crate) fn appended(
+        &self,
+        alloc: Global,
+        text: String,
+        clears: bool,
+    ) -> Result<Change, MinusError>
         requires { IsFormed self.now }
         ensures next { IfOk result (λ c. IsChange (control_of self.now) c
             (appended (cleared clears (control_of self.now)) (string_bytes text))) }
