@@ -14,11 +14,11 @@ use minus_term::{DrawOp, write_op};
 use std::alloc::{AllocError, Global};
 
 // Adds a row of text, and goes to the next.
-fn write_row(alloc: Global, out: &mut Vec<u8>, row: &ShownRow<'_>) -> Result<(), AllocError>
-    ensures { OnOk result (out.new.items ≡ out.old.items ++ written_all (row_ops (row_text row.now))) }
+pub(crate) fn write_row(alloc: Global, out: &mut Vec<u8>, row: &str) -> Result<(), AllocError>
+    ensures { OnOk result (out.new.items ≡ out.old.items ++ written_all (row_ops row.now)) }
 {
     write_op(alloc, out, &DrawOp::Return)?;
-    write_op(alloc, out, &DrawOp::Put(row.as_str()))?;
+    write_op(alloc, out, &DrawOp::Put(row))?;
     write_op(alloc, out, &DrawOp::NextRow)?;
     Ok(())
 }
@@ -32,7 +32,7 @@ pub(crate) fn write_rows(
     ensures { OnOk result (out.new.items ≡ out.old.items ++ written_all (flat_map row_ops (map row_text shown.now))) }
 {
     for row in shown {
-        write_row(alloc, out, row)?;
+        write_row(alloc, out, row.as_str())?;
     }
     Ok(())
 }

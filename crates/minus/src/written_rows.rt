@@ -8,6 +8,7 @@ ghost use Rattle.minus_term.specs.Written.{written_all};
 ghost use Rattle.minus_text.specs.Prefixes.{is_on};
 ghost use Rattle.minus.specs.WrittenRows.{row_from, written_row, lines_ops, lines_of_page, text_ops};
 
+use crate::display::write_row;
 use minus_state::get_horizontal_scroll_bounds;
 use minus_term::{DrawOp, MinusError, OutputSink, draw_bytes, write_op};
 use minus_text::{LineNumbers, Row, crop_columns, prefix_columns};
@@ -45,16 +46,6 @@ fn row_from(alloc: Global, row: &str, style: RowStyle) -> Result<Row, AllocError
     Ok(shown)
 }
 
-// Adds a row, and goes to the next.
-fn push_row(alloc: Global, bytes: &mut Vec<u8>, row: &str) -> Result<(), AllocError>
-    ensures { OnOk result (bytes.new.items ≡ bytes.old.items ++ written_all (row_ops row.now)) }
-{
-    write_op(alloc, bytes, &DrawOp::Return)?;
-    write_op(alloc, bytes, &DrawOp::Put(row))?;
-    write_op(alloc, bytes, &DrawOp::NextRow)?;
-    Ok(())
-}
-
 // Adds what is shown of a stored row, and goes to the next.
 fn push_shown(
     alloc: Global,
@@ -66,11 +57,11 @@ fn push_shown(
         ++ written_all (row_ops (written_row style.wrapping style.cols style.left_mark style.numbers style.line_count row.now))) }
 {
     if style.wrapping {
-        push_row(alloc, bytes, row)?;
+        write_row(alloc, bytes, row)?;
         return Ok(());
     }
     let shown = row_from(alloc, row, style)?;
-    push_row(alloc, bytes, shown.as_str())?;
+    write_row(alloc, bytes, shown.as_str())?;
     Ok(())
 }
 
