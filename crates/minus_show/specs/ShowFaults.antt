@@ -1,5 +1,5 @@
 -- Why nothing is shown.
-use Rattle.std.specs.Prelude.{◌≡◌, ℕ, List}
+use Rattle.std.specs.Prelude.{ℕ, List}
 use Rattle.minus.specs.declared.stand_in.StandIn.{StandIn}
 use Rattle.minus.specs.Reads.{Told}
 use Rattle.minus_show.specs.Runs.{IsWantOfMemory, IsRefusal}

@@ -7,7 +7,7 @@ use Rattle.minus.specs.Reads.{told_of, wanted_of}
 use Rattle.minus.specs.Steps.{cleanup_after}
 use Rattle.minus_show.specs.Runs.{exit_code, printed_after, IsShown}
 use Rattle.minus_show.specs.ShowFaults.{IsShowFault, IsMemory}
-use Rattle.minus_show.proofs.RunLaws.{started, run_came, page_shown, bytes_shown, run_refused, start_refused, memory_fault}
+use Rattle.minus_show.proofs.RunLaws.{started, run_came, page_shown, bytes_shown, run_refused, memory_fault}
 use Rattle.minus_show.proofs.run.show.Goals as goal
 
 pub returns-in-Some-clause-fault : goal.returns-in-Some-clause-fault

@@ -1,4 +1,4 @@
-use Rattle.std.proofs.Common.{rules, ◌≡◌, ℕ, ◌+◌, ◌-◌, List, map, Some, Result, option_map, refl, sym, ap, ◌∙◌, arith}
+use Rattle.std.proofs.Common.{rules, ◌≡◌, ℕ, ◌+◌, ◌-◌, List, map, Some, Result, option_map, sym, ap, ◌∙◌, arith}
 use Rattle.minus.specs.declared.stand_in.StandIn.{StandIn}
 use Rattle.minus.specs.Reads.{Told, told_of}
 use Rattle.minus_show.specs.Script.{script_lines, script_told, line_told, then_told}
