@@ -23,7 +23,9 @@ pub use rendering::{
 };
 pub use scroll::get_horizontal_scroll_bounds;
 pub use selection::{Selection, SelectionEnds, marked_range};
-pub use state::{ExitStrategy, PagerState, RunMode};
+pub use showing::ShownRow;
+pub use state::help::{HelpSwitch, Saved};
+pub use state::{ExitStrategy, PagerState, RunMode, has_newline, is_size};
 pub use view::{View, selection_from_coordinates};
 pub use visible::{
     highlight_visible_range, markers_alone_are_added, place_after_visible, place_of_visible,
