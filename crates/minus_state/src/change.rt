@@ -34,10 +34,15 @@ pub enum AppendStyle {
 /// help is open, or more is added to that.
 #[derive(Drop)]
 pub enum NextText {
+    /// The text on show stays, and what is put aside too.
     Same,
+    /// Another text with its rows.
     Whole(Screen),
+    /// This text is added, and these rows were formed for it.
     Pushed(String, PendingPush),
+    /// Another text in the place of the one that is put aside.
     SavedWhole(String),
+    /// More of the text that is put aside.
     SavedMore(String),
 }
 
@@ -127,14 +132,23 @@ impl NextText {
 /// What there will be beside the text: all as it is, or one thing set anew; or what help sets, as it is opened or left.
 #[derive(Drop)]
 pub enum Setting {
+    /// All stays.
     Same,
+    /// The prompt, one line.
     Prompt(String),
+    /// The message, one line, or none.
     Message(Option<String>),
+    /// The typed prefix.
     Prefix(String),
+    /// Whether the prompt row is shown.
     Shown(bool),
+    /// Whether the page goes on with what is appended.
     Follow(bool),
+    /// The left mark, in columns.
     Left(usize),
+    /// The ends of what is selected.
     Ends(SelectionEnds),
+    /// What help sets.
     Switch(HelpSwitch),
 }
 
@@ -223,9 +237,13 @@ impl Setting {
 #[derive(Drop)]
 pub struct Change {
     pub text: NextText,
+    /// The first row of text on the page, counted from 0.
     pub mark: usize,
+    /// The columns of the terminal, from 1 to 65,535.
     pub cols: usize,
+    /// The rows of the terminal, the prompt's among them, from 1 to 65,535.
     pub rows: usize,
+    /// Whether the typed prefix goes first.
     pub clears: bool,
     pub setting: Setting,
     pub redraw: Redraw,

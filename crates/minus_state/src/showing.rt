@@ -15,7 +15,9 @@ use std::alloc::{AllocError, Global};
 /// What is shown of a row: its own text as it stands, or a text that was put together.
 #[derive(Drop)]
 pub enum ShownRow<'a> {
+    /// The row's own text.
     Own(&'a str),
+    /// A text that was put together: behind a number, cropped, or with what is selected in reverse.
     Formed(String),
 }
 

@@ -16,11 +16,15 @@ const PROMPT: &str = "HELP -- Press q or Shift-m to return to pager";
 #[derive(Debug, Drop)]
 pub struct Saved {
     pub text: String,
+    /// Whether lines that are too long for the columns are wrapped.
     pub wrapping: bool,
     pub numbers: LineNumbers,
+    /// The first row of text on the page, counted from 0.
     pub upper_mark: usize,
+    /// The columns that are cut off at the left where lines are not wrapped.
     pub left_mark: usize,
     pub prompt: String,
+    /// Whether the page goes on with what is appended.
     pub follow: bool,
 }
 
@@ -28,8 +32,11 @@ pub struct Saved {
 #[derive(Drop)]
 pub struct HelpSwitch {
     pub prompt: String,
+    /// Whether the page goes on with what is appended.
     pub follow: bool,
+    /// The left mark, in columns.
     pub left: usize,
+    /// What is put aside; nothing as help is left.
     pub saved: Option<Saved>,
 }
 
