@@ -142,13 +142,13 @@ impl PagerState {
     ghost use Rattle.std.specs.Prelude.{◌≡◌, [], None, string_bytes, false, if◌then◌else◌, OnOk, OnErr, IfOk, IfErr};
     ghost use Rattle.std.specs.Option.{option_map};
     ghost use Rattle.minus_text.specs.Searched.{searched};
-    ghost use Rattle.minus_state.specs.Control.{document_of, cleared};
+    ghost use Rattle.minus_state.specs.Control.{Control, document_of, cleared};
     ghost use Rattle.minus_state.specs.Help.{switched};
     ghost use Rattle.minus_term.specs.Refusals.{refusal_of};
     ghost use Rattle.minus_state.specs.States.{control_of, settings_of, ends_of, IsFormed, at_start};
     ghost use Rattle.minus_state.specs.NextTexts.{next_document, IsNext};
     ghost use Rattle.minus_state.specs.Aside.{aside_of};
-    ghost use Rattle.minus_state.specs.Changes.{settings_after, left_set, ends_set, help_set, help_after, IsUnformedState};
+    ghost use Rattle.minus_state.specs.Changes.{IsChange, settings_after, left_set, ends_set, help_set, help_after, IsUnformedState};
 
     /// No text yet, for a terminal of so many columns and rows.
     ///
@@ -315,6 +315,8 @@ impl PagerState {
         ensures rows { OnOk result (self.new.rows ≡ change.rows) }
         ensures settings { OnOk result (settings_of self.new ≡ settings_after (settings_of self.old) change.clears change.setting) }
         ensures help { OnOk result (aside_of self.new.saved ≡ help_after change.text change.setting (aside_of self.old.saved)) }
+        ensures control { OnOk result ((new : Control) → IsFormed self.old → IsChange (control_of self.old) change new → control_of self.new ≡ new) }
+        ensures formed { OnOk result ((new : Control) → IsFormed self.old → IsChange (control_of self.old) change new → IsFormed self.new) }
         ensures err { OnErr result (control_of self.new ≡ control_of self.old) }
         ensures kept { OnErr result (self.new.screen ≡ self.old.screen) }
         ensures memory { IfErr result (λ e. e ≡ MinusError.Memory) }
