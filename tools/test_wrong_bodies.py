@@ -6,7 +6,7 @@ import tempfile
 import unittest
 
 sys.path.insert(0, os.path.dirname(os.path.abspath(__file__)))
-from wrong_bodies import Body, Place, judge, next_round, paths_of, place_of, read_body, texts_of, try_all, verdicts_of
+from wrong_bodies import Body, Place, functions_of, judge, next_round, paths_of, place_of, read_body, texts_of, try_all, verdicts_of, without_proofs
 
 SOURCE = """const LIMIT: usize = 3;
 
@@ -113,6 +113,18 @@ class Rounds(unittest.TestCase):
             self.assertIn("2 times", read_body(f"{folder}/it.edit", folder).fault)
 
 
+    def test_who_is_not_turned_has_an_empty_proof(self):
+        with tempfile.TemporaryDirectory() as folder:
+            os.mkdir(f"{folder}/src")
+            with open(f"{folder}/src/m.rt", "w", encoding="utf-8") as out:
+                out.write(SOURCE)
+            found = functions_of(folder, ["krate::m::CursorTSink::put"])
+        self.assertEqual({it.name for it in found}, {"free", "put", "from"})
+        turned = [Body("a", [], {place("else")}), Body("b", [], {place("8")})]
+        empty = without_proofs(found, turned)
+        self.assertEqual(empty, {"proofs/m/CursorTSink/put/Proof.antt": "", "proofs/m/FaultFromFmtError/from/Proof.antt": ""})
+
+
 class Verdicts(unittest.TestCase):
     def judged(self, said, is_alone=True):
         return judge(body("a", "f"), verdicts_of(said), is_alone)
@@ -145,8 +157,18 @@ class Tries(unittest.TestCase):
                 lines["f"] = "fn k::m::f: no proof: it calls `k::m::g`, which is not proved"
             return "\n".join([*lines.values(), "logic=not-proved"])
 
-        told = [(it.label, is_refused) for it, is_refused, _ in try_all([body("a", "f"), body("b", "g", 3)], check)]
+        told = [(it.label, is_refused) for it, is_refused, _ in try_all([body("a", "f"), body("b", "g", 3)], check, check)]
         self.assertEqual(told, [("b", True), ("a", True)])
+
+    def test_who_is_not_refused_beside_the_unproved_is_tried_beside_the_proved(self):
+        beside = {"unproved": "fn k::m::f: no proof: it calls `k::m::g`, which is not proved", "proved": "fn k::m::f: proved"}
+        told = [*try_all([body("a", "f")], lambda _: beside["proved"] + "\nlogic=proved", lambda _: beside["unproved"] + "\nlogic=not-proved")]
+        self.assertEqual([it[1:] for it in told], [(False, "NOT REFUSED: it is proved")])
+
+    def test_what_stands_in_no_function_is_tried_beside_the_proved(self):
+        said = "fn k::m::f: no proof: `search` did not prove `returns`\nlogic=not-proved"
+        told = [*try_all([Body("a", [("src/m.rt", 0, 1, "x")], {Place("m")})], lambda _: said, None)]
+        self.assertTrue(told[0][1])
 
     def test_who_does_not_compile_fails_alone(self):
         def check(bodies):
@@ -154,7 +176,7 @@ class Tries(unittest.TestCase):
                 return "error: a type is missing\n"
             return "fn k::m::f: no proof: `search` did not prove `returns`\nlogic=not-proved\n"
 
-        told = {it.label: is_refused for it, is_refused, _ in try_all([body("a", "f"), body("b", "g", 3)], check)}
+        told = {it.label: is_refused for it, is_refused, _ in try_all([body("a", "f"), body("b", "g", 3)], check, check)}
         self.assertEqual(told, {"a": True, "b": False})
 
 

@@ -10,14 +10,16 @@ A wrong body has the lines of a must-fail edit: `file: src/F.rt`, and pairs of `
 text stands once in its file. The bodies of a crate go into rounds in which each function is turned at most once, and one check
 of the turned functions, and of what they call, tries a round. A body passes where each function that it turns is refused
 for goals of its own: not only since it calls a function that is refused, and not since a proof file names what the body
-took away. Where a body's goals wait for a function that another body of the round turned, it is tried again in a later
-round, at last alone. A body outside a function with a path of its own (a constant, a trait's default) is tried alone, and
-something in its module must be refused for itself.
+took away. A proof rests on the contracts of what its function calls and not on their bodies, so the functions that a round
+does not turn are left without a proof. A body that is not refused beside those is tried again with all other functions
+proved, where its goals wait for a function that another body turned in a later round, and at last alone. A body outside a
+function with a path of its own (a constant, a trait's default) is tried alone, and something in its module must be refused
+for itself.
 
 All this happens on a copy of the repository, over the work that `rt check` kept in out/, where there is some. The crate as
 it stands must be proved there first. With --proved that is taken from the caller, in a repository where nothing is kept: the
-rounds then stand on the libraries that rt ci built, and prove again only what the turned functions call. The last line is
-`wrong-bodies: N passed, M failed`.
+rounds then stand on the libraries that rt ci built. RT_JOBS is how many checks run side by side, as it is for rt ci. The last
+line is `wrong-bodies: N passed, M failed`.
 """
 import importlib.machinery
 import importlib.util
@@ -30,6 +32,7 @@ import tempfile
 from concurrent.futures import ThreadPoolExecutor
 from dataclasses import dataclass, field, replace
 
+FUNCTION = re.compile(r"^( {4})?(?:pub(?:\([^)]*\))? )?(?:const |unsafe )*fn (\w+)", re.M)
 TAKEN_AWAY = re.compile(r"has no `|has no field|is not in scope|was not admitted")
 
 
@@ -101,7 +104,7 @@ def place_of(text, at, module):
     """Returns the place of a character in a file that stands in rt fmt's layout."""
     of_type = of_trait = argument = name = inside = ""
     for line in re.finditer(r"^.*$", text[: text.find("\n", at)], re.M):
-        function = re.match(r"( {4})?(?:pub(?:\([^)]*\))? )?(?:const |unsafe )*fn (\w+)", line[0])
+        function = FUNCTION.match(line[0])
         if line[0].startswith("}"):
             of_type = of_trait = argument = name = ""
         elif line[0].startswith("impl"):
@@ -113,6 +116,22 @@ def place_of(text, at, module):
         elif line[0] == inside + "}":
             name = ""
     return Place(module, of_type, of_trait, argument, name) if name and of_type is not None else Place(module)
+
+
+def functions_of(folder, proofs):
+    """Returns the functions that the files of a crate write out: the place of each, and its path below the crate, which of an impl may be guessed."""
+    places, modules = set(), {}
+    for at, _, names in os.walk(f"{folder}/src"):
+        for name in names:
+            text, module = read(f"{at}/{name}"), module_of(os.path.relpath(f"{at}/{name}", folder))
+            places |= {place_of(text, it.end(), module) for it in FUNCTION.finditer(text)}
+            modules |= {it[1]: module for it in re.finditer(r"^(?:pub(?:\([^)]*\))? )?(?:struct|enum) (\w+)", text, re.M)}
+    paths = {it: it.path(proofs) for it in places if it.name}
+    for it in paths:
+        # (an impl that has no files of proofs is guessed to stand where its type does)
+        if it.of_type and paths[it].count("::") == 1:
+            paths[it] = f"{modules.get(it.of_type, it.module)}::{paths[it]}".removeprefix("::")
+    return paths
 
 
 def module_of(path):
@@ -203,6 +222,12 @@ def judge(body, verdicts, is_alone):
     return True, own[0]
 
 
+def without_proofs(functions, bodies):
+    """Returns an empty file of proof for each function that the bodies do not turn."""
+    left = functions.keys() - {place for body in bodies for place in body.places}
+    return {f"proofs/{functions[it].replace('::', '/')}/Proof.antt": "" for it in left}
+
+
 def tried(bodies, check):
     """Tries bodies by one check, and yields each with whether it is refused (None: it has to be tried again), and why."""
     said = check(bodies)
@@ -218,10 +243,19 @@ def tried(bodies, check):
         yield from tried(bodies[half:], check)
 
 
-def try_all(bodies, check):
+def try_all(bodies, check, check_beside_unproved):
     """Tries bodies round by round, and yields each with whether it is refused, and why."""
-    waiting = [it for it in bodies if not it.fault]
     yield from ((it, False, it.fault) for it in bodies if it.fault)
+    waiting = [it for it in bodies if it.stands_alone() and not it.fault]
+    untried = [it for it in bodies if not it.stands_alone() and not it.fault]
+    while untried:
+        taken = next_round(untried)
+        untried = [it for it in untried if it not in taken]
+        for body, is_refused, why in tried(taken, check_beside_unproved):
+            if is_refused:
+                yield body, is_refused, why
+            else:
+                waiting.append(body)
     while waiting:
         # (each round decides a body at least: one whose functions call no other function that it turns)
         for body, is_refused, why in [*tried(next_round(waiting), check)]:
@@ -282,16 +316,22 @@ def try_crate(rt, crate, files, is_proved):
         print(f"{crate.name}: the crate as it stands is not proved\n{plain[-2000:]}", flush=True)
         return 0, len(files)
     proofs, passed = proofs_of(crate), 0
+    functions = functions_of(crate.folder, proofs)
+    for it in without_proofs(functions, []):
+        os.makedirs(os.path.dirname(f"{crate.folder}/{it}"), exist_ok=True)
 
-    def check(bodies):
+    def check(bodies, others=None):
         texts, kept, jobs = texts_of(bodies, crate.folder), f"{crate.folder}/out/incremental", ["--jobs", "1"]
         only = [f"--only={it}" for it in paths_of(bodies, proofs)]
-        said = rt.checked(crate, texts, [*jobs, *only], kept).stdout
+        said = rt.checked(crate, {**texts, **(others or {})}, [*jobs, *only], kept).stdout
         # (an impl's name may need arguments that only a whole check tells)
-        is_unnamed = re.search(r"has no function|several functions are named", said)
+        is_unnamed = re.search(r"has no function|several functions are named", said) and not re.search(r"^only=", said, re.M)
         return rt.checked(crate, texts, jobs, kept).stdout if is_unnamed else said
 
-    for body, is_refused, why in try_all([read_body(it, crate.folder) for it in files], check):
+    def check_beside_unproved(bodies):
+        return check(bodies, without_proofs(functions, bodies))
+
+    for body, is_refused, why in try_all([read_body(it, crate.folder) for it in files], check, check_beside_unproved):
         print(f"{crate.name}/{body.label}: {'refused: ' if is_refused else 'FAILED: '}{' '.join(why.split())[:160]}", flush=True)
         passed += is_refused
     shutil.rmtree(f"{crate.folder}/out/incremental", ignore_errors=True)
@@ -304,7 +344,7 @@ def files_of(top, name):
 
 
 def main(words):
-    top, lanes = os.getcwd(), max(1, (os.cpu_count() or 1))
+    top, lanes = os.getcwd(), int(os.environ.get("RT_JOBS") or os.cpu_count() or 1)
     if not os.path.isfile(f"{top}/crates.txt"):
         sys.exit("wrong_bodies.py runs at the top of the repository, where crates.txt stands")
     is_proved = "--proved" in words and not has_kept(top)

@@ -1,5 +1,5 @@
 -- What is told is what is kept as found.
-use Rattle.std.proofs.Common.{sym, subst}
+use Rattle.std.proofs.Common.{sym, subst, rules}
 use Rattle.minus_text.specs.FoundRows.{pattern_of}
 use Rattle.minus_text.specs.Searched.{SearchedPush, IsFoundInPush}
 use Rattle.minus_text.specs.FormatResults.{TellsPush}
@@ -16,3 +16,9 @@ returns-then-is_prepared-clause-told c = λ h k.
     let its = subst (λ (s : SearchedPush). IsFoundInPush term s) (sym c.pending.view_is) k in
     subst (λ (s : SearchedPush). TellsPush r term d text s.push.numbers s.push.cols) c.pending.view_is
     (tells_pushed r term c.put.new.self d text p.numbers p.cols (c.in_ok-put.ensures.found term h its) c.in_ok-put.ensures.ok c.in_ok-put.ensures.told)
+
+pub returns-clause-ok : goal.returns-clause-ok
+returns-clause-ok c = search rules
+
+pub returns-clause-kept : goal.returns-clause-kept
+returns-clause-kept c = search rules

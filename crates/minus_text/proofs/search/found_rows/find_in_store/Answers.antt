@@ -1,4 +1,4 @@
-use Rattle.std.proofs.Common.{◌≡◌, ◌+◌, ◌++◌, ◌<◌, ◌≤◌, length, option_map, map, ap, ◌∙◌, arith}
+use Rattle.std.proofs.Common.{◌≡◌, ◌+◌, ◌++◌, ◌<◌, ◌≤◌, length, option_map, map, ap, ◌∙◌, arith, rules}
 use Rattle.std.proofs.lemmas.List.{take_all}
 use Rattle.regex.specs.Strings.{regex_pattern}
 use Rattle.minus_text.specs.Document.{rows_of}
@@ -29,3 +29,6 @@ returns-clause-found c =
     let rows = rows_of c.args.store.now in
     let past : length rows ≤ c.loop-i.i = omega (arith, c.formatted_lines_count-i-end.ensures.value, c.loop-i-test.false) in
     c.loop-i.invariant.found ∙ ap (found_in_rows (regex_pattern c.args.term.pattern.now) 0) (take_all c.loop-i.i rows past)
+
+pub loop-i-init : goal.loop-i-init
+loop-i-init c = search rules

@@ -78,3 +78,6 @@ unfolding bytes_left
 returns-clause-less c =
     let some : 0 < c.args.self.spaces = omega (arith, c.if-self-eq0.false) in
     omega (arith, length_left c.args.self.body.now c.args.self.spaces, length_left c.args.self.body.now (c.args.self.spaces - 1))
+
+pub returns-in-Some-clause-sequence : goal.returns-in-Some-clause-sequence
+returns-in-Some-clause-sequence c = search rules

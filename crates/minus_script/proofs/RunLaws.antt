@@ -1,0 +1,181 @@
+-- What a run comes to.
+use Rattle.std.proofs.Common.{◌≡◌, ℕ, Bool, true, false, List, [], ◌∷◌, ◌++◌, length, map, Option, Some, None, inl, inr, refl, sym, ap, subst, ◌∙◌}
+use Rattle.std.specs.Prelude.{◌||◌, is_some, nat_lt}
+use Rattle.std.specs.Io.KnownBytes.{Appends}
+use Rattle.std.proofs.lemmas.List.{map-append}
+use Rattle.minus_term.specs.declared.error.MinusError.{MinusError}
+use Rattle.minus_term.specs.declared.error.MinusError.TheVariants.{Memory, NewlineInPrompt, BadSize, BadMode, Failed, Ended, Setup, Cleanup, Draw, HandleEvent, Cursor, FmtWriteError, Conversion, SearchExpError}
+use Rattle.minus_term.specs.Refusals.{number_of, refusal_of}
+use Rattle.minus.specs.declared.stand_in.StandIn.{StandIn}
+use Rattle.minus.specs.declared.session.Answer.{Answer}
+use Rattle.minus_state.specs.declared.state.RunMode.TheVariants.{Dynamic, Uninitialized}
+use Rattle.minus.specs.declared.status.Status.{Status}
+use Rattle.minus.specs.declared.status.Status.TheVariants as status
+use Rattle.minus.specs.Answers.{IsAnswer, ends_run}
+use Rattle.std.specs.List.{last_or}
+use Rattle.minus.specs.Classified.{stand_in_says}
+use Rattle.minus.specs.Classifying.{Classifies}
+use Rattle.minus_state.specs.Control.{Control}
+use Rattle.minus.specs.Reads.{Told}
+use Rattle.minus.specs.Runs.{Stops, StopsSo, StopsAfter, IsRun}
+use Rattle.minus.specs.Starts.{IsStarted, IsStartRefused}
+use Rattle.minus.specs.Seen.{Seen}
+use Rattle.minus.specs.Steps.{IsStep, Steps, none, more, Refuses, status_after, cleanup_after}
+use Rattle.minus.specs.Table.{Wanted, Exit}
+use Rattle.minus_script.specs.declared.arguments.Mode.{Mode}
+use Rattle.minus_script.specs.declared.arguments.Mode.TheVariants.{Page, Bytes}
+use Rattle.minus_script.specs.declared.fault.ScriptFault.{ScriptFault}
+use Rattle.minus_script.specs.declared.fault.ScriptFault.TheVariants.{Io, Line, Refused}
+use Rattle.minus_script.specs.Runs.{IsTaken, exit_code, printed_after, IsShown, IsRefusal}
+use Rattle.minus_script.specs.ShowFaults.{IsShowFault, IsMemory}
+
+-- a start from no text over a sink that holds nothing
+pub started : (seen : Seen StandIn) (waiting : List (Wanted StandIn)) (cols rows : ℕ) (terminal : Bool) (a b : Option (List ℕ)) → waiting ≡ [] → terminal ≡ true → a ≡ Some [] → IsStarted seen (record {}) waiting Dynamic cols rows terminal a b → IsStarted seen (record {}) [] Dynamic cols rows true (Some []) b
+started seen waiting cols rows terminal a b e f g h =
+    subst (λ (x : Option (List ℕ)). IsStarted seen (record {}) [] Dynamic cols rows true x b) g (subst (λ (x : Bool). IsStarted seen (record {}) [] Dynamic cols rows x a b) f (subst (λ (x : List (Wanted StandIn)). IsStarted seen (record {}) x Dynamic cols rows terminal a b) e h))
+
+-- what a run comes to that no refusal stopped
+pub record Came {A : Type 0} (told : A → Told StandIn) (cols rows : ℕ) (inputs rest : List A) (last : Option Answer) (new : Seen StandIn) (bytes : Option (List ℕ)) : Type 0 where
+  pub answers : List Answer
+  pub taken : IsTaken cols rows (map told inputs) answers new bytes (map told rest)
+  pub whole : StopsAfter answers None (map told rest)
+  pub answer : last ≡ last_or None answers
+
+stopped_well : {A K : Type 0} (says : Classifies K) (told : A → Told K) (refused : List A) (reached new : Seen K) (a b : Option (List ℕ)) → Stops says told None refused reached new a b → (refused ≡ []) × (new ≡ reached) × (b ≡ a)
+stopped_well says told [] reached new a b h = (refl, h.0, h.1)
+stopped_well says told (x ∷ xs) reached new a b h = absurd h
+
+stops_told : {A : Type 0} (told : A → Told StandIn) (ends : Bool) (stopped : Option MinusError) (rest : List A) → StopsSo ends stopped rest → StopsSo ends stopped (map told rest)
+stops_told told true stopped rest h = h
+stops_told told false stopped rest h = λ well. ap (map told) (h well)
+
+told_stops : {A : Type 0} (told : A → Told StandIn) (answers : List Answer) (stopped : Option MinusError) (rest : List A) → StopsAfter answers stopped rest → StopsAfter answers stopped (map told rest)
+told_stops told [] stopped rest h = stops_told told false stopped rest h
+told_stops told (answer ∷ []) stopped rest h = stops_told told (ends_run answer) stopped rest h
+told_stops told (answer ∷ next ∷ answers) stopped rest h = (h.0, told_stops told (next ∷ answers) stopped rest h.1)
+
+pub run_came : {A : Type 0} (told : A → Told StandIn) (old new : Seen StandIn) (inputs : List A) (done : ℕ) (last : Option Answer) (stopped : Option MinusError) (rest : List A) (a b : Option (List ℕ)) (cols rows : ℕ) → IsRun stand_in_says told old new inputs done last stopped rest a b → stopped ≡ None → IsStarted old (record {}) [] Dynamic cols rows true (Some []) a
+    → Came told cols rows inputs rest last new b
+run_came told old new inputs done last stopped rest a b cols rows h is s =
+    let stop = stopped_well stand_in_says told h.refused h.reached new h.bytes b (subst (λ (x : Option MinusError). Stops stand_in_says told x h.refused h.reached new h.bytes b) is h.stop) in
+    let none_refused : h.refused ≡ [] = stop.0 in
+    let same : new ≡ h.reached = stop.1 in
+    let bytes : b ≡ h.bytes = stop.2 in
+    let all : inputs ≡ h.taken ++ rest = h.all ∙ ap (λ x. h.taken ++ (x ++ rest)) none_refused in
+    let to_new = subst (λ (x : Seen StandIn). Steps stand_in_says old (map told h.taken) h.passed h.answers x a h.bytes) (sym same) h.steps in
+    record {
+      answers = h.answers;
+      taken = record {
+        first = old;
+        begun = a;
+        taken = map told h.taken;
+        passed = h.passed;
+        started = s;
+        steps = subst (λ (x : Option (List ℕ)). Steps stand_in_says old (map told h.taken) h.passed h.answers new a x) (sym bytes) to_new;
+        all = ap (map told) all ∙ map-append told h.taken rest;
+      };
+      whole = told_stops told h.answers None rest (subst (λ (x : Option MinusError). StopsAfter h.answers x rest) is h.stops);
+      answer = h.answer;
+    }
+
+-- the page is shown
+pub page_shown : {A : Type 0} (told : A → Told StandIn) (cols rows : ℕ) (inputs rest : List A) (last : Option Answer) (new : Seen StandIn) (bytes : Option (List ℕ)) (mode : Mode) (output : List ℕ) → Came told cols rows inputs rest last new bytes → mode ≡ Page → output ≡ printed_after (exit_code last) new.control → IsShown mode cols rows (map told inputs) output
+page_shown told cols rows inputs rest last new bytes mode output h is e = rw is (record {
+  answers = h.answers;
+  reached = new;
+  bytes = bytes;
+  rest = map told rest;
+  taken = h.taken;
+  whole = h.whole;
+  prints = e ∙ ap (λ (x : Option Answer). printed_after (exit_code x) new.control) h.answer;
+})
+
+-- all bytes are shown
+pub bytes_shown : {A : Type 0} (told : A → Told StandIn) (cols rows : ℕ) (inputs rest : List A) (last : Option Answer) (new : Seen StandIn) (bytes : Option (List ℕ)) (mode : Mode) (output : List ℕ) → Came told cols rows inputs rest last new bytes → mode ≡ Bytes → Appends bytes (Some output) (cleanup_after new.status)
+    → IsShown mode cols rows (map told inputs) output
+bytes_shown told cols rows inputs rest last new bytes mode output h is e = rw is (record {
+  answers = h.answers;
+  reached = new;
+  bytes = bytes;
+  rest = map told rest;
+  taken = h.taken;
+  whole = h.whole;
+  prints = e;
+})
+
+-- a step that does not end a run leaves the session running
+goes_on : (exit : Option Exit) (text : Option (List ℕ)) (answer : Answer) (now : Status) → IsAnswer exit text answer → ends_run answer ≡ false → now ≡ status_after exit → now ≡ status.Running
+goes_on None text answer now is ends stands = stands
+goes_on (Some exit) text answer now is ends stands = absurd (let both : true ≡ false = subst (λ (x : Option Exit). (is_some x || is_some answer.copied || nat_lt 0 (length answer.refused.items)) ≡ false) is.exited ends in cc)
+
+step_goes_on : {K : Type 0} (says : Classifies K) (old new : Seen K) (t : Told K) (answer : Answer) (x y : Option (List ℕ)) → IsStep says old t new answer x y → ends_run answer ≡ false → new.status ≡ status.Running
+step_goes_on says old new t answer x y s ends = goes_on s.exit s.text answer new.status s.answers ends s.worked.stands
+
+-- after steps before an input that is refused, the session runs
+ends_not : (ends : Bool) (e : MinusError) (rest : List (Told StandIn)) → StopsSo ends (Some e) rest → ends ≡ false
+ends_not true e rest h = absurd (let both : Some e ≡ None = h in cc)
+ends_not false e rest h = refl
+
+pub still_runs : {K : Type 0} (says : Classifies K) (old new : Seen K) (ts : List (Told K)) (cs : List Control) (answers : List Answer) (x y : Option (List ℕ)) (e : MinusError) (rest : List (Told StandIn)) → Steps says old ts cs answers new x y → old.status ≡ status.Running → StopsAfter answers (Some e) rest → new.status ≡ status.Running
+still_runs says old new ts cs answers x y e rest (none {a = a}) runs h = runs
+still_runs says old new ts cs answers x y e rest (more {b = b} {t = t} {answer = answer} {answers = []} {x = u} {y = v} s none) runs h = step_goes_on says old b t answer u v s (ends_not (ends_run answer) e rest h)
+still_runs says old new ts cs answers x y e rest (more {b = b} {c = c} {t = t} {ts = us} {cs = ds} {answer = answer} {answers = next ∷ others} {x = u} {y = v} {z = w} s steps) runs h =
+    still_runs says b c us ds (next ∷ others) v w e rest steps (step_goes_on says old b t answer u v s h.0) h.1
+
+-- a start that is refused
+pub start_refused : (e : MinusError) (cols rows : ℕ) (told : List (Told StandIn)) → IsStartRefused (refusal_of e) Dynamic cols rows true → IsRefusal (number_of e) cols rows told
+start_refused Memory cols rows told h = inl (inl refl)
+start_refused NewlineInPrompt cols rows told h = absurd h
+start_refused (BadSize c r) cols rows told h = inr (inl (refl, inl h.3))
+start_refused BadMode cols rows told h = absurd (let both : Dynamic ≡ Uninitialized = h in cc)
+start_refused Failed cols rows told h = absurd h
+start_refused Ended cols rows told h = absurd h
+start_refused (Setup cause) cols rows told h = inl (inr (inl refl))
+start_refused (Cleanup cause) cols rows told h = absurd h
+start_refused (Draw cause) cols rows told h = inl (inr (inr (inr refl)))
+start_refused (HandleEvent cause) cols rows told h = absurd h
+start_refused (Cursor cause) cols rows told h = absurd h
+start_refused (FmtWriteError cause) cols rows told h = absurd h
+start_refused Conversion cols rows told h = absurd h
+start_refused (SearchExpError cause) cols rows told h = absurd h
+
+-- a step that is refused while the session runs
+step_refused : (e : MinusError) (cols rows : ℕ) (told rest : List (Told StandIn)) (t : Told StandIn) (answers : List Answer) (reached new : Seen StandIn) (a b : Option (List ℕ)) → IsTaken cols rows told answers reached a (t ∷ rest) → reached.status ≡ status.Running → Refuses stand_in_says (refusal_of e) reached t new a b → IsRefusal (number_of e) cols rows told
+step_refused Memory cols rows told rest t answers reached new a b taken runs h = inl (inl refl)
+step_refused NewlineInPrompt cols rows told rest t answers reached new a b taken runs h =
+    inr (inr (refl, record { answers = answers; reached = reached; bytes = a; refused = t; rest = rest; wanted = h.0.wanted; taken = taken; asked = h.0.asked; bad = h.0.bad }))
+step_refused (BadSize c r) cols rows told rest t answers reached new a b taken runs h =
+    inr (inl (refl, inr (record { answers = answers; reached = reached; bytes = a; refused = t; rest = rest; columns = c; lines = r; taken = taken; asked = h.0.asked; bad = h.0.bad })))
+step_refused BadMode cols rows told rest t answers reached new a b taken runs h = absurd h
+step_refused Failed cols rows told rest t answers reached new a b taken runs h = absurd (let both : status.Running ≡ status.Failed = sym runs ∙ h.0 in cc)
+step_refused Ended cols rows told rest t answers reached new a b taken runs h = absurd (let both : status.Running ≡ status.Ended = sym runs ∙ h.0 in cc)
+step_refused (Setup cause) cols rows told rest t answers reached new a b taken runs h = absurd h
+step_refused (Cleanup cause) cols rows told rest t answers reached new a b taken runs h = inl (inr (inr (inl refl)))
+step_refused (Draw cause) cols rows told rest t answers reached new a b taken runs h = inl (inr (inr (inr refl)))
+step_refused (HandleEvent cause) cols rows told rest t answers reached new a b taken runs h = absurd h
+step_refused (Cursor cause) cols rows told rest t answers reached new a b taken runs h = absurd h
+step_refused (FmtWriteError cause) cols rows told rest t answers reached new a b taken runs h = absurd h
+step_refused Conversion cols rows told rest t answers reached new a b taken runs h = absurd h
+step_refused (SearchExpError cause) cols rows told rest t answers reached new a b taken runs h = absurd h
+
+-- a refusal stopped the run
+refused_one : {A : Type 0} (told : A → Told StandIn) (e : MinusError) (refused rest inputs taken : List A) (old reached new : Seen StandIn) (passed : List Control) (answers : List Answer) (start a b : Option (List ℕ)) (cols rows : ℕ) → Stops stand_in_says told (Some e) refused reached new a b → inputs ≡ taken ++ (refused ++ rest) → Steps stand_in_says old (map told taken) passed answers reached start a
+    → IsStarted old (record {}) [] Dynamic cols rows true (Some []) start → reached.status ≡ status.Running → IsRefusal (number_of e) cols rows (map told inputs)
+refused_one told e [] rest inputs taken old reached new passed answers start a b cols rows h all steps s runs = absurd h
+refused_one told e (x ∷ y ∷ xs) rest inputs taken old reached new passed answers start a b cols rows h all steps s runs = absurd h
+refused_one told e (x ∷ []) rest inputs taken old reached new passed answers start a b cols rows h all steps s runs =
+    step_refused e cols rows (map told inputs) (map told rest) (told x) answers reached new a b (record { first = old; begun = start; taken = map told taken; passed = passed; started = s; steps = steps; all = ap (map told) all ∙ map-append told taken (x ∷ rest) }) runs h
+
+pub run_refused : {A : Type 0} (told : A → Told StandIn) (old new : Seen StandIn) (inputs : List A) (done : ℕ) (last : Option Answer) (stopped : Option MinusError) (rest : List A) (a b : Option (List ℕ)) (cols rows : ℕ) (e : MinusError) (fault : ScriptFault) → IsRun stand_in_says told old new inputs done last stopped rest a b → stopped ≡ Some e
+    → IsStarted old (record {}) [] Dynamic cols rows true (Some []) a → fault ≡ Refused (number_of e) → IsShowFault cols rows (map told inputs) fault
+run_refused told old new inputs done last stopped rest a b cols rows e fault h is s f =
+    let stop = subst (λ (x : Option MinusError). Stops stand_in_says told x h.refused h.reached new h.bytes b) is h.stop in
+    let stops = told_stops told h.answers (Some e) rest (subst (λ (x : Option MinusError). StopsAfter h.answers x rest) is h.stops) in
+    let runs = still_runs stand_in_says old h.reached (map told h.taken) h.passed h.answers a h.bytes e (map told rest) h.steps (ap (λ (x : Seen StandIn). x.status) s.begins) stops in
+    rw f (refused_one told e h.refused rest inputs h.taken old h.reached new h.passed h.answers a h.bytes b cols rows stop h.all h.steps s runs)
+
+-- memory ran out
+pub memory_fault : (cols rows : ℕ) (told : List (Told StandIn)) (fault : ScriptFault) → IsMemory fault → IsShowFault cols rows told fault
+memory_fault cols rows told (Io stream cause) e = absurd e
+memory_fault cols rows told (Line number) e = absurd e
+memory_fault cols rows told (Refused number) e = inl e

@@ -1,0 +1,12 @@
+-- One more press, and no more.
+use Rattle.std.proofs.Common.{◌++◌, map, sym, ap, ◌∙◌, map-id}
+use Rattle.std.proofs.lemmas.Iterator.{YieldsList-from_chars}
+use Rattle.std.proofs.lemmas.Iterator.Consumers.{YieldsList-end}
+use Rattle.minus.specs.Reads.{told_of}
+use Rattle.minus_script.specs.Script.{typed}
+use Rattle.minus_script.proofs.script.push_presses.Goals as goal
+
+pub returns : goal.returns
+returns c =
+    let end = YieldsList-end (YieldsList-from_chars c.args.text.now c.utf8.text cc) c.loop-character.yielded _ c.loop-character.yielded_by _ _ c.in-None.is c.next.ensures.steps in
+    c.loop-character.invariant ∙ ap (λ x. map told_of c.args.inputs.now.items ++ map typed x) (sym (map-id c.loop-character.yielded) ∙ end.0)

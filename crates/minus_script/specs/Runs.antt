@@ -1,0 +1,139 @@
+-- A run of a script.
+use Rattle.std.specs.Prelude.{◌≡◌, ℕ, List, [], ◌∷◌, ◌++◌, true, Option, Some, None, Ok, Err, codes, decimal, ◌⊎◌}
+use Rattle.std.specs.List.{last_or}
+use Rattle.std.specs.Option.{option_and_then, option_map}
+use Rattle.std.specs.Io.KnownBytes.{Appends, Consumes, IsAtEnd}
+use Rattle.minus_term.specs.Counts.{AppendsFront}
+use Rattle.minus.specs.declared.stand_in.StandIn.{StandIn}
+use Rattle.minus.specs.declared.session.Answer.{Answer}
+use Rattle.minus_state.specs.declared.state.RunMode.TheVariants.{Dynamic}
+use Rattle.minus.specs.Classified.{stand_in_says}
+use Rattle.minus_state.specs.Control.{Control}
+use Rattle.minus_state.specs.Page.{page}
+use Rattle.minus.specs.Reads.{Told}
+use Rattle.minus.specs.Runs.{StopsAfter}
+use Rattle.minus_state.specs.Sizes.{IsSize}
+use Rattle.minus.specs.Starts.{IsStarted}
+use Rattle.minus.specs.Seen.{Seen}
+use Rattle.minus.specs.Steps.{Asks, Steps, cleanup_after}
+use Rattle.minus.specs.Table.{Wanted, resizes, HasNewline}
+use Rattle.minus_script.specs.Script.{script_lines, script_told}
+use Rattle.minus_script.specs.Printed.{printed_all}
+use Rattle.minus_script.specs.Reading.{ConsumesSome}
+use Rattle.minus_script.specs.declared.arguments.Mode.{Mode}
+use Rattle.minus_script.specs.declared.arguments.Mode.TheVariants.{Page, Bytes}
+use Rattle.minus_script.specs.declared.fault.Stream.TheVariants.{Input, Output}
+use Rattle.minus_script.specs.declared.fault.ScriptFault.{ScriptFault}
+use Rattle.minus_script.specs.declared.fault.ScriptFault.TheVariants.{Io, Line, Refused}
+
+-- a pager was started without a text over a sink that held nothing, and took what it was told in order, with these answers,
+-- up to a rest
+pub record IsTaken (cols rows : ℕ) (told : List (Told StandIn)) (answers : List Answer) (reached : Seen StandIn) (bytes : Option (List ℕ)) (rest : List (Told StandIn)) : Type 0 where
+  pub first : Seen StandIn
+  pub begun : Option (List ℕ)
+  pub taken : List (Told StandIn)
+  pub passed : List Control
+  pub started : IsStarted first (record {}) [] Dynamic cols rows true (Some []) begun
+  pub steps : Steps stand_in_says first taken passed answers reached begun bytes
+  pub all : told ≡ taken ++ rest
+
+-- what is printed after an exit: the code that the program would end with
+abbrev pub printed_exit : ℕ → List ℕ
+printed_exit code = codes "exit " ++ decimal code ++ codes "\n"
+
+-- the code of an exit that the last step answered
+abbrev pub exit_code : Option Answer → Option ℕ
+exit_code last = option_and_then (λ (a : Answer). option_map (λ x. x.1) a.exited) last
+
+-- what is printed of the page after that step
+abbrev pub printed_after : Option ℕ → Control → List ℕ
+printed_after None control = printed_all (page control).texts
+printed_after (Some code) control = printed_exit code
+
+-- what the modes print: the page, or all bytes of the sink, with those that clean the terminal up
+abbrev pub Prints : Mode → List Answer → Seen StandIn → Option (List ℕ) → List ℕ → Type 0
+Prints Page answers reached bytes output = output ≡ printed_after (exit_code (last_or None answers)) reached.control
+Prints Bytes answers reached bytes output = Appends bytes (Some output) (cleanup_after reached.status)
+
+-- the pager took all that it was told, or all up to an exit, and what it came to was printed
+pub record IsShown (mode : Mode) (cols rows : ℕ) (told : List (Told StandIn)) (output : List ℕ) : Type 0 where
+  pub answers : List Answer
+  pub reached : Seen StandIn
+  pub bytes : Option (List ℕ)
+  pub rest : List (Told StandIn)
+  pub taken : IsTaken cols rows told answers reached bytes rest
+  pub whole : StopsAfter answers None rest
+  pub prints : Prints mode answers reached bytes output
+
+-- a script was read to its end, each of its lines is well formed, and this is what they lead to
+pub record IsScriptShown (mode : Mode) (cols rows : ℕ) (old_input new_input : Option (List ℕ)) (printed : List ℕ) : Type 0 where
+  pub script : List ℕ
+  pub told : List (Told StandIn)
+  pub read : Consumes old_input new_input script
+  pub end : IsAtEnd new_input
+  pub lines : script_told (script_lines script) ≡ Ok told
+  pub shown : IsShown mode cols rows told printed
+
+-- what the script leads to was printed
+abbrev pub IsScriptRun : Mode → ℕ → ℕ → Option (List ℕ) → Option (List ℕ) → Option (List ℕ) → Option (List ℕ) → Type 0
+IsScriptRun mode cols rows old_input new_input old_output new_output =
+    (printed : List ℕ) × IsScriptShown mode cols rows old_input new_input printed × Appends old_output new_output printed
+
+-- memory ran out: the program's, or that of the pager's sink, which is a vector in memory and refuses a setup, a cleanup or a
+-- drawing for nothing else
+abbrev pub IsWantOfMemory : ℕ → Type 0
+IsWantOfMemory number = (number ≡ 1) ⊎ ((number ≡ 12) ⊎ ((number ≡ 13) ⊎ (number ≡ 14)))
+
+-- after a part of what it was told, the pager was asked for a size that is none of a terminal
+pub record IsSizeAsked (cols rows : ℕ) (told : List (Told StandIn)) : Type 0 where
+  pub answers : List Answer
+  pub reached : Seen StandIn
+  pub bytes : Option (List ℕ)
+  pub refused : Told StandIn
+  pub rest : List (Told StandIn)
+  pub columns : ℕ
+  pub lines : ℕ
+  pub taken : IsTaken cols rows told answers reached bytes (refused ∷ rest)
+  pub asked : Asks stand_in_says reached refused (resizes columns lines)
+  pub bad : IsSize columns lines → ⊥
+
+-- after a part of what it was told, the pager was asked for a prompt or a message with a newline
+pub record IsPromptAsked (cols rows : ℕ) (told : List (Told StandIn)) : Type 0 where
+  pub answers : List Answer
+  pub reached : Seen StandIn
+  pub bytes : Option (List ℕ)
+  pub refused : Told StandIn
+  pub rest : List (Told StandIn)
+  pub wanted : Wanted StandIn
+  pub taken : IsTaken cols rows told answers reached bytes (refused ∷ rest)
+  pub asked : Asks stand_in_says reached refused wanted
+  pub bad : HasNewline wanted
+
+-- memory ran out; the size of the start, or one that was asked for later, is none of a terminal; or a prompt has a newline
+abbrev pub IsRefusal : ℕ → ℕ → ℕ → List (Told StandIn) → Type 0
+IsRefusal number cols rows told =
+    IsWantOfMemory number ⊎ (((number ≡ 5) × ((IsSize cols rows → ⊥) ⊎ IsSizeAsked cols rows told)) ⊎ ((number ≡ 2) × IsPromptAsked cols rows told))
+
+-- a script was read to its end
+abbrev pub IsRead : Option (List ℕ) → Option (List ℕ) → List ℕ → Type 0
+IsRead old_input new_input script = Consumes old_input new_input script × IsAtEnd new_input
+
+-- what a fault of the output leaves: a beginning of what was to be printed
+abbrev pub IsOutputFault : Mode → ℕ → ℕ → Option (List ℕ) → Option (List ℕ) → Option (List ℕ) → Option (List ℕ) → Type 0
+IsOutputFault mode cols rows old_input new_input old_output new_output =
+    (printed : List ℕ) × IsScriptShown mode cols rows old_input new_input printed × AppendsFront old_output new_output printed
+
+-- why a script is refused, before anything is printed: input failed, its first faulty line, or a refusal, by its number; or,
+-- while it is printed: output failed
+abbrev pub IsRunFault : Mode → ℕ → ℕ → Option (List ℕ) → Option (List ℕ) → Option (List ℕ) → Option (List ℕ) → ScriptFault → Type 0
+IsRunFault mode cols rows old_input new_input old_output new_output (Io Input cause) = ConsumesSome old_input new_input
+IsRunFault mode cols rows old_input new_input old_output new_output (Io Output cause) = IsOutputFault mode cols rows old_input new_input old_output new_output
+IsRunFault mode cols rows old_input new_input old_output new_output (Line number) =
+    (script : List ℕ) × IsRead old_input new_input script × (script_told (script_lines script) ≡ Err number)
+IsRunFault mode cols rows old_input new_input old_output new_output (Refused number) =
+    (number ≡ 1) ⊎ ((script : List ℕ) × (told : List (Told StandIn)) × IsRead old_input new_input script × (script_told (script_lines script) ≡ Ok told) × IsRefusal number cols rows told)
+
+-- a fault that came before anything was printed
+abbrev pub IsBeforePrinting : ScriptFault → Type 0
+IsBeforePrinting (Io Output cause) = ⊥
+IsBeforePrinting fault = Unit {0}

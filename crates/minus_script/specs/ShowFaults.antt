@@ -1,0 +1,19 @@
+-- Why nothing is shown.
+use Rattle.std.specs.Prelude.{ℕ, List}
+use Rattle.minus.specs.declared.stand_in.StandIn.{StandIn}
+use Rattle.minus.specs.Reads.{Told}
+use Rattle.minus_script.specs.Runs.{IsWantOfMemory, IsRefusal}
+use Rattle.minus_script.specs.declared.fault.ScriptFault.{ScriptFault}
+use Rattle.minus_script.specs.declared.fault.ScriptFault.TheVariants.{Io, Line, Refused}
+
+-- memory ran out, or the pager refuses a size
+abbrev pub IsShowFault : ℕ → ℕ → List (Told StandIn) → ScriptFault → Type 0
+IsShowFault cols rows told (Io stream cause) = ⊥
+IsShowFault cols rows told (Line number) = ⊥
+IsShowFault cols rows told (Refused number) = IsRefusal number cols rows told
+
+-- memory ran out
+abbrev pub IsMemory : ScriptFault → Type 0
+IsMemory (Io stream cause) = ⊥
+IsMemory (Line number) = ⊥
+IsMemory (Refused number) = IsWantOfMemory number

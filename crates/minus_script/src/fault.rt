@@ -1,0 +1,65 @@
+//! The errors of the program.
+ghost use Rattle.std.specs.Prelude.{◌≡◌};
+ghost use Rattle.minus_term.specs.Refusals.{number_of};
+ghost use Rattle.minus_script.specs.declared.fault.ScriptFault.TheVariants.{Refused};
+
+use minus::MinusError;
+use std::alloc::{AllocError, AllocFailed};
+use std::{fmt, io};
+use thiserror::Error;
+
+/// A stream of the program.
+#[derive(Clone, Copy, Debug)]
+pub enum Stream {
+    /// Standard input.
+    Input,
+    /// Standard output.
+    Output,
+}
+
+impl fmt::Display for Stream {
+    fn fmt<W: fmt::Write>(&self, f: &mut fmt::Formatter<W>) -> fmt::Result {
+        match self {
+            Stream::Input => f.write_str("input"),
+            Stream::Output => f.write_str("output"),
+        }
+    }
+}
+
+/// Why the program ends without having run its script.
+#[derive(Debug, Drop, Error)]
+pub enum ScriptFault {
+    /// Standard input or output failed.
+    #[error("standard {0} failed")]
+    Io(Stream, io::Error),
+    /// The line with this number, counted from 1, is faulty.
+    #[error("script line {0}")]
+    Line(usize),
+    /// A call was refused, for the reason with this number; 1 is want of memory.
+    #[error("refused {0}")]
+    Refused(u8),
+}
+
+impl From<AllocError> for ScriptFault {
+    ghost from_gives = { λ cause e. e ≡ Refused 1 };
+
+    fn from(_cause: AllocError) -> ScriptFault {
+        ScriptFault::Refused(1)
+    }
+}
+
+impl<T: Drop> From<AllocFailed<T>> for ScriptFault {
+    ghost from_gives = { λ cause e. e ≡ Refused 1 };
+
+    fn from(_cause: AllocFailed<T>) -> ScriptFault {
+        ScriptFault::Refused(1)
+    }
+}
+
+impl From<MinusError> for ScriptFault {
+    ghost from_gives = { λ cause e. e ≡ Refused (number_of cause) };
+
+    fn from(cause: MinusError) -> ScriptFault {
+        ScriptFault::Refused(cause.number())
+    }
+}

@@ -1,0 +1,75 @@
+//! Rows as they are printed, numbers and arguments.
+use crate::words::add_words;
+use minus_script::{Arguments, Mode, parse_arguments, parse_usize, print_row, print_rows};
+use std::alloc::Global;
+use std::process::Abort;
+
+// Whether a row is printed so.
+fn prints(alloc: Global, row: &str, printed: &str) -> bool {
+    let mut out = Vec::new(alloc);
+    print_row(&mut out, row).is_ok() && out.as_slice() == printed.as_bytes()
+}
+
+#[test]
+fn prints_a_row_with_escapes(rt: HostRuntime) {
+    assert!(rt; prints(rt.alloc(), "a\x1b[1m\r\\né", "a\\e[1m\\r\\\\né\n"));
+}
+
+// Whether rows are printed so.
+fn prints_all(alloc: Global, texts: &[&str], printed: &str) -> bool {
+    let mut rows = Vec::new(alloc);
+    let mut out = Vec::new(alloc);
+    add_words(alloc, &mut rows, texts)
+        && print_rows(&mut out, &rows).is_ok()
+        && out.as_slice() == printed.as_bytes()
+}
+
+#[test]
+fn prints_rows(rt: HostRuntime) {
+    assert!(rt; prints_all(rt.alloc(), &["", "b"], "\nb\n"));
+}
+
+// Whether these words are these arguments, or none.
+fn reads(alloc: Global, texts: &[&str], arguments: Option<Arguments>) -> bool {
+    let mut words = Vec::new(alloc);
+    add_words(alloc, &mut words, texts) && parse_arguments(&words) == arguments
+}
+
+// Fails where words are other arguments than these.
+fn assert_reads(rt: &impl Abort, alloc: Global, cases: &[(&[&str], Option<Arguments>)]) {
+    for (texts, arguments) in cases {
+        assert!(rt; reads(alloc, texts, *arguments), "of {texts:?}");
+    }
+}
+
+#[test]
+fn reads_arguments(rt: HostRuntime) {
+    let page = Arguments {
+        mode: Mode::Page,
+        cols: 80,
+        rows: 24,
+    };
+    let bytes = Arguments {
+        mode: Mode::Bytes,
+        cols: 0,
+        rows: 1,
+    };
+    let cases: &[(&[&str], Option<Arguments>)] = &[
+        (&["page", "80", "24"], Some(page)),
+        (&["bytes", "0", "1"], Some(bytes)),
+        (&[], None),
+        (&["page", "80"], None),
+        (&["page", "80", "24", ""], None),
+        (&["Page", "80", "24"], None),
+        (&["lines", "80", "24"], None),
+        (&["page", "", "24"], None),
+        (&["page", "80", "-1"], None),
+        (&["page", "80", "18446744073709551616"], None),
+    ];
+    assert_reads(&rt, rt.alloc(), cases);
+}
+
+#[test]
+fn reads_numbers(rt: HostRuntime) {
+    assert!(rt; parse_usize("+018") == Some(18) && parse_usize("1 ").is_none());
+}

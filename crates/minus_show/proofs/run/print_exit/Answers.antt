@@ -1,5 +1,0 @@
-use Rattle.std.proofs.Common.{rules}
-use Rattle.minus_show.proofs.run.print_exit.Goals as goal
-
-pub returns : goal.returns
-returns c = search rules
