@@ -1,5 +1,5 @@
-//! Tests of `minus`, of what no contract says: worked sessions with the pages and the bytes that they must have, and
-//! sinks that refuse.
+//! Tests of what no contract says, for each crate: worked sessions with the pages and the bytes that they must have, and
+//! sinks that refuse, for `minus`; those of the crates below it, and of `minus_script`, in a module of each.
 #![tactic(auto)]
 
 #[cfg(test)]
@@ -11,6 +11,8 @@ mod endings;
 #[cfg(test)]
 mod helps;
 #[cfg(test)]
+mod input;
+#[cfg(test)]
 mod inputs;
 #[cfg(test)]
 mod layouts;
@@ -21,16 +23,26 @@ mod prompts;
 #[cfg(test)]
 mod refusals;
 #[cfg(test)]
+mod script;
+#[cfg(test)]
 mod selections;
 #[cfg(test)]
 mod sessions;
+#[cfg(test)]
+mod shown;
 #[cfg(test)]
 mod sinks;
 #[cfg(test)]
 mod starts;
 #[cfg(test)]
+mod state;
+#[cfg(test)]
 mod states;
 #[cfg(test)]
 mod stubborn;
+#[cfg(test)]
+mod term;
+#[cfg(test)]
+mod text;
 #[cfg(test)]
 mod written_rows;

@@ -1,5 +1,5 @@
 //! Drawings to each sink, and the count of refusals.
-use crate::stubborn::{Refusal, Stubborn};
+use crate::term::stubborn::{Refusal, Stubborn};
 use minus_term::{OutputSink, WithTty, draw_bytes};
 use std::alloc::Global;
 use std::io::{Cursor, Read};

@@ -1,5 +1,5 @@
 //! Rows with numbers before them, and lines that are not wrapped.
-use crate::screens::{push, sees, set, stores};
+use crate::text::screens::{push, sees, set, stores};
 use minus_text::{Layout, LineNumbers, PendingPush, Screen};
 use std::alloc::Global;
 

@@ -1,7 +1,7 @@
 //! The program's statuses, and what it says of its faults.
-use crate::doubles::{Broken, Refusal, Refusing};
+use crate::script::doubles::{Broken, Refusal, Refusing};
+use crate::script::words::add_words;
 use crate::shown::is_shown;
-use crate::words::add_words;
 use minus_script::{ProgramFault, run_to_end, run_words};
 use std::alloc::{AllocError, Global};
 use std::io::{Read, Write};

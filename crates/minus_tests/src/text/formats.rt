@@ -1,6 +1,6 @@
 //! Texts whose rows are put into a buffer, and rows that are searched.
-use crate::searches::Search;
-use crate::told::{Told, tells};
+use crate::text::searches::Search;
+use crate::text::told::{Told, tells};
 use minus_term::error::MinusError;
 use minus_text::{
     AppendableBuffer, FormatOpts, FormatResult, FormattedRow, Layout, LineNumbers, ReusableRows,

@@ -1,6 +1,6 @@
 //! What a screen, a push and a map of lines tell.
-use crate::screens::{has_rows, push, push_all, stores};
-use crate::told::{Told, tells};
+use crate::text::screens::{has_rows, push, push_all, stores};
+use crate::text::told::{Told, tells};
 use minus_text::{FormatResult, Layout, LineNumbers, LinesRowMap, PendingPush, Screen};
 use std::alloc::{AllocError, Global};
 

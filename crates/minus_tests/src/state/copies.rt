@@ -1,5 +1,5 @@
 //! Worked copies of selections.
-use crate::texts::{ends, form};
+use crate::state::texts::{ends, form};
 use minus_state::{SelectionEnds, extract_selection};
 use minus_text::{Layout, LineNumbers, Screen};
 use std::alloc::Global;

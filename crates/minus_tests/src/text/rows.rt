@@ -1,5 +1,5 @@
 //! Worked texts and their rows.
-use crate::screens::assert_fill;
+use crate::text::screens::assert_fill;
 use minus_text::{digits, format_line};
 use std::alloc::Global;
 

@@ -1,7 +1,7 @@
 //! Readers that stop, fail or never end.
 ghost use Rattle.std.specs.Prelude.{Some, drop};
 
-use crate::doubles::{Broken, Slow, Steady};
+use crate::script::doubles::{Broken, Slow, Steady};
 use minus_script::{ScriptFault, Stream, read_script};
 use std::alloc::Global;
 use std::io::{ErrorKind, Read};

@@ -1,6 +1,6 @@
 //! What sets a terminal up and cleans it up, and which part of it a sink refused.
 use crate::shown::is_shown;
-use crate::stubborn::{Refusal, Stubborn};
+use crate::term::stubborn::{Refusal, Stubborn};
 use minus_term::{OutputSink, SetupError, WithTty, cleanup, setup};
 use std::alloc::Global;
 

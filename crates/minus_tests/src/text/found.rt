@@ -1,7 +1,7 @@
 //! What a term finds in the rows of a screen.
-use crate::screens::{push, sees, stores};
-use crate::searches::Search;
-use crate::told::{row_of, tells_matches};
+use crate::text::screens::{push, sees, stores};
+use crate::text::searches::Search;
+use crate::text::told::{row_of, tells_matches};
 use minus_term::error::MinusError;
 use minus_text::{FormatResult, Layout, LineNumbers, Screen, Term};
 use std::alloc::Global;

@@ -1,6 +1,6 @@
 //! The bytes of each operation, and how they reach a sink.
-use crate::sinks::draws;
-use crate::stubborn::{Refusal, Stubborn};
+use crate::term::sinks::draws;
+use crate::term::stubborn::{Refusal, Stubborn};
 use minus_term::{DrawOp, OutputSink, draw_bytes, write_bytes, write_op};
 use std::alloc::Global;
 use std::io;

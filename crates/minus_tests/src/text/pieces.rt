@@ -1,5 +1,5 @@
 //! An unfinished line that comes in pieces has the rows of the whole.
-use crate::screens::{assert_fill, push};
+use crate::text::screens::{assert_fill, push};
 use minus_text::{LineNumbers, PendingPush, Screen};
 use std::alloc::Global;
 

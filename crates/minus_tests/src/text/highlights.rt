@@ -1,5 +1,5 @@
 //! Lines with their matches shown in reverse.
-use crate::searches::Search;
+use crate::text::searches::Search;
 use minus_text::{HighlightMatchesArgs, highlight_line_matches};
 use std::alloc::Global;
 

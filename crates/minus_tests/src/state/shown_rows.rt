@@ -1,5 +1,5 @@
 //! Worked shown rows.
-use crate::texts::{ends, form, form_searched};
+use crate::state::texts::{ends, form, form_searched};
 use minus_state::{Rendering, SelectionEnds, render_rows_for_display};
 use minus_text::{Layout, LineNumbers, Screen};
 use std::alloc::Global;

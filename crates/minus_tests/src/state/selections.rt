@@ -1,5 +1,5 @@
 //! Worked selections: the ends that places of the page select.
-use crate::texts::{end, form};
+use crate::state::texts::{end, form};
 use minus_state::{Selection, View, selection_from_coordinates};
 use minus_text::{Layout, LineNumbers, Screen};
 use std::alloc::Global;

@@ -1,5 +1,5 @@
 //! Rows as they are printed, numbers and arguments.
-use crate::words::add_words;
+use crate::script::words::add_words;
 use minus_script::{Arguments, Mode, parse_arguments, parse_usize, print_row, print_rows};
 use std::alloc::Global;
 use std::process::Abort;

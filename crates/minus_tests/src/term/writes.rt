@@ -1,5 +1,5 @@
 //! Writes beside the drawing of a page.
-use crate::stubborn::{Refusal, Stubborn};
+use crate::term::stubborn::{Refusal, Stubborn};
 use minus_term::{MinusError, clear_entire_screen, move_cursor, write_raw_lines};
 use std::alloc::Global;
 use std::convert::AsStr;

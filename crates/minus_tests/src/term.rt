@@ -1,0 +1,9 @@
+//! Tests of `minus_term`: the bytes and texts as a terminal's manual has them, which error comes, what is settled, and which keys
+//! are equal.
+mod errors;
+mod events;
+mod operations;
+mod sinks;
+mod stubborn;
+mod terminal;
+mod writes;
