@@ -1,0 +1,5 @@
+use Rattle.std.proofs.Common.{rules}
+use Rattle.minus.proofs.drawing.drawing_by.Goals as goal
+
+pub returns-in-Appended : goal.returns-in-Appended
+returns-in-Appended c = search rules
