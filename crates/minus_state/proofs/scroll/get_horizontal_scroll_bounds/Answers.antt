@@ -16,3 +16,9 @@ overflow_add-result-in-Some c =
     let cut = c.prefix_end-prefix.ensures.cut in
     let within : c.prefix_end-prefix.result + c.in-Some.last ≤ length c.args.line.now = omega (arith, both.1, cut.0, c.range_from.ensures.len) in
     search (rules, within)
+
+pub returns-in-Some : goal.returns-in-Some
+returns-in-Some c = search rules
+
+pub returns-in-None : goal.returns-in-None
+returns-in-None c = search rules
