@@ -8,3 +8,6 @@ returns-in-Nothing c new h same = rw c.in-Nothing.is (no_op c.args.out.now.items
 
 pub returns-in_ok-shown-in-Full : goal.returns-in_ok-shown-in-Full
 returns-in_ok-shown-in-Full c = search rules
+
+pub returns-in_ok-shown-in-Scroll : goal.returns-in_ok-shown-in-Scroll
+returns-in_ok-shown-in-Scroll c = search rules

@@ -1,5 +1,5 @@
 -- What was drawn is the page of the control that was reached.
-use Rattle.std.proofs.Common.{◌≡◌, ℕ, List, string_bytes, sym, ap, subst, ◌∙◌}
+use Rattle.std.proofs.Common.{◌≡◌, ℕ, List, string_bytes, sym, ap, subst, ◌∙◌, rules}
 use Rattle.std.specs.Option.{option_map, unwrap_or}
 use Rattle.minus_term.specs.Written.{written_all}
 use Rattle.minus.specs.Drawings.{ops_of_step}
@@ -42,3 +42,6 @@ invariant_of-self-2-clause-prompted g c running =
     ap string_bytes c.keep.ensures ∙ row_kept row drawn.prompt_row
     ∙ ap (λ (before : List ℕ). unwrap_or (option_map string_bytes row) before) kept
     ∙ c.in_ok-row.ensures new h ∙ ap prompt_row (sym is)
+
+pub returns-clause-done : goal.returns-clause-done
+returns-clause-done g c = search rules
