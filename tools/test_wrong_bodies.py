@@ -6,7 +6,7 @@ import tempfile
 import unittest
 
 sys.path.insert(0, os.path.dirname(os.path.abspath(__file__)))
-from wrong_bodies import Body, Place, functions_of, judge, next_round, paths_of, place_of, read_body, texts_of, try_all, verdicts_of, without_proofs
+from wrong_bodies import Body, Place, functions_of, judge, next_round, paths_of, place_of, read_body, texts_of, try_all, verdicts_of, with_twins, without_proofs
 
 SOURCE = """const LIMIT: usize = 3;
 
@@ -112,6 +112,27 @@ class Rounds(unittest.TestCase):
                 out.write("file: src/m.rt\nold: fn\nnew: const\n")
             self.assertIn("2 times", read_body(f"{folder}/it.edit", folder).fault)
 
+
+    def test_a_second_body_of_a_function_turns_a_twin(self):
+        with tempfile.TemporaryDirectory() as folder:
+            os.makedirs(f"{folder}/src")
+            os.makedirs(f"{folder}/proofs/m/f")
+            with open(f"{folder}/src/m.rt", "w", encoding="utf-8") as out:
+                out.write("#[tactic(auto)]\nfn f() {\n    one\n}\n\nfn g() {\n    two\n}\n")
+            with open(f"{folder}/proofs/m/f/Answers.antt", "w", encoding="utf-8") as out:
+                out.write("use Rattle.k.proofs.m.f.Goals as goal\n")
+            edits = {"a": "old: one\nnew: three\n", "b": "old: one\nnew: four\n", "c": "old: two\nnew: five\n"}
+            for label, text in edits.items():
+                with open(f"{folder}/{label}.edit", "w", encoding="utf-8") as out:
+                    out.write("file: src/m.rt\n" + text)
+            bodies = [read_body(f"{folder}/{it}.edit", folder) for it in edits]
+            tried_as = with_twins(bodies, folder, functions_of(folder, []))
+            self.assertEqual(next_round(tried_as), tried_as)
+            text = texts_of(tried_as, folder)["src/m.rt"]
+        twin = "#[tactic(auto)]\nfn f__2() {\n    four\n}\n\n"
+        self.assertEqual(text, "#[tactic(auto)]\nfn f() {\n    three\n}\n\n" + twin + "fn g() {\n    five\n}\n")
+        self.assertEqual([it.label for it in tried_as], ["a.edit", "b.edit", "c.edit"])
+        self.assertEqual(tried_as[1].files, {"proofs/m/f__2/Answers.antt": "use Rattle.k.proofs.m.f__2.Goals as goal\n"})
 
     def test_who_is_not_turned_has_an_empty_proof(self):
         with tempfile.TemporaryDirectory() as folder:

@@ -8,7 +8,8 @@ usage, at the top of the repository:
 
 A wrong body has the lines of a must-fail edit: `file: src/F.rt`, and pairs of `old: TEXT` and `new: TEXT`, where each old
 text stands once in its file. The bodies of a crate go into rounds in which each function is turned at most once, and one check
-of the turned functions, and of what they call, tries a round. A body passes where each function that it turns is refused
+of the turned functions tries a round; where several bodies turn one function, the others turn twins of it, which stand beside
+it under names of their own, with its contract and its proof. A body passes where each function that it turns is refused
 for goals of its own: not only since it calls a function that is refused, and not since a proof file names what the body
 took away. A proof rests on the contracts of what its function calls and not on their bodies, so the functions that a round
 does not turn are left without a proof. A body that is not refused beside those is tried again with all other functions
@@ -74,6 +75,7 @@ class Body:
     changes: list = field(default_factory=list)  # path, start, end, text
     places: set = field(default_factory=set)
     fault: str = ""
+    files: dict = field(default_factory=dict)  # the proof of a twin: path, text
 
     def stands_alone(self):
         return any(not it.name for it in self.places)
@@ -132,6 +134,43 @@ def functions_of(folder, proofs):
         if it.of_type and paths[it].count("::") == 1:
             paths[it] = f"{modules.get(it.of_type, it.module)}::{paths[it]}".removeprefix("::")
     return paths
+
+
+def extent_of(text, at):
+    """Returns where the function around a character begins, with its attributes, and where it ends."""
+    *_, function = [it for it in FUNCTION.finditer(text) if it.start() <= at]
+    start, inside = function.start(), function[1] or ""
+    while text[:start].endswith("]\n") and text[:start].rpartition("\n")[0].rpartition("\n")[2].startswith(f"{inside}#["):
+        start = text.rfind("\n", 0, start - 1) + 1
+    return start, text.index(f"\n{inside}}}\n", at) + len(inside) + 2
+
+
+def twin_of(body, number, folder, functions):
+    """Returns a body that does to a twin of its function what this one does to the function, or none where there can be no twin."""
+    place = next(iter(body.places))
+    if len(body.places) > 1 or place.of_trait or place not in functions:
+        return None
+    path = body.changes[0][0]
+    text, name, proof = read(f"{folder}/{path}"), f"{place.name}__{number}", functions[place].replace("::", "/")
+    start, end = extent_of(text, body.changes[0][1])
+    twin = text[start:end]
+    for _, first, last, new in sorted(body.changes, key=lambda it: -it[1]):
+        twin = twin[: first - start] + new + twin[last - start :]
+    twin = re.sub(rf"\bfn {place.name}\b", f"fn {name}", twin, count=1)
+    files, own = {}, f"proofs.{proof.replace('/', '.')}."
+    for it in os.listdir(f"{folder}/proofs/{proof}") if os.path.isdir(f"{folder}/proofs/{proof}") else []:
+        files[f"proofs/{proof}__{number}/{it}"] = read(f"{folder}/proofs/{proof}/{it}").replace(own, f"{own[:-1]}__{number}.")
+    return Body(body.label, [(path, end, end, f"\n\n{twin}")], {replace(place, name=name)}, files=files)
+
+
+def with_twins(bodies, folder, functions):
+    """Returns, for each body, what is tried of it beside the others: itself, or where an earlier one turns its function, a twin."""
+    tried_as, turned = [], []
+    for body in bodies:
+        number = 1 + sum(place in body.places for place in turned)
+        tried_as.append((number > 1 and twin_of(body, number, folder, functions)) or body)
+        turned += body.places
+    return tried_as
 
 
 def module_of(path):
@@ -243,19 +282,21 @@ def tried(bodies, check):
         yield from tried(bodies[half:], check)
 
 
-def try_all(bodies, check, check_beside_unproved):
+def try_all(bodies, check, check_beside_unproved, twins=list):
     """Tries bodies round by round, and yields each with whether it is refused, and why."""
     yield from ((it, False, it.fault) for it in bodies if it.fault)
     waiting = [it for it in bodies if it.stands_alone() and not it.fault]
-    untried = [it for it in bodies if not it.stands_alone() and not it.fault]
+    named = [it for it in bodies if not it.stands_alone() and not it.fault]
+    of_label = {it.label: it for it in named}
+    untried = twins(named)
     while untried:
         taken = next_round(untried)
         untried = [it for it in untried if it not in taken]
         for body, is_refused, why in tried(taken, check_beside_unproved):
             if is_refused:
-                yield body, is_refused, why
+                yield of_label[body.label], is_refused, why
             else:
-                waiting.append(body)
+                waiting.append(of_label[body.label])
     while waiting:
         # (each round decides a body at least: one whose functions call no other function that it turns)
         for body, is_refused, why in [*tried(next_round(waiting), check)]:
@@ -317,21 +358,25 @@ def try_crate(rt, crate, files, is_proved):
         return 0, len(files)
     proofs, passed = proofs_of(crate), 0
     functions = functions_of(crate.folder, proofs)
-    for it in without_proofs(functions, []):
-        os.makedirs(os.path.dirname(f"{crate.folder}/{it}"), exist_ok=True)
 
-    def check(bodies, others=None):
+    def check(bodies, proofs_beside=None):
         texts, kept, jobs = texts_of(bodies, crate.folder), f"{crate.folder}/out/incremental", ["--jobs", "1"]
         only = [f"--only={it}" for it in paths_of(bodies, proofs)]
-        said = rt.checked(crate, {**texts, **(others or {})}, [*jobs, *only], kept).stdout
+        for it in proofs_beside or {}:
+            os.makedirs(os.path.dirname(f"{crate.folder}/{it}"), exist_ok=True)
+        said = rt.checked(crate, {**texts, **(proofs_beside or {})}, [*jobs, *only], kept).stdout
         # (an impl's name may need arguments that only a whole check tells)
         is_unnamed = re.search(r"has no function|several functions are named", said) and not re.search(r"^only=", said, re.M)
         return rt.checked(crate, texts, jobs, kept).stdout if is_unnamed else said
 
     def check_beside_unproved(bodies):
-        return check(bodies, without_proofs(functions, bodies))
+        of_twins = {path: text for body in bodies for path, text in body.files.items()}
+        return check(bodies, {**without_proofs(functions, bodies), **of_twins})
 
-    for body, is_refused, why in try_all([read_body(it, crate.folder) for it in files], check, check_beside_unproved):
+    def twins(bodies):
+        return with_twins(bodies, crate.folder, functions)
+
+    for body, is_refused, why in try_all([read_body(it, crate.folder) for it in files], check, check_beside_unproved, twins):
         print(f"{crate.name}/{body.label}: {'refused: ' if is_refused else 'FAILED: '}{' '.join(why.split())[:160]}", flush=True)
         passed += is_refused
     shutil.rmtree(f"{crate.folder}/out/incremental", ignore_errors=True)
