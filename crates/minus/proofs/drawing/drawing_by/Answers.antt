@@ -3,3 +3,6 @@ use Rattle.minus.proofs.drawing.drawing_by.Goals as goal
 
 pub returns-in-Appended : goal.returns-in-Appended
 returns-in-Appended c = search rules
+
+pub returns-in-Stays : goal.returns-in-Stays
+returns-in-Stays c = search rules

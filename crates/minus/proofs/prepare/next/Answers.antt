@@ -14,3 +14,6 @@ returns-in_ok-added-in-AppendData-clause-next g c =
 
 pub returns-in-SendMessage-2-clause-next : goal.returns-in-SendMessage-2-clause-next
 returns-in-SendMessage-2-clause-next g c = search rules
+
+pub returns-in-SendMessage-2-clause-possible : goal.returns-in-SendMessage-2-clause-possible
+returns-in-SendMessage-2-clause-possible g c = search rules

@@ -11,3 +11,6 @@ returns-in_err-extend_from_slice-in-Ok-clause-lost g c =
 
 pub returns-then-ne-clause-end : goal.returns-then-ne-clause-end
 returns-then-ne-clause-end g c = search rules
+
+pub returns-then-ne-clause-retried : goal.returns-then-ne-clause-retried
+returns-then-ne-clause-retried g c = search rules

@@ -1,0 +1,5 @@
+use Rattle.std.proofs.Common.{rules}
+use Rattle.minus.proofs.prepare.next_of_io.Goals as goal
+
+pub returns-in-RedrawDisplay-clause-redraw : goal.returns-in-RedrawDisplay-clause-redraw
+returns-in-RedrawDisplay-clause-redraw c = search rules
