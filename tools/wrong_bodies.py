@@ -360,11 +360,12 @@ def try_crate(rt, crate, files, is_proved):
     functions = functions_of(crate.folder, proofs)
 
     def check(bodies, proofs_beside=None):
-        texts, kept, jobs = texts_of(bodies, crate.folder), f"{crate.folder}/out/incremental", ["--jobs", "1"]
+        texts = {**texts_of(bodies, crate.folder), **(proofs_beside or {})}
+        kept, jobs = f"{crate.folder}/out/incremental", ["--jobs", "1"]
         only = [f"--only={it}" for it in paths_of(bodies, proofs)]
         for it in proofs_beside or {}:
             os.makedirs(os.path.dirname(f"{crate.folder}/{it}"), exist_ok=True)
-        said = rt.checked(crate, {**texts, **(proofs_beside or {})}, [*jobs, *only], kept).stdout
+        said = rt.checked(crate, texts, [*jobs, *only], kept).stdout
         # (an impl's name may need arguments that only a whole check tells)
         is_unnamed = re.search(r"has no function|several functions are named", said) and not re.search(r"^only=", said, re.M)
         return rt.checked(crate, texts, jobs, kept).stdout if is_unnamed else said
