@@ -17,3 +17,6 @@ returns-in-SendMessage-2-clause-next g c = search rules
 
 pub returns-in-SendMessage-2-clause-possible : goal.returns-in-SendMessage-2-clause-possible
 returns-in-SendMessage-2-clause-possible g c = search rules
+
+pub returns-in-SetPrompt-2-clause-possible : goal.returns-in-SetPrompt-2-clause-possible
+returns-in-SetPrompt-2-clause-possible g c = search rules
