@@ -1,5 +1,6 @@
 -- What is told is what is kept as found.
 use Rattle.std.proofs.Common.{sym, subst, rules}
+use Rattle.std.proofs.lemmas.Result.{IfOk-weaker}
 use Rattle.minus_text.specs.FoundRows.{pattern_of}
 use Rattle.minus_text.specs.Searched.{SearchedPush, IsFoundInPush}
 use Rattle.minus_text.specs.FormatResults.{TellsPush}
@@ -22,3 +23,12 @@ returns-clause-ok c = search rules
 
 pub returns-clause-kept : goal.returns-clause-kept
 returns-clause-kept c = search rules
+
+pub returns-clause-found : goal.returns-clause-found
+returns-clause-found c = IfOk-weaker c.push_screen_buf.result _ _ (λ _ told h _. told h) c.push_screen_buf.ensures.found
+
+pub returns-clause-told : goal.returns-clause-told
+returns-clause-told c = IfOk-weaker c.push_screen_buf.result _ _
+    (λ r told h _. subst (λ (s : SearchedPush). TellsPush r (pattern_of c.args.term) c.args.self.now.document c.args.text.now s.push.numbers s.push.cols) c.pending.view_is
+    (subst (λ q. TellsPush r (pattern_of c.args.term) c.args.self.now.document c.args.text.now q.numbers q.cols) c.push.view_is (told h)))
+    c.push_screen_buf.ensures.told
