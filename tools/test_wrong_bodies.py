@@ -6,7 +6,7 @@ import tempfile
 import unittest
 
 sys.path.insert(0, os.path.dirname(os.path.abspath(__file__)))
-from wrong_bodies import Body, Place, functions_of, judge, next_round, paths_of, place_of, read_body, texts_of, try_all, verdicts_of, with_twins, without_proofs
+from wrong_bodies import Body, Place, functions_of, judge, next_round, paths_of, place_of, read_body, texts_of, try_all, verdicts_of, with_twins, without_bodies, without_proofs
 
 SOURCE = """const LIMIT: usize = 3;
 
@@ -144,6 +144,20 @@ class Rounds(unittest.TestCase):
         turned = [Body("a", [], {place("else")}), Body("b", [], {place("8")})]
         empty = without_proofs(found, turned)
         self.assertEqual(empty, {"proofs/m/CursorTSink/put/Proof.antt": "", "proofs/m/FaultFromFmtError/from/Proof.antt": ""})
+
+    def test_who_is_not_turned_has_no_body(self):
+        clauses = "pub fn one(n: usize) -> usize\n    ensures { result ≡ record {\n      n = n;\n    } }\n{\n    n\n}\n"
+        law = "pub fn law()\n    ensures { 1 ≡ 1 }\n{}\n"
+        with tempfile.TemporaryDirectory() as folder:
+            os.mkdir(f"{folder}/src")
+            with open(f"{folder}/src/m.rt", "w", encoding="utf-8") as out:
+                out.write(f"{SOURCE}\n{law}\n{clauses}")
+            functions = functions_of(folder, [])
+            turned = Body("a", [], {place("5")})
+            text = texts_of([without_bodies(functions, [turned], folder)], folder)["src/m.rt"]
+        left = SOURCE.replace("    if n == 0 {\n        1\n    } else {\n        2\n    }\n", "    loop {}\n")
+        left = left.replace("        8\n", "        loop {}\n").replace("        Fault::Six(cause)\n", "        loop {}\n")
+        self.assertEqual(text, f"{left}\n{law}\n{clauses.replace(chr(10) + '    n' + chr(10), chr(10) + '    loop {}' + chr(10))}")
 
 
 class Verdicts(unittest.TestCase):

@@ -12,10 +12,10 @@ of the turned functions tries a round; where several bodies turn one function, t
 it under names of their own, with its contract and its proof. A body passes where each function that it turns is refused
 for goals of its own: not only since it calls a function that is refused, and not since a proof file names what the body
 took away. A proof rests on the contracts of what its function calls and not on their bodies, so the functions that a round
-does not turn are left without a proof. A body that is not refused beside those is tried again with all other functions
-proved, where its goals wait for a function that another body turned in a later round, and at last alone. A body outside a
-function with a path of its own (a constant, a trait's default) is tried alone, and something in its module must be refused
-for itself.
+does not turn are left without a body and a proof. A body that is not refused beside those is tried again with all other
+functions as they stand and proved, where its goals wait for a function that another body turned in a later round, and at
+last alone. A body outside a function with a path of its own (a constant, a trait's default) is tried alone, and something in
+its module must be refused for itself.
 
 All this happens on a copy of the repository, over the work that `rt check` kept in out/, where there is some. The crate as
 it stands must be proved there first. With --proved that is taken from the caller, in a repository where nothing is kept: the
@@ -267,6 +267,23 @@ def without_proofs(functions, bodies):
     return {f"proofs/{functions[it].replace('::', '/')}/Proof.antt": "" for it in left}
 
 
+def without_bodies(functions, bodies, folder):
+    """Returns what takes out the body of each function that the bodies do not turn: one that ends nowhere has any type."""
+    left, emptied = functions.keys() - {place for body in bodies for place in body.places}, Body("")
+    for at, _, names in os.walk(f"{folder}/src"):
+        for path in [os.path.relpath(f"{at}/{name}", folder) for name in names]:
+            text = read(f"{folder}/{path}")
+            found = [*FUNCTION.finditer(text)]
+            for it, end in zip(found, [*(it.start() for it in found[1:]), len(text)]):
+                inside = it[1] or ""
+                # (it begins in a line of its own where there are clauses, some of which end in a brace too)
+                begins = [re.compile(rf"{first}\{{\n(.*?\n){inside}\}}\n", re.M | re.S) for first in (f"^{inside}", " ")]
+                body = begins[0].search(text, it.end(), end) or begins[1].search(text, it.end(), end)
+                if body and place_of(text, it.end(), module_of(path)) in left:
+                    emptied.changes.append((path, body.start(1), body.end(1), f"{inside}    loop {{}}\n"))
+    return emptied
+
+
 def tried(bodies, check):
     """Tries bodies by one check, and yields each with whether it is refused (None: it has to be tried again), and why."""
     said = check(bodies)
@@ -359,8 +376,8 @@ def try_crate(rt, crate, files, is_proved):
     proofs, passed = proofs_of(crate), 0
     functions = functions_of(crate.folder, proofs)
 
-    def check(bodies, proofs_beside=None):
-        texts = {**texts_of(bodies, crate.folder), **(proofs_beside or {})}
+    def check(bodies, proofs_beside=None, others=()):
+        texts = {**texts_of([*bodies, *others], crate.folder), **(proofs_beside or {})}
         kept, jobs = f"{crate.folder}/out/incremental", ["--jobs", "1"]
         only = [f"--only={it}" for it in paths_of(bodies, proofs)]
         for it in proofs_beside or {}:
@@ -372,7 +389,8 @@ def try_crate(rt, crate, files, is_proved):
 
     def check_beside_unproved(bodies):
         of_twins = {path: text for body in bodies for path, text in body.files.items()}
-        return check(bodies, {**without_proofs(functions, bodies), **of_twins})
+        others = without_bodies(functions, bodies, crate.folder)
+        return check(bodies, {**without_proofs(functions, bodies), **of_twins}, [others])
 
     def twins(bodies):
         return with_twins(bodies, crate.folder, functions)
