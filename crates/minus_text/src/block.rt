@@ -54,13 +54,25 @@ fn note(found: &mut BTreeSet<usize>, row: usize, matches: bool) -> Result<(), Al
 
 // A text with its rows, formed behind so many lines; how many rows its unfinished line has, and the
 // columns of its longest line.
-#[derive(Drop)]
 pub(crate) struct FormattedBlock {
     formed: FormedPush,
     layout: Layout,
     lines_before: usize,
     unfinished: usize,
     longest: usize,
+}
+
+// By hand: a derived drop would stand anew in the proof of each function that lets one go.
+impl Drop for FormattedBlock {
+    fn drop(self) {
+        let FormattedBlock {
+            formed: _,
+            layout: _,
+            lines_before: _,
+            unfinished: _,
+            longest: _,
+        } = self;
+    }
 }
 
 impl Model for FormattedBlock {

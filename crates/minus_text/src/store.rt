@@ -26,7 +26,7 @@ use std::collections::BTreeSet;
 use std::marker::Model;
 
 // A text that grows, with its rows in a layout.
-#[derive(Debug, Drop)]
+#[derive(Debug)]
 pub(crate) struct Store {
     text: String,
     layout: Layout,
@@ -37,6 +37,21 @@ pub(crate) struct Store {
     finished: Finished,
     longest: usize,
     border: Border,
+}
+
+// By hand: a derived drop would stand anew in the proof of each function that lets one go.
+impl Drop for Store {
+    fn drop(self) {
+        let Store {
+            text: _,
+            layout: _,
+            rows: _,
+            first_rows: _,
+            finished: _,
+            longest: _,
+            border: _,
+        } = self;
+    }
 }
 
 impl Model for Store {

@@ -19,11 +19,17 @@ pub(crate) struct FoundRow {
 }
 
 // What searches rows for a term: made once for all of them.
-#[derive(Drop)]
 pub(crate) struct Finder<'p> {
     pub(crate) escapes: Matcher<'p>,
     pub(crate) term: Matcher<'p>,
     ghost escape_matches: { MatchesAs (matcher_pattern escapes) escape_sequence },
+}
+
+// By hand: a derived drop would stand anew in the proof of each function that lets one go.
+impl Drop for Finder<'_> {
+    fn drop(self) {
+        let Finder { escapes: _, term: _ } = self;
+    }
 }
 
 // Where a matcher's pattern matches in what is outside of these places of a row.
