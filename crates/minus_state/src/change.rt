@@ -234,7 +234,6 @@ impl Setting {
 
 /// What a command leaves: the text, the mark, the size and what is set beside them; whether the typed prefix went before it;
 /// and what of it is asked to be drawn.
-#[derive(Drop)]
 pub struct Change {
     pub text: NextText,
     /// The first row of text on the page, counted from 0.
@@ -248,4 +247,32 @@ pub struct Change {
     pub setting: Setting,
     pub redraw: Redraw,
     pub ghost sized: { IsSize cols rows },
+}
+
+// By hand: a derived drop would stand anew in the proof of each function that lets one go.
+impl Drop for Change {
+    fn drop(self) {
+        let Change { text: _, mark: _, cols: _, rows: _, clears: _, setting: _, redraw: _ } = self;
+    }
+}
+
+impl Change {
+    ghost use Rattle.std.specs.Prelude.{◌≡◌};
+
+    // The text that there will be, and what is set beside it.
+    pub(crate) fn into_parts(self) -> (NextText, Setting)
+        ensures text { result.0 ≡ self.text }
+        ensures setting { result.1 ≡ self.setting }
+    {
+        let Change {
+            text,
+            mark: _,
+            cols: _,
+            rows: _,
+            clears: _,
+            setting,
+            redraw: _,
+        } = self;
+        (text, setting)
+    }
 }

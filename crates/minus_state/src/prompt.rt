@@ -85,8 +85,7 @@ fn push_styled(text: &mut String, style: &'static str, indicator: &str) -> Resul
         return Ok(());
     }
     text.push_str(style)?;
-    text.push_str(indicator)?;
-    Ok(())
+    text.push_str(indicator)
 }
 
 /// The prompt row's text: the message or else the prompt, taken as one piece, cut to its longest front of

@@ -148,10 +148,7 @@ fn push_some(rows: &mut Rows, row: Option<Row>) -> Result<(), AllocError>
     ensures { OnOk result (map string_bytes rows.new.items ≡ map string_bytes rows.old.items ++ before_rows (option_map string_bytes row) []) }
 {
     match row {
-        Some(row) => {
-            rows.push(row)?;
-            Ok(())
-        }
+        Some(row) => Ok(rows.push(row)?),
         None => Ok(()),
     }
 }

@@ -71,10 +71,7 @@ fn place_text(
             replace_aside(saved, text);
             Ok(())
         }
-        NextText::SavedMore(piece) => {
-            add_aside(saved, &piece)?;
-            Ok(())
-        }
+        NextText::SavedMore(piece) => add_aside(saved, &piece),
     }
 }
 
@@ -110,7 +107,7 @@ pub enum ExitStrategy {
 }
 
 /// What is on show: the text, the size of the terminal, the mark, and what is set beside them.
-#[derive(Debug, Drop)]
+#[derive(Debug)]
 pub struct PagerState {
     /// The text with its rows.
     pub screen: Screen,
@@ -136,6 +133,28 @@ pub struct PagerState {
     pub(crate) follow: bool,
     pub(crate) saved: Option<Saved>,
     pub ghost sized: { IsSize cols rows },
+}
+
+// By hand: a derived drop would stand anew in the proof of each function that lets one go.
+impl Drop for PagerState {
+    fn drop(self) {
+        let PagerState {
+            screen: _,
+            line_numbers: _,
+            upper_mark: _,
+            left_mark: _,
+            selection: _,
+            cols: _,
+            rows: _,
+            message: _,
+            prefix_num: _,
+            anchor: _,
+            prompt: _,
+            prompt_shown: _,
+            follow: _,
+            saved: _,
+        } = self;
+    }
 }
 
 impl PagerState {
@@ -321,15 +340,8 @@ impl PagerState {
         ensures kept { OnErr result (self.new.screen ≡ self.old.screen) }
         ensures memory { IfErr result (λ e. e ≡ MinusError.Memory) }
     {
-        let Change {
-            text,
-            mark,
-            cols,
-            rows,
-            clears,
-            setting,
-            redraw: _,
-        } = change;
+        let (mark, cols, rows, clears) = (change.mark, change.cols, change.rows, change.clears);
+        let (text, setting) = change.into_parts();
         place_text(alloc, &mut self.screen, &mut self.saved, text)?;
         self.line_numbers = self.screen.layout().numbers;
         self.upper_mark = mark;

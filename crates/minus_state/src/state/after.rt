@@ -14,10 +14,7 @@ fn push_some<'a>(rows: &mut Vec<ShownRow<'a>>, row: Option<ShownRow<'a>>) -> Res
     ensures { OnOk result (map row_text rows.new.items ≡ map row_text rows.old.items ++ before_rows (option_map row_text row.entry) []) }
 {
     match row {
-        Some(row) => {
-            rows.push(row)?;
-            Ok(())
-        }
+        Some(row) => Ok(rows.push(row)?),
         None => Ok(()),
     }
 }
@@ -64,8 +61,7 @@ impl PagerState {
         ensures { IfOk result (λ row. string_bytes row ≡ prompt_row (control_of self.now)) }
     {
         let stays = self.change_to(NextText::Same, Redraw::Stays, false);
-        let row = self.prompt_row_after(alloc, &stays)?;
-        Ok(row)
+        self.prompt_row_after(alloc, &stays)
     }
 
     // Whether a change leaves the prompt row as it is: the columns, the prefix and all that is set stay.

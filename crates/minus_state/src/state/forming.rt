@@ -156,8 +156,7 @@ impl PagerState {
         ensures redraw { IfOk result (λ c. c.redraw ≡ Redraw.Whole) }
         ensures memory { IfErr result (λ e. e ≡ MinusError.Memory) }
     {
-        let change = self.formed_anew(alloc, text, self.layout(), clears)?;
-        Ok(change)
+        self.formed_anew(alloc, text, self.layout(), clears)
     }
 
     /// The state with numbers before its rows, or none.
@@ -176,8 +175,7 @@ impl PagerState {
             numbers,
             ..self.layout()
         };
-        let change = self.formed_anew(alloc, self.screen.orig_text(), layout, clears)?;
-        Ok(change)
+        self.formed_anew(alloc, self.screen.orig_text(), layout, clears)
     }
 
     /// The state with its lines wrapped, or not.
@@ -196,8 +194,7 @@ impl PagerState {
             wrapping,
             ..self.layout()
         };
-        let change = self.formed_anew(alloc, self.screen.orig_text(), layout, clears)?;
-        Ok(change)
+        self.formed_anew(alloc, self.screen.orig_text(), layout, clears)
     }
 
     /// The state in another size, for which the text is formed anew.

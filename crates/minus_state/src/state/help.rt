@@ -148,8 +148,7 @@ impl PagerState {
             left: 0,
             saved: Some(self.put_aside(alloc)?),
         };
-        let change = self.switched(alloc, text, layout, 0, switch, clears)?;
-        Ok(change)
+        self.switched(alloc, text, layout, 0, switch, clears)
     }
 
     // The state with help left, of what was put aside.
@@ -170,8 +169,7 @@ impl PagerState {
             left: saved.left_mark,
             saved: None,
         };
-        let change = self.switched(alloc, &saved.text, layout, saved.upper_mark, switch, clears)?;
-        Ok(change)
+        self.switched(alloc, &saved.text, layout, saved.upper_mark, switch, clears)
     }
 
     /// The state with help left where it is open.
@@ -182,7 +180,7 @@ impl PagerState {
         ensures memory { IfErr result (λ e. e ≡ MinusError.Memory) }
     {
         match &self.saved {
-            Some(saved) => Ok(self.unhelped(alloc, saved, clears)?),
+            Some(saved) => self.unhelped(alloc, saved, clears),
             None => Ok(self.redrawn(Redraw::Stays, clears)),
         }
     }
@@ -195,7 +193,7 @@ impl PagerState {
         ensures memory { IfErr result (λ e. e ≡ MinusError.Memory) }
     {
         match &self.saved {
-            Some(saved) => Ok(self.unhelped(alloc, saved, clears)?),
+            Some(saved) => self.unhelped(alloc, saved, clears),
             None => Ok(self.set(Setting::Message(None), Redraw::Stays, clears)),
         }
     }
@@ -208,8 +206,8 @@ impl PagerState {
         ensures memory { IfErr result (λ e. e ≡ MinusError.Memory) }
     {
         match &self.saved {
-            Some(saved) => Ok(self.unhelped(alloc, saved, clears)?),
-            None => Ok(self.helped(alloc, text, clears)?),
+            Some(saved) => self.unhelped(alloc, saved, clears),
+            None => self.helped(alloc, text, clears),
         }
     }
 
@@ -223,7 +221,7 @@ impl PagerState {
         if self.help_open() {
             return Ok(self.change_to(NextText::SavedWhole(text), Redraw::Stays, clears));
         }
-        Ok(self.with_text(alloc, &text, clears)?)
+        self.with_text(alloc, &text, clears)
     }
 
     /// The state with a text added to its text; while help is open, to the one put aside.
@@ -236,7 +234,7 @@ impl PagerState {
         if self.help_open() {
             return Ok(self.change_to(NextText::SavedMore(text), Redraw::Stays, clears));
         }
-        Ok(self.appended(alloc, text, clears)?)
+        self.appended(alloc, text, clears)
     }
 
     /// The state with another prompt; while help is open, with that of help.
@@ -269,8 +267,7 @@ impl PagerState {
             return Ok(());
         }
         let change = self.helped(alloc, text, false)?;
-        self.place(alloc, change)?;
-        Ok(())
+        self.place(alloc, change)
     }
 
     /// Leaves help: what was put aside returns, the mark too, and the message goes. Where help is not open, all stays as it
@@ -287,7 +284,6 @@ impl PagerState {
         ensures memory { IfErr result (λ e. e ≡ MinusError.Memory) }
     {
         let change = self.left_help(alloc, false)?;
-        self.place(alloc, change)?;
-        Ok(())
+        self.place(alloc, change)
     }
 }
