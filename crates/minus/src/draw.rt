@@ -42,27 +42,48 @@ pub fn write_prompt<W: OutputSink>(
     Ok(())
 }
 
-// Draws the page that a change leads to over the page of a state, in this way.
-fn draw_change<W: OutputSink>(
+// The bytes that draw the page that a change leads to over the page of a state, in this way.
+fn drawn(
     alloc: Global,
-    out: &mut W,
     state: &PagerState,
     drawing: Drawing,
     change: &Change,
-) -> Result<(), MinusError>
+) -> Result<Vec<u8>, AllocError>
     requires formed { IsFormed state.now }
     requires belongs { IsNext state.now.screen change.now.text }
-    ensures ok { OnOk result ((new : Control) → IsChange (control_of state.now) change.now new →
-        Appends (W.contents out.old) (W.contents out.new) (written_all (ops_between drawing (control_of state.now) new))) }
-    ensures stays { OnOk result (Stays (W.refused out.old) (W.refused out.new)) }
-    ensures err { IfErr result (λ e. (new : Control) → IsChange (control_of state.now) change.now new →
-        WriteRefuses W.contents W.refused e out.old out.new (written_all (ops_between drawing (control_of state.now) new))) }
+    ensures { IfOk result (λ bytes. (new : Control) → IsChange (control_of state.now) change.now new →
+        bytes.items ≡ written_all (ops_between drawing (control_of state.now) new)) }
 {
     let prompt = state.prompt_row_after(alloc, change)?;
     let mut bytes = Vec::new(alloc);
     draw_after(state, alloc, &mut bytes, drawing, change, &prompt)?;
-    draw_bytes(out, &bytes)?;
-    Ok(())
+    Ok(bytes)
+}
+
+// The mark of a state as it is clamped, and the bytes that draw the whole page there.
+fn drawn_whole(alloc: Global, state: &PagerState) -> Result<(usize, Vec<u8>), AllocError>
+    requires { IsFormed state.now }
+    ensures mark { IfOk result (λ d. d.0 ≡ (clamp (control_of state.now)).mark) }
+    ensures bytes { IfOk result (λ d. d.1.items ≡ written_all (whole_page (clamp (control_of state.now)))) }
+{
+    let clamped = state.moved_to(state.upper_mark);
+    let bytes = drawn(alloc, state, Drawing::Full, &clamped)?;
+    Ok((clamped.mark, bytes))
+}
+
+// The mark of a state as it is moved, as far as the text goes, and the bytes that draw the rows that come onto its page.
+fn drawn_scroll(
+    alloc: Global,
+    state: &PagerState,
+    mark: usize,
+) -> Result<(usize, Vec<u8>), AllocError>
+    requires { IsFormed state.now }
+    ensures mark { IfOk result (λ d. d.0 ≡ (moved_to (control_of state.now) mark).mark) }
+    ensures bytes { IfOk result (λ d. d.1.items ≡ written_all (scroll_to (control_of state.now) mark)) }
+{
+    let change = state.moved_to(mark);
+    let bytes = drawn(alloc, state, drawing_by(&change, state.upper_mark), &change)?;
+    Ok((change.mark, bytes))
 }
 
 /// Draws the whole page of a state, whose mark is clamped first: at most the one at which the last page is full.
@@ -84,11 +105,9 @@ pub fn draw_full<W: OutputSink>(
     ensures err { IfErr result (λ e. WriteRefuses W.contents W.refused e out.old out.new (written_all (whole_page (clamp (control_of state.old))))) }
     ensures kept { OnErr result (state.new ≡ state.old) }
 {
-    let change = state.moved_to(state.upper_mark);
-    if let Err(cause) = draw_change(alloc, out, state, Drawing::Full, &change) {
-        return Err(cause);
-    }
-    state.upper_mark = change.mark;
+    let (mark, bytes) = drawn_whole(alloc, state)?;
+    draw_bytes(out, &bytes)?;
+    state.upper_mark = mark;
     Ok(())
 }
 
@@ -115,16 +134,10 @@ pub fn draw_for_change<W: OutputSink>(
     ensures kept { OnErr result (state.new ≡ state.old) }
     ensures mark_kept { OnErr result (new_upper_mark.new ≡ new_upper_mark.old) }
 {
-    let change = state.moved_to(*new_upper_mark);
-    draw_change(
-        alloc,
-        out,
-        state,
-        drawing_by(&change, state.upper_mark),
-        &change,
-    )?;
-    *new_upper_mark = change.mark;
-    state.upper_mark = change.mark;
+    let (mark, bytes) = drawn_scroll(alloc, state, *new_upper_mark)?;
+    draw_bytes(out, &bytes)?;
+    *new_upper_mark = mark;
+    state.upper_mark = mark;
     Ok(())
 }
 
@@ -164,6 +177,17 @@ fn written_page(alloc: Global, state: &PagerState, change: &Change) -> Result<Ve
     Ok(bytes)
 }
 
+// The mark of a state as it is clamped, and the bytes that put the rows of text on the page there.
+fn written_rows(alloc: Global, state: &PagerState) -> Result<(usize, Vec<u8>), AllocError>
+    requires { IsFormed state.now }
+    ensures mark { IfOk result (λ d. d.0 ≡ (clamp (control_of state.now)).mark) }
+    ensures bytes { IfOk result (λ d. d.1.items ≡ written_all (page_rows (clamp (control_of state.now)))) }
+{
+    let change = state.moved_to(state.upper_mark);
+    let bytes = written_page(alloc, state, &change)?;
+    Ok((change.mark, bytes))
+}
+
 /// Writes the rows of text of a state's page, each between a carriage return and a newline. The mark of the state is
 /// clamped first: at most the one at which the last page is full.
 ///
@@ -184,11 +208,8 @@ pub fn write_from_pagerstate<W: OutputSink>(
     ensures err { IfErr result (λ e. WriteRefuses W.contents W.refused e out.old out.new (written_all (page_rows (clamp (control_of state.old))))) }
     ensures kept { OnErr result (state.new ≡ state.old) }
 {
-    let clamped = state.moved_to(state.upper_mark);
-    let bytes = written_page(alloc, state, &clamped)?;
-    if let Err(cause) = draw_bytes(out, &bytes) {
-        return Err(MinusError::Draw(cause));
-    }
-    state.upper_mark = clamped.mark;
+    let (mark, bytes) = written_rows(alloc, state)?;
+    draw_bytes(out, &bytes)?;
+    state.upper_mark = mark;
     Ok(())
 }

@@ -2,7 +2,7 @@
 ghost use Rattle.std.specs.Prelude.{◌≡◌, ℕ, List, string_bytes, OnOk, OnErr, IfOk, IfErr};
 ghost use Rattle.std.specs.Option.{option_map};
 ghost use Rattle.minus_state.specs.Control.{cleared};
-ghost use Rattle.minus.specs.Table.{effect, answered, handed, moved_by, changed_by, IsPossible};
+ghost use Rattle.minus.specs.Table.{resizes, sets_prompt, sends_message, effect, answered, handed, moved_by, changed_by, IsPossible};
 ghost use Rattle.minus_term.specs.Refusals.{refusal_of};
 ghost use Rattle.minus_state.specs.States.{control_of, IsFormed};
 ghost use Rattle.minus.specs.Reads.{event_wanted, io_wanted, wanted_of, wanted_with};
@@ -112,6 +112,27 @@ fn copied_by<P: Parts>(
     }
 }
 
+// What comes of a size of the terminal.
+fn next_of_size<P: Parts>(
+    state: &PagerState,
+    alloc: Global,
+    cols: usize,
+    rows: usize,
+    clears: bool,
+) -> Result<Change, MinusError>
+    requires { IsFormed state.now }
+    ensures next { IfOk result (λ c. IsChange (control_of state.now) c
+        (moved_by (effect {K = P.Classifier} (cleared clears (control_of state.now)) (resizes cols rows)))) }
+    ensures redraw { IfOk result (λ c. c.redraw ≡ (effect {K = P.Classifier} (cleared clears (control_of state.now)) (resizes cols rows)).redraw) }
+    ensures possible { OnOk result (IsPossible {K = P.Classifier} (resizes cols rows)) }
+    ensures unformed { IfErr result (λ e. IsUnformed {K = P.Classifier} (refusal_of e) (resizes cols rows)) }
+{
+    if !is_size(cols, rows) {
+        return Err(MinusError::BadSize(cols, rows));
+    }
+    state.resized(alloc, cols, rows, clears)
+}
+
 // What comes of an event's answer, before the mark is clamped.
 fn next_of_event<P: Parts>(
     state: &PagerState,
@@ -129,26 +150,23 @@ fn next_of_event<P: Parts>(
 {
     match event {
         InputEvent::UpdateUpperMark(mark) => Ok(state.moved(mark, Setting::Same, clears)),
-        InputEvent::UpdateTermArea(cols, rows) if is_size(cols, rows) => {
-            Ok(state.resized(alloc, cols, rows, clears)?)
-        }
-        InputEvent::UpdateTermArea(cols, rows) => Err(MinusError::BadSize(cols, rows)),
+        InputEvent::UpdateTermArea(cols, rows) => next_of_size::<P>(state, alloc, cols, rows, clears),
         InputEvent::UpdateLeftMark(left) => Ok(state.shifted(left, clears)),
-        InputEvent::UpdateLineNumber(numbers) => Ok(state.renumbered(alloc, numbers, clears)?),
-        InputEvent::HorizontalScroll(wrapping) => Ok(state.rewrapped(alloc, wrapping, clears)?),
+        InputEvent::UpdateLineNumber(numbers) => state.renumbered(alloc, numbers, clears),
+        InputEvent::HorizontalScroll(wrapping) => state.rewrapped(alloc, wrapping, clears),
         InputEvent::StartSelection { x, y } => Ok(state.selected(x, y, clears)),
         InputEvent::UpdateSelection { x, y } => Ok(state.led(x, y, clears)),
         InputEvent::ClearSelection | InputEvent::CopySelection => Ok(state.unselected(clears)),
         InputEvent::FollowOutput(follow) => {
             Ok(state.moved(state.top(), Setting::Follow(follow), clears))
         }
-        InputEvent::RestorePrompt => Ok(state.restored(alloc, clears)?),
-        InputEvent::ShowHelp => Ok(state.turned(alloc, help, clears)?),
+        InputEvent::RestorePrompt => state.restored(alloc, clears),
+        InputEvent::ShowHelp => state.turned(alloc, help, clears),
         InputEvent::Number(character) => {
             let prefix = state.typed(alloc, character, clears)?;
             Ok(state.set(Setting::Prefix(prefix), Redraw::Stays, clears))
         }
-        InputEvent::Exit => Ok(state.left_help(alloc, clears)?),
+        InputEvent::Exit => state.left_help(alloc, clears),
         InputEvent::Ignore => Ok(state.redrawn(Redraw::Stays, clears)),
     }
 }
@@ -170,6 +188,44 @@ fn next_of_io<P: Parts>(state: &PagerState, io: IoCommand, clears: bool) -> Chan
     }
 }
 
+// What comes of another prompt.
+fn next_of_prompt<P: Parts>(
+    state: &PagerState,
+    prompt: String,
+    clears: bool,
+) -> Result<Change, MinusError>
+    requires { IsFormed state.now }
+    ensures next { IfOk result (λ c. IsChange (control_of state.now) c
+        (moved_by (effect {K = P.Classifier} (cleared clears (control_of state.now)) (sets_prompt (string_bytes prompt))))) }
+    ensures redraw { IfOk result (λ c. c.redraw ≡ (effect {K = P.Classifier} (cleared clears (control_of state.now)) (sets_prompt (string_bytes prompt))).redraw) }
+    ensures possible { OnOk result (IsPossible {K = P.Classifier} (sets_prompt (string_bytes prompt))) }
+    ensures unformed { IfErr result (λ e. IsUnformed {K = P.Classifier} (refusal_of e) (sets_prompt (string_bytes prompt))) }
+{
+    if has_newline(&prompt) {
+        return Err(MinusError::NewlineInPrompt);
+    }
+    Ok(state.prompted(prompt, clears))
+}
+
+// What comes of a message.
+fn next_of_message<P: Parts>(
+    state: &PagerState,
+    message: String,
+    clears: bool,
+) -> Result<Change, MinusError>
+    requires { IsFormed state.now }
+    ensures next { IfOk result (λ c. IsChange (control_of state.now) c
+        (moved_by (effect {K = P.Classifier} (cleared clears (control_of state.now)) (sends_message (string_bytes message))))) }
+    ensures redraw { IfOk result (λ c. c.redraw ≡ (effect {K = P.Classifier} (cleared clears (control_of state.now)) (sends_message (string_bytes message))).redraw) }
+    ensures possible { OnOk result (IsPossible {K = P.Classifier} (sends_message (string_bytes message))) }
+    ensures unformed { IfErr result (λ e. IsUnformed {K = P.Classifier} (refusal_of e) (sends_message (string_bytes message))) }
+{
+    if has_newline(&message) {
+        return Err(MinusError::NewlineInPrompt);
+    }
+    Ok(state.set(Setting::Message(Some(message)), Redraw::Stays, clears))
+}
+
 // What comes of a command, before the mark is clamped.
 fn next<P: Parts>(
     state: &PagerState,
@@ -189,12 +245,8 @@ fn next<P: Parts>(
     match command {
         CommandOf::SetData(text) => Ok(Prepared::of(state.replaced(alloc, text, clears)?)),
         CommandOf::AppendData(text) => Ok(Prepared::of(state.added(alloc, text, clears)?)),
-        CommandOf::SetPrompt(text) if has_newline(&text) => Err(MinusError::NewlineInPrompt),
-        CommandOf::SetPrompt(text) => Ok(Prepared::of(state.prompted(text, clears))),
-        CommandOf::SendMessage(text) if has_newline(&text) => Err(MinusError::NewlineInPrompt),
-        CommandOf::SendMessage(text) => {
-            Ok(Prepared::of(state.set(Setting::Message(Some(text)), Redraw::Stays, clears)))
-        }
+        CommandOf::SetPrompt(text) => Ok(Prepared::of(next_of_prompt::<P>(state, text, clears)?)),
+        CommandOf::SendMessage(text) => Ok(Prepared::of(next_of_message::<P>(state, text, clears)?)),
         CommandOf::ShowPrompt(is_shown) => {
             Ok(Prepared::of(state.set(Setting::Shown(is_shown), Redraw::Stays, clears)))
         }

@@ -20,7 +20,6 @@ use minus_term::{CleanupError, MinusError, OutputSink, cleanup, draw_bytes};
 use std::alloc::Global;
 
 /// A pager over a sink, generic in what it keeps of its caller's.
-#[derive(Drop)]
 pub struct Core<S, P: Parts> {
     pub(crate) alloc: Global,
     pub(crate) sink: S,
@@ -33,6 +32,22 @@ pub struct Core<S, P: Parts> {
     ghost formed: { IsFormed state },
     ghost clamped: { IsClamped (control_of state) },
     ghost prompted: { status ≡ stands.Running → string_bytes prompt_row ≡ prompt_row_of state.cols (settings_of state) },
+}
+
+// By hand: a derived drop would stand anew in the proof of each function that lets one go.
+impl<S: Drop, P: Parts> Drop for Core<S, P> {
+    fn drop(self) {
+        let Core {
+            alloc: _,
+            sink: _,
+            state: _,
+            classifier: _,
+            prompt_row: _,
+            drawing: _,
+            mode: _,
+            status: _,
+        } = self;
+    }
 }
 
 /// A pager over a sink, to which no classifier was given.
@@ -346,8 +361,7 @@ impl<S: OutputSink + Drop, P: Calls> Core<S, P> {
             IsRefusedStepOf S.contents S.refused (classifies P.Classifier.allows P.Classifier.helps) self.old told self.new e) }
     {
         let help = self.help_for(&command)?;
-        let answer = self.work_off(command, &help, clears)?;
-        Ok(answer)
+        self.work_off(command, &help, clears)
     }
 
     /// Works an input off, and draws what has changed. An event that types nothing lets the typed prefix go first; a
@@ -446,7 +460,16 @@ impl<S: OutputSink + Drop, P: Calls> Core<S, P> {
         ensures rises { OnErr result.1 (Rises (S.refused self.sink) (S.refused result.0)) }
     {
         let ended = self.status == Status::Ended;
-        let Core { mut sink, .. } = self;
+        let Core {
+            alloc: _,
+            mut sink,
+            state: _,
+            classifier: _,
+            prompt_row: _,
+            drawing: _,
+            mode: _,
+            status: _,
+        } = self;
         let cleaned = cleanup(&mut sink, !ended);
         (sink, cleaned)
     }

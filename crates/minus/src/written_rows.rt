@@ -57,12 +57,10 @@ fn push_shown(
         ++ written_all (row_ops (written_row style.wrapping style.cols style.left_mark style.numbers style.line_count row.now))) }
 {
     if style.wrapping {
-        write_row(alloc, bytes, row)?;
-        return Ok(());
+        return write_row(alloc, bytes, row);
     }
     let shown = row_from(alloc, row, style)?;
-    write_row(alloc, bytes, shown.as_str())?;
-    Ok(())
+    write_row(alloc, bytes, shown.as_str())
 }
 
 // Adds what is shown of stored rows.

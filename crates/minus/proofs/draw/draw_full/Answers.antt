@@ -1,8 +1,11 @@
--- The page of the mark that is clamped.
+use Rattle.std.proofs.Common.{rules}
 use Rattle.minus.proofs.draw.draw_full.Goals as goal
 
-pub returns-clause-ok : goal.returns-clause-ok
-returns-clause-ok g c = c.in_default.ensures.ok _ c.moved_to-change.ensures.next
+pub returns-in_err-draw_bytes-clause-err : goal.returns-in_err-draw_bytes-clause-err
+returns-in_err-draw_bytes-clause-err c = search rules
 
-pub returns-in-Err-clause-err : goal.returns-in-Err-clause-err
-returns-in-Err-clause-err g c = c.in-Err.ensures.err _ c.moved_to-change.ensures.next
+pub returns-clause-control : goal.returns-clause-control
+returns-clause-control c = search rules
+
+pub returns-clause-ok : goal.returns-clause-ok
+returns-clause-ok c = search rules

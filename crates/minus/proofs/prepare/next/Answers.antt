@@ -1,5 +1,5 @@
 -- A text is added.
-use Rattle.std.proofs.Common.{string_bytes, subst, rules}
+use Rattle.std.proofs.Common.{string_bytes, subst}
 use Rattle.minus_state.specs.Control.{Control, cleared}
 use Rattle.minus_state.specs.Changes.{IsChange}
 use Rattle.minus_state.specs.States.{control_of}
@@ -11,12 +11,3 @@ returns-in_ok-added-in-AppendData-clause-next g c =
     let state : Control = control_of c.args.state.now in
     rw (c.of-in-AppendData.ensures.change, c.in-AppendData.is)
     (subst (λ (x : Control). IsChange state c.in_ok-added-in-AppendData.field-0 x) (added_is (cleared c.args.clears state) (string_bytes c.in-AppendData.text)) c.in_ok-added-in-AppendData.ensures.next)
-
-pub returns-in-SendMessage-2-clause-next : goal.returns-in-SendMessage-2-clause-next
-returns-in-SendMessage-2-clause-next g c = search rules
-
-pub returns-in-SendMessage-2-clause-possible : goal.returns-in-SendMessage-2-clause-possible
-returns-in-SendMessage-2-clause-possible g c = search rules
-
-pub returns-in-SetPrompt-2-clause-possible : goal.returns-in-SetPrompt-2-clause-possible
-returns-in-SetPrompt-2-clause-possible g c = search rules

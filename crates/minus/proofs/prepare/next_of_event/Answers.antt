@@ -6,9 +6,3 @@ returns-in-ClearSelection-clause-next c = search rules
 
 pub returns-in-ClearSelection-clause-redraw : goal.returns-in-ClearSelection-clause-redraw
 returns-in-ClearSelection-clause-redraw c = search rules
-
-pub resized-requires-clause-size : goal.resized-requires-clause-size
-resized-requires-clause-size g c = search rules
-
-pub returns-in-UpdateTermArea-2-clause-unformed : goal.returns-in-UpdateTermArea-2-clause-unformed
-returns-in-UpdateTermArea-2-clause-unformed g c = search rules
