@@ -10,4 +10,5 @@ pub mod JoinLaws
 pub mod StepLaws
 pub mod StartLaws
 pub mod RunLaws
+pub mod RefusalLaws
 pub mod WrittenRowsLaws

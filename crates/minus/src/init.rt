@@ -246,10 +246,7 @@ pub fn init_core<S: OutputSink + Drop>(
     ensures started { IfOk result (λ s. IsStart S.contents S.refused S.terminal pager mode cols rows (record {}) sink s) }
     ensures refused { IfErr result (λ e. IsRefusedStart S.contents S.refused S.terminal pager mode cols rows sink e) }
 {
-    match init_core_with(pager, mode, sink, cols, rows, StandIn) {
-        Ok(session) => Ok(session),
-        Err(refused) => Err(refused),
-    }
+    init_core_with(pager, mode, sink, cols, rows, StandIn)
 }
 
 /// Starts a pager in the mode for a text that grows: [`init_core`] with `Dynamic`, whose errors it has but for the
@@ -263,10 +260,7 @@ pub fn dynamic_paging<S: OutputSink + Drop>(
     ensures started { IfOk result (λ s. IsStart S.contents S.refused S.terminal pager RunMode.Dynamic cols rows (record {}) sink s) }
     ensures refused { IfErr result (λ e. IsRefusedStart S.contents S.refused S.terminal pager RunMode.Dynamic cols rows sink e) }
 {
-    match init_core(pager, RunMode::Dynamic, sink, cols, rows) {
-        Ok(session) => Ok(session),
-        Err(refused) => Err(refused),
-    }
+    init_core(pager, RunMode::Dynamic, sink, cols, rows)
 }
 
 /// A law: where a sink told its bytes before a start, they end with the drawing of the first page after it.
