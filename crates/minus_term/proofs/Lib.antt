@@ -6,6 +6,7 @@ pub mod ScrollLaws
 pub mod AppendLaws
 pub mod JoinLaws
 pub mod SinkLaws
+pub mod WritesLaws
 pub mod TerminalLaws
 pub mod WrittenLaws
 pub mod NormalFormLaws

@@ -1,5 +1,5 @@
 -- Calls of a sink, one after another.
-use Rattle.std.proofs.Common.{◌≡◌, ℕ, ◌-◌, ◌==◌, true, false, Option, None, Some, List, ◌++◌, sym, ap, ◌∙◌, arith, length, take, drop, append_assoc, take-append-drop, length-append}
+use Rattle.std.proofs.Common.{◌≡◌, ℕ, ◌-◌, ◌==◌, true, false, Option, None, Some, Result, Ok, Err, OnErr, List, ◌++◌, sym, ap, ◌∙◌, arith, length, take, drop, append_assoc, take-append-drop, length-append}
 use Rattle.std.proofs.lemmas.List.{take_rest}
 use Rattle.std.proofs.Math.Seq.{take-append_seam, take-length}
 use Rattle.std.specs.Io.KnownBytes.{Appends, Keeps}
@@ -27,6 +27,15 @@ Rises-call None (Some m) c p q = absurd p
 Rises-call (Some k) b None p q = tt
 Rises-call (Some k) None (Some n) p q = absurd q
 Rises-call (Some k) (Some m) (Some n) p q = omega arith
+
+-- calls of which one was refused after calls that were not
+pub Stays-rises : (a b c : Option ℕ) → Stays a b → Rises b c → Rises a c
+Stays-rises None None None p q = tt
+Stays-rises None None (Some n) p q = absurd q
+Stays-rises None (Some m) c p q = absurd p
+Stays-rises (Some k) b None p q = tt
+Stays-rises (Some k) None (Some n) p q = absurd q
+Stays-rises (Some k) (Some m) (Some n) p q = omega (arith, p, q)
 
 -- calls that were not refused after calls of which one was
 pub Rises-stays : (a b c : Option ℕ) → Rises a b → Stays b c → Rises a c
@@ -57,3 +66,8 @@ AppendsFront-all a b all p = (length all, omega arith, rw take-length p)
 pub moves_front : (all done rest : List ℕ) (n : ℕ) → all ≡ done ++ rest → all ≡ (done ++ take n rest) ++ take (length rest - n) (drop n rest)
 moves_front all done rest n e =
     e ∙ ap (λ l. done ++ l) (sym (take-append-drop n rest)) ∙ sym (append_assoc done (take n rest) (drop n rest)) ∙ ap (λ l. (done ++ take n rest) ++ l) (sym (take_rest rest n))
+
+-- what holds whatever the error is
+pub at_err : {T E P : Type 0} → (r : Result T E) → P → OnErr r P
+at_err (Ok x) p = tt
+at_err (Err e) p = p

@@ -1,11 +1,14 @@
 -- The parts of a setup and of a cleanup, one after another.
-use Rattle.std.proofs.Common.{◌≡◌, ℕ, ◌∷◌, [], Option, List, ◌++◌, codes, take, drop, refl, sym, ap, ◌∙◌, subst, append_assoc, append-nil, take-append-drop}
+use Rattle.std.proofs.Common.{◌≡◌, ◌↔◌, ℕ, ◌∷◌, [], Bool, true, false, Option, Result, Err, IsErrOf, List, ◌++◌, codes, take, drop, refl, sym, ap, ◌∙◌, subst, append_assoc, append-nil, take-append-drop}
 use Rattle.std.proofs.KnownBytes.{Appends-trans}
+use Rattle.std.proofs.lemmas.Bool.{false≢true}
 use Rattle.std.specs.Io.KnownBytes.{Appends}
 use Rattle.minus_term.specs.Counts.{AppendsFront, AppendsPart}
 use Rattle.minus_term.specs.Operations.{ShowCursor, HideCursor}
 use Rattle.minus_term.specs.Written.{written}
 use Rattle.minus_term.specs.Terminal.{alternate_screen, main_screen, mouse_on, mouse_off}
+use Rattle.minus_term.specs.declared.error.SetupError.{SetupError}
+use Rattle.minus_term.specs.declared.error.SetupError.TheVariants.{InvalidTerminal}
 use Rattle.minus_term.proofs.SinkLaws.{AppendsFront-of}
 
 pub alternate_screen_is : 27 ∷ codes "[?1049h" ≡ alternate_screen
@@ -60,3 +63,16 @@ first_is_front a b part next after h = rw (append_assoc part next after) (part_i
 
 pub last_is_front : (a b : Option (List ℕ)) (before part : List ℕ) → AppendsPart a b before part → AppendsFront a b (before ++ part)
 last_is_front a b before part h = subst (λ (x : List ℕ). AppendsFront a b x) (append-nil (before ++ part)) (part_is_front a b before part [] h)
+
+-- an answer of a setup that does not say that the sink is no terminal
+abbrev pub IsOther : Result (Unit {0}) SetupError → Type 0
+IsOther (Err InvalidTerminal) = ⊥
+IsOther r = Unit {0}
+
+pub not_invalid : (r : Result (Unit {0}) SetupError) → IsOther r → IsErrOf r InvalidTerminal → ⊥
+not_invalid r other e = subst IsOther e other
+
+-- the answers of a setup where the sink says that it is a terminal
+pub on_terminal : (r : Result (Unit {0}) SetupError) (told terminal : Bool) → IsOther r → told ≡ terminal → told ≡ true → IsErrOf r InvalidTerminal ↔ (terminal ≡ false)
+on_terminal r told terminal other is on =
+    (λ e. absurd (not_invalid r other e), λ h. absurd (false≢true (sym h ∙ sym is ∙ on)))

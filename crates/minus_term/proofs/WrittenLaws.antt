@@ -1,12 +1,12 @@
 -- The bytes of lists of operations, and clean lists.
-use Rattle.std.proofs.Common.{◌≡◌, ℕ, List, [], ◌∷◌, ◌++◌, refl, inl, inr}
+use Rattle.std.proofs.Common.{◌≡◌, ℕ, ◌+◌, ◌-◌, ◌==◌, Bool, false, if◌then◌else◌, List, [], ◌∷◌, ◌++◌, length, take, drop, decimal, refl, sym, ap, ◌∙◌, subst, append_assoc, inl, inr, arith}
 use Rattle.std.specs.List.{Contains}
 use Rattle.std.proofs.lemmas.Grind.{flat_map-append}
-use Rattle.std.proofs.lemmas.List.{append-nil}
+use Rattle.std.proofs.lemmas.List.{append-nil, take_rest}
 use Rattle.std.proofs.lemmas.List.Elements.{Contains-append_left, Contains-append_right}
 use Rattle.minus_term.specs.Operations.{Op, ClearAll, ClearRow, GoTo, Return, NextRow, Put, ScrollUp, ScrollDown, ShowCursor, HideCursor}
 use Rattle.minus_term.specs.PlayedScreen.{ShownPage}
-use Rattle.minus_term.specs.Written.{written, written_all, IsCleanOp, IsClean}
+use Rattle.minus_term.specs.Written.{escape, scroll_bytes, written, written_all, IsCleanOp, IsClean}
 
 -- no operations have no bytes
 pub written_all-nil : written_all [] ≡ []
@@ -62,3 +62,25 @@ IsClean-pages_behind pages further ops h = IsClean-more pages (pages ++ further)
 
 pub IsClean-pages_before : (further pages : List ShownPage) (ops : List Op) → IsClean pages ops → IsClean (further ++ pages) ops
 IsClean-pages_before further pages ops h = IsClean-more pages (further ++ pages) (λ page k. Contains-append_right further pages page k) ops h
+
+-- three lists after another, as one list
+pub append-three : (xs a b c : List ℕ) → xs ++ a ++ b ++ c ≡ xs ++ (a ++ b ++ c ++ [])
+append-three xs a b c =
+    append_assoc (xs ++ a) b c ∙ append_assoc xs a (b ++ c) ∙ ap (λ (l : List ℕ). xs ++ l) (sym (append-nil (a ++ b ++ c) ∙ append_assoc a b c))
+
+-- the elements from a place on
+pub from_place : (xs : List ℕ) (n start : ℕ) → length xs ≡ n → take (n - start) (drop start xs) ≡ drop start xs
+from_place xs n start long = subst (λ (m : ℕ). take (m - start) (drop start xs) ≡ drop start xs) long (take_rest xs start)
+
+-- the bytes of a move of the cursor, put together from their end
+pub go_to-from_end : (x y column row : ℕ) → column ≡ x → row ≡ y → escape ++ (decimal (row + 1) ++ 59 ∷ (decimal (column + 1) ++ 72 ∷ [])) ≡ written (GoTo x y)
+unfolding written
+go_to-from_end x y column row is_x is_y =
+    let joined = append_assoc (decimal (row + 1) ++ 59 ∷ []) (decimal (column + 1)) (72 ∷ []) ∙ append_assoc (decimal (row + 1)) (59 ∷ []) (decimal (column + 1) ++ 72 ∷ []) in
+    ap (λ (l : List ℕ). escape ++ l) (sym joined) ∙ ap (λ (n : ℕ). escape ++ decimal (n + 1) ++ 59 ∷ [] ++ decimal (column + 1) ++ 72 ∷ []) is_y ∙ ap (λ (n : ℕ). escape ++ decimal (y + 1) ++ 59 ∷ [] ++ decimal (n + 1) ++ 72 ∷ []) is_x
+
+-- the bytes of a scroll by some rows
+pub scroll_bytes-some : (n m : ℕ) (letter : List ℕ) → m ≡ n → (n ≡ 0 → ⊥) → escape ++ (decimal m ++ letter) ≡ scroll_bytes n letter
+scroll_bytes-some n m letter is some =
+    let e : (n == 0) ≡ false = grind arith in
+    ap (λ (k : ℕ). escape ++ (decimal k ++ letter)) is ∙ sym (ap (λ (b : Bool). if b then [] else escape ++ decimal n ++ letter) e)

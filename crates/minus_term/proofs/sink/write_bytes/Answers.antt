@@ -22,3 +22,14 @@ pub returns-in-Err-clause-err : goal.returns-in-Err-clause-err
 returns-in-Err-clause-err g c =
     let (done, split, appended, stays) = c.loop-rest.invariant in
     AppendsFront-of _ _ _ done _ split (Appends-kept _ _ _ _ appended c.in-Err.ensures.bytes)
+
+pub returns-in-Ok-eq0-clause-ok : goal.returns-in-Ok-eq0-clause-ok
+returns-in-Ok-eq0-clause-ok g c = tt
+
+pub returns-in-Ok-eq0-clause-stays : goal.returns-in-Ok-eq0-clause-stays
+returns-in-Ok-eq0-clause-stays g c = tt
+
+pub returns-clause-stays : goal.returns-clause-stays
+returns-clause-stays g c =
+    let (done, split, appended, stays) = c.loop-rest.invariant in
+    stays
