@@ -1,5 +1,6 @@
 use Rattle.std.proofs.Common.{◌≡◌, ◌∷◌, ◌++◌, length, ap, refl, sym, ◌∙◌}
 use Rattle.std.specs.Str.Lines.{lines}
+use Rattle.std.proofs.lemmas.Result.{IfOk-from_err}
 use Rattle.minus_text.specs.declared.formed.Forming.{Forming}
 use Rattle.minus_text.specs.declared.formed.Formed.{Formed}
 use Rattle.minus_text.specs.Forms.{IsFormOfLines}
@@ -39,3 +40,9 @@ returns c =
           form_closed c.args.forming c.loop-first.forming.rows.items c.loop-first.forming.first_rows.items c.loop-first.forming.longest c.loop-first.place c.loop-first.rest.now c.args.text.now c.args.from c.args.wrap c.max.result f h c.requires.longest c.max.ensures (sym c.is_empty.ensures ∙ w.if-not-is_empty.false)
           (ap (λ (x : Forming). x.rows.items) w.forming-is) (c.from_first_rows.ensures ∙ ap (λ (x : Forming). x.first_rows.items) w.forming-is) (ap (λ (x : Forming). x.longest) w.forming-is) refl refl
     ]
+
+pub returns-in_err-add_line : goal.returns-in_err-add_line
+returns-in_err-add_line c = IfOk-from_err _ _ c.from_residual.ensures.0
+
+pub returns-in_err-add_line-2 : goal.returns-in_err-add_line-2
+returns-in_err-add_line-2 c = IfOk-from_err _ _ c.from_residual-in_err-add_line-2.ensures.0

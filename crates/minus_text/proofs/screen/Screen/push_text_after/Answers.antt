@@ -2,12 +2,13 @@
 use Rattle.std.proofs.Common.{◌≡◌, ◌+◌, ◌-◌, ◌<◌, ◌≤◌, Some, None, sym, ap, subst, arith, ◌∙◌}
 use Rattle.std.specs.List.{slice_get}
 use Rattle.std.specs.String.{string_bytes}
+use Rattle.std.proofs.lemmas.Result.{IfOk-from_err}
 use Rattle.minus_text.specs.Document.{rows_of}
 use Rattle.minus_text.specs.Fragments.{rows_in}
 use Rattle.minus_text.specs.FoundBy.{found_rows}
 use Rattle.minus_text.specs.Searched.{Searched, SearchedPush, GrowsByPendingText}
 use Rattle.minus_text.proofs.FoundInLaws.{placed_of, weaker}
-use Rattle.minus_text.proofs.SearchedLaws.{kept_text, formed_text, formed_none}
+use Rattle.minus_text.proofs.SearchedLaws.{kept_text, kept_none, formed_text, formed_none}
 use Rattle.minus_text.proofs.screen.Screen.push_text_after.Goals as goal
 
 pub push_marked-requires-clause-placed : goal.push_marked-requires-clause-placed
@@ -48,3 +49,19 @@ returns c =
     subst (λ (s : Searched). GrowsByPendingText s c.args.pending.now c.args.i (string_bytes c.args.out.now) (string_bytes c.push_marked-2.new.out)) c.self.view_is
     (subst (λ (p : SearchedPush). GrowsByPendingText (record { document = c.self.inside.store; found = found_rows c.self.inside.found }) p c.args.i (string_bytes c.args.out.now) (string_bytes c.push_marked-2.new.out)) c.pending.view_is
     (formed_text (record { document = c.self.inside.store; found = found_rows c.self.inside.found }) (record { push = c.pending.inside.push; found = found_rows c.pending.inside.found }) c.args.i (string_bytes c.args.out.now) (string_bytes c.push_marked-2.new.out) c.in-Some-row_text.text.now le there c.in_ok-push_marked-2.ensures))
+
+pub returns-in_default : goal.returns-in_default
+returns-in_default c =
+    let lt : c.args.i < c.pending.inside.push.kept_rows = omega (arith, c.if-i-kept.true, c.kept_rows-kept.ensures.value) in
+    subst (λ (s : Searched). GrowsByPendingText s c.args.pending.now c.args.i (string_bytes c.args.out.now) (string_bytes c.args.out.now)) c.self.view_is
+    (subst (λ (p : SearchedPush). GrowsByPendingText (record { document = c.self.inside.store; found = found_rows c.self.inside.found }) p c.args.i (string_bytes c.args.out.now) (string_bytes c.args.out.now)) c.pending.view_is
+    (kept_none (record { document = c.self.inside.store; found = found_rows c.self.inside.found }) (record { push = c.pending.inside.push; found = found_rows c.pending.inside.found }) c.args.i (string_bytes c.args.out.now) lt c.in_default.ensures))
+
+pub push_marked-requires-clause-ascend : goal.push_marked-requires-clause-ascend
+push_marked-requires-clause-ascend c = c.self.invariant.ascend
+
+pub returns-in_err-push_marked : goal.returns-in_err-push_marked
+returns-in_err-push_marked c = IfOk-from_err _ _ c.from_residual.ensures.0
+
+pub returns-in_err-push_marked-2 : goal.returns-in_err-push_marked-2
+returns-in_err-push_marked-2 c = IfOk-from_err _ _ c.from_residual-in_err-push_marked-2.ensures.0

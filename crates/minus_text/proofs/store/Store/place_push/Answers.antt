@@ -1,11 +1,17 @@
 -- What was formed beside goes behind what is kept.
-use Rattle.std.proofs.Common.{◌≡◌, ◌+◌, ◌∙◌, ap, sym, subst}
+use Rattle.std.proofs.Common.{None, ◌≡◌, ◌+◌, ◌++◌, length, ◌∙◌, ap, sym, subst}
 use Rattle.std.specs.String.{string_bytes}
 use Rattle.minus_text.specs.declared.formed.Plan.{Plan}
+use Rattle.std.proofs.lemmas.Result.{IfOk-from_err, MatchResult-from_err}
+use Rattle.std.specs.Str.Lines.{lines}
+use Rattle.minus_text.specs.declared.layout.Layout.{Layout}
+use Rattle.minus_text.specs.Layouts.{wrap_of, relaid}
+use Rattle.minus_text.specs.Document.{Document, pushed}
+use Rattle.minus_text.specs.FormatResults.{TellsPlan, TellsPush}
 use Rattle.minus_text.specs.Kept.{IsPrepared, IsRestartOf, line_going_on, piece_behind}
 use Rattle.minus_text.specs.Pending.{Pending, IsPending, IsPreparedFor}
 use Rattle.minus_text.proofs.ScreenLaws.{push_start}
-use Rattle.minus_text.proofs.PendingLaws.{prepared_pending}
+use Rattle.minus_text.proofs.PendingLaws.{plan_keeps, prepared_pending}
 use Rattle.minus_text.proofs.store.Store.place_push.Goals as goal
 
 pub place_formed-requires-clause-start : goal.place_formed-requires-clause-start
@@ -35,3 +41,35 @@ returns-clause-pending c =
     let is = prepared_pending d c.args.text.now (string_bytes c.pending.inside.tail) c.pending.inside.numbers c.pending.inside.cols c.pending.inside.start plan c.plan-plan.ensures start h.0 (ready.follows ∙ h.1) c.pending.inside.formed form in
     let here = subst (λ w. IsPending d c.args.text.now c.pending.inside.numbers c.pending.inside.cols (record { kept_rows = c.pending.inside.start.finished.rows + c.pending.inside.start.rows; kept_lines = c.pending.inside.start.finished.lines; first_rows = c.pending.inside.formed.first_rows; start = c.pending.inside.start; tail = record { text = string_bytes c.pending.inside.tail; wrap = w }; numbers = c.pending.inside.numbers; cols = c.pending.inside.cols })) (sym same) is in
     subst (λ (q : Pending). IsPending d c.args.text.now q.numbers q.cols q) c.pending.view_is here
+
+pub returns-in_err-place_formed-clause-pending : goal.returns-in_err-place_formed-clause-pending
+returns-in_err-place_formed-clause-pending c = IfOk-from_err _ _ c.from_residual.ensures.0
+
+pub returns-in_err-place_formed-clause-ok : goal.returns-in_err-place_formed-clause-ok
+returns-in_err-place_formed-clause-ok c = IfOk-from_err _ _ c.from_residual.ensures.0
+
+pub returns-in_err-place_formed-clause-told : goal.returns-in_err-place_formed-clause-told
+returns-in_err-place_formed-clause-told c = IfOk-from_err _ _ c.from_residual.ensures.0
+
+pub returns-in_err-place_formed-clause-err : goal.returns-in_err-place_formed-clause-err
+returns-in_err-place_formed-clause-err c = MatchResult-from_err _ _ _ c.from_residual.ensures.0 (λ _. c.in_err-place_formed.ensures.err)
+
+pub returns-clause-told : goal.returns-clause-told
+returns-clause-told c =
+    let r = c.in_ok-place_formed.field-0 in
+    subst (λ (q : Pending). TellsPush r None c.args.self.now c.args.text.now q.numbers q.cols) c.pending.view_is
+    (subst (λ (p : Plan). TellsPlan r None c.args.self.now c.args.text.now p) c.plan-plan.ensures c.in_ok-place_formed.ensures.told)
+
+pub place_formed-requires-clause-wrap : goal.place_formed-requires-clause-wrap
+place_formed-requires-clause-wrap c =
+    let laid = c.relaid-layout.ensures ∙ ap (λ (x : Document). relaid x.layout c.pending.inside.numbers c.pending.inside.cols) c.self.view_is in
+    ap (λ (p : Plan). p.wrap) c.plan-plan.ensures ∙ ap (λ (l : Layout). wrap_of l (length (lines (c.args.self.now.text ++ c.args.text.now)))) (sym laid)
+
+pub place_formed-requires-clause-keeps : goal.place_formed-requires-clause-keeps
+place_formed-requires-clause-keeps c = plan_keeps c.args.self.now c.args.text.now c.pending.inside.numbers c.pending.inside.cols c.plan-plan.result c.plan-plan.ensures
+
+pub returns-clause-ok : goal.returns-clause-ok
+returns-clause-ok c =
+    let laid = c.relaid-layout.ensures ∙ ap (λ (x : Document). relaid x.layout c.pending.inside.numbers c.pending.inside.cols) c.self.view_is in
+    c.in_ok-place_formed.ensures.ok ∙ ap (λ (l : Layout). let d : Document = record { text = c.args.self.now.text ++ c.args.text.now; layout = l } in d) laid
+    ∙ ap (λ (q : Pending). pushed c.args.self.now c.args.text.now q.numbers q.cols) c.pending.view_is

@@ -1,17 +1,29 @@
 -- What is formed of the rest and the piece goes behind what is kept.
-use Rattle.std.proofs.Common.{true, cond, eqb, ◌≡◌, ℕ, ◌+◌, ◌++◌, List, length, take, max, refl, sym, subst, ap, arith, ◌∙◌}
+use Rattle.std.proofs.Common.{true, cond, eqb, ◌≡◌, ℕ, ◌+◌, ◌≤◌, ◌++◌, List, length, take, max, refl, sym, subst, ap, arith, ◌∙◌}
 use Rattle.std.specs.Str.{IsCharBoundary}
 use Rattle.std.specs.Str.Lines.{lines}
 use Rattle.std.specs.String.{string_bytes}
-use Rattle.std.proofs.lemmas.List.{length-append}
+use Rattle.std.proofs.lemmas.List.{length-append, take_at}
+use Rattle.std.proofs.lemmas.Result.{IfOk-from_err, MatchResult-from_err}
 use Rattle.std.proofs.lemmas.Str.{IsUtf8-string_bytes, IsCharBoundary-at_seam}
 use Rattle.minus_text.specs.declared.wrap.Span.{Span}
+use Rattle.minus_text.specs.declared.formed.Finished.{Finished}
+use Rattle.minus_text.specs.declared.formed.Border.{Border}
+use Rattle.minus_text.specs.declared.layout.Layout.{Layout}
 use Rattle.minus_text.specs.Layouts.{wrap_of}
 use Rattle.minus_text.specs.Document.{Document, wrap_in}
 use Rattle.minus_text.specs.Kept.{IsFormed, IsFormOf, IsRestartOf, kept_lines, line_going_on, piece_behind}
 use Rattle.minus_text.proofs.ScreenLaws.{front_is, push_start, pushed_tail, push_formed, formed-ascends, form-unfinished}
 use Rattle.minus_text.proofs.FormatResultLaws.{tells_push}
 use Rattle.minus_text.proofs.store.Store.push_by.Goals as goal
+
+-- what is kept stands beside the same text
+still : (text new : List ℕ) (layout : Layout) (rows fresh : List Span) (firsts begun : List ℕ) (f : Finished) (n : ℕ) (b : Border) → new ≡ text → fresh ≡ rows → begun ≡ firsts
+    → IsFormed text (wrap_of layout (length (lines text))) rows firsts f n b → IsFormed new (wrap_of layout (length (lines new))) fresh begun f n b
+still text new layout rows fresh firsts begun f n b e r m h = rw (e, r, m) h
+
+within : (n : ℕ) (text piece all : List ℕ) → n ≤ length text → all ≡ text ++ piece → n ≤ length all
+within n text piece all h e = omega (arith, ap length e, length-append text piece)
 
 pub form_end-requires-clause-place : goal.form_end-requires-clause-place
 form_end-requires-clause-place c =
@@ -102,3 +114,42 @@ returns-clause-told c =
     same c.self.invariant c.requires.keeps r.start (subst (λ x. IsFormOf c.args.plan.wrap (line_going_on x c.args.plan) (piece_behind x c.args.plan c.args.piece.now) c.restart-start.result c.in-Ok.formed) same formed)
     t.lines t.rows t.unfinished t.matches t.map t.longest
     (t.clean ∙ c.attaches_nothing-clean.ensures ∙ ap (λ n. cond c.args.plan.keeps (eqb c.self.inside.finished.bytes n) true) bytes)
+
+-- a push that fails leaves the text as it was
+pub invariant_of-self : goal.invariant_of-self
+invariant_of-self c = still _ _ c.self.inside.layout _ _ _ _ c.self.inside.finished c.self.inside.longest c.self.inside.border c.in_err-push_str.ensures.bytes refl refl c.self.invariant
+
+pub returns-in_err-push_str-clause-ok : goal.returns-in_err-push_str-clause-ok
+returns-in_err-push_str-clause-ok c = IfOk-from_err _ _ c.from_residual.ensures.0
+
+pub returns-in_err-push_str-clause-told : goal.returns-in_err-push_str-clause-told
+returns-in_err-push_str-clause-told c = IfOk-from_err _ _ c.from_residual.ensures.0
+
+pub returns-in_err-push_str-clause-err : goal.returns-in_err-push_str-clause-err
+returns-in_err-push_str-clause-err c =
+    MatchResult-from_err _ _ _ c.from_residual.ensures.0 (λ _. ap (λ t. let d : Document = record { text = t; layout = c.self.inside.layout } in d) c.in_err-push_str.ensures.bytes ∙ c.self.view_is)
+
+pub form_end-requires-clause-lines : goal.form_end-requires-clause-lines
+form_end-requires-clause-lines c =
+    within c.restart-start.result.finished.lines (string_bytes c.self.inside.text) c.args.piece.now c.deref.result.now
+    (subst (λ (x : Document). c.restart-start.result.finished.lines ≤ length x.text) (sym c.self.view_is) c.restart-start.ensures.lines) (c.deref.ensures ∙ c.in_ok-push_str.ensures.bytes)
+
+pub form_end-requires-clause-rows : goal.form_end-requires-clause-rows
+form_end-requires-clause-rows c = c.restart-start.ensures.rows
+
+-- the text without the piece is the one before the call
+pub invariant_of-self-in-Err : goal.invariant_of-self-in-Err
+invariant_of-self-in-Err c =
+    let len : c.len-len.result ≡ length (string_bytes c.self.inside.text) = c.len-len.ensures ∙ c.self.inside.text.bytes.ok.0 in
+    let back = c.truncate.ensures.bytes ∙ ap (take c.len-len.result) c.in_ok-push_str.ensures.bytes ∙ take_at (string_bytes c.self.inside.text) c.args.piece.now c.len-len.result (sym len) in
+    still _ _ c.self.inside.layout _ _ _ _ c.self.inside.finished c.self.inside.longest c.self.inside.border back c.in-Err.ensures.rows_stay c.in-Err.ensures.first_rows_stay c.self.invariant
+
+pub returns-in-Err-clause-err : goal.returns-in-Err-clause-err
+returns-in-Err-clause-err c =
+    let len : c.len-len.result ≡ length (string_bytes c.self.inside.text) = c.len-len.ensures ∙ c.self.inside.text.bytes.ok.0 in
+    let back = c.truncate.ensures.bytes ∙ ap (take c.len-len.result) c.in_ok-push_str.ensures.bytes ∙ take_at (string_bytes c.self.inside.text) c.args.piece.now c.len-len.result (sym len) in
+    ap (λ t. let d : Document = record { text = t; layout = c.self.inside.layout } in d) back ∙ c.self.view_is
+
+pub returns-clause-ok : goal.returns-clause-ok
+returns-clause-ok c =
+    ap (λ t. let d : Document = record { text = t; layout = c.args.layout } in d) (c.in_ok-push_str.ensures.bytes ∙ ap (λ (x : Document). x.text ++ c.args.piece.now) c.self.view_is)
