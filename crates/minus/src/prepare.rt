@@ -150,7 +150,9 @@ fn next_of_event<P: Parts>(
 {
     match event {
         InputEvent::UpdateUpperMark(mark) => Ok(state.moved(mark, Setting::Same, clears)),
-        InputEvent::UpdateTermArea(cols, rows) => next_of_size::<P>(state, alloc, cols, rows, clears),
+        InputEvent::UpdateTermArea(cols, rows) => next_of_size::<P>(
+            state, alloc, cols, rows, clears,
+        ),
         InputEvent::UpdateLeftMark(left) => Ok(state.shifted(left, clears)),
         InputEvent::UpdateLineNumber(numbers) => state.renumbered(alloc, numbers, clears),
         InputEvent::HorizontalScroll(wrapping) => state.rewrapped(alloc, wrapping, clears),
@@ -246,7 +248,9 @@ fn next<P: Parts>(
         CommandOf::SetData(text) => Ok(Prepared::of(state.replaced(alloc, text, clears)?)),
         CommandOf::AppendData(text) => Ok(Prepared::of(state.added(alloc, text, clears)?)),
         CommandOf::SetPrompt(text) => Ok(Prepared::of(next_of_prompt::<P>(state, text, clears)?)),
-        CommandOf::SendMessage(text) => Ok(Prepared::of(next_of_message::<P>(state, text, clears)?)),
+        CommandOf::SendMessage(text) => Ok(Prepared::of(next_of_message::<P>(
+            state, text, clears,
+        )?)),
         CommandOf::ShowPrompt(is_shown) => {
             Ok(Prepared::of(state.set(Setting::Shown(is_shown), Redraw::Stays, clears)))
         }

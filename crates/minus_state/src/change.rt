@@ -252,7 +252,15 @@ pub struct Change {
 // By hand: a derived drop would stand anew in the proof of each function that lets one go.
 impl Drop for Change {
     fn drop(self) {
-        let Change { text: _, mark: _, cols: _, rows: _, clears: _, setting: _, redraw: _ } = self;
+        let Change {
+            text: _,
+            mark: _,
+            cols: _,
+            rows: _,
+            clears: _,
+            setting: _,
+            redraw: _,
+        } = self;
     }
 }
 

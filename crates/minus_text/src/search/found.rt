@@ -28,7 +28,10 @@ pub(crate) struct Finder<'p> {
 // By hand: a derived drop would stand anew in the proof of each function that lets one go.
 impl Drop for Finder<'_> {
     fn drop(self) {
-        let Finder { escapes: _, term: _ } = self;
+        let Finder {
+            escapes: _,
+            term: _,
+        } = self;
     }
 }
 

@@ -116,7 +116,11 @@ pub struct HighlightMatchesArgs<'l> {
 // By hand: a derived drop would stand anew in the proof of each function that lets one go.
 impl Drop for HighlightMatchesArgs<'_> {
     fn drop(self) {
-        let HighlightMatchesArgs { text: _, puts: _, is_match: _ } = self;
+        let HighlightMatchesArgs {
+            text: _,
+            puts: _,
+            is_match: _,
+        } = self;
     }
 }
 
