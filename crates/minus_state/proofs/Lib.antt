@@ -7,3 +7,5 @@ pub mod ShownLaws
 pub mod ShowingLaws
 pub mod SelectingLaws
 pub mod ChangeLaws
+pub mod AppendLaws
+pub mod RefusalLaws

@@ -1,6 +1,41 @@
--- Found by search.
-use Rattle.std.proofs.Common.{rules}
+-- While help is open, what is put aside goes on; else the text on show does.
+use Rattle.std.proofs.Common.{Bool, ℕ, List, string_bytes, if◌then◌else◌, refl, subst, ap, ◌∙◌}
+use Rattle.std.proofs.lemmas.Result.{IfOk-weaker}
+use Rattle.minus_state.specs.declared.change.Redraw.TheVariants.{Stays}
+use Rattle.minus_state.specs.Appending.{appended}
+use Rattle.minus_state.specs.Changes.{IsChange}
+use Rattle.minus_state.specs.Control.{Control, cleared}
+use Rattle.minus_state.specs.Help.{more_aside}
+use Rattle.minus_state.specs.Redraws.{append_redraw}
+use Rattle.minus_state.specs.States.{control_of}
 use Rattle.minus_state.proofs.state.PagerState.added.Goals as goal
 
 pub returns-then-help_open-clause-next : goal.returns-then-help_open-clause-next
-returns-then-help_open-clause-next c = search rules
+returns-then-help_open-clause-next c =
+    let old : Control = control_of c.args.self.now in
+    let bytes : List ℕ = string_bytes c.args.text in
+    let from : Control = cleared c.args.clears old in
+    let is = c.change_to.ensures in
+    subst (λ (b : Bool). IsChange old c.change_to.result (if b then record from { help = more_aside bytes from.help } else appended from bytes)) c.if-help_open.ensures
+    (record {
+      belongs = rw is.text refl;
+      document = rw is.text refl;
+      mark_is = is.mark;
+      cols_are = is.cols;
+      rows_are = is.rows;
+      left_is = rw is.setting refl;
+      ends_are = rw is.setting refl;
+      settings_are = rw (is.clears, is.setting) refl;
+      help_is = rw (is.text, is.setting) refl;
+    })
+
+pub returns-clause-next : goal.returns-clause-next
+returns-clause-next c =
+    let old : Control = control_of c.args.self.now in
+    let bytes : List ℕ = string_bytes c.args.text in
+    let from : Control = cleared c.args.clears old in
+    IfOk-weaker c.appended.result _ _ (λ x h. subst (λ (b : Bool). IsChange old x (if b then record from { help = more_aside bytes from.help } else appended from bytes)) c.if-help_open.ensures h) c.appended.ensures.next
+
+pub returns-clause-redraw : goal.returns-clause-redraw
+returns-clause-redraw c =
+    IfOk-weaker c.appended.result _ _ (λ x h. h ∙ ap (λ (b : Bool). if b then Stays else append_redraw (control_of c.args.self.now) (string_bytes c.args.text)) c.if-help_open.ensures) c.appended.ensures.redraw
