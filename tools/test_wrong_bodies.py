@@ -160,6 +160,18 @@ class Rounds(unittest.TestCase):
         self.assertEqual(text, f"{left}\n{law}\n{clauses.replace(chr(10) + '    n' + chr(10), chr(10) + '    loop {}' + chr(10))}")
 
 
+    def test_a_drop_stays_as_it_is(self):
+        drop = "pub struct One;\n\nimpl Drop for One {\n    fn drop(self) {\n        let One = self;\n    }\n}\n"
+        with tempfile.TemporaryDirectory() as folder:
+            os.mkdir(f"{folder}/src")
+            with open(f"{folder}/src/m.rt", "w", encoding="utf-8") as out:
+                out.write(drop)
+            functions = functions_of(folder, [])
+            self.assertEqual({it.name for it in functions}, {"drop"})
+            self.assertEqual(without_proofs(functions, []), {})
+            self.assertEqual(without_bodies(functions, [], folder).changes, [])
+
+
 class Verdicts(unittest.TestCase):
     def judged(self, said, is_alone=True):
         return judge(body("a", "f"), verdicts_of(said), is_alone)

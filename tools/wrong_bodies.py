@@ -261,15 +261,19 @@ def judge(body, verdicts, is_alone):
     return True, own[0]
 
 
+def left_out(functions, bodies):
+    """Returns the functions that the bodies do not turn. A drop stays: whoever lets a value go needs its proof, and not its contract alone."""
+    return {it for it in functions.keys() - {place for body in bodies for place in body.places} if it.of_trait != "Drop"}
+
+
 def without_proofs(functions, bodies):
-    """Returns an empty file of proof for each function that the bodies do not turn."""
-    left = functions.keys() - {place for body in bodies for place in body.places}
-    return {f"proofs/{functions[it].replace('::', '/')}/Proof.antt": "" for it in left}
+    """Returns an empty file of proof for each function that is left out."""
+    return {f"proofs/{functions[it].replace('::', '/')}/Proof.antt": "" for it in left_out(functions, bodies)}
 
 
 def without_bodies(functions, bodies, folder):
-    """Returns what takes out the body of each function that the bodies do not turn: one that ends nowhere has any type."""
-    left, emptied = functions.keys() - {place for body in bodies for place in body.places}, Body("")
+    """Returns what takes out the body of each function that is left out: one that ends nowhere has any type."""
+    left, emptied = left_out(functions, bodies), Body("")
     for at, _, names in os.walk(f"{folder}/src"):
         for path in [os.path.relpath(f"{at}/{name}", folder) for name in names]:
             text = read(f"{folder}/{path}")
