@@ -6,7 +6,7 @@ use Rattle.minus_state.specs.States.{at_start, control_of}
 use Rattle.minus_term.specs.Refusals.{refusal_of}
 use Rattle.minus.specs.Reads.{wanted_of}
 use Rattle.minus.specs.Starts.{taken_all}
-use Rattle.minus.proofs.RefusalLaws.{passed_on}
+use Rattle.minus_state.proofs.RefusalLaws.{passed_on}
 use Rattle.minus.proofs.TableLaws.{first_is_clamped}
 use Rattle.minus.proofs.init.first_state.Goals as goal
 
