@@ -1,10 +1,10 @@
 -- The row's text with what was found in it.
-use Rattle.std.proofs.Common.{◌≡◌, ◌+◌, ◌++◌, Some, true, false, refl, sym, ap, subst, arith, ◌∙◌, option_map}
+use Rattle.std.proofs.Common.{◌≡◌, ◌+◌, ◌++◌, Some, true, false, refl, sym, ap, subst, arith, ◌∙◌}
 use Rattle.std.specs.List.{slice_get}
 use Rattle.std.specs.String.{string_bytes}
 use Rattle.minus_text.specs.Document.{rows_of}
 use Rattle.minus_text.specs.FoundBy.{found_rows}
-use Rattle.minus_text.specs.Searched.{Searched, shown_for, GrowsBySearchedText}
+use Rattle.minus_text.specs.Searched.{Searched, GrowsBySearchedText}
 use Rattle.minus_text.proofs.FoundInLaws.{placed_of}
 use Rattle.minus_text.proofs.SearchedLaws.{marked_is}
 use Rattle.minus_text.proofs.screen.Screen.push_row_text.Goals as goal

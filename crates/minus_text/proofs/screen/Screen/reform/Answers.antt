@@ -1,8 +1,18 @@
-use Rattle.std.proofs.Common.{rules}
+-- What is formed of its own text stands in the old one's place.
+use Rattle.std.proofs.Common.{◌≡◌, length, true, ap, subst, ◌∙◌}
+use Rattle.std.specs.Str.Lines.{lines}
+use Rattle.minus_text.specs.FormatResults.{Tells}
+use Rattle.minus_text.specs.FoundRows.{pattern_of}
+use Rattle.minus_text.specs.Layouts.{wrap_of}
+use Rattle.minus_text.specs.Searched.{Searched, searched}
 use Rattle.minus_text.proofs.screen.Screen.reform.Goals as goal
 
 pub returns-clause-ok : goal.returns-clause-ok
-returns-clause-ok c = search rules
+returns-clause-ok c =
+    let same : c.orig_text.result.now ≡ c.args.self.now.document.text = c.orig_text.ensures ∙ ap (λ (s : Searched). s.document.text) c.self.view_is in
+    c.drop.view_is ∙ c.in_ok-fresh.ensures.ok ∙ ap (λ t. searched (pattern_of c.args.term) (record { text = t; layout = c.args.layout })) same
 
 pub returns-clause-told : goal.returns-clause-told
-returns-clause-told c = search rules
+returns-clause-told c =
+    let same : c.orig_text.result.now ≡ c.args.self.now.document.text = c.orig_text.ensures ∙ ap (λ (s : Searched). s.document.text) c.self.view_is in
+    subst (λ t. Tells c.in_ok-fresh.told (pattern_of c.args.term) (record { text = t; wrap = wrap_of c.args.layout (length (lines t)) }) 0 true) same c.in_ok-fresh.ensures.told

@@ -1,5 +1,5 @@
-use Rattle.std.proofs.Common.{rules}
+-- The text of the line that is parted.
 use Rattle.minus_text.proofs.search.escapes.strip_escapes.Goals as goal
 
 pub returns : goal.returns
-returns c = search rules
+returns c = c.in_ok-part_line.ensures.text

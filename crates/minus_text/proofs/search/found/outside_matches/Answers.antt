@@ -1,5 +1,5 @@
 -- What is outside of no places is all.
-use Rattle.std.proofs.Common.{◌≡◌, [], length, refl, sym, subst, ◌∙◌, IfOk, rules}
+use Rattle.std.proofs.Common.{◌≡◌, [], refl, sym, subst, ◌∙◌, IfOk, rules}
 use Rattle.std.proofs.lemmas.Bool.{eqb-true}
 use Rattle.std.proofs.lemmas.List.{nil_from_length}
 use Rattle.std.proofs.lemmas.Result.{IfOk-from_err}

@@ -10,3 +10,6 @@ returns-clause-stand c = record {
   placed = c.in_ok-found.ensures.placed;
   ascend = subst (Ascend (c.args.pending.now.kept_rows)) (sym c.in_ok-found.ensures.found) (found_ascend (Some (regex_pattern c.in-Some.term.pattern.now)) (c.args.pending.now.kept_rows) (rows_in c.args.pending.now.tail));
 }
+
+pub returns-clause-found : goal.returns-clause-found
+returns-clause-found c = rw c.in-Some.is c.in_ok-found.ensures.found

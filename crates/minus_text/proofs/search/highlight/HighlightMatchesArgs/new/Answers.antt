@@ -14,3 +14,6 @@ pub returns-clause-matches : goal.returns-clause-matches
 unfolding line_matches
 returns-clause-matches c =
     c.in_ok-highlight.ensures.matches ∙ ap₂ matches_text c.in_ok-matcher.ensures.pattern c.in_ok-parted.ensures.text
+
+pub of_parted-requires : goal.of_parted-requires
+of_parted-requires c = c.in_ok-parted.ensures.stand
