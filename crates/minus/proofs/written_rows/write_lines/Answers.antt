@@ -1,5 +1,5 @@
 -- The bytes of the rows are written, or the sink refuses them.
-use Rattle.std.proofs.Common.{map, ap, subst, ◌∙◌, ◌++◌}
+use Rattle.std.proofs.Common.{map, ap, subst, rules, ◌∙◌, ◌++◌}
 use Rattle.std.specs.Io.KnownBytes.{Appends}
 use Rattle.minus_term.specs.Written.{written_all}
 use Rattle.minus.specs.WrittenRows.{lines_ops}
@@ -14,4 +14,4 @@ pub returns-clause-ok : goal.returns-clause-ok
 returns-clause-ok g c = subst (λ bs. Appends (g.W.Write.contents c.args.out.now) (g.W.Write.contents c.draw_bytes.new.out) bs) (c.deref.ensures.value ∙ c.in_ok-push_lines.ensures ∙ ap (λ bs. bs ++ written_all (lines_ops c.args.wrapping c.args.cols c.args.left_mark c.args.numbers c.args.line_count (map g.L.AsStr.text c.args.lines.now))) c.new-bytes.ensures.items) c.in_ok-draw_bytes.ensures.ok
 
 pub returns-clause-stays : goal.returns-clause-stays
-returns-clause-stays g c = c.in_ok-draw_bytes.ensures.stays
+returns-clause-stays g c = search rules

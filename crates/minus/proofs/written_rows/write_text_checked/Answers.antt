@@ -1,14 +1,5 @@
--- The bytes of the page are written, or the sink refuses them.
-use Rattle.std.proofs.Common.{map, ap, subst, ◌∙◌, ◌++◌}
-use Rattle.std.specs.Io.KnownBytes.{Appends}
-use Rattle.minus_term.specs.Written.{written_all}
-use Rattle.minus.specs.WrittenRows.{text_ops}
-use Rattle.minus.proofs.RefusalLaws.{write_refused}
+use Rattle.std.proofs.Common.{rules}
 use Rattle.minus.proofs.written_rows.write_text_checked.Goals as goal
 
-pub returns-in_err-draw_bytes-clause-err : goal.returns-in_err-draw_bytes-clause-err
-returns-in_err-draw_bytes-clause-err g c =
-    write_refused g.W.Write.contents g.W.OutputSink.refused c.from_residual-in_err-draw_bytes.result c.in_err-draw_bytes.field-0.0 c.args.out.now c.draw_bytes.new.out _ _ c.from_residual-in_err-draw_bytes.ensures c.in_err-draw_bytes.ensures.err c.in_err-draw_bytes.ensures.rises (c.deref.ensures.value ∙ c.in_ok-push_text.ensures ∙ ap (λ bs. bs ++ written_all (text_ops c.args.upper_mark c.args.rows c.args.wrapping c.args.cols c.args.left_mark c.is_on.result c.args.line_count (map g.L.AsStr.text c.args.lines.now))) c.new-page.ensures.items ∙ ap (λ n. written_all (text_ops c.args.upper_mark c.args.rows c.args.wrapping c.args.cols c.args.left_mark n c.args.line_count (map g.L.AsStr.text c.args.lines.now))) c.is_on.ensures)
-
 pub returns-clause-ok : goal.returns-clause-ok
-returns-clause-ok g c = subst (λ bs. Appends (g.W.Write.contents c.args.out.now) (g.W.Write.contents c.draw_bytes.new.out) bs) (c.deref.ensures.value ∙ c.in_ok-push_text.ensures ∙ ap (λ bs. bs ++ written_all (text_ops c.args.upper_mark c.args.rows c.args.wrapping c.args.cols c.args.left_mark c.is_on.result c.args.line_count (map g.L.AsStr.text c.args.lines.now))) c.new-page.ensures.items ∙ ap (λ n. written_all (text_ops c.args.upper_mark c.args.rows c.args.wrapping c.args.cols c.args.left_mark n c.args.line_count (map g.L.AsStr.text c.args.lines.now))) c.is_on.ensures) c.in_ok-draw_bytes.ensures.ok
+returns-clause-ok g c = search rules

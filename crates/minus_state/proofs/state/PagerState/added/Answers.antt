@@ -1,5 +1,5 @@
 -- While help is open, what is put aside goes on; else the text on show does.
-use Rattle.std.proofs.Common.{Bool, ℕ, List, string_bytes, if◌then◌else◌, refl, subst, ap, ◌∙◌}
+use Rattle.std.proofs.Common.{Bool, ℕ, List, string_bytes, if◌then◌else◌, subst, ap, rules, ◌∙◌}
 use Rattle.std.proofs.lemmas.Result.{IfOk-weaker}
 use Rattle.minus_state.specs.declared.change.Redraw.TheVariants.{Stays}
 use Rattle.minus_state.specs.Appending.{appended}
@@ -11,23 +11,7 @@ use Rattle.minus_state.specs.States.{control_of}
 use Rattle.minus_state.proofs.state.PagerState.added.Goals as goal
 
 pub returns-then-help_open-clause-next : goal.returns-then-help_open-clause-next
-returns-then-help_open-clause-next c =
-    let old : Control = control_of c.args.self.now in
-    let bytes : List ℕ = string_bytes c.args.text in
-    let from : Control = cleared c.args.clears old in
-    let is = c.change_to.ensures in
-    subst (λ (b : Bool). IsChange old c.change_to.result (if b then record from { help = more_aside bytes from.help } else appended from bytes)) c.if-help_open.ensures
-    (record {
-      belongs = rw is.text refl;
-      document = rw is.text refl;
-      mark_is = is.mark;
-      cols_are = is.cols;
-      rows_are = is.rows;
-      left_is = rw is.setting refl;
-      ends_are = rw is.setting refl;
-      settings_are = rw (is.clears, is.setting) refl;
-      help_is = rw (is.text, is.setting) refl;
-    })
+returns-then-help_open-clause-next c = search rules
 
 pub returns-clause-next : goal.returns-clause-next
 returns-clause-next c =
