@@ -159,7 +159,6 @@ class Rounds(unittest.TestCase):
         left = left.replace("        8\n", "        loop {}\n").replace("        Fault::Six(cause)\n", "        loop {}\n")
         self.assertEqual(text, f"{left}\n{law}\n{clauses.replace(chr(10) + '    n' + chr(10), chr(10) + '    loop {}' + chr(10))}")
 
-
     def test_a_drop_stays_as_it_is(self):
         drop = "pub struct One;\n\nimpl Drop for One {\n    fn drop(self) {\n        let One = self;\n    }\n}\n"
         with tempfile.TemporaryDirectory() as folder:
