@@ -1,8 +1,7 @@
 -- What was found in the rows that stay, and what was found in those that are formed.
-use Rattle.std.proofs.Common.{◌≡◌, ◌≤◌, ◌++◌, refl, sym, ap, ap₂, subst, ◌∙◌}
-use Rattle.std.proofs.lemmas.Result.{IfOk-from_err, MatchResult-from_err}
+use Rattle.std.proofs.Common.{◌≡◌, ◌++◌, refl, sym, ap, ap₂, subst, ◌∙◌}
 use Rattle.minus_text.specs.Document.{Document, rows_of, pushed, plan_of}
-use Rattle.minus_text.specs.Found.{found_above, found_from, row_numbers, found_by, Ascend, AreFoundIn}
+use Rattle.minus_text.specs.Found.{found_above, found_from, row_numbers, found_by, AreFoundIn}
 use Rattle.minus_text.specs.FoundBy.{found_rows}
 use Rattle.minus_text.specs.Searched.{Searched, IsFoundBy}
 use Rattle.minus_text.proofs.FoundInLaws.{put_stands}
@@ -49,71 +48,3 @@ returns-clause-told c =
     ∙ ap (λ l. row_numbers (found_from p.start.finished.rows l)) (sym found) in
     subst (λ (s : Searched). TellsFound c.with_matches.result (found_rows c.replace_from.new.self) s.document text p.numbers p.cols) c.self.view_is
     (tells_found c.with_matches.result c.in_ok-told.told c.in_ok-matches.matches p.start.finished.rows (found_rows c.replace_from.new.self) d text p.numbers p.cols c.with_matches.ensures keys at c.in_ok-told.ensures.told)
-
-pub returns-in_err-matches-clause-ok : goal.returns-in_err-matches-clause-ok
-returns-in_err-matches-clause-ok c = IfOk-from_err _ _ c.from_residual.ensures.0
-
-pub returns-in_err-matches-clause-found : goal.returns-in_err-matches-clause-found
-returns-in_err-matches-clause-found c = IfOk-from_err _ _ c.from_residual.ensures.0
-
-pub returns-in_err-matches-clause-told : goal.returns-in_err-matches-clause-told
-returns-in_err-matches-clause-told c = IfOk-from_err _ _ c.from_residual.ensures.0
-
-pub returns-in_err-matches-clause-err : goal.returns-in_err-matches-clause-err
-returns-in_err-matches-clause-err c = MatchResult-from_err _ _ _ c.from_residual.ensures.0 (λ _. refl)
-
--- what is kept as found stays where there is no room
-pub invariant_of-self : goal.invariant_of-self
-invariant_of-self c = subst (λ f. AreFoundIn 0 (rows_of c.self.inside.store) f) (sym c.in_err-reserve.ensures.same) c.self.invariant
-
-pub returns-in_err-reserve-clause-ok : goal.returns-in_err-reserve-clause-ok
-returns-in_err-reserve-clause-ok c = IfOk-from_err _ _ c.from_residual-in_err-reserve.ensures.0
-
-pub returns-in_err-reserve-clause-found : goal.returns-in_err-reserve-clause-found
-returns-in_err-reserve-clause-found c = IfOk-from_err _ _ c.from_residual-in_err-reserve.ensures.0
-
-pub returns-in_err-reserve-clause-told : goal.returns-in_err-reserve-clause-told
-returns-in_err-reserve-clause-told c = IfOk-from_err _ _ c.from_residual-in_err-reserve.ensures.0
-
-pub returns-in_err-reserve-clause-err : goal.returns-in_err-reserve-clause-err
-returns-in_err-reserve-clause-err c =
-    MatchResult-from_err _ _ _ c.from_residual-in_err-reserve.ensures.0 (λ _. ap (λ f. let s : Searched = record { document = c.self.inside.store; found = f } in s) c.in_err-reserve.ensures.same ∙ c.self.view_is)
-
-pub invariant_of-self-in_err-told : goal.invariant_of-self-in_err-told
-invariant_of-self-in_err-told c =
-    subst (λ (d : Document). AreFoundIn 0 (rows_of d) (found_rows c.reserve.new.self)) (sym c.in_err-told.ensures.err)
-    (subst (λ f. AreFoundIn 0 (rows_of c.self.inside.store) f) (sym c.in_ok-reserve.ensures.same) c.self.invariant)
-
-pub returns-in_err-told-clause-ok : goal.returns-in_err-told-clause-ok
-returns-in_err-told-clause-ok c = IfOk-from_err _ _ c.from_residual-in_err-told.ensures.0
-
-pub returns-in_err-told-clause-found : goal.returns-in_err-told-clause-found
-returns-in_err-told-clause-found c = IfOk-from_err _ _ c.from_residual-in_err-told.ensures.0
-
-pub returns-in_err-told-clause-told : goal.returns-in_err-told-clause-told
-returns-in_err-told-clause-told c = IfOk-from_err _ _ c.from_residual-in_err-told.ensures.0
-
-pub returns-in_err-told-clause-err : goal.returns-in_err-told-clause-err
-returns-in_err-told-clause-err c =
-    MatchResult-from_err _ _ _ c.from_residual-in_err-told.ensures.0 (λ _. ap₂ (λ d f. let s : Searched = record { document = d; found = f } in s) c.in_err-told.ensures.err c.in_ok-reserve.ensures.same ∙ c.self.view_is)
-
-pub numbers_from-requires-clause-order : goal.numbers_from-requires-clause-order
-numbers_from-requires-clause-order c = subst (λ n. c.first_row.result ≤ n) (sym c.kept_rows-first.ensures.value) c.first_row.ensures.few
-
-pub numbers_from-requires-clause-ascend : goal.numbers_from-requires-clause-ascend
-numbers_from-requires-clause-ascend c = c.self.invariant.ascend
-
-pub numbers_from-requires-clause-behind : goal.numbers_from-requires-clause-behind
-numbers_from-requires-clause-behind c = subst (λ n. Ascend n (found_rows c.args.found)) (sym c.kept_rows-first.ensures.value) c.requires.stand.ascend
-
-pub place_push-requires : goal.place_push-requires
-place_push-requires c = subst (λ (s : Searched). IsPreparedFor s.document c.args.text.now c.args.push) (sym c.self.view_is) c.requires.prepared
-
-pub replace_from-requires-clause-room : goal.replace_from-requires-clause-room
-replace_from-requires-clause-room c = c.in_ok-reserve.ensures.room
-
-pub replace_from-requires-clause-ascend : goal.replace_from-requires-clause-ascend
-replace_from-requires-clause-ascend c = subst (λ f. Ascend 0 f) (sym c.in_ok-reserve.ensures.same) c.self.invariant.ascend
-
-pub returns-clause-ok : goal.returns-clause-ok
-returns-clause-ok c = c.in_ok-told.ensures.ok ∙ ap (λ (s : Searched). pushed s.document c.args.text.now c.args.push.numbers c.args.push.cols) c.self.view_is
