@@ -22,11 +22,21 @@ use std::alloc::{AllocError, Global};
 
 // What comes of a command: a change, a classifier that is to be kept, if it hands one over, and the text that is copied,
 // if one is.
-#[derive(Drop)]
 pub(crate) struct Prepared<P: Parts> {
     pub(crate) change: Change,
     pub(crate) classifier: Option<P::Classifier>,
     pub(crate) copied: Option<String>,
+}
+
+// By hand: a derived drop would stand anew in the proof of each function that lets one go.
+impl<P: Parts> Drop for Prepared<P> {
+    fn drop(self) {
+        let Prepared {
+            change: _,
+            classifier: _,
+            copied: _,
+        } = self;
+    }
 }
 
 impl<P: Parts> Prepared<P> {
@@ -42,6 +52,20 @@ impl<P: Parts> Prepared<P> {
             classifier: None,
             copied: None,
         }
+    }
+
+    // The change, the classifier and the text.
+    pub(crate) fn into_parts(self) -> (Change, Option<P::Classifier>, Option<String>)
+        ensures change { result.0 ≡ self.change }
+        ensures classifier { result.1 ≡ self.classifier }
+        ensures copied { result.2 ≡ self.copied }
+    {
+        let Prepared {
+            change,
+            classifier,
+            copied,
+        } = self;
+        (change, classifier, copied)
     }
 }
 

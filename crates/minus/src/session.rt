@@ -237,10 +237,11 @@ impl<S, P: Parts> Core<S, P> {
         let row = self.state.new_prompt_row(self.alloc, &prepared.change)?;
         let drawing = drawing_by(&prepared.change, self.state.upper_mark);
         self.draw_change(drawing, &prepared.change, &row)?;
-        self.state.place(self.alloc, prepared.change)?;
+        let (change, classifier, copied) = prepared.into_parts();
+        self.state.place(self.alloc, change)?;
         keep(&mut self.prompt_row, row);
-        keep(&mut self.classifier, prepared.classifier);
-        Ok(prepared.copied)
+        keep(&mut self.classifier, classifier);
+        Ok(copied)
     }
 }
 
