@@ -2,94 +2,111 @@
 ghost use Rattle.std.specs.Prelude.{IfSome};
 ghost use Rattle.minus_state.specs.States.{IsFormed};
 
-use crate::sessions::{Asked, CLEANUP, PROMPT_ROW, SETUP, TEN_LINES, are_bytes, draws, writes};
+use crate::sessions::{Asked, PROMPT_ROW, TEN_LINES, Worked, are_bytes, assert_drawn};
 use minus::{Layout, PagerState, draw_append_text, draw_for_change, draw_full, write_prompt};
 use std::alloc::Global;
 
 // What stands before the prompt row of a page of four rows.
 const FIFTH_ROW: &str = "\x1b[5;1H\r\x1b[2K";
 
-// Whether the last of this, on a page of four rows, is drawn as this text and the prompt.
-fn moves(alloc: Global, asked: &[Asked<'_>], text: &str) -> bool {
-    draws(alloc, 20, 4, asked, &[text, FIFTH_ROW, PROMPT_ROW])
-}
+// What the last step of a session draws.
+const DRAWN: [&Worked<'static>; 12] = [
+    &Worked {
+        name: "a scroll down by two rows",
+        cols: 20,
+        rows: 4,
+        asked: &[Asked::Push(TEN_LINES), Asked::Mark(2)],
+        texts: &["\x1b[2S\x1b[2;1H\x1b[2K\rl3\n\rl4\n", FIFTH_ROW, PROMPT_ROW],
+    },
+    &Worked {
+        name: "a scroll up by one row",
+        cols: 20,
+        rows: 4,
+        asked: &[Asked::Push(TEN_LINES), Asked::Mark(2), Asked::Mark(1)],
+        texts: &["\x1b[1T\x1b[1;1H\rl1\n", FIFTH_ROW, PROMPT_ROW],
+    },
+    &Worked {
+        name: "a scroll by more rows than a page has",
+        cols: 20,
+        rows: 4,
+        asked: &[Asked::Push(TEN_LINES), Asked::Mark(7)],
+        texts: &[
+            "\x1b[3S\x1b[1;1H\x1b[2K\rl7\n\rl8\n\rl9\n",
+            FIFTH_ROW,
+            PROMPT_ROW,
+        ],
+    },
+    &Worked {
+        name: "a scroll on a page of the prompt alone",
+        cols: 20,
+        rows: 1,
+        asked: &[Asked::Push(TEN_LINES), Asked::Mark(5)],
+        texts: &["\x1b[1;1H\x1b[2K\x1b[2;1H\r\x1b[2K", PROMPT_ROW],
+    },
+    &Worked {
+        name: "a move by no rows writes nothing",
+        cols: 20,
+        rows: 4,
+        asked: &[Asked::Push(TEN_LINES), Asked::Mark(7), Asked::Mark(8)],
+        texts: &[],
+    },
+    &Worked {
+        name: "the empty text added to nothing writes nothing",
+        cols: 20,
+        rows: 3,
+        asked: &[Asked::Push("")],
+        texts: &[],
+    },
+    &Worked {
+        name: "an append goes on in the unfinished line",
+        cols: 20,
+        rows: 5,
+        asked: &[Asked::Push("one\ntwo"), Asked::Push("x\nthree")],
+        texts: &["\x1b[2;1H\x1b[2Ktwox\x1b[3;1H\x1b[2Kthree"],
+    },
+    &Worked {
+        name: "an append clears a row that went",
+        cols: 4,
+        rows: 4,
+        asked: &[Asked::Push("aaaa    \r"), Asked::Push("\n")],
+        texts: &["\x1b[1;1H\x1b[2Kaaaa\x1b[2;1H\x1b[2K"],
+    },
+    &Worked {
+        name: "an append at the end of a full page",
+        cols: 20,
+        rows: 4,
+        asked: &[Asked::Push(TEN_LINES), Asked::Mark(7), Asked::Push("x")],
+        texts: &["\x1b[3;1H\x1b[2Kl9x"],
+    },
+    &Worked {
+        name: "an append below the page writes nothing",
+        cols: 20,
+        rows: 4,
+        asked: &[Asked::Push(TEN_LINES), Asked::Push("x")],
+        texts: &[],
+    },
+    &Worked {
+        name: "an append of nothing draws the unfinished line",
+        cols: 20,
+        rows: 5,
+        asked: &[Asked::Push("one\ntwo"), Asked::Push("")],
+        texts: &["\x1b[2;1H\x1b[2Ktwo"],
+    },
+    &Worked {
+        name: "a resize draws the whole page",
+        cols: 6,
+        rows: 2,
+        asked: &[Asked::Push("one\ntwo\nthree"), Asked::Size(20, 3)],
+        texts: &[
+            "\x1b[1;1H\x1b[2J\rone\n\rtwo\n\x1b[4;1H\r\x1b[2K",
+            PROMPT_ROW,
+        ],
+    },
+];
 
 #[test]
-fn a_start_draws_the_whole_page(rt: HostRuntime) {
-    let page = "\x1b[1;1H\x1b[2J\x1b[3;1H\r\x1b[2K\x1b[2;40;37mminus \x1b[0m";
-    assert!(rt; writes(rt.alloc(), 6, 2, &[], &[SETUP, page, CLEANUP]));
-}
-
-#[test]
-fn a_scroll_down_by_two_rows(rt: HostRuntime) {
-    let asked = &[Asked::Push(TEN_LINES), Asked::Mark(2)];
-    let rows = "\x1b[2S\x1b[2;1H\x1b[2K\rl3\n\rl4\n";
-    assert!(rt; moves(rt.alloc(), asked, rows));
-}
-
-#[test]
-fn a_scroll_up_by_one_row(rt: HostRuntime) {
-    let asked = &[Asked::Push(TEN_LINES), Asked::Mark(2), Asked::Mark(1)];
-    assert!(rt; moves(rt.alloc(), asked, "\x1b[1T\x1b[1;1H\rl1\n"));
-}
-
-#[test]
-fn a_scroll_by_more_rows_than_a_page_has(rt: HostRuntime) {
-    let asked = &[Asked::Push(TEN_LINES), Asked::Mark(7)];
-    let rows = "\x1b[3S\x1b[1;1H\x1b[2K\rl7\n\rl8\n\rl9\n";
-    assert!(rt; moves(rt.alloc(), asked, rows));
-}
-
-#[test]
-fn a_scroll_on_a_page_of_the_prompt_alone(rt: HostRuntime) {
-    let asked = &[Asked::Push(TEN_LINES), Asked::Mark(5)];
-    let texts = &["\x1b[1;1H\x1b[2K\x1b[2;1H\r\x1b[2K", PROMPT_ROW];
-    assert!(rt; draws(rt.alloc(), 20, 1, asked, texts));
-}
-
-#[test]
-fn a_move_by_no_rows_writes_nothing(rt: HostRuntime) {
-    let asked = &[Asked::Push(TEN_LINES), Asked::Mark(7), Asked::Mark(8)];
-    assert!(rt; draws(rt.alloc(), 20, 4, asked, &[]));
-}
-
-#[test]
-fn an_append_goes_on_in_the_unfinished_line(rt: HostRuntime) {
-    let asked = &[Asked::Push("one\ntwo"), Asked::Push("x\nthree")];
-    let rows = "\x1b[2;1H\x1b[2Ktwox\x1b[3;1H\x1b[2Kthree";
-    assert!(rt; draws(rt.alloc(), 20, 5, asked, &[rows]));
-}
-
-#[test]
-fn an_append_clears_a_row_that_went(rt: HostRuntime) {
-    let asked = &[Asked::Push("aaaa    \r"), Asked::Push("\n")];
-    let rows = "\x1b[1;1H\x1b[2Kaaaa\x1b[2;1H\x1b[2K";
-    assert!(rt; draws(rt.alloc(), 4, 4, asked, &[rows]));
-}
-
-#[test]
-fn an_append_at_the_end_of_a_full_page(rt: HostRuntime) {
-    let asked = &[Asked::Push(TEN_LINES), Asked::Mark(7), Asked::Push("x")];
-    assert!(rt; draws(rt.alloc(), 20, 4, asked, &["\x1b[3;1H\x1b[2Kl9x"]));
-}
-
-#[test]
-fn an_append_below_the_page_writes_nothing(rt: HostRuntime) {
-    let asked = &[Asked::Push(TEN_LINES), Asked::Push("x")];
-    assert!(rt; draws(rt.alloc(), 20, 4, asked, &[]));
-}
-
-#[test]
-fn an_append_of_nothing_draws_the_unfinished_line(rt: HostRuntime) {
-    let asked = &[Asked::Push("one\ntwo"), Asked::Push("")];
-    assert!(rt; draws(rt.alloc(), 20, 5, asked, &["\x1b[2;1H\x1b[2Ktwo"]));
-}
-
-#[test]
-fn a_resize_draws_the_whole_page(rt: HostRuntime) {
-    let asked = &[Asked::Push("one\ntwo\nthree"), Asked::Size(20, 3)];
-    let rows = "\x1b[1;1H\x1b[2J\rone\n\rtwo\n\x1b[4;1H\r\x1b[2K";
-    assert!(rt; draws(rt.alloc(), 6, 2, asked, &[rows, PROMPT_ROW]));
+fn scrolls_and_appends_are_drawn(rt: HostRuntime) {
+    assert_drawn(&rt, rt.alloc(), &DRAWN);
 }
 
 // A state of 20 columns and 4 rows with ten lines.

@@ -1,5 +1,5 @@
 //! Exits and their cleanup.
-use crate::sessions::{Asked, CLEANUP, draws, number_of, run, session_on, terminal};
+use crate::sessions::{Asked, CLEANUP, Worked, assert_drawn, number_of, run, session_on, terminal};
 use crate::stubborn::{Stubborn, write};
 use minus::{
     CleanupError, Command, ExitStrategy, Input, InputEvent, MinusError, OutputSink, Ran, RunMode,
@@ -35,10 +35,18 @@ fn an_exit_ends_the_session(rt: HostRuntime) {
     assert!(rt; is_ended(rt.alloc()));
 }
 
-// The cleanup is that of the exit, and `finish` writes none.
+// What the last step of a session draws.
+const DRAWN: [&Worked<'static>; 1] = [&Worked {
+    name: "the cleanup is that of the exit, and finish writes none",
+    cols: 6,
+    rows: 2,
+    asked: &[Asked::Exit],
+    texts: &[],
+}];
+
 #[test]
 fn an_exit_cleans_up_once(rt: HostRuntime) {
-    assert!(rt; draws(rt.alloc(), 6, 2, &[Asked::Exit], &[]));
+    assert_drawn(&rt, rt.alloc(), &DRAWN);
 }
 
 // Whether a session refuses an exit by the second part of its cleanup.

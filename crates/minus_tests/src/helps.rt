@@ -1,5 +1,5 @@
 //! Help: what is shown while it is open, and what is shown once it is left.
-use crate::sessions::{Asked, PROMPT_ROW, draws, has_page, shows, terminal};
+use crate::sessions::{Asked, PROMPT_ROW, Worked, assert_drawn, assert_shown, has_page, terminal};
 use minus::{
     CommandOf, Core, Event, InputClassifier, InputEvent, InputOf, Kinds, LineNumbers, PagerOf,
     PagerState, RunMode, WithTty, init_core_with,
@@ -11,45 +11,69 @@ const HELP_ROW: &str = "\x1b[2;40;37mHELP -- Press q or S\x1b[0m";
 
 const OPEN: Asked<'static> = Asked::Does(InputEvent::ShowHelp);
 
-#[test]
-fn help_without_a_text_shows_blank_rows(rt: HostRuntime) {
-    let asked = [Asked::Push("a"), OPEN, Asked::Push("b")];
-    assert!(rt; shows(rt.alloc(), 20, 3, &asked, &["", "", HELP_ROW]));
-}
+// The pages that sessions lead to.
+const SHOWN: [&Worked<'static>; 5] = [
+    &Worked {
+        name: "help without a text shows blank rows",
+        cols: 20,
+        rows: 3,
+        asked: &[Asked::Push("a"), OPEN, Asked::Push("b")],
+        texts: &["", "", HELP_ROW],
+    },
+    &Worked {
+        name: "a text appended in help is shown after it",
+        cols: 20,
+        rows: 3,
+        asked: &[Asked::Push("a"), OPEN, Asked::Push("b"), Asked::Restored],
+        texts: &["ab", "", PROMPT_ROW],
+    },
+    &Worked {
+        name: "a prompt set in help is not shown",
+        cols: 20,
+        rows: 3,
+        asked: &[Asked::Push("a"), OPEN, Asked::Prompt("p")],
+        texts: &["", "", HELP_ROW],
+    },
+    &Worked {
+        name: "a prompt set in help is dropped",
+        cols: 20,
+        rows: 3,
+        asked: &[Asked::Push("a"), OPEN, Asked::Prompt("p"), OPEN],
+        texts: &["a", "", PROMPT_ROW],
+    },
+    &Worked {
+        name: "numbers and the left mark return after help",
+        cols: 20,
+        rows: 3,
+        asked: &[
+            Asked::Push("abcdefghijklmnopq"),
+            Asked::Numbers(LineNumbers::Enabled),
+            Asked::Wrapped(false),
+            Asked::Left(2),
+            OPEN,
+            OPEN,
+        ],
+        texts: &["     \x1b[1m1.\x1b[0m cdefghijklmn", "", PROMPT_ROW],
+    },
+];
 
 #[test]
-fn a_text_appended_in_help_is_shown_after_it(rt: HostRuntime) {
-    let asked = [Asked::Push("a"), OPEN, Asked::Push("b"), Asked::Restored];
-    assert!(rt; shows(rt.alloc(), 20, 3, &asked, &["ab", "", PROMPT_ROW]));
+fn help_is_opened_and_left(rt: HostRuntime) {
+    assert_shown(&rt, rt.alloc(), &SHOWN);
 }
 
-#[test]
-fn a_text_appended_in_help_draws_nothing(rt: HostRuntime) {
-    let asked = [Asked::Push("a"), OPEN, Asked::Push("b")];
-    assert!(rt; draws(rt.alloc(), 20, 3, &asked, &[]));
-}
+// What the last step of a session draws.
+const DRAWN: [&Worked<'static>; 1] = [&Worked {
+    name: "a text appended in help draws nothing",
+    cols: 20,
+    rows: 3,
+    asked: &[Asked::Push("a"), OPEN, Asked::Push("b")],
+    texts: &[],
+}];
 
 #[test]
-fn a_prompt_set_in_help_is_dropped(rt: HostRuntime) {
-    let asked = [Asked::Push("a"), OPEN, Asked::Prompt("p")];
-    assert!(rt; shows(rt.alloc(), 20, 3, &asked, &["", "", HELP_ROW]));
-    let [text, open, prompt] = asked;
-    let left = [text, open, prompt, OPEN];
-    assert!(rt; shows(rt.alloc(), 20, 3, &left, &["a", "", PROMPT_ROW]));
-}
-
-#[test]
-fn numbers_and_the_left_mark_return_after_help(rt: HostRuntime) {
-    let asked = [
-        Asked::Push("abcdefghijklmnopq"),
-        Asked::Numbers(LineNumbers::Enabled),
-        Asked::Wrapped(false),
-        Asked::Does(InputEvent::UpdateLeftMark(2)),
-        OPEN,
-        OPEN,
-    ];
-    let row = "     \x1b[1m1.\x1b[0m cdefghijklmn";
-    assert!(rt; shows(rt.alloc(), 20, 3, &asked, &[row, "", PROMPT_ROW]));
+fn nothing_is_drawn_over_help(rt: HostRuntime) {
+    assert_drawn(&rt, rt.alloc(), &DRAWN);
 }
 
 // A classifier that asks at each event for help, which is two lines.

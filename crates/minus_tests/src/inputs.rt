@@ -1,26 +1,53 @@
 //! What events and bad sizes come to.
-use crate::sessions::{Asked, draws, has_len, key, number_of, session_on, shows, terminal};
-use minus::{Event, KeyModifiers, OutputSink, Session};
+use crate::sessions::{Asked, Worked, assert_drawn, has_len, number_of, session_on, terminal};
+use minus::{
+    Event, KeyCode, KeyEvent, KeyEventKind, KeyEventState, KeyModifiers, OutputSink, Session,
+};
 use std::alloc::Global;
 
-#[test]
-fn a_resize_event_shows_the_page_of_the_new_size(rt: HostRuntime) {
-    let asked = &[Asked::Push("one\ntwo"), Asked::Told(Event::Resize(4, 2))];
-    let rows = &["one", "\x1b[2;40;37mminu\x1b[0m"];
-    assert!(rt; shows(rt.alloc(), 20, 5, asked, rows));
-}
+// The press of a digit's key with control.
+const CONTROL_1: Event = Event::Key(KeyEvent {
+    code: KeyCode::Char('1'),
+    modifiers: KeyModifiers::CONTROL,
+    kind: KeyEventKind::Press,
+    state: KeyEventState::NONE,
+});
 
-// Whether an event writes nothing.
-fn is_quiet(alloc: Global, event: Event) -> bool {
-    draws(alloc, 6, 2, &[Asked::Told(event)], &[])
-}
+// What the last step of a session draws.
+const DRAWN: [&Worked<'static>; 4] = [
+    &Worked {
+        name: "a focus that comes writes nothing",
+        cols: 6,
+        rows: 2,
+        asked: &[Asked::Told(Event::FocusGained)],
+        texts: &[],
+    },
+    &Worked {
+        name: "a focus that goes writes nothing",
+        cols: 6,
+        rows: 2,
+        asked: &[Asked::Told(Event::FocusLost)],
+        texts: &[],
+    },
+    &Worked {
+        name: "a key that stands for nothing writes nothing",
+        cols: 6,
+        rows: 2,
+        asked: &[Asked::Key('q')],
+        texts: &[],
+    },
+    &Worked {
+        name: "a digit with control writes nothing",
+        cols: 6,
+        rows: 2,
+        asked: &[Asked::Told(CONTROL_1)],
+        texts: &[],
+    },
+];
 
 #[test]
 fn other_events_write_nothing(rt: HostRuntime) {
-    assert!(rt; is_quiet(rt.alloc(), Event::FocusGained));
-    assert!(rt; is_quiet(rt.alloc(), Event::FocusLost));
-    assert!(rt; is_quiet(rt.alloc(), key('q', KeyModifiers::NONE)));
-    assert!(rt; is_quiet(rt.alloc(), key('1', KeyModifiers::CONTROL)));
+    assert_drawn(&rt, rt.alloc(), &DRAWN);
 }
 
 // Whether a size is answered by this number, the page has so many rows then, and the next step works.
@@ -44,20 +71,23 @@ fn is_answered(alloc: Global, asked: Asked<'_>, number: u8, rows: usize) -> bool
     }
 }
 
-#[test]
-fn a_size_of_no_terminal_changes_nothing(rt: HostRuntime) {
-    assert!(rt; is_answered(rt.alloc(), Asked::Size(0, 10), 5, 5));
-    assert!(rt; is_answered(rt.alloc(), Asked::Size(10, 0), 5, 5));
-    assert!(rt; is_answered(rt.alloc(), Asked::Size(65_536, 1), 5, 5));
-    assert!(rt; is_answered(rt.alloc(), Asked::Size(1, 65_536), 5, 5));
-}
+// A size, the number that answers it, and the rows of the page then: one of no terminal changes nothing, by a command and
+// by an event, and the greatest is taken.
+const SIZES: [(&Asked<'static>, u8, usize); 6] = [
+    (&Asked::Size(0, 10), 5, 5),
+    (&Asked::Size(10, 0), 5, 5),
+    (&Asked::Size(65_536, 1), 5, 5),
+    (&Asked::Size(1, 65_536), 5, 5),
+    (&Asked::Told(Event::Resize(0, 10)), 5, 5),
+    (&Asked::Told(Event::Resize(65_535, 1)), 0, 1),
+];
 
 #[test]
-fn a_resize_event_of_no_terminal_is_refused(rt: HostRuntime) {
-    assert!(rt; is_answered(rt.alloc(), Asked::Told(Event::Resize(0, 10)), 5, 5));
-}
-
-#[test]
-fn the_greatest_size_is_taken(rt: HostRuntime) {
-    assert!(rt; is_answered(rt.alloc(), Asked::Told(Event::Resize(65_535, 1)), 0, 1));
+fn sizes_are_taken_or_change_nothing(rt: HostRuntime) {
+    for (i, (asked, number, rows)) in SIZES.iter().enumerate() {
+        assert!(rt;
+            is_answered(rt.alloc(), **asked, *number, *rows),
+            "at size {i}"
+        );
+    }
 }

@@ -1,7 +1,6 @@
 //! Numbers, lines that are not wrapped, and the left mark.
-use crate::sessions::{Asked, PROMPT_ROW, draws, shows};
+use crate::sessions::{Asked, PROMPT_ROW, Worked, assert_drawn, assert_shown};
 use minus::{AppendStyle, InputEvent, IoCommand, LineNumbers};
-use std::alloc::Global;
 
 // The prompt rows of 3, 4 and 12 columns.
 const THREE: &str = "\x1b[2;40;37mmin\x1b[0m";
@@ -10,200 +9,246 @@ const FOUR: &str = "\x1b[2;40;37mminu\x1b[0m";
 
 const TWELVE: &str = "\x1b[2;40;37mminus       \x1b[0m";
 
-// A line of ten columns, with its number and not wrapped.
+// A line of ten columns, and one of nine.
 const TEXT: Asked<'static> = Asked::Push("abcdefghij");
+
+const WIDE: Asked<'static> = Asked::Push("日本語abc");
 
 const NUMBERS: Asked<'static> = Asked::Numbers(LineNumbers::Enabled);
 
 const UNWRAPPED: Asked<'static> = Asked::Wrapped(false);
 
-fn left(mark: usize) -> Asked<'static> {
-    Asked::Does(InputEvent::UpdateLeftMark(mark))
-}
-
-// Whether that line shows this row on 12 columns after a move of the left mark, and another one.
-fn shows_numbered(alloc: Global, first: usize, second: usize, row: &str) -> bool {
-    let asked = &[TEXT, NUMBERS, UNWRAPPED, left(first), left(second)];
-    shows(alloc, 12, 3, asked, &[row, "", TWELVE])
-}
-
-#[test]
-fn a_left_mark_cuts_the_text_behind_its_number(rt: HostRuntime) {
-    let asked = &[TEXT, NUMBERS, UNWRAPPED, left(2)];
-    let rows = &["     \x1b[1m1.\x1b[0m cdef", "", TWELVE];
-    assert!(rt; shows(rt.alloc(), 12, 3, asked, rows));
-}
-
-#[test]
-fn a_left_mark_stays_where_the_line_ends(rt: HostRuntime) {
-    assert!(rt; shows_numbered(rt.alloc(), 2, 7, "     \x1b[1m1.\x1b[0m cdef"));
-    assert!(rt; shows_numbered(rt.alloc(), 2, 6, "     \x1b[1m1.\x1b[0m ghij"));
-}
-
-#[test]
-fn a_left_mark_goes_back(rt: HostRuntime) {
-    assert!(rt; shows_numbered(rt.alloc(), 6, 1, "     \x1b[1m1.\x1b[0m bcde"));
-}
-
-#[test]
-fn a_left_mark_is_drawn_in_full(rt: HostRuntime) {
-    let asked = &[TEXT, NUMBERS, UNWRAPPED, left(2)];
-    let row = "\x1b[1;1H\x1b[2J\r     \x1b[1m1.\x1b[0m cdef\n";
-    let texts = &[row, "\x1b[4;1H\r\x1b[2K", TWELVE];
-    assert!(rt; draws(rt.alloc(), 12, 3, asked, texts));
-}
-
-#[test]
-fn a_left_mark_that_stays_writes_nothing(rt: HostRuntime) {
-    let asked = &[TEXT, NUMBERS, UNWRAPPED, left(2), left(7)];
-    assert!(rt; draws(rt.alloc(), 12, 3, asked, &[]));
-    // where lines are wrapped
-    assert!(rt; draws(rt.alloc(), 4, 3, &[TEXT, left(2)], &[]));
-}
-
-#[test]
-fn a_left_mark_stays_with_another_size_and_text(rt: HostRuntime) {
-    let asked = &[
-        UNWRAPPED,
-        TEXT,
-        left(3),
-        Asked::Size(5, 3),
-        Asked::Push("\nklmnopqrst"),
-    ];
-    let rows = &["defgh", "nopqr", "\x1b[2;40;37mminus\x1b[0m"];
-    assert!(rt; shows(rt.alloc(), 4, 3, asked, rows));
-}
-
-// Whether a line that is not wrapped shows this row in so many columns after a move of the left mark.
-fn shows_scrolled(alloc: Global, cols: usize, text: &str, mark: usize, page: &[&str]) -> bool {
-    shows(
-        alloc,
-        cols,
-        2,
-        &[UNWRAPPED, Asked::Push(text), left(mark)],
-        page,
-    )
-}
-
-#[test]
-fn wide_characters_are_scrolled_by_columns(rt: HostRuntime) {
-    let text = "日本語abc";
-    assert!(rt; shows_scrolled(rt.alloc(), 4, text, 0, &["日本", FOUR]));
-    assert!(rt; shows_scrolled(rt.alloc(), 4, text, 1, &[" 本 ", FOUR]));
-    assert!(rt; shows_scrolled(rt.alloc(), 4, text, 2, &["本語", FOUR]));
-    assert!(rt; shows_scrolled(rt.alloc(), 4, text, 5, &[" abc", FOUR]));
-}
-
-#[test]
-fn a_left_mark_stays_where_the_columns_of_wide_characters_end(rt: HostRuntime) {
-    let asked = &[UNWRAPPED, Asked::Push("日本語abc"), left(5), left(6)];
-    assert!(rt; shows(rt.alloc(), 4, 2, asked, &[" abc", FOUR]));
-}
-
-#[test]
-fn escape_sequences_stay_in_a_scrolled_row(rt: HostRuntime) {
-    let rows = &["\x1b[31med\x1b[0m", "\x1b[2;40;37mmi\x1b[0m"];
-    assert!(rt; shows_scrolled(rt.alloc(), 2, "\x1b[31mred\x1b[0m", 1, rows));
-}
-
-#[test]
-fn a_line_that_fits_its_columns_is_not_scrolled(rt: HostRuntime) {
-    // the triangle takes three bytes and one column
-    assert!(rt; shows_scrolled(rt.alloc(), 3, "a▲b", 0, &["a▲b", THREE]));
-    assert!(rt; shows_scrolled(rt.alloc(), 3, "a▲b", 1, &["a▲b", THREE]));
-}
-
-#[test]
-fn rows_of_a_line_begin_with_one_number(rt: HostRuntime) {
-    let asked = &[Asked::Push("ab"), Asked::Numbers(LineNumbers::AlwaysOn)];
-    let rows = &[
-        "     \x1b[1m1.\x1b[0m a",
-        "        b",
-        "",
-        "\x1b[2;40;37mm\x1b[0m",
-    ];
-    assert!(rt; shows(rt.alloc(), 1, 4, asked, rows));
-}
-
-#[test]
-fn numbers_go_again(rt: HostRuntime) {
-    let asked = &[
-        Asked::Push("one\ntwo"),
-        NUMBERS,
-        Asked::Does(InputEvent::UpdateLineNumber(LineNumbers::Disabled)),
-    ];
-    assert!(rt; shows(rt.alloc(), 20, 3, asked, &["one", "two", PROMPT_ROW]));
-}
-
-#[test]
-fn an_append_with_numbers_draws_its_rows(rt: HostRuntime) {
-    let asked = &[Asked::Push("one\ntwo"), NUMBERS, Asked::Push("x\nthree")];
-    let texts = &[
-        "\x1b[2;1H\x1b[2K     \x1b[1m2.\x1b[0m twox",
-        "\x1b[3;1H\x1b[2K     \x1b[1m3.\x1b[0m three",
-    ];
-    assert!(rt; draws(rt.alloc(), 20, 5, asked, texts));
-}
-
-#[test]
-fn a_tenth_line_with_numbers_is_drawn_in_full(rt: HostRuntime) {
-    let asked = &[
-        NUMBERS,
-        Asked::Push("a\na\na\na\na\na\na\na\na\n"),
-        Asked::Push("a\n"),
-    ];
-    let texts = &[
-        "\x1b[1;1H\x1b[2J",
-        "\r      \x1b[1m1.\x1b[0m a\n\r      \x1b[1m2.\x1b[0m a\n\r      \x1b[1m3.\x1b[0m a\n",
-        "\r      \x1b[1m4.\x1b[0m a\n\r      \x1b[1m5.\x1b[0m a\n\r      \x1b[1m6.\x1b[0m a\n",
-        "\r      \x1b[1m7.\x1b[0m a\n\r      \x1b[1m8.\x1b[0m a\n\r      \x1b[1m9.\x1b[0m a\n",
-        "\r     \x1b[1m10.\x1b[0m a\n\x1b[14;1H\r\x1b[2K",
-        "\x1b[2;40;37mminus                         \x1b[0m",
-    ];
-    assert!(rt; draws(rt.alloc(), 30, 13, asked, texts));
-}
+// The pages that sessions lead to.
+const SHOWN: [&Worked<'static>; 17] = [
+    &Worked {
+        name: "a left mark cuts the text behind its number",
+        cols: 12,
+        rows: 3,
+        asked: &[TEXT, NUMBERS, UNWRAPPED, Asked::Left(2)],
+        texts: &["     \x1b[1m1.\x1b[0m cdef", "", TWELVE],
+    },
+    &Worked {
+        name: "a left mark stays where the line ends",
+        cols: 12,
+        rows: 3,
+        asked: &[TEXT, NUMBERS, UNWRAPPED, Asked::Left(2), Asked::Left(7)],
+        texts: &["     \x1b[1m1.\x1b[0m cdef", "", TWELVE],
+    },
+    &Worked {
+        name: "a left mark goes as far as the line",
+        cols: 12,
+        rows: 3,
+        asked: &[TEXT, NUMBERS, UNWRAPPED, Asked::Left(2), Asked::Left(6)],
+        texts: &["     \x1b[1m1.\x1b[0m ghij", "", TWELVE],
+    },
+    &Worked {
+        name: "a left mark goes back",
+        cols: 12,
+        rows: 3,
+        asked: &[TEXT, NUMBERS, UNWRAPPED, Asked::Left(6), Asked::Left(1)],
+        texts: &["     \x1b[1m1.\x1b[0m bcde", "", TWELVE],
+    },
+    &Worked {
+        name: "a left mark stays with another size and text",
+        cols: 4,
+        rows: 3,
+        asked: &[
+            UNWRAPPED,
+            TEXT,
+            Asked::Left(3),
+            Asked::Size(5, 3),
+            Asked::Push("\nklmnopqrst"),
+        ],
+        texts: &["defgh", "nopqr", "\x1b[2;40;37mminus\x1b[0m"],
+    },
+    &Worked {
+        name: "wide characters are shown from the first column on",
+        cols: 4,
+        rows: 2,
+        asked: &[UNWRAPPED, WIDE, Asked::Left(0)],
+        texts: &["日本", FOUR],
+    },
+    &Worked {
+        name: "wide characters are cut at both ends",
+        cols: 4,
+        rows: 2,
+        asked: &[UNWRAPPED, WIDE, Asked::Left(1)],
+        texts: &[" 本 ", FOUR],
+    },
+    &Worked {
+        name: "wide characters are scrolled by columns",
+        cols: 4,
+        rows: 2,
+        asked: &[UNWRAPPED, WIDE, Asked::Left(2)],
+        texts: &["本語", FOUR],
+    },
+    &Worked {
+        name: "a wide character is cut at the left mark",
+        cols: 4,
+        rows: 2,
+        asked: &[UNWRAPPED, WIDE, Asked::Left(5)],
+        texts: &[" abc", FOUR],
+    },
+    &Worked {
+        name: "a left mark stays where the columns of wide characters end",
+        cols: 4,
+        rows: 2,
+        asked: &[UNWRAPPED, WIDE, Asked::Left(5), Asked::Left(6)],
+        texts: &[" abc", FOUR],
+    },
+    &Worked {
+        name: "escape sequences stay in a scrolled row",
+        cols: 2,
+        rows: 2,
+        asked: &[UNWRAPPED, Asked::Push("\x1b[31mred\x1b[0m"), Asked::Left(1)],
+        texts: &["\x1b[31med\x1b[0m", "\x1b[2;40;37mmi\x1b[0m"],
+    },
+    &Worked {
+        name: "a character of three bytes takes one column",
+        cols: 3,
+        rows: 2,
+        asked: &[UNWRAPPED, Asked::Push("a▲b"), Asked::Left(0)],
+        texts: &["a▲b", THREE],
+    },
+    &Worked {
+        name: "a line that fits its columns is not scrolled",
+        cols: 3,
+        rows: 2,
+        asked: &[UNWRAPPED, Asked::Push("a▲b"), Asked::Left(1)],
+        texts: &["a▲b", THREE],
+    },
+    &Worked {
+        name: "rows of a line begin with one number",
+        cols: 1,
+        rows: 4,
+        asked: &[Asked::Push("ab"), Asked::Numbers(LineNumbers::AlwaysOn)],
+        texts: &[
+            "     \x1b[1m1.\x1b[0m a",
+            "        b",
+            "",
+            "\x1b[2;40;37mm\x1b[0m",
+        ],
+    },
+    &Worked {
+        name: "numbers go again",
+        cols: 20,
+        rows: 3,
+        asked: &[
+            Asked::Push("one\ntwo"),
+            NUMBERS,
+            Asked::Does(InputEvent::UpdateLineNumber(LineNumbers::Disabled)),
+        ],
+        texts: &["one", "two", PROMPT_ROW],
+    },
+    &Worked {
+        name: "lines are one row each where they are not wrapped",
+        cols: 4,
+        rows: 4,
+        asked: &[Asked::Push("aaaa bbbb\ncccc"), UNWRAPPED],
+        texts: &["aaaa", "cccc", "", FOUR],
+    },
+    &Worked {
+        name: "lines are wrapped again",
+        cols: 4,
+        rows: 4,
+        asked: &[
+            Asked::Push("aaaa bbbb\ncccc"),
+            UNWRAPPED,
+            Asked::Does(InputEvent::HorizontalScroll(true)),
+        ],
+        texts: &["aaaa", "bbbb", "cccc", FOUR],
+    },
+];
 
 #[test]
-fn lines_are_one_row_each_where_they_are_not_wrapped(rt: HostRuntime) {
-    let asked = &[Asked::Push("aaaa bbbb\ncccc"), UNWRAPPED];
-    let rows = &["aaaa", "cccc", "", FOUR];
-    assert!(rt; shows(rt.alloc(), 4, 4, asked, rows));
+fn lines_are_shown_from_the_left_mark_on_and_behind_numbers(rt: HostRuntime) {
+    assert_shown(&rt, rt.alloc(), &SHOWN);
 }
 
-#[test]
-fn lines_are_wrapped_again(rt: HostRuntime) {
-    let asked = &[
-        Asked::Push("aaaa bbbb\ncccc"),
-        UNWRAPPED,
-        Asked::Does(InputEvent::HorizontalScroll(true)),
-    ];
-    let rows = &["aaaa", "bbbb", "cccc", FOUR];
-    assert!(rt; shows(rt.alloc(), 4, 4, asked, rows));
-}
+// What the last step of a session draws.
+const DRAWN: [&Worked<'static>; 7] = [
+    &Worked {
+        name: "a left mark is drawn in full",
+        cols: 12,
+        rows: 3,
+        asked: &[TEXT, NUMBERS, UNWRAPPED, Asked::Left(2)],
+        texts: &[
+            "\x1b[1;1H\x1b[2J\r     \x1b[1m1.\x1b[0m cdef\n",
+            "\x1b[4;1H\r\x1b[2K",
+            TWELVE,
+        ],
+    },
+    &Worked {
+        name: "a left mark that stays writes nothing",
+        cols: 12,
+        rows: 3,
+        asked: &[TEXT, NUMBERS, UNWRAPPED, Asked::Left(2), Asked::Left(7)],
+        texts: &[],
+    },
+    &Worked {
+        name: "a left mark where lines are wrapped writes nothing",
+        cols: 4,
+        rows: 3,
+        asked: &[TEXT, Asked::Left(2)],
+        texts: &[],
+    },
+    &Worked {
+        name: "an append with numbers draws its rows",
+        cols: 20,
+        rows: 5,
+        asked: &[Asked::Push("one\ntwo"), NUMBERS, Asked::Push("x\nthree")],
+        texts: &[
+            "\x1b[2;1H\x1b[2K     \x1b[1m2.\x1b[0m twox",
+            "\x1b[3;1H\x1b[2K     \x1b[1m3.\x1b[0m three",
+        ],
+    },
+    &Worked {
+        name: "a tenth line with numbers is drawn in full",
+        cols: 30,
+        rows: 13,
+        asked: &[
+            NUMBERS,
+            Asked::Push("a\na\na\na\na\na\na\na\na\n"),
+            Asked::Push("a\n"),
+        ],
+        texts: &[
+            "\x1b[1;1H\x1b[2J",
+            "\r      \x1b[1m1.\x1b[0m a\n\r      \x1b[1m2.\x1b[0m a\n\r      \x1b[1m3.\x1b[0m a\n",
+            "\r      \x1b[1m4.\x1b[0m a\n\r      \x1b[1m5.\x1b[0m a\n\r      \x1b[1m6.\x1b[0m a\n",
+            "\r      \x1b[1m7.\x1b[0m a\n\r      \x1b[1m8.\x1b[0m a\n\r      \x1b[1m9.\x1b[0m a\n",
+            "\r     \x1b[1m10.\x1b[0m a\n\x1b[14;1H\r\x1b[2K",
+            "\x1b[2;40;37mminus                         \x1b[0m",
+        ],
+    },
+    &Worked {
+        name: "a scroll of cropped lines draws the rows that come",
+        cols: 4,
+        rows: 3,
+        asked: &[
+            Asked::Push("abcde\nfghij\nklmno"),
+            UNWRAPPED,
+            Asked::Left(1),
+            Asked::Mark(1),
+        ],
+        texts: &[
+            "\x1b[1S\x1b[2;1H\x1b[2K\rlmno\n",
+            "\x1b[4;1H\r\x1b[2K",
+            FOUR,
+        ],
+    },
+    &Worked {
+        name: "what was appended is drawn again",
+        cols: 20,
+        rows: 3,
+        asked: &[
+            Asked::Push("one"),
+            Asked::Io(IoCommand::DrawAppendedText(0, 0, AppendStyle::PartialUpdate((0, 1)))),
+        ],
+        texts: &["\x1b[1;1H\x1b[2J\rone\n\x1b[4;1H\r\x1b[2K", PROMPT_ROW],
+    },
+];
 
 #[test]
-fn a_scroll_of_cropped_lines_draws_the_rows_that_come(rt: HostRuntime) {
-    let asked = &[
-        Asked::Push("abcde\nfghij\nklmno"),
-        UNWRAPPED,
-        left(1),
-        Asked::Mark(1),
-    ];
-    let texts = &[
-        "\x1b[1S\x1b[2;1H\x1b[2K\rlmno\n",
-        "\x1b[4;1H\r\x1b[2K",
-        FOUR,
-    ];
-    assert!(rt; draws(rt.alloc(), 4, 3, asked, texts));
-}
-
-#[test]
-fn what_was_appended_is_drawn_again(rt: HostRuntime) {
-    let style = AppendStyle::PartialUpdate((0, 1));
-    let asked = &[
-        Asked::Push("one"),
-        Asked::Io(IoCommand::DrawAppendedText(0, 0, style)),
-    ];
-    let row = "\x1b[1;1H\x1b[2J\rone\n\x1b[4;1H\r\x1b[2K";
-    assert!(rt; draws(rt.alloc(), 20, 3, asked, &[row, PROMPT_ROW]));
+fn numbers_and_the_left_mark_are_drawn(rt: HostRuntime) {
+    assert_drawn(&rt, rt.alloc(), &DRAWN);
 }

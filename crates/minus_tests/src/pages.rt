@@ -1,33 +1,69 @@
-//! Worked sessions with the pages that they must have.
+//! Worked sessions with the pages and the marks that they must have.
 use crate::sessions::{
-    Asked, PROMPT_ROW, TEN_LINES, does, draws, has_len, has_page, session_on, shows, terminal,
+    Asked, PROMPT_ROW, TEN_LINES, Worked, assert_shown, does, has_len, session_on, terminal,
 };
-use minus::Screen;
+use minus::{Event, Screen};
 use std::alloc::Global;
 
-#[test]
-fn three_lines_leave_a_blank_row(rt: HostRuntime) {
-    let rows = &["one", "two", "three", "", PROMPT_ROW];
-    assert!(rt; shows(rt.alloc(), 20, 5, &[Asked::Push("one\ntwo\nthree")], rows));
-}
+const FOLLOWED: Asked<'static> = Asked::Follow(true);
+
+// Ten lines of a row each, all of them ended.
+const TEN_ROWS: Asked<'static> = Asked::Push("l0\nl1\nl2\nl3\nl4\nl5\nl6\nl7\nl8\nl9\n");
+
+// The pages that sessions lead to.
+const SHOWN: [&Worked<'static>; 6] = [
+    &Worked {
+        name: "three lines leave a blank row",
+        cols: 20,
+        rows: 5,
+        asked: &[Asked::Push("one\ntwo\nthree")],
+        texts: &["one", "two", "three", "", PROMPT_ROW],
+    },
+    &Worked {
+        name: "a mark past the end is clamped",
+        cols: 4,
+        rows: 3,
+        asked: &[Asked::Push("a\nb\nc\nd"), Asked::Mark(9)],
+        texts: &["c", "d", "\x1b[2;40;37mminu\x1b[0m"],
+    },
+    &Worked {
+        name: "no text leaves blank rows",
+        cols: 20,
+        rows: 3,
+        asked: &[],
+        texts: &["", "", PROMPT_ROW],
+    },
+    &Worked {
+        name: "the empty text leaves blank rows",
+        cols: 20,
+        rows: 3,
+        asked: &[Asked::Push("")],
+        texts: &["", "", PROMPT_ROW],
+    },
+    &Worked {
+        name: "a followed text ends at its last page",
+        cols: 20,
+        rows: 4,
+        asked: &[FOLLOWED, TEN_ROWS, Asked::Push("l10\n")],
+        texts: &[
+            "l8",
+            "l9",
+            "l10",
+            "\x1b[2;40;37mminus            \x1b[1m[F]\x1b[0m",
+        ],
+    },
+    &Worked {
+        name: "a resize event leads to the page of the new size",
+        cols: 20,
+        rows: 5,
+        asked: &[Asked::Push("one\ntwo"), Asked::Told(Event::Resize(4, 2))],
+        texts: &["one", "\x1b[2;40;37mminu\x1b[0m"],
+    },
+];
 
 #[test]
-fn a_mark_past_the_end_is_clamped(rt: HostRuntime) {
-    let asked = &[Asked::Push("a\nb\nc\nd"), Asked::Mark(9)];
-    let rows = &["c", "d", "\x1b[2;40;37mminu\x1b[0m"];
-    assert!(rt; shows(rt.alloc(), 4, 3, asked, rows));
-}
-
-#[test]
-fn the_empty_text_leaves_blank_rows(rt: HostRuntime) {
-    let rows = &["", "", PROMPT_ROW];
-    assert!(rt; shows(rt.alloc(), 20, 3, &[], rows));
-    assert!(rt; shows(rt.alloc(), 20, 3, &[Asked::Push("")], rows));
-}
-
-#[test]
-fn the_empty_text_added_to_nothing_writes_nothing(rt: HostRuntime) {
-    assert!(rt; draws(rt.alloc(), 20, 3, &[Asked::Push("")], &[]));
+fn sessions_show_their_pages(rt: HostRuntime) {
+    assert_shown(&rt, rt.alloc(), &SHOWN);
 }
 
 // Whether a page may have so many rows.
@@ -43,42 +79,26 @@ fn a_page_may_have_hundreds_of_rows(rt: HostRuntime) {
     assert!(rt; may_have_rows(rt.alloc(), 300));
 }
 
-// Whether a text has so many rows and, on a page of four, a mark past its end becomes this one.
-fn ends_at(alloc: Global, text: &str, rows: usize, mark: usize) -> bool {
+// Whether a session of four rows is led to a text of so many rows, and to this mark.
+fn ends_at(alloc: Global, asked: &[Asked<'_>], rows: usize, mark: usize) -> bool {
     let Some(mut session) = session_on(alloc, terminal(alloc), 20, 4) else {
         return false;
     };
-    does(alloc, &mut session, &[Asked::Push(text), Asked::Mark(100)])
+    does(alloc, &mut session, asked)
         && session.state().screen.formatted_lines_count() == rows
         && session.state().upper_mark == mark
 }
 
 #[test]
 fn the_last_page_begins_at_the_mark(rt: HostRuntime) {
-    assert!(rt; ends_at(rt.alloc(), TEN_LINES, 10, 7));
-    assert!(rt; ends_at(rt.alloc(), "l0\nl1\nl2\nl3", 4, 1));
-}
-
-// Whether a followed text, to which a line is added, ends at this mark and shows these rows.
-fn follows_to(alloc: Global, mark: usize, page: &[&str]) -> bool {
-    let Some(mut session) = session_on(alloc, terminal(alloc), 20, 4) else {
-        return false;
-    };
-    let lines = "l0\nl1\nl2\nl3\nl4\nl5\nl6\nl7\nl8\nl9\n";
-    let asked = &[
-        Asked::Follow(true),
-        Asked::Push(lines),
-        Asked::Push("l10\n"),
+    let cases: &[(&[Asked<'_>], usize, usize)] = &[
+        (&[Asked::Push(TEN_LINES), Asked::Mark(100)], 10, 7),
+        (&[Asked::Push("l0\nl1\nl2\nl3"), Asked::Mark(100)], 4, 1),
+        (&[FOLLOWED, TEN_ROWS, Asked::Push("l10\n")], 11, 8),
     ];
-    does(alloc, &mut session, asked)
-        && session.state().upper_mark == mark
-        && has_page(&session, page)
-}
-
-#[test]
-fn a_followed_text_ends_at_its_last_page(rt: HostRuntime) {
-    let prompt = "\x1b[2;40;37mminus            \x1b[1m[F]\x1b[0m";
-    assert!(rt; follows_to(rt.alloc(), 8, &["l8", "l9", "l10", prompt]));
+    for (asked, rows, mark) in cases {
+        assert!(rt; ends_at(rt.alloc(), asked, *rows, *mark), "at {mark}");
+    }
 }
 
 // Whether a screen has one row, and its longest line so many columns.

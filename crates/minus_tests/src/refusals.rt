@@ -1,6 +1,6 @@
 //! Sinks that refuse a step.
 use crate::sessions::{Asked, CLEANUP, TEN_LINES, are_bytes, does, number_of, run, session_on};
-use crate::stubborn::{Refused, Stubborn, flush, write};
+use crate::stubborn::{Refused, Stubborn, write};
 use minus::{CleanupError, Command, Input, MinusError, OutputSink, Ran, RunMode, Session, WithTty};
 use std::alloc::Global;
 use std::io::ErrorKind;
@@ -26,44 +26,68 @@ fn holds(sink: &WithTty<Stubborn>, refusals: u64, texts: &[&str]) -> bool {
     }
 }
 
-// Whether the first step fails a session over a sink that refuses this of it, the cleanup ends it so, and these texts of
-// the step and of the cleanup are in the sink.
-fn is_failed(
-    alloc: Global,
+// What the first step of a session is refused, what comes of the cleanup, and what the sink holds.
+struct Failed<'a> {
+    name: &'a str,
     refused: Refused,
     is_cleaned: bool,
     refusals: u64,
-    texts: &[&str],
-) -> bool {
-    let Some(mut session) = session_on(alloc, Stubborn::terminal(alloc, refused), 20, 5) else {
+    // the texts of the step and of the cleanup
+    texts: &'a [&'a str],
+}
+
+// Whether the first step fails a session, and the cleanup ends it so.
+fn is_failed(alloc: Global, case: &Failed<'_>) -> bool {
+    let sink = Stubborn::terminal(alloc, case.refused);
+    let Some(mut session) = session_on(alloc, sink, 20, 5) else {
         return false;
     };
     let is_over = is_over(alloc, &mut session);
     let (sink, finished) = session.finish();
-    is_over && finished.is_ok() == is_cleaned && holds(&sink, refusals, texts)
+    is_over && finished.is_ok() == case.is_cleaned && holds(&sink, case.refusals, case.texts)
 }
 
-#[test]
-fn a_refused_write_fails_the_session(rt: HostRuntime) {
-    let refused = write(START_WRITES + 3);
-    assert!(rt; is_failed(rt.alloc(), refused, true, 1, &["\x1b[", CLEANUP]));
-}
+const FAILED: [Failed<'static>; 3] = [
+    Failed {
+        name: "a refused write fails the session",
+        refused: Refused {
+            write: START_WRITES + 3,
+            writes: 1,
+            flush: 0,
+        },
+        is_cleaned: true,
+        refusals: 1,
+        texts: &["\x1b[", CLEANUP],
+    },
+    Failed {
+        name: "a refused flush fails the session",
+        refused: Refused {
+            write: 0,
+            writes: 0,
+            flush: START_FLUSHES + 1,
+        },
+        is_cleaned: true,
+        refusals: 1,
+        texts: &["\x1b[1;1H\x1b[2Ka", CLEANUP],
+    },
+    Failed {
+        name: "finish hands back a sink that still refuses",
+        refused: Refused {
+            write: START_WRITES + 3,
+            writes: 2,
+            flush: 0,
+        },
+        is_cleaned: false,
+        refusals: 2,
+        texts: &["\x1b["],
+    },
+];
 
 #[test]
-fn a_refused_flush_fails_the_session(rt: HostRuntime) {
-    let refused = flush(START_FLUSHES + 1);
-    let texts = &["\x1b[1;1H\x1b[2Ka", CLEANUP];
-    assert!(rt; is_failed(rt.alloc(), refused, true, 1, texts));
-}
-
-#[test]
-fn finish_hands_back_a_sink_that_still_refuses(rt: HostRuntime) {
-    let refused = Refused {
-        write: START_WRITES + 3,
-        writes: 2,
-        flush: 0,
-    };
-    assert!(rt; is_failed(rt.alloc(), refused, false, 2, &["\x1b["]));
+fn a_refused_step_fails_the_session(rt: HostRuntime) {
+    for case in &FAILED {
+        assert!(rt; is_failed(rt.alloc(), case), "{}", case.name);
+    }
 }
 
 // The kind of the sink's error that a refusal of a drawing or a cleanup hands on.
@@ -106,8 +130,10 @@ fn is_handed_on(alloc: Global, asked: Asked<'_>) -> bool {
 
 #[test]
 fn a_refusal_hands_on_the_sinks_error(rt: HostRuntime) {
-    assert!(rt; is_handed_on(rt.alloc(), Asked::Push("a")));
-    assert!(rt; is_handed_on(rt.alloc(), Asked::Exit));
+    let refused: &[&Asked<'_>] = &[&Asked::Push("a"), &Asked::Exit];
+    for asked in refused {
+        assert!(rt; is_handed_on(rt.alloc(), **asked));
+    }
 }
 
 // Whether the inputs that a run left are the push of this text.

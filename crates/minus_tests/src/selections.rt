@@ -1,23 +1,106 @@
 //! Selections with the mouse, and what is copied of them.
 use crate::sessions::{
-    Asked, PROMPT_ROW, TEN_LINES, does, draws, run, session_on, shows, terminal,
+    Asked, PROMPT_ROW, TEN_LINES, Worked, assert_drawn, assert_shown, does, run, session_on,
+    terminal,
 };
 use minus::{InputEvent, LineNumbers, OutputSink, PagerState, Ran, Session};
 use std::alloc::Global;
 
-const SIX_LINES: &str = "l0\nl1\nl2\nl3\nl4\nl5";
-
-fn start(x: u16, y: u16) -> Asked<'static> {
-    Asked::Does(InputEvent::StartSelection { x, y })
-}
-
-fn update(x: u16, y: u16) -> Asked<'static> {
-    Asked::Does(InputEvent::UpdateSelection { x, y })
-}
-
 const CLEAR: Asked<'static> = Asked::Does(InputEvent::ClearSelection);
 
 const COPY: Asked<'static> = Asked::Does(InputEvent::CopySelection);
+
+// The pages that sessions lead to.
+const SHOWN: [&Worked<'static>; 2] = [
+    &Worked {
+        name: "what is selected is shown in reverse",
+        cols: 20,
+        rows: 3,
+        asked: &[
+            Asked::Push("ab\x1b[0mc"),
+            Asked::Start(0, 0),
+            Asked::Update(1, 0),
+        ],
+        texts: &["\x1b[7mab\x1b[0m\x1b[27mc", "", PROMPT_ROW],
+    },
+    &Worked {
+        name: "a copied selection goes",
+        cols: 20,
+        rows: 3,
+        asked: &[Asked::Push("abc"), Asked::Start(0, 0), COPY],
+        texts: &["abc", "", PROMPT_ROW],
+    },
+];
+
+#[test]
+fn selections_are_shown(rt: HostRuntime) {
+    assert_shown(&rt, rt.alloc(), &SHOWN);
+}
+
+// What the last step of a session draws.
+const DRAWN: [&Worked<'static>; 7] = [
+    &Worked {
+        name: "a selection is drawn in full",
+        cols: 20,
+        rows: 3,
+        asked: &[Asked::Push("abc"), Asked::Start(1, 0)],
+        texts: &[
+            "\x1b[1;1H\x1b[2J\ra\x1b[7mb\x1b[27mc\n\x1b[4;1H\r\x1b[2K",
+            PROMPT_ROW,
+        ],
+    },
+    &Worked {
+        name: "a selection that stays writes nothing",
+        cols: 20,
+        rows: 5,
+        asked: &[
+            Asked::Push("abc\ndef"),
+            Asked::Start(1, 1),
+            Asked::Update(1, 1),
+        ],
+        texts: &[],
+    },
+    &Worked {
+        name: "a selection below the page writes nothing",
+        cols: 20,
+        rows: 5,
+        asked: &[Asked::Push("abc"), Asked::Start(1, 4)],
+        texts: &[],
+    },
+    &Worked {
+        name: "a selection without a start writes nothing",
+        cols: 20,
+        rows: 5,
+        asked: &[Asked::Push("abc"), Asked::Update(1, 0)],
+        texts: &[],
+    },
+    &Worked {
+        name: "a selection is cleared",
+        cols: 20,
+        rows: 3,
+        asked: &[Asked::Push("abc"), Asked::Start(1, 0), CLEAR],
+        texts: &["\x1b[1;1H\x1b[2J\rabc\n\x1b[4;1H\r\x1b[2K", PROMPT_ROW],
+    },
+    &Worked {
+        name: "a selection is cleared once",
+        cols: 20,
+        rows: 3,
+        asked: &[Asked::Push("abc"), Asked::Start(1, 0), CLEAR, CLEAR],
+        texts: &[],
+    },
+    &Worked {
+        name: "a copy of nothing writes nothing",
+        cols: 20,
+        rows: 3,
+        asked: &[Asked::Push("abc"), Asked::Start(0, 0), CLEAR, COPY],
+        texts: &[],
+    },
+];
+
+#[test]
+fn selections_are_drawn(rt: HostRuntime) {
+    assert_drawn(&rt, rt.alloc(), &DRAWN);
+}
 
 // Whether a state has this mark, and a selection that ends at this row and column.
 fn is_led(state: &PagerState, mark: usize, row: usize, col: usize) -> bool {
@@ -37,58 +120,27 @@ fn leads(alloc: Global, text: &str, mark: usize, y: u16, to: (usize, usize, usiz
     let asked = &[
         Asked::Push(text),
         Asked::Mark(mark),
-        start(0, 0),
-        update(0, y),
+        Asked::Start(0, 0),
+        Asked::Update(0, y),
     ];
     does(alloc, &mut session, asked) && is_led(session.state(), to.0, to.1, to.2)
 }
 
-#[test]
-fn a_selection_at_the_first_row_goes_up(rt: HostRuntime) {
-    assert!(rt; leads(rt.alloc(), TEN_LINES, 3, 0, (2, 2, 0)));
-}
+// A text, the mark, the row of the page that a selection is moved to, and the mark, row and column that this leads to.
+type Move = (&'static str, usize, u16, (usize, usize, usize));
+
+// Up from the first row, down from below the page, and down as far as the text.
+const MOVES: [Move; 3] = [
+    (TEN_LINES, 3, 0, (2, 2, 0)),
+    (TEN_LINES, 3, 4, (4, 7, 0)),
+    ("l0\nl1\nl2\nl3\nl4\nl5", 2, 10, (2, 5, 0)),
+];
 
 #[test]
-fn a_selection_below_the_page_goes_down(rt: HostRuntime) {
-    assert!(rt; leads(rt.alloc(), TEN_LINES, 3, 4, (4, 7, 0)));
-}
-
-#[test]
-fn a_selection_goes_down_as_far_as_the_text(rt: HostRuntime) {
-    assert!(rt; leads(rt.alloc(), SIX_LINES, 2, 10, (2, 5, 0)));
-}
-
-#[test]
-fn what_is_selected_is_shown_in_reverse(rt: HostRuntime) {
-    let asked = &[Asked::Push("ab\x1b[0mc"), start(0, 0), update(1, 0)];
-    let rows = &["\x1b[7mab\x1b[0m\x1b[27mc", "", PROMPT_ROW];
-    assert!(rt; shows(rt.alloc(), 20, 3, asked, rows));
-}
-
-#[test]
-fn a_selection_is_drawn_in_full(rt: HostRuntime) {
-    let asked = &[Asked::Push("abc"), start(1, 0)];
-    let row = "\x1b[1;1H\x1b[2J\ra\x1b[7mb\x1b[27mc\n\x1b[4;1H\r\x1b[2K";
-    assert!(rt; draws(rt.alloc(), 20, 3, asked, &[row, PROMPT_ROW]));
-}
-
-#[test]
-fn a_selection_that_stays_writes_nothing(rt: HostRuntime) {
-    let twice = &[Asked::Push("abc\ndef"), start(1, 1), update(1, 1)];
-    assert!(rt; draws(rt.alloc(), 20, 5, twice, &[]));
-    let below = &[Asked::Push("abc"), start(1, 4)];
-    assert!(rt; draws(rt.alloc(), 20, 5, below, &[]));
-    let without = &[Asked::Push("abc"), update(1, 0)];
-    assert!(rt; draws(rt.alloc(), 20, 5, without, &[]));
-}
-
-#[test]
-fn a_selection_is_cleared_once(rt: HostRuntime) {
-    let once = &[Asked::Push("abc"), start(1, 0), CLEAR];
-    let row = "\x1b[1;1H\x1b[2J\rabc\n\x1b[4;1H\r\x1b[2K";
-    assert!(rt; draws(rt.alloc(), 20, 3, once, &[row, PROMPT_ROW]));
-    let twice = &[Asked::Push("abc"), start(1, 0), CLEAR, CLEAR];
-    assert!(rt; draws(rt.alloc(), 20, 3, twice, &[]));
+fn a_selection_leads_the_mark(rt: HostRuntime) {
+    for (text, mark, y, to) in &MOVES {
+        assert!(rt; leads(rt.alloc(), text, *mark, *y, *to), "at {y}");
+    }
 }
 
 // Whether the last step of a run copied this text, or nothing where there is none.
@@ -120,39 +172,59 @@ fn copies(alloc: Global, cols: usize, asked: &[Asked<'_>], text: Option<&str>) -
     }
 }
 
-#[test]
-fn copies_lines_and_the_spaces_between_their_rows(rt: HostRuntime) {
-    let text = Asked::Push("abcdefghi\njklmnop\n");
-    let asked = &[text, start(2, 0), update(3, 2), COPY];
-    assert!(rt; copies(rt.alloc(), 6, asked, Some("cdefghi\njklm")));
+// What is asked of a session on so many columns, and what is copied at last, if anything.
+struct Copied<'a> {
+    cols: usize,
+    asked: &'a [Asked<'a>],
+    text: Option<&'a str>,
 }
 
-#[test]
-fn copies_behind_numbers_from_a_left_mark(rt: HostRuntime) {
-    let asked = &[
-        Asked::Numbers(LineNumbers::Enabled),
-        Asked::Wrapped(false),
-        Asked::Push("abcdefghij\nklmnopqrst\nuvwxyz\n"),
-        Asked::Does(InputEvent::UpdateLeftMark(3)),
-        start(9, 0),
-        update(9, 2),
-        COPY,
-    ];
-    let text = "efghij\nklmnopqrst\nuvwxy";
-    assert!(rt; copies(rt.alloc(), 11, asked, Some(text)));
-}
+const COPIES: [&Copied<'static>; 4] = [
+    // lines and the spaces between their rows
+    &Copied {
+        cols: 6,
+        asked: &[
+            Asked::Push("abcdefghi\njklmnop\n"),
+            Asked::Start(2, 0),
+            Asked::Update(3, 2),
+            COPY,
+        ],
+        text: Some("cdefghi\njklm"),
+    },
+    // behind numbers from a left mark
+    &Copied {
+        cols: 11,
+        asked: &[
+            Asked::Numbers(LineNumbers::Enabled),
+            Asked::Wrapped(false),
+            Asked::Push("abcdefghij\nklmnopqrst\nuvwxyz\n"),
+            Asked::Left(3),
+            Asked::Start(9, 0),
+            Asked::Update(9, 2),
+            COPY,
+        ],
+        text: Some("efghij\nklmnopqrst\nuvwxy"),
+    },
+    &Copied {
+        cols: 20,
+        asked: &[Asked::Push("abc"), Asked::Start(0, 0), COPY],
+        text: Some("a"),
+    },
+    // nothing is selected
+    &Copied {
+        cols: 20,
+        asked: &[Asked::Push("abc"), Asked::Start(0, 0), CLEAR, COPY],
+        text: None,
+    },
+];
 
 #[test]
-fn nothing_is_copied_twice(rt: HostRuntime) {
-    let once = &[Asked::Push("abc"), start(0, 0), COPY];
-    assert!(rt; copies(rt.alloc(), 20, once, Some("a")));
-    let none = &[Asked::Push("abc"), start(0, 0), CLEAR, COPY];
-    assert!(rt; copies(rt.alloc(), 20, none, None));
-    assert!(rt; draws(rt.alloc(), 20, 3, none, &[]));
-}
-
-#[test]
-fn a_copied_selection_goes(rt: HostRuntime) {
-    let asked = &[Asked::Push("abc"), start(0, 0), COPY];
-    assert!(rt; shows(rt.alloc(), 20, 3, asked, &["abc", "", PROMPT_ROW]));
+fn what_is_selected_is_copied(rt: HostRuntime) {
+    for it in &COPIES {
+        assert!(rt;
+            copies(rt.alloc(), it.cols, it.asked, it.text),
+            "at {:?}",
+            it.text
+        );
+    }
 }

@@ -5,6 +5,7 @@ use minus::{
     WithTty, init_core,
 };
 use std::alloc::{AllocError, Global};
+use std::process::Abort;
 
 pub const SETUP: &str =
     "\x1b[?1049h\x1b[?1000h\x1b[?1002h\x1b[?1003h\x1b[?1015h\x1b[?1006h\x1b[?25l";
@@ -32,24 +33,31 @@ pub enum Asked<'a> {
     Typed(char),
     Numbers(LineNumbers),
     Wrapped(bool),
+    Left(usize),
+    /// The place, a column and a row, at which a selection starts.
+    Start(u16, u16),
+    /// The one that it is moved to.
+    Update(u16, u16),
+    /// The press of a character's key.
+    Key(char),
     Does(InputEvent),
     Io(IoCommand),
     Told(Event),
     Exit,
 }
 
-/// The press of a character's key, with these modifiers.
-pub fn key(character: char, modifiers: KeyModifiers) -> Event {
+// The press of a character's key.
+fn key(character: char) -> Event {
     Event::Key(KeyEvent {
         code: KeyCode::Char(character),
-        modifiers,
+        modifiers: KeyModifiers::NONE,
         kind: KeyEventKind::Press,
         state: KeyEventState::NONE,
     })
 }
 
-/// The input that asks for it.
-pub fn input(alloc: Global, asked: Asked<'_>) -> Result<Input, AllocError> {
+// The input that asks for it.
+fn input(alloc: Global, asked: Asked<'_>) -> Result<Input, AllocError> {
     let command = match asked {
         Asked::Push(text) => Command::AppendData(String::from_str(alloc, text)?),
         Asked::Mark(row) => Command::UserInput(InputEvent::UpdateUpperMark(row)),
@@ -62,6 +70,10 @@ pub fn input(alloc: Global, asked: Asked<'_>) -> Result<Input, AllocError> {
         Asked::Typed(character) => Command::UserInput(InputEvent::Number(character)),
         Asked::Numbers(numbers) => Command::SetLineNumbers(numbers),
         Asked::Wrapped(wrapping) => Command::LineWrapping(wrapping),
+        Asked::Left(mark) => Command::UserInput(InputEvent::UpdateLeftMark(mark)),
+        Asked::Start(x, y) => Command::UserInput(InputEvent::StartSelection { x, y }),
+        Asked::Update(x, y) => Command::UserInput(InputEvent::UpdateSelection { x, y }),
+        Asked::Key(character) => return Ok(Input::Event(key(character))),
         Asked::Does(event) => Command::UserInput(event),
         Asked::Io(command) => Command::Io(command),
         Asked::Told(event) => return Ok(Input::Event(event)),
@@ -186,8 +198,8 @@ fn leads_to<S: OutputSink + Drop>(
     does(alloc, session, asked) && has_page(session, page)
 }
 
-/// Whether a session does all of this, and its page has these rows then.
-pub fn shows(alloc: Global, cols: usize, rows: usize, asked: &[Asked<'_>], page: &[&str]) -> bool {
+// Whether a session does all of this, and its page has these rows then.
+fn shows(alloc: Global, cols: usize, rows: usize, asked: &[Asked<'_>], page: &[&str]) -> bool {
     match session_on(alloc, terminal(alloc), cols, rows) {
         Some(mut session) => leads_to(alloc, &mut session, asked, page),
         None => false,
@@ -200,20 +212,6 @@ fn bytes_of(alloc: Global, cols: usize, rows: usize, asked: &[Asked<'_>]) -> Opt
     let is_done = does(alloc, &mut session, asked);
     let (sink, _) = session.finish();
     is_done.then_some(sink.inner)
-}
-
-/// Whether a session that does all of this writes these texts, setup and cleanup among them.
-pub fn writes(
-    alloc: Global,
-    cols: usize,
-    rows: usize,
-    asked: &[Asked<'_>],
-    texts: &[&str],
-) -> bool {
-    match bytes_of(alloc, cols, rows, asked) {
-        Some(bytes) => are_bytes(&bytes, texts),
-        None => false,
-    }
 }
 
 // Whether these are the texts by which the bytes of one session go on behind those of another, both cleaned up.
@@ -237,12 +235,43 @@ fn are_there_and_go_on(before: &Option<Vec<u8>>, after: &Option<Vec<u8>>, texts:
     }
 }
 
-/// Whether these texts are what the last of this asks for.
-pub fn draws(alloc: Global, cols: usize, rows: usize, asked: &[Asked<'_>], texts: &[&str]) -> bool {
+// Whether these texts are what the last of this asks for.
+fn draws(alloc: Global, cols: usize, rows: usize, asked: &[Asked<'_>], texts: &[&str]) -> bool {
     let Some((_, first)) = asked.split_last() else {
         return false;
     };
     let before = bytes_of(alloc, cols, rows, first);
     let after = bytes_of(alloc, cols, rows, asked);
     are_there_and_go_on(&before, &after, texts)
+}
+
+/// A worked session: what is asked of it on so many columns and rows, and the texts that come of that.
+pub struct Worked<'a> {
+    pub name: &'a str,
+    pub cols: usize,
+    pub rows: usize,
+    pub asked: &'a [Asked<'a>],
+    pub texts: &'a [&'a str],
+}
+
+/// Fails where the texts are not the rows of the page that a session leads to.
+pub fn assert_shown(rt: &impl Abort, alloc: Global, sessions: &[&Worked<'_>]) {
+    for it in sessions {
+        assert!(rt;
+            shows(alloc, it.cols, it.rows, it.asked, it.texts),
+            "{}",
+            it.name
+        );
+    }
+}
+
+/// Fails where the texts are not what the last of all that is asked for draws.
+pub fn assert_drawn(rt: &impl Abort, alloc: Global, sessions: &[&Worked<'_>]) {
+    for it in sessions {
+        assert!(rt;
+            draws(alloc, it.cols, it.rows, it.asked, it.texts),
+            "{}",
+            it.name
+        );
+    }
 }

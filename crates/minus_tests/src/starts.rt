@@ -1,6 +1,6 @@
 //! Starts, and sinks that refuse them.
 use crate::sessions::{CLEANUP, PROMPT_ROW, SETUP, are_bytes, has_page, terminal};
-use crate::stubborn::{Refused, Stubborn, flush, write};
+use crate::stubborn::{Refused, Stubborn, write};
 use minus::{
     MinusError, OutputSink, Pager, RunMode, Session, SetupError, StartError, WithTty,
     dynamic_paging, init_core,
@@ -103,12 +103,22 @@ fn is_early(alloc: Global, mode: RunMode, cols: usize, rows: usize, number: u8) 
     }
 }
 
+// A mode, columns and rows, and the number that refuses them.
+const EARLY: [(RunMode, usize, usize, u8); 4] = [
+    (RunMode::Uninitialized, 20, 5, 9),
+    (RunMode::Uninitialized, 0, 10, 9),
+    (RunMode::Static, 0, 10, 5),
+    (RunMode::Dynamic, 65_536, 1, 5),
+];
+
 #[test]
 fn an_early_refusal_hands_the_pager_back(rt: HostRuntime) {
-    assert!(rt; is_early(rt.alloc(), RunMode::Uninitialized, 20, 5, 9));
-    assert!(rt; is_early(rt.alloc(), RunMode::Uninitialized, 0, 10, 9));
-    assert!(rt; is_early(rt.alloc(), RunMode::Static, 0, 10, 5));
-    assert!(rt; is_early(rt.alloc(), RunMode::Dynamic, 65_536, 1, 5));
+    for (mode, cols, rows, number) in &EARLY {
+        assert!(rt;
+            is_early(rt.alloc(), *mode, *cols, *rows, *number),
+            "at {cols} and {rows}"
+        );
+    }
 }
 
 // The pager that a refused start hands back.
@@ -171,15 +181,22 @@ fn names(alloc: Global, at: usize, part: &str, number: u8) -> bool {
     }
 }
 
+// The number of a refused write, the part of the start that it is in, and the number of the refusal.
+const PARTS: [(usize, &str, u8); 7] = [
+    (1, "the alternate screen", 12),
+    (8, "the alternate screen", 12),
+    (9, "the mouse", 12),
+    (48, "the mouse", 12),
+    (49, "the cursor", 12),
+    (54, "the cursor", 12),
+    (55, "the page", 14),
+];
+
 #[test]
 fn a_refused_start_names_the_part(rt: HostRuntime) {
-    assert!(rt; names(rt.alloc(), 1, "the alternate screen", 12));
-    assert!(rt; names(rt.alloc(), 8, "the alternate screen", 12));
-    assert!(rt; names(rt.alloc(), 9, "the mouse", 12));
-    assert!(rt; names(rt.alloc(), 48, "the mouse", 12));
-    assert!(rt; names(rt.alloc(), 49, "the cursor", 12));
-    assert!(rt; names(rt.alloc(), 54, "the cursor", 12));
-    assert!(rt; names(rt.alloc(), 55, "the page", 14));
+    for (at, part, number) in &PARTS {
+        assert!(rt; names(rt.alloc(), *at, part, *number), "at write {at}");
+    }
 }
 
 // Whether a start that is refused this leaves these texts in its sink.
@@ -190,11 +207,28 @@ fn leaves(alloc: Global, calls: Refused, texts: &[&str]) -> bool {
     }
 }
 
+// A write and a flush that are refused, if not 0, and the texts that a start leaves in its sink then.
+const LEFT: [(usize, usize, &[&str]); 3] = [
+    (55, 0, &[SETUP, CLEANUP]),
+    (57, 0, &[SETUP, "\x1b[", CLEANUP]),
+    (
+        0,
+        4,
+        &[SETUP, "\x1b[1;1H\x1b[2J", SIXTH_ROW, PROMPT_ROW, CLEANUP],
+    ),
+];
+
 #[test]
 fn a_start_refused_after_the_setup_cleans_up(rt: HostRuntime) {
-    let alloc = rt.alloc();
-    assert!(rt; leaves(alloc, write(55), &[SETUP, CLEANUP]));
-    assert!(rt; leaves(alloc, write(57), &[SETUP, "\x1b[", CLEANUP]));
-    let page = &[SETUP, "\x1b[1;1H\x1b[2J", SIXTH_ROW, PROMPT_ROW, CLEANUP];
-    assert!(rt; leaves(alloc, flush(4), page));
+    for (write, flush, texts) in &LEFT {
+        let calls = Refused {
+            write: *write,
+            writes: 1,
+            flush: *flush,
+        };
+        assert!(rt;
+            leaves(rt.alloc(), calls, texts),
+            "at write {write}, flush {flush}"
+        );
+    }
 }

@@ -10,15 +10,102 @@ const NUMBERED: [&str; 3] = [
     "     \x1b[1m3.\x1b[0m abc",
 ];
 
-// Whether their page at an upper mark, of so many rows and 12 columns, is written so from a left mark on.
-fn is_page(alloc: Global, upper: usize, rows: usize, left: usize, texts: &[&str]) -> bool {
+// A page of stored rows that are not wrapped, and the texts that it is written as.
+#[derive(Clone, Copy)]
+struct Page<'a> {
+    name: &'a str,
+    lines: &'a [&'a str],
+    upper: usize,
+    rows: usize,
+    cols: usize,
+    left: usize,
+    numbers: LineNumbers,
+    texts: &'a [&'a str],
+}
+
+// Whether a page is written so.
+fn is_page(alloc: Global, page: &Page<'_>) -> bool {
     let mut sink = Vec::new(alloc);
-    let numbers = LineNumbers::Enabled;
+    let lines_count = page.lines.len();
     let is_written = write_text_checked(
-        alloc, &mut sink, &NUMBERED, upper, rows, 12, false, left, numbers, 3,
+        alloc,
+        &mut sink,
+        page.lines,
+        page.upper,
+        page.rows,
+        page.cols,
+        false,
+        page.left,
+        page.numbers,
+        lines_count,
     )
     .is_ok();
-    is_written && are_bytes(&sink, texts)
+    is_written && are_bytes(&sink, page.texts)
+}
+
+// A page of the three numbered rows on 12 columns, whose prompt takes all of it.
+const NUMBERED_PAGE: Page<'static> = Page {
+    name: "a page of the prompt alone has no rows of text",
+    lines: &NUMBERED,
+    upper: 1,
+    rows: 1,
+    cols: 12,
+    left: 0,
+    numbers: LineNumbers::Enabled,
+    texts: &["\x1b[1;1H\x1b[2J"],
+};
+
+const PAGES: [Page<'static>; 6] = [
+    NUMBERED_PAGE,
+    Page {
+        name: "a page of no rows has no rows of text",
+        rows: 0,
+        ..NUMBERED_PAGE
+    },
+    Page {
+        name: "numbered rows from a left mark on",
+        upper: 0,
+        rows: 3,
+        left: 1,
+        texts: &["\x1b[1;1H\x1b[2J\r     \x1b[1m1.\x1b[0m b\n\r     \x1b[1m2.\x1b[0m  本 \n"],
+        ..NUMBERED_PAGE
+    },
+    Page {
+        name: "a mark past the last full page is clamped",
+        upper: 9,
+        rows: 3,
+        left: 2,
+        texts: &["\x1b[1;1H\x1b[2J\r     \x1b[1m2.\x1b[0m 本語\n\r     \x1b[1m3.\x1b[0m c\n"],
+        ..NUMBERED_PAGE
+    },
+    Page {
+        name: "a page with room shows each row",
+        upper: 2,
+        rows: 9,
+        left: 5,
+        texts: &[
+            "\x1b[1;1H\x1b[2J\r     \x1b[1m1.\x1b[0m \n",
+            "\r     \x1b[1m2.\x1b[0m  abc\n\r     \x1b[1m3.\x1b[0m \n",
+        ],
+        ..NUMBERED_PAGE
+    },
+    Page {
+        name: "a page without numbers is cropped at the row's start",
+        lines: &["one", "two"],
+        upper: 1,
+        rows: 3,
+        cols: 2,
+        left: 1,
+        numbers: LineNumbers::AlwaysOff,
+        texts: &["\x1b[1;1H\x1b[2J\rne\n\rwo\n"],
+    },
+];
+
+#[test]
+fn a_page_of_rows_is_written(rt: HostRuntime) {
+    for page in &PAGES {
+        assert!(rt; is_page(rt.alloc(), page), "{}", page.name);
+    }
 }
 
 // Whether lines without numbers are written so in some columns from a left mark on.
@@ -30,64 +117,28 @@ fn is_scrolled(alloc: Global, lines: &[&str], cols: usize, left: usize, text: &s
     is_written && are_bytes(&sink, &[text])
 }
 
-#[test]
-fn a_page_of_numbered_rows_from_a_left_mark(rt: HostRuntime) {
-    let page = "\x1b[1;1H\x1b[2J\r     \x1b[1m1.\x1b[0m b\n\r     \x1b[1m2.\x1b[0m  本 \n";
-    assert!(rt; is_page(rt.alloc(), 0, 3, 1, &[page]));
-}
+// Lines, columns and the left mark, and what they are written as.
+type Scrolled = (&'static [&'static str], usize, usize, &'static str);
+
+const SCROLLED: [Scrolled; 7] = [
+    (&["日本語abc"], 4, 0, "\r日本\n"),
+    (&["日本語abc"], 4, 1, "\r 本 \n"),
+    (&["日本語abc"], 4, 2, "\r本語\n"),
+    (&["日本語abc"], 4, 5, "\r abc\n"),
+    (&["日本語abc"], 4, 9, "\r\n"),
+    // sequences stay
+    (&["\x1b[31mred\x1b[0m"], 2, 1, "\r\x1b[31med\x1b[0m\n"),
+    (&["a▲b", "c"], 3, 0, "\ra▲b\n\rc\n"),
+];
 
 #[test]
-fn a_mark_past_the_last_full_page_is_clamped(rt: HostRuntime) {
-    let page = "\x1b[1;1H\x1b[2J\r     \x1b[1m2.\x1b[0m 本語\n\r     \x1b[1m3.\x1b[0m c\n";
-    assert!(rt; is_page(rt.alloc(), 9, 3, 2, &[page]));
-}
-
-#[test]
-fn a_page_with_room_shows_each_row(rt: HostRuntime) {
-    let texts = &[
-        "\x1b[1;1H\x1b[2J\r     \x1b[1m1.\x1b[0m \n",
-        "\r     \x1b[1m2.\x1b[0m  abc\n\r     \x1b[1m3.\x1b[0m \n",
-    ];
-    assert!(rt; is_page(rt.alloc(), 2, 9, 5, texts));
-}
-
-#[test]
-fn a_page_of_the_prompt_alone_has_no_rows_of_text(rt: HostRuntime) {
-    assert!(rt; is_page(rt.alloc(), 1, 1, 0, &["\x1b[1;1H\x1b[2J"]));
-    assert!(rt; is_page(rt.alloc(), 1, 0, 0, &["\x1b[1;1H\x1b[2J"]));
-}
-
-// Whether a page of two rows without numbers, in 2 columns and from the left mark 1 on, is written so.
-fn is_cropped(alloc: Global, rows: &[&str], text: &str) -> bool {
-    let mut sink = Vec::new(alloc);
-    let numbers = LineNumbers::AlwaysOff;
-    let is_written = write_text_checked(
-        alloc, &mut sink, rows, 1, 3, 2, false, 1, numbers, 2,
-    ).is_ok();
-    is_written && are_bytes(&sink, &[text])
-}
-
-#[test]
-fn a_page_without_numbers_is_cropped_at_the_row_start(rt: HostRuntime) {
-    let page = "\x1b[1;1H\x1b[2J\rne\n\rwo\n";
-    assert!(rt; is_cropped(rt.alloc(), &["one", "two"], page));
-}
-
-#[test]
-fn wide_characters_are_cropped_by_columns(rt: HostRuntime) {
-    let lines = &["日本語abc"];
-    assert!(rt; is_scrolled(rt.alloc(), lines, 4, 0, "\r日本\n"));
-    assert!(rt; is_scrolled(rt.alloc(), lines, 4, 1, "\r 本 \n"));
-    assert!(rt; is_scrolled(rt.alloc(), lines, 4, 2, "\r本語\n"));
-    assert!(rt; is_scrolled(rt.alloc(), lines, 4, 5, "\r abc\n"));
-    assert!(rt; is_scrolled(rt.alloc(), lines, 4, 9, "\r\n"));
-}
-
-#[test]
-fn sequences_stay_in_cropped_rows(rt: HostRuntime) {
-    let red = &["\x1b[31mred\x1b[0m"];
-    assert!(rt; is_scrolled(rt.alloc(), red, 2, 1, "\r\x1b[31med\x1b[0m\n"));
-    assert!(rt; is_scrolled(rt.alloc(), &["a▲b", "c"], 3, 0, "\ra▲b\n\rc\n"));
+fn rows_are_cropped_by_columns(rt: HostRuntime) {
+    for (lines, cols, left, text) in &SCROLLED {
+        assert!(rt;
+            is_scrolled(rt.alloc(), lines, *cols, *left, text),
+            "at {text}"
+        );
+    }
 }
 
 // Whether rows with numbers, the last row's of so many digits, are written so.

@@ -1,7 +1,6 @@
 //! Worked descriptions of keys.
 use minus_input::parse_key_event;
 use minus_term::{DescriptionError, KeyCode, KeyModifiers};
-use std::process::Abort;
 
 // Whether a text describes a key with this code and these modifiers.
 fn is_key(text: &str, code: KeyCode, modifiers: KeyModifiers) -> bool {
@@ -16,16 +15,9 @@ fn is_refused(text: &str, fault: DescriptionError) -> bool {
     parse_key_event(text).err() == Some(fault)
 }
 
-// Fails where a text does not describe a key with this code and these modifiers.
-fn assert_keys(rt: &impl Abort, cases: &[(&str, KeyCode, KeyModifiers)]) {
-    for (text, code, modifiers) in cases {
-        assert!(rt; is_key(text, *code, *modifiers), "at {text}");
-    }
-}
-
 #[test]
 fn modifiers_and_keys_are_read(rt: HostRuntime) {
-    let cases = &[
+    let cases: &[(&str, KeyCode, KeyModifiers)] = &[
         ("c--x", KeyCode::Char('x'), KeyModifiers::CONTROL),
         ("c-", KeyCode::Null, KeyModifiers::CONTROL),
         ("-", KeyCode::Null, KeyModifiers::NONE),
@@ -34,19 +26,14 @@ fn modifiers_and_keys_are_read(rt: HostRuntime) {
         ("s-g", KeyCode::Char('g'), KeyModifiers::SHIFT),
         (" x\n", KeyCode::Char('x'), KeyModifiers::NONE),
     ];
-    assert_keys(&rt, cases);
-}
-
-// Fails where a text describes a key, or none for another reason.
-fn assert_refused(rt: &impl Abort, cases: &[(&str, DescriptionError)]) {
-    for (text, fault) in cases {
-        assert!(rt; is_refused(text, *fault), "at {text}");
+    for (text, code, modifiers) in cases {
+        assert!(rt; is_key(text, *code, *modifiers), "at {text}");
     }
 }
 
 #[test]
 fn the_first_fault_from_the_left_is_told(rt: HostRuntime) {
-    let cases = &[
+    let cases: &[(&str, DescriptionError)] = &[
         ("a--x", DescriptionError::EmptySegment),
         ("q-c", DescriptionError::SecondKey),
         ("--", DescriptionError::EmptySegment),
@@ -62,19 +49,14 @@ fn the_first_fault_from_the_left_is_told(rt: HostRuntime) {
         ("x-foo", DescriptionError::UnknownName),
         ("C-x", DescriptionError::SecondKey),
     ];
-    assert_refused(&rt, cases);
-}
-
-// Fails where a name is not that of a key with this code.
-fn assert_named(rt: &impl Abort, cases: &[(&str, KeyCode)]) {
-    for (name, code) in cases {
-        assert!(rt; is_key(name, *code, KeyModifiers::NONE), "at {name}");
+    for (text, fault) in cases {
+        assert!(rt; is_refused(text, *fault), "at {text}");
     }
 }
 
 #[test]
 fn names_are_read_in_any_case(rt: HostRuntime) {
-    let cases = &[
+    let cases: &[(&str, KeyCode)] = &[
         ("Enter", KeyCode::Enter),
         ("TAB", KeyCode::Tab),
         ("backTab", KeyCode::BackTab),
@@ -105,5 +87,7 @@ fn names_are_read_in_any_case(rt: HostRuntime) {
         ("F11", KeyCode::F(11)),
         ("f12", KeyCode::F(12)),
     ];
-    assert_named(&rt, cases);
+    for (name, code) in cases {
+        assert!(rt; is_key(name, *code, KeyModifiers::NONE), "at {name}");
+    }
 }

@@ -1,7 +1,6 @@
 //! Worked descriptions of the mouse's actions.
 use minus_input::parse_mouse_event;
 use minus_term::{DescriptionError, KeyModifiers, MouseButton, MouseEventKind};
-use std::process::Abort;
 
 // Whether a text describes this action of the mouse with these modifiers.
 fn is_mouse(text: &str, kind: MouseEventKind, modifiers: KeyModifiers) -> bool {
@@ -16,16 +15,9 @@ fn is_refused(text: &str, fault: DescriptionError) -> bool {
     parse_mouse_event(text).err() == Some(fault)
 }
 
-// Fails where a text does not describe this action of the mouse without modifiers.
-fn assert_actions(rt: &impl Abort, cases: &[(&str, MouseEventKind)]) {
-    for (text, kind) in cases {
-        assert!(rt; is_mouse(text, *kind, KeyModifiers::NONE), "at {text}");
-    }
-}
-
 #[test]
 fn buttons_and_wheel_are_read(rt: HostRuntime) {
-    let cases = &[
+    let cases: &[(&str, MouseEventKind)] = &[
         ("Left:Down", MouseEventKind::Down(MouseButton::Left)),
         ("left:up", MouseEventKind::Up(MouseButton::Left)),
         ("LEFT:drag", MouseEventKind::Drag(MouseButton::Left)),
@@ -37,7 +29,9 @@ fn buttons_and_wheel_are_read(rt: HostRuntime) {
         ("scroll:UP", MouseEventKind::ScrollUp),
         ("Scroll:down", MouseEventKind::ScrollDown),
     ];
-    assert_actions(&rt, cases);
+    for (text, kind) in cases {
+        assert!(rt; is_mouse(text, *kind, KeyModifiers::NONE), "at {text}");
+    }
 }
 
 #[test]
@@ -50,16 +44,9 @@ fn modifiers_are_read_before_an_action(rt: HostRuntime) {
     assert!(rt; has_two && has_all);
 }
 
-// Fails where a text describes an action, or none for another reason.
-fn assert_refused(rt: &impl Abort, cases: &[(&str, DescriptionError)]) {
-    for (text, fault) in cases {
-        assert!(rt; is_refused(text, *fault), "at {text}");
-    }
-}
-
 #[test]
 fn what_is_no_action_is_refused(rt: HostRuntime) {
-    let cases = &[
+    let cases: &[(&str, DescriptionError)] = &[
         ("é", DescriptionError::NotAscii),
         ("  ", DescriptionError::Empty),
         ("m", DescriptionError::UnknownName),
@@ -67,5 +54,7 @@ fn what_is_no_action_is_refused(rt: HostRuntime) {
         ("x-left:up", DescriptionError::UnknownName),
         ("left:up-move", DescriptionError::SecondKey),
     ];
-    assert_refused(&rt, cases);
+    for (text, fault) in cases {
+        assert!(rt; is_refused(text, *fault), "at {text}");
+    }
 }

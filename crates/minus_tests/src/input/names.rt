@@ -3,7 +3,6 @@ use bitflags::Flags;
 use minus_input::{KeySeq, format_help_table_from_entries, format_key, modifier_of};
 use minus_term::{KeyCode, KeyEvent, KeyEventKind, KeyEventState, KeyModifiers};
 use std::alloc::Global;
-use std::process::Abort;
 
 // A key that is pressed.
 fn pressed(code: KeyCode, modifiers: KeyModifiers) -> KeyEvent {
@@ -33,37 +32,84 @@ fn a_sequence_begins_with_nothing(rt: HostRuntime) {
     assert!(rt; seq.code.is_none() && seq.modifiers == KeyModifiers::NONE);
 }
 
-// Whether a key has this name.
-fn is_named(alloc: Global, key: &KeyEvent, name: &str) -> bool {
-    match format_key(alloc, key) {
-        Ok(text) => text.as_str() == name,
+// A key, the modifiers that it is pressed with, and its name.
+struct Named<'a> {
+    code: KeyCode,
+    modifiers: &'a [KeyModifiers],
+    name: &'a str,
+}
+
+// Whether a key has its name.
+fn is_named(alloc: Global, key: &Named<'_>) -> bool {
+    let mut modifiers = KeyModifiers::NONE;
+    for it in key.modifiers {
+        modifiers |= *it;
+    }
+    match format_key(alloc, &pressed(key.code, modifiers)) {
+        Ok(text) => text.as_str() == key.name,
         Err(_) => false,
     }
 }
 
-// Fails where a key that is pressed with some modifiers has another name.
-fn assert_named(rt: &impl Abort, alloc: Global, cases: &[(KeyCode, KeyModifiers, &str)]) {
-    for (code, modifiers, name) in cases {
-        let key = pressed(*code, *modifiers);
-        assert!(rt; is_named(alloc, &key, name), "at {name}");
-    }
-}
+const ALL: &[KeyModifiers] = &[
+    KeyModifiers::CONTROL,
+    KeyModifiers::ALT,
+    KeyModifiers::SHIFT,
+];
+
+const NAMES: [&Named<'static>; 9] = [
+    &Named {
+        code: KeyCode::Char('q'),
+        modifiers: &[],
+        name: "q",
+    },
+    &Named {
+        code: KeyCode::Char('x'),
+        modifiers: ALL,
+        name: "Ctrl-Alt-Shift-x",
+    },
+    &Named {
+        code: KeyCode::Char('X'),
+        modifiers: ALL,
+        name: "Ctrl-Alt-X",
+    },
+    &Named {
+        code: KeyCode::Char('É'),
+        modifiers: &[KeyModifiers::SHIFT],
+        name: "Shift-É",
+    },
+    &Named {
+        code: KeyCode::Char(' '),
+        modifiers: &[KeyModifiers::ALT],
+        name: "Alt-<Space>",
+    },
+    &Named {
+        code: KeyCode::F(12),
+        modifiers: &[],
+        name: "F12",
+    },
+    &Named {
+        code: KeyCode::PageDown,
+        modifiers: &[],
+        name: "PageDown",
+    },
+    &Named {
+        code: KeyCode::Null,
+        modifiers: &[KeyModifiers::CONTROL],
+        name: "Ctrl-Null",
+    },
+    &Named {
+        code: KeyCode::Menu,
+        modifiers: &[],
+        name: "Unknown",
+    },
+];
 
 #[test]
 fn keys_have_their_names(rt: HostRuntime) {
-    let all = KeyModifiers::CONTROL | KeyModifiers::ALT | KeyModifiers::SHIFT;
-    let cases = &[
-        (KeyCode::Char('q'), KeyModifiers::NONE, "q"),
-        (KeyCode::Char('x'), all, "Ctrl-Alt-Shift-x"),
-        (KeyCode::Char('X'), all, "Ctrl-Alt-X"),
-        (KeyCode::Char('É'), KeyModifiers::SHIFT, "Shift-É"),
-        (KeyCode::Char(' '), KeyModifiers::ALT, "Alt-<Space>"),
-        (KeyCode::F(12), KeyModifiers::NONE, "F12"),
-        (KeyCode::PageDown, KeyModifiers::NONE, "PageDown"),
-        (KeyCode::Null, KeyModifiers::CONTROL, "Ctrl-Null"),
-        (KeyCode::Menu, KeyModifiers::NONE, "Unknown"),
-    ];
-    assert_named(&rt, rt.alloc(), cases);
+    for key in &NAMES {
+        assert!(rt; is_named(rt.alloc(), key), "at {}", key.name);
+    }
 }
 
 // Whether the help table of some keys and their descriptions is this text.

@@ -5,7 +5,6 @@ use minus::{
 use minus_script::{ScriptFault, parse_script};
 use std::alloc::Global;
 use std::fmt;
-use std::process::Abort;
 
 // Adds a word with its argument.
 fn add<T: fmt::Display>(text: &mut String, word: &str, argument: &T) -> bool {
@@ -68,13 +67,6 @@ fn reads(alloc: Global, script: &[u8], wanted: &str) -> bool {
     }
 }
 
-// Fails where a script has other inputs than these.
-fn assert_reads(rt: &impl Abort, alloc: Global, cases: &[(&[u8], &str)]) {
-    for (script, wanted) in cases {
-        assert!(rt; reads(alloc, script, wanted), "at {wanted}");
-    }
-}
-
 #[test]
 fn reads_each_word(rt: HostRuntime) {
     let cases: &[(&[u8], &str)] = &[
@@ -107,7 +99,9 @@ fn reads_each_word(rt: HostRuntime) {
             "numbers[AlwaysOn]numbers[Enabled]numbers[Disabled]numbers[AlwaysOff]",
         ),
     ];
-    assert_reads(&rt, rt.alloc(), cases);
+    for (script, wanted) in cases {
+        assert!(rt; reads(rt.alloc(), script, wanted), "at {wanted}");
+    }
 }
 
 // The number of a script's first faulty line.
@@ -115,13 +109,6 @@ fn faulty_line(alloc: Global, script: &[u8]) -> Option<usize> {
     match parse_script(alloc, script) {
         Err(ScriptFault::Line(number)) => Some(number),
         _ => None,
-    }
-}
-
-// Fails where another line of a script is the first faulty one.
-fn assert_faulty(rt: &impl Abort, alloc: Global, cases: &[(&[u8], usize)]) {
-    for (script, line) in cases {
-        assert_eq!(rt; faulty_line(alloc, script), Some(*line), "of {script:?}");
     }
 }
 
@@ -160,5 +147,11 @@ fn names_the_first_faulty_line(rt: HostRuntime) {
         (b"numbers always", 1),
         (b"numbers On", 1),
     ];
-    assert_faulty(&rt, rt.alloc(), cases);
+    for (script, line) in cases {
+        assert_eq!(rt;
+            faulty_line(rt.alloc(), script),
+            Some(*line),
+            "of {script:?}"
+        );
+    }
 }

@@ -2,7 +2,6 @@
 use crate::script::words::add_words;
 use minus_script::{Arguments, Mode, parse_arguments, parse_usize, print_row, print_rows};
 use std::alloc::Global;
-use std::process::Abort;
 
 // Whether a row is printed so.
 fn prints(alloc: Global, row: &str, printed: &str) -> bool {
@@ -35,28 +34,23 @@ fn reads(alloc: Global, texts: &[&str], arguments: Option<Arguments>) -> bool {
     add_words(alloc, &mut words, texts) && parse_arguments(&words) == arguments
 }
 
-// Fails where words are other arguments than these.
-fn assert_reads(rt: &impl Abort, alloc: Global, cases: &[(&[&str], Option<Arguments>)]) {
-    for (texts, arguments) in cases {
-        assert!(rt; reads(alloc, texts, *arguments), "of {texts:?}");
-    }
-}
+const PAGE: Arguments = Arguments {
+    mode: Mode::Page,
+    cols: 80,
+    rows: 24,
+};
+
+const BYTES: Arguments = Arguments {
+    mode: Mode::Bytes,
+    cols: 0,
+    rows: 1,
+};
 
 #[test]
 fn reads_arguments(rt: HostRuntime) {
-    let page = Arguments {
-        mode: Mode::Page,
-        cols: 80,
-        rows: 24,
-    };
-    let bytes = Arguments {
-        mode: Mode::Bytes,
-        cols: 0,
-        rows: 1,
-    };
     let cases: &[(&[&str], Option<Arguments>)] = &[
-        (&["page", "80", "24"], Some(page)),
-        (&["bytes", "0", "1"], Some(bytes)),
+        (&["page", "80", "24"], Some(PAGE)),
+        (&["bytes", "0", "1"], Some(BYTES)),
         (&[], None),
         (&["page", "80"], None),
         (&["page", "80", "24", ""], None),
@@ -66,7 +60,9 @@ fn reads_arguments(rt: HostRuntime) {
         (&["page", "80", "-1"], None),
         (&["page", "80", "18446744073709551616"], None),
     ];
-    assert_reads(&rt, rt.alloc(), cases);
+    for (texts, arguments) in cases {
+        assert!(rt; reads(rt.alloc(), texts, *arguments), "of {texts:?}");
+    }
 }
 
 #[test]

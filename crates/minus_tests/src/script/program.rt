@@ -34,17 +34,57 @@ fn ends_on(alloc: Global, texts: &[&str], script: &str, told: (u8, &str), printe
     ends(alloc, texts, &mut script.as_bytes(), &mut out, told) && out.len() == printed
 }
 
+// The words and the script, the status and the fault's text, and how many bytes are printed.
+struct Run<'a> {
+    words: &'a [&'a str],
+    script: &'a str,
+    told: (u8, &'a str),
+    printed: usize,
+}
+
+const RUNS: [&Run<'static>; 5] = [
+    &Run {
+        words: &["page", "20", "3"],
+        script: "push a",
+        told: (0, ""),
+        printed: 40,
+    },
+    &Run {
+        words: &["page", "20"],
+        script: "",
+        told: (2, "usage: minus_show page|bytes COLS ROWS"),
+        printed: 0,
+    },
+    &Run {
+        words: &["page", "20", "3"],
+        script: "pull a",
+        told: (2, "script line 1"),
+        printed: 0,
+    },
+    &Run {
+        words: &["bytes", "20", "0"],
+        script: "",
+        told: (3, "refused 5"),
+        printed: 0,
+    },
+    &Run {
+        words: &["bytes", "20", "3"],
+        script: "resize 0 1",
+        told: (3, "refused 5"),
+        printed: 0,
+    },
+];
+
 #[test]
 fn each_status_has_its_cause(rt: HostRuntime) {
-    let alloc = rt.alloc();
-    let page = &["page", "20", "3"];
-    assert!(rt; ends_on(alloc, page, "push a", (0, ""), 40));
-    let usage = (2, "usage: minus_show page|bytes COLS ROWS");
-    assert!(rt; ends_on(alloc, &["page", "20"], "", usage, 0));
-    assert!(rt; ends_on(alloc, page, "pull a", (2, "script line 1"), 0));
-    let refused = (3, "refused 5");
-    assert!(rt; ends_on(alloc, &["bytes", "20", "0"], "", refused, 0));
-    assert!(rt; ends_on(alloc, &["bytes", "20", "3"], "resize 0 1", refused, 0));
+    for run in &RUNS {
+        assert!(rt;
+            ends_on(rt.alloc(), run.words, run.script, run.told, run.printed),
+            "at {} of {:?}",
+            run.script,
+            run.words
+        );
+    }
 }
 
 #[test]
@@ -72,10 +112,15 @@ fn tells_of_output(alloc: Global, refusal: Refusal) -> bool {
 
 #[test]
 fn a_writer_that_refuses_is_told(rt: HostRuntime) {
-    assert!(rt; tells_of_output(rt.alloc(), Refusal::Write));
-    assert!(rt; tells_of_output(rt.alloc(), Refusal::Flush));
-    assert!(rt; tells_of_output(rt.alloc(), Refusal::Nothing));
-    assert!(rt; tells_of_output(rt.alloc(), Refusal::Interrupted));
+    let refusals: &[Refusal] = &[
+        Refusal::Write,
+        Refusal::Flush,
+        Refusal::Nothing,
+        Refusal::Interrupted,
+    ];
+    for (i, refusal) in refusals.iter().enumerate() {
+        assert!(rt; tells_of_output(rt.alloc(), *refusal), "at refusal {i}");
+    }
 }
 
 #[test]

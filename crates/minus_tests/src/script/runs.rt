@@ -2,7 +2,6 @@
 use crate::shown::is_shown;
 use minus_script::{Mode, run_script};
 use std::alloc::Global;
-use std::process::Abort;
 
 const SETUP: &str = "\x1b[?1049h\x1b[?1000h\x1b[?1002h\x1b[?1003h\x1b[?1015h\x1b[?1006h\x1b[?25l";
 
@@ -28,18 +27,27 @@ fn draws(alloc: Global, cols: usize, rows: usize, script: &str, drawn: &str) -> 
 }
 
 #[test]
-fn the_bytes_of_an_empty_script(rt: HostRuntime) {
-    let page = "\x1b[1;1H\x1b[2J\x1b[3;1H\r\x1b[2K\x1b[2;40;37mminus \x1b[0m";
-    assert!(rt; draws(rt.alloc(), 6, 2, "", page));
-}
-
-#[test]
-fn the_bytes_of_a_push(rt: HostRuntime) {
-    let pages = concat!(
-        "\x1b[1;1H\x1b[2J\x1b[6;1H\r\x1b[2K\x1b[2;40;37mminus               \x1b[0m",
-        "\x1b[1;1H\x1b[2Kone\x1b[2;1H\x1b[2Ktwo\x1b[3;1H\x1b[2Kthree",
-    );
-    assert!(rt; draws(rt.alloc(), 20, 5, "push one\\ntwo\\nthree", pages));
+fn prints_the_bytes_of_a_script(rt: HostRuntime) {
+    let cases: &[(usize, usize, &str, &str)] = &[
+        (
+            6,
+            2,
+            "",
+            "\x1b[1;1H\x1b[2J\x1b[3;1H\r\x1b[2K\x1b[2;40;37mminus \x1b[0m",
+        ),
+        (
+            20,
+            5,
+            "push one\\ntwo\\nthree",
+            "\x1b[1;1H\x1b[2J\x1b[6;1H\r\x1b[2K\x1b[2;40;37mminus               \x1b[0m\x1b[1;1H\x1b[2Kone\x1b[2;1H\x1b[2Ktwo\x1b[3;1H\x1b[2Kthree",
+        ),
+    ];
+    for (cols, rows, script, drawn) in cases {
+        assert!(rt;
+            draws(rt.alloc(), *cols, *rows, script, drawn),
+            "at {script}"
+        );
+    }
 }
 
 // Whether a script leads to this page of so many columns and rows.
@@ -50,56 +58,56 @@ fn leads_to(alloc: Global, cols: usize, rows: usize, script: &str, page: &str) -
         && out.as_slice() == page.as_bytes()
 }
 
-// Fails where a script leads to another page: columns, rows, script and page of each case.
-fn assert_lead_to(rt: &impl Abort, alloc: Global, cases: &[(usize, usize, &str, &str)]) {
-    for (cols, rows, script, page) in cases {
-        assert!(rt; leads_to(alloc, *cols, *rows, script, page), "at {script}");
-    }
-}
+// Columns, rows, a script and the page that it leads to.
+const PAGES: [(usize, usize, &str, &str); 8] = [
+    (
+        20,
+        2,
+        "push ab cd\ntype q/\nresize 3 4\n",
+        "ab\ncd\n\n\\e[2;40;37mmin\\e[0m\n",
+    ),
+    (
+        4,
+        4,
+        "push aaaa    \\r",
+        "aaaa\n\\r\n\n\\e[2;40;37mminu\\e[0m\n",
+    ),
+    (
+        4,
+        4,
+        "push aaaa    \\r\npush \\n",
+        "aaaa\n\n\n\\e[2;40;37mminu\\e[0m\n",
+    ),
+    (20, 3, "", "\n\n\\e[2;40;37mminus               \\e[0m\n"),
+    (
+        20,
+        3,
+        "push ",
+        "\n\n\\e[2;40;37mminus               \\e[0m\n",
+    ),
+    (
+        4,
+        3,
+        "push a\\nb\nset c\\nd\\ne\\nf\nmark 9\n",
+        "e\nf\n\\e[2;40;37mminu\\e[0m\n",
+    ),
+    (
+        20,
+        2,
+        "follow on\nprompt p\nmessage hi\npush a\\nb",
+        "b\n\\e[30;1;41mhi               \\e[1m[F]\\e[0m\n",
+    ),
+    (20, 2, "showprompt off\npush a", "a\n\n"),
+];
 
 #[test]
 fn prints_the_page_that_a_script_leads_to(rt: HostRuntime) {
-    let cases = &[
-        (
-            20,
-            2,
-            "push ab cd\ntype q/\nresize 3 4\n",
-            "ab\ncd\n\n\\e[2;40;37mmin\\e[0m\n",
-        ),
-        (
-            4,
-            4,
-            "push aaaa    \\r",
-            "aaaa\n\\r\n\n\\e[2;40;37mminu\\e[0m\n",
-        ),
-        (
-            4,
-            4,
-            "push aaaa    \\r\npush \\n",
-            "aaaa\n\n\n\\e[2;40;37mminu\\e[0m\n",
-        ),
-        (20, 3, "", "\n\n\\e[2;40;37mminus               \\e[0m\n"),
-        (
-            20,
-            3,
-            "push ",
-            "\n\n\\e[2;40;37mminus               \\e[0m\n",
-        ),
-        (
-            4,
-            3,
-            "push a\\nb\nset c\\nd\\ne\\nf\nmark 9\n",
-            "e\nf\n\\e[2;40;37mminu\\e[0m\n",
-        ),
-        (
-            20,
-            2,
-            "follow on\nprompt p\nmessage hi\npush a\\nb",
-            "b\n\\e[30;1;41mhi               \\e[1m[F]\\e[0m\n",
-        ),
-        (20, 2, "showprompt off\npush a", "a\n\n"),
-    ];
-    assert_lead_to(&rt, rt.alloc(), cases);
+    for (cols, rows, script, page) in &PAGES {
+        assert!(rt;
+            leads_to(rt.alloc(), *cols, *rows, script, page),
+            "at {script}"
+        );
+    }
 }
 
 // Whether a page of 300 rows begins with this text, and goes on with a blank row.
@@ -128,11 +136,18 @@ fn is_refused(alloc: Global, cols: usize, rows: usize, script: &str, told: &str)
 
 #[test]
 fn a_fault_prints_nothing(rt: HostRuntime) {
-    let alloc = rt.alloc();
-    assert!(rt; is_refused(alloc, 0, 10, "push a", "refused 5"));
-    assert!(rt; is_refused(alloc, 10, 0, "", "refused 5"));
-    assert!(rt; is_refused(alloc, 65_536, 1, "", "refused 5"));
-    assert!(rt; is_refused(alloc, 20, 2, "resize 0 10\npush a", "refused 5"));
-    assert!(rt; is_refused(alloc, 20, 2, "push a\nprompt a\\nb", "refused 2"));
-    assert!(rt; is_refused(alloc, 0, 10, "push a\npull b\n", "script line 2"));
+    let cases: &[(usize, usize, &str, &str)] = &[
+        (0, 10, "push a", "refused 5"),
+        (10, 0, "", "refused 5"),
+        (65_536, 1, "", "refused 5"),
+        (20, 2, "resize 0 10\npush a", "refused 5"),
+        (20, 2, "push a\nprompt a\\nb", "refused 2"),
+        (0, 10, "push a\npull b\n", "script line 2"),
+    ];
+    for (cols, rows, script, told) in cases {
+        assert!(rt;
+            is_refused(rt.alloc(), *cols, *rows, script, told),
+            "at {cols} and {script}"
+        );
+    }
 }

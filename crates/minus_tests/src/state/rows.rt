@@ -15,15 +15,20 @@ fn is_marked(alloc: Global, row: &str, start: usize, end: usize, marked: &str) -
 
 #[test]
 fn selected_characters_are_marked(rt: HostRuntime) {
-    let alloc = rt.alloc();
-    let before = "\x1b[7mab\x1b[0m\x1b[27mc";
-    assert!(rt; is_marked(alloc, "ab\x1b[0mc", 0, 2, before));
-    // to the row's end, past a sequence there
-    let to_the_end = "a\x1b[7mb\x1b[0m\x1b[27m";
-    assert!(rt; is_marked(alloc, "ab\x1b[0m", 1, 9, to_the_end));
-    // nothing is marked in a row that is shorter, or between no columns
-    assert!(rt; is_marked(alloc, "ab", 2, 3, "ab"));
-    assert!(rt; is_marked(alloc, "ab", 1, 1, "ab"));
+    let cases: &[(&str, usize, usize, &str)] = &[
+        ("ab\x1b[0mc", 0, 2, "\x1b[7mab\x1b[0m\x1b[27mc"),
+        // to the row's end, past a sequence there
+        ("ab\x1b[0m", 1, 9, "a\x1b[7mb\x1b[0m\x1b[27m"),
+        // nothing is marked in a row that is shorter, or between no columns
+        ("ab", 2, 3, "ab"),
+        ("ab", 1, 1, "ab"),
+    ];
+    for (row, start, end, marked) in cases {
+        assert!(rt;
+            is_marked(rt.alloc(), row, *start, *end, marked),
+            "at {row} from {start}"
+        );
+    }
 }
 
 #[test]

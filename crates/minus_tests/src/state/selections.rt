@@ -1,73 +1,112 @@
 //! Worked selections: the ends that places of the page select.
-use crate::state::texts::{end, form};
-use minus_state::{Selection, View, selection_from_coordinates};
-use minus_text::{Layout, LineNumbers, Screen};
+use crate::state::texts::{NUMBERED, PLAIN, end, form};
+use minus_state::{View, selection_from_coordinates};
+use minus_text::{Layout, Screen};
 use std::alloc::Global;
 
 const TEN: &str = "0\n1\n2\n3\n4\n5\n6\n7\n8\n9";
 
-// Whether a place of the page, a column and a row, selects this end, or none.
-fn selects(
-    alloc: Global,
-    text: &str,
+// A text that is shown, a place of the page, a column and a row, and the end that it selects, a row and a column, if one.
+#[derive(Clone, Copy)]
+struct Selected<'a> {
+    text: &'a str,
     layout: Layout,
     view: View,
     place: (u16, u16),
-    selected: Option<Selection>,
-) -> bool {
+    end: Option<(usize, usize)>,
+}
+
+// Whether a place selects its end.
+fn selects(alloc: Global, case: &Selected<'_>) -> bool {
     let mut screen = Screen::new(alloc);
-    form(alloc, &mut screen, text, layout)
-        && selection_from_coordinates(&screen, view, place.0, place.1) == selected
+    form(alloc, &mut screen, case.text, case.layout)
+        && selection_from_coordinates(&screen, case.view, case.place.0, case.place.1)
+            == case.end.map(|(row, col)| end(row, col))
 }
 
-// The same of a page of five rows that begins at a row of the text.
-fn selects_below(
-    alloc: Global,
-    text: &str,
-    upper_mark: usize,
-    place: (u16, u16),
-    selected: Option<Selection>,
-) -> bool {
-    let view = View {
-        upper_mark,
-        left_mark: 0,
-        rows: 5,
-    };
-    selects(alloc, text, Layout::plain(20), view, place, selected)
-}
+// A page of five rows that begins at the third row of the text.
+const FIVE_ROWS: View = View {
+    upper_mark: 2,
+    left_mark: 0,
+    rows: 5,
+};
 
-#[test]
-fn places_of_the_page_select_rows(rt: HostRuntime) {
-    let alloc = rt.alloc();
-    assert!(rt; selects_below(alloc, TEN, 2, (0, 0), Some(end(2, 0))));
-    assert!(rt; selects_below(alloc, TEN, 4, (0, 3), Some(end(7, 0))));
-    // past the last row
-    let six = "0\n1\n2\n3\n4\n5";
-    assert!(rt; selects_below(alloc, six, 2, (0, 3), Some(end(5, 0))));
-    // in the prompt's row, and without a row
-    assert!(rt; selects_below(alloc, TEN, 3, (0, 4), None));
-    assert!(rt; selects_below(alloc, "", 0, (0, 0), None));
-}
+// Ten lines on it.
+const TEN_ON_FIVE: Selected<'static> = Selected {
+    text: TEN,
+    layout: PLAIN,
+    view: FIVE_ROWS,
+    place: (0, 0),
+    end: Some((2, 0)),
+};
 
-// The same of numbered lines that are shown from their fourth column on.
-fn selects_behind(alloc: Global, place: (u16, u16), selected: Selection) -> bool {
-    let layout = Layout {
-        cols: 11,
-        wrapping: false,
-        numbers: LineNumbers::Enabled,
-    };
-    let view = View {
+// Numbered lines that are shown from their fourth column on.
+const BEHIND: Selected<'static> = Selected {
+    text: "abcdefghij\nklmnopqrst\nuvwxyz\n",
+    layout: NUMBERED,
+    view: View {
         upper_mark: 0,
         left_mark: 3,
         rows: 10,
-    };
-    let text = "abcdefghij\nklmnopqrst\nuvwxyz\n";
-    selects(alloc, text, layout, view, place, Some(selected))
-}
+    },
+    place: (9, 0),
+    end: Some((0, 4)),
+};
+
+const SELECTED: [Selected<'static>; 8] = [
+    TEN_ON_FIVE,
+    Selected {
+        view: View {
+            upper_mark: 4,
+            ..FIVE_ROWS
+        },
+        place: (0, 3),
+        end: Some((7, 0)),
+        ..TEN_ON_FIVE
+    },
+    // past the last row
+    Selected {
+        text: "0\n1\n2\n3\n4\n5",
+        place: (0, 3),
+        end: Some((5, 0)),
+        ..TEN_ON_FIVE
+    },
+    // in the prompt's row, and without a row
+    Selected {
+        view: View {
+            upper_mark: 3,
+            ..FIVE_ROWS
+        },
+        place: (0, 4),
+        end: None,
+        ..TEN_ON_FIVE
+    },
+    Selected {
+        text: "",
+        view: View {
+            upper_mark: 0,
+            ..FIVE_ROWS
+        },
+        end: None,
+        ..TEN_ON_FIVE
+    },
+    // columns count from the left mark
+    BEHIND,
+    Selected {
+        place: (9, 2),
+        end: Some((2, 4)),
+        ..BEHIND
+    },
+    Selected {
+        place: (2, 1),
+        end: Some((1, 3)),
+        ..BEHIND
+    },
+];
 
 #[test]
-fn columns_count_from_the_left_mark(rt: HostRuntime) {
-    assert!(rt; selects_behind(rt.alloc(), (9, 0), end(0, 4)));
-    assert!(rt; selects_behind(rt.alloc(), (9, 2), end(2, 4)));
-    assert!(rt; selects_behind(rt.alloc(), (2, 1), end(1, 3)));
+fn places_of_the_page_select_ends(rt: HostRuntime) {
+    for (i, case) in SELECTED.iter().enumerate() {
+        assert!(rt; selects(rt.alloc(), case), "at case {i}");
+    }
 }

@@ -1,5 +1,5 @@
 //! Worked shown rows.
-use crate::state::texts::{ends, form, form_searched};
+use crate::state::texts::{PLAIN, ends, form, form_searched};
 use minus_state::{Rendering, SelectionEnds, render_rows_for_display};
 use minus_text::{Layout, LineNumbers, Screen};
 use std::alloc::Global;
@@ -9,126 +9,205 @@ const NOTHING: SelectionEnds = SelectionEnds {
     selection: None,
 };
 
-// A layout in which lines are not wrapped.
-fn unwrapped(cols: usize, numbers: LineNumbers) -> Layout {
-    Layout {
-        cols,
-        wrapping: false,
-        numbers,
+// A text in a layout, what it is searched for, if anything, the ends of what is selected of it, each a row and a column, and
+// how its first row is shown from a left mark on.
+#[derive(Clone, Copy)]
+struct Shown<'a> {
+    text: &'a str,
+    term: Option<&'a str>,
+    layout: Layout,
+    left_mark: usize,
+    ends: Option<((usize, usize), (usize, usize))>,
+    row: &'a str,
+}
+
+// Forms a text, searched for a term if there is one.
+fn form_case(alloc: Global, screen: &mut Screen, case: &Shown<'_>) -> bool {
+    match case.term {
+        Some(term) => form_searched(alloc, screen, case.text, case.layout, term),
+        None => form(alloc, screen, case.text, case.layout),
     }
 }
 
 // Whether the first row of a screen is shown so, and is all that is shown up to the second.
-fn shows(alloc: Global, screen: &Screen, left_mark: usize, ends: SelectionEnds, row: &str) -> bool {
+fn shows(alloc: Global, screen: &Screen, case: &Shown<'_>) -> bool {
     let rendering = Rendering {
         screen,
-        left_mark,
-        ends,
+        left_mark: case.left_mark,
+        ends: case.ends.map_or(NOTHING, |(anchor, end)| ends(anchor, end)),
     };
     let Ok(rows) = render_rows_for_display(alloc, &rendering, 0, 1) else {
         return false;
     };
     match rows.as_slice() {
-        [shown] => shown.as_str() == row,
+        [shown] => shown.as_str() == case.row,
         _ => false,
     }
 }
 
-// The same of the first row of a text.
-fn is_shown(
-    alloc: Global,
-    text: &str,
-    layout: Layout,
-    left_mark: usize,
-    ends: SelectionEnds,
-    row: &str,
-) -> bool {
+// Whether the first row of a text is shown so.
+fn is_shown(alloc: Global, case: &Shown<'_>) -> bool {
     let mut screen = Screen::new(alloc);
-    form(alloc, &mut screen, text, layout) && shows(alloc, &screen, left_mark, ends, row)
+    form_case(alloc, &mut screen, case) && shows(alloc, &screen, case)
 }
 
-// The same of the first row of a text that was searched for a term.
-fn is_found_shown(
-    alloc: Global,
-    (text, term): (&str, &str),
-    layout: Layout,
-    left_mark: usize,
-    ends: SelectionEnds,
-    row: &str,
-) -> bool {
-    let mut screen = Screen::new(alloc);
-    form_searched(alloc, &mut screen, text, layout, term)
-        && shows(alloc, &screen, left_mark, ends, row)
-}
+// A layout of four columns whose lines are not wrapped.
+const UNWRAPPED: Layout = Layout {
+    cols: 4,
+    wrapping: false,
+    numbers: LineNumbers::Disabled,
+};
 
-// Whether some columns of a line are shown so.
-fn is_cropped(alloc: Global, text: &str, cols: usize, left_mark: usize, row: &str) -> bool {
-    let layout = unwrapped(cols, LineNumbers::Disabled);
-    is_shown(alloc, text, layout, left_mark, NOTHING, row)
-}
+// A line in it, with nothing selected.
+const CROPPED: Shown<'static> = Shown {
+    text: "日本語abc",
+    term: None,
+    layout: UNWRAPPED,
+    left_mark: 0,
+    ends: None,
+    row: "日本",
+};
 
-#[test]
-fn rows_are_shown_from_the_left_mark_on(rt: HostRuntime) {
-    let alloc = rt.alloc();
-    assert!(rt; is_cropped(alloc, "日本語abc", 4, 0, "日本"));
-    assert!(rt; is_cropped(alloc, "日本語abc", 4, 1, " 本 "));
-    assert!(rt; is_cropped(alloc, "日本語abc", 4, 2, "本語"));
-    assert!(rt; is_cropped(alloc, "日本語abc", 4, 5, " abc"));
-    let red = "\x1b[31mred\x1b[0m";
-    assert!(rt; is_cropped(alloc, red, 2, 1, "\x1b[31med\x1b[0m"));
-    assert!(rt; is_cropped(alloc, "a▲b", 3, 0, "a▲b"));
-}
+// A numbered one, of which 12 columns are shown.
+const NUMBERED_LINE: Shown<'static> = Shown {
+    text: "abcdefghij",
+    layout: Layout {
+        cols: 12,
+        numbers: LineNumbers::Enabled,
+        ..UNWRAPPED
+    },
+    ..CROPPED
+};
 
-#[test]
-fn numbers_stay_before_what_is_scrolled(rt: HostRuntime) {
-    let alloc = rt.alloc();
-    let layout = unwrapped(12, LineNumbers::Enabled);
-    let third = "     \x1b[1m1.\x1b[0m cdef";
-    assert!(rt; is_shown(alloc, "abcdefghij", layout, 2, NOTHING, third));
-    let seventh = "     \x1b[1m1.\x1b[0m ghij";
-    assert!(rt; is_shown(alloc, "abcdefghij", layout, 6, NOTHING, seventh));
-}
-
-#[test]
-fn what_is_selected_is_shown_in_reverse(rt: HostRuntime) {
-    let layout = Layout::plain(20);
-    let ends = ends((0, 0), (0, 1));
-    let row = "\x1b[7mab\x1b[0m\x1b[27mc";
-    assert!(rt; is_shown(rt.alloc(), "ab\x1b[0mc", layout, 0, ends, row));
-}
-
-#[test]
-fn the_left_mark_is_taken_from_what_is_selected(rt: HostRuntime) {
-    let layout = unwrapped(12, LineNumbers::Enabled);
-    let ends = ends((0, 3), (0, 4));
-    let row = "     \x1b[1m1.\x1b[0m c\x1b[7mde\x1b[27mf";
-    assert!(rt; is_shown(rt.alloc(), "abcdefghij", layout, 2, ends, row));
-}
-
-// Whether three columns of a line that was searched for a term are shown so.
-fn is_found_cropped(alloc: Global, text: &str, term: &str, left_mark: usize, row: &str) -> bool {
-    let layout = unwrapped(3, LineNumbers::Disabled);
-    is_found_shown(alloc, (text, term), layout, left_mark, NOTHING, row)
-}
-
-#[test]
-fn a_cropped_row_keeps_the_markers_of_its_matches(rt: HostRuntime) {
-    let alloc = rt.alloc();
+const SHOWN: [&Shown<'static>; 15] = [
+    // rows are shown from the left mark on
+    &CROPPED,
+    &Shown {
+        left_mark: 1,
+        row: " 本 ",
+        ..CROPPED
+    },
+    &Shown {
+        left_mark: 2,
+        row: "本語",
+        ..CROPPED
+    },
+    &Shown {
+        left_mark: 5,
+        row: " abc",
+        ..CROPPED
+    },
+    &Shown {
+        text: "\x1b[31mred\x1b[0m",
+        layout: Layout {
+            cols: 2,
+            ..UNWRAPPED
+        },
+        left_mark: 1,
+        row: "\x1b[31med\x1b[0m",
+        ..CROPPED
+    },
+    &Shown {
+        text: "a▲b",
+        layout: Layout {
+            cols: 3,
+            ..UNWRAPPED
+        },
+        row: "a▲b",
+        ..CROPPED
+    },
     // the left mark stands in the match, or behind it
-    assert!(rt; is_found_cropped(alloc, "abcdef", "cd", 3, "\x1b[7md\x1b[27mef"));
-    assert!(rt; is_found_cropped(alloc, "abcdef", "cd", 4, "\x1b[7m\x1b[27mef"));
+    &Shown {
+        text: "abcdef",
+        term: Some("cd"),
+        layout: Layout {
+            cols: 3,
+            ..UNWRAPPED
+        },
+        left_mark: 3,
+        row: "\x1b[7md\x1b[27mef",
+        ..CROPPED
+    },
+    &Shown {
+        text: "abcdef",
+        term: Some("cd"),
+        layout: Layout {
+            cols: 3,
+            ..UNWRAPPED
+        },
+        left_mark: 4,
+        row: "\x1b[7m\x1b[27mef",
+        ..CROPPED
+    },
     // the match stands behind what is shown
-    assert!(rt; is_found_cropped(alloc, "abcdef", "e", 0, "abc\x1b[7m\x1b[27m"));
+    &Shown {
+        text: "abcdef",
+        term: Some("e"),
+        layout: Layout {
+            cols: 3,
+            ..UNWRAPPED
+        },
+        row: "abc\x1b[7m\x1b[27m",
+        ..CROPPED
+    },
     // half of the match's character is shown
-    assert!(rt; is_found_cropped(alloc, "日本", "日", 1, "\x1b[7m \x1b[27m本"));
-}
+    &Shown {
+        text: "日本",
+        term: Some("日"),
+        layout: Layout {
+            cols: 3,
+            ..UNWRAPPED
+        },
+        left_mark: 1,
+        row: "\x1b[7m \x1b[27m本",
+        ..CROPPED
+    },
+    // numbers stay before what is scrolled
+    &Shown {
+        left_mark: 2,
+        row: "     \x1b[1m1.\x1b[0m cdef",
+        ..NUMBERED_LINE
+    },
+    &Shown {
+        left_mark: 6,
+        row: "     \x1b[1m1.\x1b[0m ghij",
+        ..NUMBERED_LINE
+    },
+    // the left mark is taken from what is selected
+    &Shown {
+        left_mark: 2,
+        ends: Some(((0, 3), (0, 4))),
+        row: "     \x1b[1m1.\x1b[0m c\x1b[7mde\x1b[27mf",
+        ..NUMBERED_LINE
+    },
+    // what is selected is shown in reverse, also beside a match
+    &Shown {
+        text: "ab\x1b[0mc",
+        layout: PLAIN,
+        ends: Some(((0, 0), (0, 1))),
+        row: "\x1b[7mab\x1b[0m\x1b[27mc",
+        ..CROPPED
+    },
+    &Shown {
+        text: "ab",
+        term: Some("b"),
+        layout: PLAIN,
+        ends: Some(((0, 0), (0, 0))),
+        row: "\x1b[7ma\x1b[7m\x1b[27mb\x1b[27m",
+        ..CROPPED
+    },
+];
 
 #[test]
-fn a_selection_is_marked_beside_a_match(rt: HostRuntime) {
-    let layout = Layout::plain(20);
-    let ends = ends((0, 0), (0, 0));
-    let row = "\x1b[7ma\x1b[7m\x1b[27mb\x1b[27m";
-    assert!(rt; is_found_shown(rt.alloc(), ("ab", "b"), layout, 0, ends, row));
+fn rows_are_shown(rt: HostRuntime) {
+    for case in &SHOWN {
+        assert!(rt;
+            is_shown(rt.alloc(), case),
+            "at {} from {}",
+            case.text,
+            case.left_mark
+        );
+    }
 }
 
 // Whether the last two rows of a text are shown by what asks for more rows.

@@ -1,6 +1,6 @@
 //! Texts with their rows, and what is selected of them. Where memory runs out, each answer is `false`.
 use minus_state::{Selection, SelectionEnds};
-use minus_text::{Layout, Patterns, Screen, Term};
+use minus_text::{Layout, LineNumbers, Patterns, Screen, Term};
 use regex::Regex;
 use std::alloc::Global;
 
@@ -39,3 +39,17 @@ pub(crate) fn ends(anchor: (usize, usize), selection: (usize, usize)) -> Selecti
         selection: Some(end(selection.0, selection.1)),
     }
 }
+
+// A layout of 20 columns without numbers, whose lines are wrapped.
+pub(crate) const PLAIN: Layout = Layout {
+    cols: 20,
+    wrapping: true,
+    numbers: LineNumbers::Disabled,
+};
+
+// One of 11 columns with numbers, whose lines are not.
+pub(crate) const NUMBERED: Layout = Layout {
+    cols: 11,
+    wrapping: false,
+    numbers: LineNumbers::Enabled,
+};

@@ -11,38 +11,57 @@ fn broken() -> TermError {
 }
 
 // Whether an error has this number and text.
-fn is_named(alloc: Global, error: MinusError, number: u8, text: &str) -> bool {
-    error.number() == number && is_shown(alloc, &error, text)
+fn is_named(alloc: Global, error: &MinusError, number: u8, text: &str) -> bool {
+    error.number() == number && is_shown(alloc, error, text)
 }
+
+const NAMED: [(&MinusError, u8, &str); 7] = [
+    (&MinusError::Memory, 1, "refused 1"),
+    (&MinusError::NewlineInPrompt, 2, "refused 2"),
+    (&MinusError::BadSize(1, 2), 5, "refused 5"),
+    (&MinusError::BadMode, 9, "refused 9"),
+    (&MinusError::Failed, 10, "refused 10"),
+    (&MinusError::Ended, 11, "refused 11"),
+    (
+        &MinusError::Conversion,
+        0,
+        "Failed to convert between some primitives",
+    ),
+];
 
 #[test]
 fn names_each_error(rt: HostRuntime) {
-    let alloc = rt.alloc();
-    assert!(rt; is_named(alloc, MinusError::Memory, 1, "refused 1"));
-    assert!(rt; is_named(alloc, MinusError::NewlineInPrompt, 2, "refused 2"));
-    assert!(rt; is_named(alloc, MinusError::BadSize(1, 2), 5, "refused 5"));
-    assert!(rt; is_named(alloc, MinusError::BadMode, 9, "refused 9"));
-    assert!(rt; is_named(alloc, MinusError::Failed, 10, "refused 10"));
-    assert!(rt; is_named(alloc, MinusError::Ended, 11, "refused 11"));
-    let conversion = "Failed to convert between some primitives";
-    assert!(rt; is_named(alloc, MinusError::Conversion, 0, conversion));
-    let format = "Failed to send formatted data to the pager";
-    assert!(rt; is_named(alloc, MinusError::from(fmt::Error), 16, format));
+    for (error, number, text) in &NAMED {
+        assert!(rt; is_named(rt.alloc(), error, *number, text), "at {text}");
+    }
+}
+
+// Whether an error that has a cause has this number and text.
+fn has_name(alloc: Global, error: MinusError, number: u8, text: &str) -> bool {
+    is_named(alloc, &error, number, text)
 }
 
 #[test]
-fn names_each_error_of_a_terminal(rt: HostRuntime) {
+fn names_each_error_with_a_cause(rt: HostRuntime) {
     let alloc = rt.alloc();
     let setup = MinusError::from(SetupError::InvalidTerminal);
-    assert!(rt; is_named(alloc, setup, 12, "Failed to initialize the terminal"));
     let cleanup = MinusError::from(CleanupError::ShowCursor(broken()));
-    assert!(rt; is_named(alloc, cleanup, 13, "Failed to clean up the terminal"));
     let draw = MinusError::from(io::Error::from(ErrorKind::BrokenPipe));
-    assert!(rt; is_named(alloc, draw, 14, "Failed to draw the new data"));
     let event = MinusError::HandleEvent(broken());
-    assert!(rt; is_named(alloc, event, 0, "Failed to handle terminal event"));
     let cursor = MinusError::from(broken());
-    assert!(rt; is_named(alloc, cursor, 0, "Failed to do an operation on the cursor"));
+    let format = MinusError::from(fmt::Error);
+    let are_named = has_name(alloc, setup, 12, "Failed to initialize the terminal")
+        & has_name(alloc, cleanup, 13, "Failed to clean up the terminal")
+        & has_name(alloc, draw, 14, "Failed to draw the new data")
+        & has_name(alloc, event, 0, "Failed to handle terminal event")
+        & has_name(alloc, cursor, 0, "Failed to do an operation on the cursor")
+        & has_name(
+            alloc,
+            format,
+            16,
+            "Failed to send formatted data to the pager",
+        );
+    assert!(rt; are_named);
 }
 
 // Whether an error of a setup has this text.
@@ -53,18 +72,33 @@ fn is_setup(alloc: Global, error: SetupError, text: &str) -> bool {
 #[test]
 fn names_each_error_of_a_setup(rt: HostRuntime) {
     let alloc = rt.alloc();
-    let invalid = "The standard output is not a valid terminal";
-    assert!(rt; is_setup(alloc, SetupError::InvalidTerminal, invalid));
-    let screen = "Failed to switch to alternate screen";
-    assert!(rt; is_setup(alloc, SetupError::AlternateScreen(broken()), screen));
-    let raw = "Failed to enable raw mode";
-    assert!(rt; is_setup(alloc, SetupError::RawMode(broken()), raw));
-    let cursor = "Failed to hide the cursor";
-    assert!(rt; is_setup(alloc, SetupError::HideCursor(broken()), cursor));
-    let mouse = "Failed to enable mouse capture";
-    assert!(rt; is_setup(alloc, SetupError::EnableMouseCapture(broken()), mouse));
-    let size = "Couldn't determine the terminal size";
-    assert!(rt; is_setup(alloc, SetupError::TerminalSize(broken()), size));
+    let invalid = SetupError::InvalidTerminal;
+    let are_named = is_setup(
+        alloc,
+        invalid,
+        "The standard output is not a valid terminal",
+    ) & is_setup(
+        alloc,
+        SetupError::AlternateScreen(broken()),
+        "Failed to switch to alternate screen",
+    ) & is_setup(
+        alloc,
+        SetupError::RawMode(broken()),
+        "Failed to enable raw mode",
+    ) & is_setup(
+        alloc,
+        SetupError::HideCursor(broken()),
+        "Failed to hide the cursor",
+    ) & is_setup(
+        alloc,
+        SetupError::EnableMouseCapture(broken()),
+        "Failed to enable mouse capture",
+    ) & is_setup(
+        alloc,
+        SetupError::TerminalSize(broken()),
+        "Couldn't determine the terminal size",
+    );
+    assert!(rt; are_named);
 }
 
 // Whether an error of a cleanup has this text.
@@ -75,14 +109,24 @@ fn is_cleanup(alloc: Global, error: CleanupError, text: &str) -> bool {
 #[test]
 fn names_each_error_of_a_cleanup(rt: HostRuntime) {
     let alloc = rt.alloc();
-    let mouse = "Failed to disable mouse capture";
-    assert!(rt; is_cleanup(alloc, CleanupError::DisableMouseCapture(broken()), mouse));
-    let cursor = "Failed to show the cursor";
-    assert!(rt; is_cleanup(alloc, CleanupError::ShowCursor(broken()), cursor));
-    let raw = "Failed to disable raw mode";
-    assert!(rt; is_cleanup(alloc, CleanupError::DisableRawMode(broken()), raw));
-    let screen = "Failed to switch back to main screen";
-    assert!(rt; is_cleanup(alloc, CleanupError::LeaveAlternateScreen(broken()), screen));
+    let are_named = is_cleanup(
+        alloc,
+        CleanupError::DisableMouseCapture(broken()),
+        "Failed to disable mouse capture",
+    ) & is_cleanup(
+        alloc,
+        CleanupError::ShowCursor(broken()),
+        "Failed to show the cursor",
+    ) & is_cleanup(
+        alloc,
+        CleanupError::DisableRawMode(broken()),
+        "Failed to disable raw mode",
+    ) & is_cleanup(
+        alloc,
+        CleanupError::LeaveAlternateScreen(broken()),
+        "Failed to switch back to main screen",
+    );
+    assert!(rt; are_named);
 }
 
 #[test]
@@ -99,7 +143,7 @@ fn too_big() -> RegexError {
 fn is_named_by_its_cause(alloc: Global, text: &mut String) -> bool {
     write!(text, "{}", regex::Error::CompiledTooBig).is_ok()
         && is_shown(alloc, &too_big(), text.as_str())
-        && is_named(alloc, MinusError::from(too_big()), 15, text.as_str())
+        && has_name(alloc, MinusError::from(too_big()), 15, text.as_str())
 }
 
 #[test]

@@ -5,7 +5,6 @@ use minus_term::{
     MouseEventKind,
 };
 use std::hash::{DefaultHasher, Hash, Hasher};
-use std::process::Abort;
 
 // A character's key, pressed.
 fn pressed(character: char, modifiers: KeyModifiers) -> KeyEvent {
@@ -37,11 +36,12 @@ fn are_apart(one: KeyEvent, other: KeyEvent) -> bool {
 #[test]
 fn letters_with_shift_equal_their_capitals(rt: HostRuntime) {
     let small = pressed('a', KeyModifiers::SHIFT);
-    assert!(rt; are_equal(small, pressed('A', KeyModifiers::NONE)));
-    assert!(rt; are_equal(small, pressed('A', KeyModifiers::SHIFT)));
-    assert!(rt; are_apart(small, pressed('a', KeyModifiers::NONE)));
-    assert!(rt; are_apart(small, pressed('A', KeyModifiers::CONTROL)));
-    assert!(rt; are_apart(small, pressed('B', KeyModifiers::SHIFT)));
+    let is_equal = are_equal(small, pressed('A', KeyModifiers::NONE))
+        && are_equal(small, pressed('A', KeyModifiers::SHIFT));
+    let is_apart = are_apart(small, pressed('a', KeyModifiers::NONE))
+        && are_apart(small, pressed('A', KeyModifiers::CONTROL))
+        && are_apart(small, pressed('B', KeyModifiers::SHIFT));
+    assert!(rt; is_equal && is_apart);
 }
 
 #[test]
@@ -80,14 +80,6 @@ fn events_of_other_kinds_compare_all_they_hold(rt: HostRuntime) {
     assert!(rt; sizes && same && apart);
 }
 
-// Fails where modifiers have other bits, or bits are read as other modifiers.
-fn assert_modifiers(rt: &impl Abort, cases: &[(KeyModifiers, u8)]) {
-    for (modifiers, bits) in cases {
-        let back = KeyModifiers::from_bits(*bits) == Some(*modifiers);
-        assert!(rt; back && modifiers.bits() == *bits, "at {bits}");
-    }
-}
-
 #[test]
 fn modifiers_have_their_bits(rt: HostRuntime) {
     let cases = &[
@@ -100,26 +92,24 @@ fn modifiers_have_their_bits(rt: HostRuntime) {
         (KeyModifiers::META, 32),
         (KeyModifiers::SHIFT | KeyModifiers::ALT, 5),
     ];
-    assert_modifiers(&rt, cases);
-}
-
-// Fails where a state has other bits, or bits are read as another state.
-fn assert_states(rt: &impl Abort, cases: &[(KeyEventState, u8)]) {
-    for (state, bits) in cases {
-        let back = KeyEventState::from_bits(*bits) == Some(*state);
-        assert!(rt; back && state.bits() == *bits, "at {bits}");
+    for (modifiers, bits) in cases {
+        let back = KeyModifiers::from_bits(*bits) == Some(*modifiers);
+        assert!(rt; back && modifiers.bits() == *bits, "at {bits}");
     }
 }
 
 #[test]
 fn states_have_their_bits(rt: HostRuntime) {
-    let cases = &[
+    let cases: &[(KeyEventState, u8)] = &[
         (KeyEventState::NONE, 0),
         (KeyEventState::KEYPAD, 1),
         (KeyEventState::CAPS_LOCK, 2),
         (KeyEventState::NUM_LOCK, 4),
     ];
-    assert_states(&rt, cases);
+    for (state, bits) in cases {
+        let back = KeyEventState::from_bits(*bits) == Some(*state);
+        assert!(rt; back && state.bits() == *bits, "at {bits}");
+    }
 }
 
 #[test]

@@ -5,7 +5,6 @@ use minus_term::{DrawOp, OutputSink, draw_bytes, write_bytes, write_op};
 use std::alloc::Global;
 use std::io;
 use std::io::ErrorKind;
-use std::process::Abort;
 
 // Whether an operation is written as these bytes.
 fn is_written(alloc: Global, op: &DrawOp<'_>, bytes: &str) -> bool {
@@ -13,31 +12,26 @@ fn is_written(alloc: Global, op: &DrawOp<'_>, bytes: &str) -> bool {
     write_op(alloc, &mut out, op).is_ok() && out.as_slice() == bytes.as_bytes()
 }
 
-// Fails where an operation is written otherwise.
-fn assert_written(rt: &impl Abort, alloc: Global, cases: &[(DrawOp<'_>, &str)]) {
-    for (op, bytes) in cases {
-        assert!(rt; is_written(alloc, op, bytes), "at {op:?}");
-    }
-}
-
 #[test]
 fn writes_each_operation(rt: HostRuntime) {
-    let cases = &[
-        (DrawOp::ClearAll, "\x1b[2J"),
-        (DrawOp::ClearRow, "\x1b[2K"),
-        (DrawOp::GoTo(4, 9), "\x1b[10;5H"),
-        (DrawOp::GoTo(65535, 65535), "\x1b[65536;65536H"),
-        (DrawOp::Return, "\r"),
-        (DrawOp::NextRow, "\n"),
-        (DrawOp::Put("a row"), "a row"),
-        (DrawOp::ScrollUp(0), ""),
-        (DrawOp::ScrollUp(12), "\x1b[12S"),
-        (DrawOp::ScrollDown(0), ""),
-        (DrawOp::ScrollDown(3), "\x1b[3T"),
-        (DrawOp::ShowCursor, "\x1b[?25h"),
-        (DrawOp::HideCursor, "\x1b[?25l"),
+    let cases: &[(&DrawOp<'_>, &str)] = &[
+        (&DrawOp::ClearAll, "\x1b[2J"),
+        (&DrawOp::ClearRow, "\x1b[2K"),
+        (&DrawOp::GoTo(4, 9), "\x1b[10;5H"),
+        (&DrawOp::GoTo(65535, 65535), "\x1b[65536;65536H"),
+        (&DrawOp::Return, "\r"),
+        (&DrawOp::NextRow, "\n"),
+        (&DrawOp::Put("a row"), "a row"),
+        (&DrawOp::ScrollUp(0), ""),
+        (&DrawOp::ScrollUp(12), "\x1b[12S"),
+        (&DrawOp::ScrollDown(0), ""),
+        (&DrawOp::ScrollDown(3), "\x1b[3T"),
+        (&DrawOp::ShowCursor, "\x1b[?25h"),
+        (&DrawOp::HideCursor, "\x1b[?25l"),
     ];
-    assert_written(&rt, rt.alloc(), cases);
+    for (op, bytes) in cases {
+        assert!(rt; is_written(rt.alloc(), op, bytes), "at {op:?}");
+    }
 }
 
 #[test]

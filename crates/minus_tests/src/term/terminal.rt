@@ -85,16 +85,20 @@ fn is_setup_refused(alloc: Global, write: u32, flushes: u32, text: &str) -> bool
 
 #[test]
 fn names_the_part_of_a_setup(rt: HostRuntime) {
-    let alloc = rt.alloc();
-    let screen = "Failed to switch to alternate screen";
-    assert!(rt; is_setup_refused(alloc, 1, 0, screen));
-    assert!(rt; is_setup_refused(alloc, 8, 0, screen));
-    let mouse = "Failed to enable mouse capture";
-    assert!(rt; is_setup_refused(alloc, 9, 1, mouse));
-    assert!(rt; is_setup_refused(alloc, 48, 1, mouse));
-    let cursor = "Failed to hide the cursor";
-    assert!(rt; is_setup_refused(alloc, 49, 2, cursor));
-    assert!(rt; is_setup_refused(alloc, 54, 2, cursor));
+    let cases: &[(u32, u32, &str)] = &[
+        (1, 0, "Failed to switch to alternate screen"),
+        (8, 0, "Failed to switch to alternate screen"),
+        (9, 1, "Failed to enable mouse capture"),
+        (48, 1, "Failed to enable mouse capture"),
+        (49, 2, "Failed to hide the cursor"),
+        (54, 2, "Failed to hide the cursor"),
+    ];
+    for (write, flushes, text) in cases {
+        assert!(rt;
+            is_setup_refused(rt.alloc(), *write, *flushes, text),
+            "at write {write}"
+        );
+    }
 }
 
 // Whether a sink that takes nothing at a write is not cleaned up for this reason.
@@ -114,16 +118,20 @@ fn is_cleanup_refused(alloc: Global, write: u32, flushes: u32, text: &str) -> bo
 
 #[test]
 fn names_the_part_of_a_cleanup(rt: HostRuntime) {
-    let alloc = rt.alloc();
-    let cursor = "Failed to show the cursor";
-    assert!(rt; is_cleanup_refused(alloc, 1, 0, cursor));
-    assert!(rt; is_cleanup_refused(alloc, 6, 0, cursor));
-    let mouse = "Failed to disable mouse capture";
-    assert!(rt; is_cleanup_refused(alloc, 7, 1, mouse));
-    assert!(rt; is_cleanup_refused(alloc, 46, 1, mouse));
-    let screen = "Failed to switch back to main screen";
-    assert!(rt; is_cleanup_refused(alloc, 47, 2, screen));
-    assert!(rt; is_cleanup_refused(alloc, 54, 2, screen));
+    let cases: &[(u32, u32, &str)] = &[
+        (1, 0, "Failed to show the cursor"),
+        (6, 0, "Failed to show the cursor"),
+        (7, 1, "Failed to disable mouse capture"),
+        (46, 1, "Failed to disable mouse capture"),
+        (47, 2, "Failed to switch back to main screen"),
+        (54, 2, "Failed to switch back to main screen"),
+    ];
+    for (write, flushes, text) in cases {
+        assert!(rt;
+            is_cleanup_refused(rt.alloc(), *write, *flushes, text),
+            "at write {write}"
+        );
+    }
 }
 
 // Whether a sink is not set up since its mouse is not captured.

@@ -2,7 +2,7 @@
 use crate::text::screens::{has_rows, push, push_all, stores};
 use crate::text::told::{Told, tells};
 use minus_text::{FormatResult, Layout, LineNumbers, LinesRowMap, PendingPush, Screen};
-use std::alloc::{AllocError, Global};
+use std::alloc::Global;
 
 // Whether a screen has so many lines and rows, and its longest line so many columns, after these pieces.
 fn counts(alloc: Global, pieces: &str, lines: usize, rows: usize, longest: usize) -> bool {
@@ -15,10 +15,18 @@ fn counts(alloc: Global, pieces: &str, lines: usize, rows: usize, longest: usize
 
 #[test]
 fn lines_and_the_longest_are_counted(rt: HostRuntime) {
-    assert!(rt; counts(rt.alloc(), "", 0, 0, 0));
-    assert!(rt; counts(rt.alloc(), "abc\r", 1, 1, 3));
-    assert!(rt; counts(rt.alloc(), "abc\r|\n", 1, 1, 3));
-    assert!(rt; counts(rt.alloc(), "one\ntwo|", 2, 2, 3));
+    let cases: &[(&str, usize, usize, usize)] = &[
+        ("", 0, 0, 0),
+        ("abc\r", 1, 1, 3),
+        ("abc\r|\n", 1, 1, 3),
+        ("one\ntwo|", 2, 2, 3),
+    ];
+    for (pieces, lines, rows, longest) in cases {
+        assert!(rt;
+            counts(rt.alloc(), pieces, *lines, *rows, *longest),
+            "at {pieces}"
+        );
+    }
 }
 
 // How many unfinished rows the push of a piece tells, for 20 columns.
@@ -44,50 +52,61 @@ fn tells_unfinished(alloc: Global, pieces: &str, rows: usize) -> bool {
 
 #[test]
 fn unfinished_rows_are_told(rt: HostRuntime) {
-    let alloc = rt.alloc();
-    assert!(rt; tells_unfinished(alloc, "This is a quite lengthy line", 2));
-    let long = "This is a line. This is second line. ";
-    assert!(rt; tells_unfinished(alloc, long, 2));
-    let pieces = "This is a line. This is second line. |This is third line";
-    assert!(rt; tells_unfinished(alloc, pieces, 3));
-    let lines = "This is a line.\nThis is second line. ";
-    assert!(rt; tells_unfinished(alloc, lines, 1));
-    let third = "This is a line.\nThis is second line. |This is third line.";
-    assert!(rt; tells_unfinished(alloc, third, 2));
-    let finished = "This is a line.\nThis is second line. |This is third line.|\n";
-    assert!(rt; tells_unfinished(alloc, finished, 0));
+    let cases: &[(&str, usize)] = &[
+        ("This is a quite lengthy line", 2),
+        ("This is a line. This is second line. ", 2),
+        (
+            "This is a line. This is second line. |This is third line",
+            3,
+        ),
+        ("This is a line.\nThis is second line. ", 1),
+        (
+            "This is a line.\nThis is second line. |This is third line.",
+            2,
+        ),
+        (
+            "This is a line.\nThis is second line. |This is third line.|\n",
+            0,
+        ),
+    ];
+    for (pieces, rows) in cases {
+        assert!(rt; tells_unfinished(rt.alloc(), pieces, *rows), "at {pieces}");
+    }
 }
+
+// What the result of a text that is set tells, and that of a push onto it.
+const SET: Told<'static> = Told {
+    matching: "",
+    first: Some(0),
+    lines: 2,
+    rows: 2,
+    unfinished: 1,
+    longest: 2,
+    is_clean: true,
+};
+
+const PUSHED: Told<'static> = Told {
+    matching: "",
+    first: Some(1),
+    lines: 2,
+    rows: 2,
+    unfinished: 0,
+    longest: 3,
+    is_clean: false,
+};
 
 // Whether a text that is set tells what it formed.
 fn tells_set(alloc: Global, screen: &mut Screen) -> bool {
-    let wanted = Told {
-        matching: "",
-        first: Some(0),
-        lines: 2,
-        rows: 2,
-        unfinished: 1,
-        longest: 2,
-        is_clean: true,
-    };
     match screen.set_text(alloc, "ab\r\ncd", Layout::plain(80), None) {
-        Ok(answer) => tells(&answer, &wanted),
+        Ok(answer) => tells(&answer, &SET),
         Err(_) => false,
     }
 }
 
 // Whether a push onto it does.
 fn tells_push(alloc: Global, screen: &mut Screen) -> bool {
-    let wanted = Told {
-        matching: "",
-        first: Some(1),
-        lines: 2,
-        rows: 2,
-        unfinished: 0,
-        longest: 3,
-        is_clean: false,
-    };
     match screen.push_screen_buf(alloc, "e\nfg\n", LineNumbers::Disabled, 80, None) {
-        Ok(answer) => tells(&answer, &wanted) && answer.lines_to_row_map.get(1) == Some(2),
+        Ok(answer) => tells(&answer, &PUSHED) && answer.lines_to_row_map.get(1) == Some(2),
         Err(_) => false,
     }
 }
@@ -115,9 +134,14 @@ fn keeps(alloc: Global, pieces: &str, text: &str) -> bool {
 
 #[test]
 fn the_text_is_kept(rt: HostRuntime) {
-    assert!(rt; keeps(rt.alloc(), "ab\r\ncd|e\nfg\n", "ab\r\ncde\nfg\n"));
-    // a push of nothing changes nothing
-    assert!(rt; keeps(rt.alloc(), "one\ntwo|", "one\ntwo"));
+    let cases: &[(&str, &str)] = &[
+        ("ab\r\ncd|e\nfg\n", "ab\r\ncde\nfg\n"),
+        // a push of nothing changes nothing
+        ("one\ntwo|", "one\ntwo"),
+    ];
+    for (pieces, text) in cases {
+        assert!(rt; keeps(rt.alloc(), pieces, text), "at {pieces}");
+    }
 }
 
 // Whether a push of `ee`, a newline and `four` that is not made yet is seen.
@@ -164,19 +188,22 @@ fn a_push_is_seen_before_it_is_made(rt: HostRuntime) {
 }
 
 // Whether a map of three lines has their rows, and the one emptied into it has none.
-fn maps_three(alloc: Global) -> Result<bool, AllocError> {
+fn maps_three(alloc: Global) -> bool {
     let mut map = LinesRowMap::new(alloc);
-    map.insert(0, true)?;
-    map.insert(3, true)?;
-    map.insert(4, false)?;
     let mut other = LinesRowMap::new(alloc);
-    other.insert(6, true)?;
-    map.append(&mut other, true)?;
-    let has_three = map.len() == 3 && map.get(1) == Some(4) && map.row_to_line(5) == Some(1);
-    Ok(has_three && other.len() == 0)
+    let is_filled = map.insert(0, true).is_ok()
+        && map.insert(3, true).is_ok()
+        && map.insert(4, false).is_ok()
+        && other.insert(6, true).is_ok()
+        && map.append(&mut other, true).is_ok();
+    is_filled
+        && map.len() == 3
+        && map.get(1) == Some(4)
+        && map.row_to_line(5) == Some(1)
+        && other.len() == 0
 }
 
 #[test]
 fn a_map_of_lines(rt: HostRuntime) {
-    assert!(rt; matches!(maps_three(rt.alloc()), Ok(true)));
+    assert!(rt; maps_three(rt.alloc()));
 }

@@ -10,7 +10,6 @@ use std::alloc::Global;
 
 // A text and what it is attached to, the term that it is searched for, the rows that this leaves, each with a bar
 // behind it, and what is told.
-#[derive(Clone, Copy)]
 struct Case<'a> {
     attachment: Option<&'a str>,
     text: &'a str,
@@ -74,9 +73,9 @@ fn is_formatted(alloc: Global, case: &Case<'_>) -> bool {
     }
 }
 
-#[test]
-fn a_text_is_formatted_behind_others(rt: HostRuntime) {
-    let line = &Case {
+// A line, a text that is attached to an unfinished line, and no text.
+const BEHIND: [&Case<'static>; 3] = [
+    &Case {
         attachment: None,
         text: "this \x1b[34mis a te\x1b[0mst\n",
         term: "test",
@@ -90,8 +89,8 @@ fn a_text_is_formatted_behind_others(rt: HostRuntime) {
             longest: 14,
             is_clean: true,
         },
-    };
-    let attached = &Case {
+    },
+    &Case {
         attachment: Some("This is a line. This is second line. "),
         text: "This is third line",
         term: "third|second",
@@ -105,8 +104,8 @@ fn a_text_is_formatted_behind_others(rt: HostRuntime) {
             longest: 55,
             is_clean: false,
         },
-    };
-    let nothing = &Case {
+    },
+    &Case {
         attachment: None,
         text: "",
         term: "a",
@@ -120,10 +119,14 @@ fn a_text_is_formatted_behind_others(rt: HostRuntime) {
             longest: 0,
             is_clean: true,
         },
-    };
-    assert!(rt; is_formatted(rt.alloc(), line));
-    assert!(rt; is_formatted(rt.alloc(), attached));
-    assert!(rt; is_formatted(rt.alloc(), nothing));
+    },
+];
+
+#[test]
+fn a_text_is_formatted_behind_others(rt: HostRuntime) {
+    for case in &BEHIND {
+        assert!(rt; is_formatted(rt.alloc(), case), "at {}", case.text);
+    }
 }
 
 // Whether the numbered rows of a text by itself, in one column, are all that a buffer with a row holds after they were
@@ -145,24 +148,25 @@ fn is_formatted_alone(alloc: Global, case: &Case<'_>) -> bool {
     }
 }
 
+const ALONE: Case<'static> = Case {
+    attachment: None,
+    text: "ab",
+    term: "b",
+    rows: "     \x1b[1m1.\x1b[0m a|        \x1b[7mb\x1b[27m|",
+    told: Told {
+        matching: "1",
+        first: Some(0),
+        lines: 1,
+        rows: 2,
+        unfinished: 2,
+        longest: 2,
+        is_clean: true,
+    },
+};
+
 #[test]
 fn a_buffer_holds_the_rows_of_a_text_alone(rt: HostRuntime) {
-    let case = &Case {
-        attachment: None,
-        text: "ab",
-        term: "b",
-        rows: "     \x1b[1m1.\x1b[0m a|        \x1b[7mb\x1b[27m|",
-        told: Told {
-            matching: "1",
-            first: Some(0),
-            lines: 1,
-            rows: 2,
-            unfinished: 2,
-            longest: 2,
-            is_clean: true,
-        },
-    };
-    assert!(rt; is_formatted_alone(rt.alloc(), case));
+    assert!(rt; is_formatted_alone(rt.alloc(), &ALONE));
 }
 
 // Whether a text is written so over rows, and told.
@@ -187,9 +191,9 @@ fn is_written_over(alloc: Global, case: &Case<'_>) -> bool {
     is_written_onto(alloc, old, case, search.term()) && is_old
 }
 
-#[test]
-fn rows_are_written_over(rt: HostRuntime) {
-    let fewer = &Case {
+// A text of fewer rows than there were, and one of more.
+const OVER: [&Case<'static>; 2] = [
+    &Case {
         attachment: None,
         text: "one\n",
         term: "x",
@@ -203,8 +207,8 @@ fn rows_are_written_over(rt: HostRuntime) {
             longest: 3,
             is_clean: true,
         },
-    };
-    let more = &Case {
+    },
+    &Case {
         attachment: None,
         text: "one\ntwo\nx",
         term: "x",
@@ -218,9 +222,14 @@ fn rows_are_written_over(rt: HostRuntime) {
             longest: 3,
             is_clean: true,
         },
-    };
-    assert!(rt; is_written_over(rt.alloc(), fewer));
-    assert!(rt; is_written_over(rt.alloc(), more));
+    },
+];
+
+#[test]
+fn rows_are_written_over(rt: HostRuntime) {
+    for case in &OVER {
+        assert!(rt; is_written_over(rt.alloc(), case), "at {}", case.text);
+    }
 }
 
 // Whether a row prints this.

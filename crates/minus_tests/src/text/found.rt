@@ -5,7 +5,6 @@ use crate::text::told::{row_of, tells_matches};
 use minus_term::error::MinusError;
 use minus_text::{FormatResult, Layout, LineNumbers, Screen, Term};
 use std::alloc::Global;
-use std::process::Abort;
 
 // Puts a piece into a screen of 20 columns under a term. The first sets the text; of the others, every other one is
 // prepared before it is pushed.
@@ -91,16 +90,10 @@ fn finds(alloc: Global, pieces: &str, term: &str, rows: &str, told: &str) -> boo
         && screen.match_count() == 0
 }
 
-// Fails where one of these is not so: pieces, term, the rows that match, and those told last.
-fn assert_finds(rt: &impl Abort, alloc: Global, cases: &[(&str, &str, &str, &str)]) {
-    for (pieces, term, rows, told) in cases {
-        assert!(rt; finds(alloc, pieces, term, rows, told), "at {pieces}");
-    }
-}
-
 #[test]
 fn matches_change_when_the_unfinished_line_goes_on(rt: HostRuntime) {
-    let cases = &[
+    // pieces, the term, the rows that match, and those told last
+    let cases: &[(&str, &str, &str, &str)] = &[
         ("ab", "b$", "0", "0"),
         ("ab|c", "b$", "", ""),
         ("ab|c|\nb", "b$", "1", "1"),
@@ -114,7 +107,9 @@ fn matches_change_when_the_unfinished_line_goes_on(rt: HostRuntime) {
             "13",
         ),
     ];
-    assert_finds(&rt, rt.alloc(), cases);
+    for (pieces, term, rows, told) in cases {
+        assert!(rt; finds(rt.alloc(), pieces, term, rows, told), "at {pieces}");
+    }
 }
 
 // Whether the last row is seen so beside a push that is prepared.

@@ -22,68 +22,83 @@ fn shows(alloc: Global, line: &str, query: &str, accurate: &str, plain: &str) ->
     }
 }
 
-#[test]
-fn an_escape_cuts_a_match(rt: HostRuntime) {
-    let line = "this \x1b[34mis a te\x1b[0mst";
-    let accurate = "this \x1b[34mis a \x1b[7mte\x1b[0mst\x1b[27m";
-    let plain = "this \x1b[34mis a \x1b[7mtest\x1b[27m\x1b[0m";
-    assert!(rt; shows(rt.alloc(), line, "test", accurate, plain));
+// A line that matches, what it is searched for, and what is shown of it accurately and not.
+struct Shown<'a> {
+    name: &'a str,
+    line: &'a str,
+    query: &'a str,
+    accurate: &'a str,
+    plain: &'a str,
 }
 
-#[test]
-fn two_escapes_stand_inside_a_match(rt: HostRuntime) {
-    let line = "this is a t\x1b[34mes\x1b[0mt again";
-    let accurate = "this is a \x1b[7mt\x1b[34mes\x1b[0mt\x1b[27m again";
-    let plain = "this is a \x1b[7mtest\x1b[27m\x1b[34m\x1b[0m again";
-    assert!(rt; shows(rt.alloc(), line, "test", accurate, plain));
-}
+const SHOWN: [Shown<'static>; 8] = [
+    Shown {
+        name: "an escape cuts a match",
+        line: "this \x1b[34mis a te\x1b[0mst",
+        query: "test",
+        accurate: "this \x1b[34mis a \x1b[7mte\x1b[0mst\x1b[27m",
+        plain: "this \x1b[34mis a \x1b[7mtest\x1b[27m\x1b[0m",
+    },
+    Shown {
+        name: "two escapes stand inside a match",
+        line: "this is a t\x1b[34mes\x1b[0mt again",
+        query: "test",
+        accurate: "this is a \x1b[7mt\x1b[34mes\x1b[0mt\x1b[27m again",
+        plain: "this is a \x1b[7mtest\x1b[27m\x1b[34m\x1b[0m again",
+    },
+    Shown {
+        name: "an escape stands before a match",
+        line: "\x1b[34mtest",
+        query: "test",
+        accurate: "\x1b[7m\x1b[34mtest\x1b[27m",
+        plain: "\x1b[7mtest\x1b[27m\x1b[34m",
+    },
+    Shown {
+        name: "a match takes the blanks beside a word",
+        line: "nisl. placerat non",
+        query: "\\W\\w+t\\W",
+        accurate: "nisl.\x1b[7m placerat \x1b[27mnon",
+        plain: "nisl.\x1b[7m placerat \x1b[27mnon",
+    },
+    Shown {
+        name: "a match of no characters",
+        line: "ab",
+        query: "x*",
+        accurate: "\x1b[7m\x1b[27ma\x1b[7m\x1b[27mb\x1b[7m\x1b[27m",
+        plain: "\x1b[7m\x1b[27ma\x1b[7m\x1b[27mb\x1b[7m\x1b[27m",
+    },
+    Shown {
+        name: "a match at the end of a row",
+        line: "a\x1b[31mb\x1b[0m",
+        query: "b$",
+        accurate: "a\x1b[7m\x1b[31mb\x1b[27m\x1b[0m",
+        plain: "a\x1b[7mb\x1b[27m\x1b[31m\x1b[0m",
+    },
+    Shown {
+        name: "the one character that begins an escape",
+        line: "\u{9b}[31mred",
+        query: "red",
+        accurate: "\x1b[7m\u{9b}[31mred\x1b[27m",
+        plain: "\x1b[7mred\x1b[27m\u{9b}[31m",
+    },
+    Shown {
+        name: "an escape that ends with a digit",
+        line: "\x1b[31ab",
+        query: "ab",
+        accurate: "\x1b[7m\x1b[31ab\x1b[27m",
+        plain: "\x1b[7mab\x1b[27m\x1b[31",
+    },
+];
 
 #[test]
-fn an_escape_stands_before_a_match(rt: HostRuntime) {
-    let accurate = "\x1b[7m\x1b[34mtest\x1b[27m";
-    let plain = "\x1b[7mtest\x1b[27m\x1b[34m";
-    assert!(rt; shows(rt.alloc(), "\x1b[34mtest", "test", accurate, plain));
-}
-
-#[test]
-fn a_match_takes_the_blanks_beside_a_word(rt: HostRuntime) {
-    let shown = "nisl.\x1b[7m placerat \x1b[27mnon";
-    assert!(rt;
-        shows(
-            rt.alloc(),
-            "nisl. placerat non",
-            "\\W\\w+t\\W",
-            shown,
-            shown
-        )
-    );
-}
-
-#[test]
-fn a_match_of_no_characters(rt: HostRuntime) {
-    let shown = "\x1b[7m\x1b[27ma\x1b[7m\x1b[27mb\x1b[7m\x1b[27m";
-    assert!(rt; shows(rt.alloc(), "ab", "x*", shown, shown));
-}
-
-#[test]
-fn a_match_at_the_end_of_a_row(rt: HostRuntime) {
-    let accurate = "a\x1b[7m\x1b[31mb\x1b[27m\x1b[0m";
-    let plain = "a\x1b[7mb\x1b[27m\x1b[31m\x1b[0m";
-    assert!(rt; shows(rt.alloc(), "a\x1b[31mb\x1b[0m", "b$", accurate, plain));
-}
-
-#[test]
-fn the_one_character_that_begins_an_escape(rt: HostRuntime) {
-    let accurate = "\x1b[7m\u{9b}[31mred\x1b[27m";
-    let plain = "\x1b[7mred\x1b[27m\u{9b}[31m";
-    assert!(rt; shows(rt.alloc(), "\u{9b}[31mred", "red", accurate, plain));
-}
-
-#[test]
-fn an_escape_that_ends_with_a_digit(rt: HostRuntime) {
-    let accurate = "\x1b[7m\x1b[31ab\x1b[27m";
-    let plain = "\x1b[7mab\x1b[27m\x1b[31";
-    assert!(rt; shows(rt.alloc(), "\x1b[31ab", "ab", accurate, plain));
+fn matches_are_shown_in_reverse(rt: HostRuntime) {
+    for it in &SHOWN {
+        assert!(rt;
+            shows(rt.alloc(), it.line, it.query, it.accurate, it.plain),
+            "{}",
+            it.name
+        );
+    }
 }
 
 // Whether a line prints so, and does not match.

@@ -125,16 +125,25 @@ fn stores_pieces(alloc: Global, size: usize, cols: usize) -> bool {
         && store_the_same(alloc, &pieces, &whole)
 }
 
-// The same of pieces of 1, 3 and 7 bytes.
-fn stores_all_pieces(alloc: Global, cols: usize) -> bool {
-    stores_pieces(alloc, 1, cols) && stores_pieces(alloc, 3, cols) && stores_pieces(alloc, 7, cols)
-}
-
 #[test]
 fn numbered_lines_in_pieces_store_the_rows_of_the_whole(rt: HostRuntime) {
-    assert!(rt; stores_all_pieces(rt.alloc(), 3));
-    assert!(rt; stores_all_pieces(rt.alloc(), 12));
-    assert!(rt; stores_all_pieces(rt.alloc(), 14));
+    let cases: &[(usize, usize)] = &[
+        (1, 3),
+        (3, 3),
+        (7, 3),
+        (1, 12),
+        (3, 12),
+        (7, 12),
+        (1, 14),
+        (3, 14),
+        (7, 14),
+    ];
+    for (size, cols) in cases {
+        assert!(rt;
+            stores_pieces(rt.alloc(), *size, *cols),
+            "at {size} in {cols}"
+        );
+    }
 }
 
 // Whether a row is seen beside a push as another screen stores it.

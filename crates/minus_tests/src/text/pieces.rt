@@ -1,5 +1,5 @@
 //! An unfinished line that comes in pieces has the rows of the whole.
-use crate::text::screens::{assert_fill, push};
+use crate::text::screens::push;
 use minus_text::{LineNumbers, PendingPush, Screen};
 use std::alloc::Global;
 
@@ -172,18 +172,6 @@ fn a_text_cut_at_any_two_places_has_the_rows_of_the_whole(rt: HostRuntime) {
             && same_at_each_place(alloc, text, 9);
         assert!(rt; is_same, "at {text}");
     }
-}
-
-#[test]
-fn a_word_in_pieces_has_its_rows(rt: HostRuntime) {
-    // (a row that begins with a hyphen is formed again, and one that is a carriage return alone goes with its newline)
-    let cases = &[
-        ("bb-a|a", 2, "bb|-|aa"),
-        ("99-|9-", 2, "99|-|9-"),
-        ("\r   \r|\n", 2, "\r"),
-        ("ab|cde|f|gh|i", 2, "ab|cd|ef|gh|i"),
-    ];
-    assert_fill(&rt, rt.alloc(), cases);
 }
 
 #[test]

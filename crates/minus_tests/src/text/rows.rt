@@ -1,11 +1,17 @@
 //! Worked texts and their rows.
-use crate::text::screens::assert_fill;
-use minus_text::{digits, format_line};
+use crate::text::screens::{has_rows, push_all};
+use minus_text::{Screen, digits, format_line};
 use std::alloc::Global;
 
+// Whether pieces, pushed one after another, have these rows and no others.
+fn fill(alloc: Global, pieces: &str, cols: usize, rows: &str) -> bool {
+    let mut screen = Screen::new(alloc);
+    push_all(alloc, &mut screen, pieces, cols) && has_rows(&screen, rows)
+}
+
 #[test]
-fn a_text_fills_rows(rt: HostRuntime) {
-    let cases = &[
+fn texts_fill_rows(rt: HostRuntime) {
+    let cases: &[(&str, usize, &str)] = &[
         // spaces at the start that are too many fill an empty row
         ("     ab", 4, "|ab"),
         // a hyphen cuts a word where columns are few, and else the word stays whole
@@ -13,13 +19,7 @@ fn a_text_fills_rows(rt: HostRuntime) {
         ("well-known fact", 12, "well-known|fact"),
         // a wide character has a row that is too narrow for it
         ("日本", 1, "日|本"),
-    ];
-    assert_fill(&rt, rt.alloc(), cases);
-}
-
-#[test]
-fn pushes_go_on_in_the_unfinished_line(rt: HostRuntime) {
-    let cases = &[
+        // pushes go on in the unfinished line
         (
             "this is a normal line with no newline|this is an appended line with a newline\n|and this is a third line",
             15,
@@ -34,13 +34,6 @@ fn pushes_go_on_in_the_unfinished_line(rt: HostRuntime) {
         ("abc\r|\n", 80, "abc"),
         ("aaaa    \r", 4, "aaaa|\r"),
         ("aaaa    \r|\n", 4, "aaaa"),
-    ];
-    assert_fill(&rt, rt.alloc(), cases);
-}
-
-#[test]
-fn weird_line_endings_end_lines(rt: HostRuntime) {
-    let cases = &[
         (
             "This\n\n\nhas many\n newlines\n",
             80,
@@ -52,8 +45,15 @@ fn weird_line_endings_end_lines(rt: HostRuntime) {
             80,
             "hello,|this is a test|of weird line endings",
         ),
+        // a row that begins with a hyphen is formed again, and one that is a carriage return alone goes with its newline
+        ("bb-a|a", 2, "bb|-|aa"),
+        ("99-|9-", 2, "99|-|9-"),
+        ("\r   \r|\n", 2, "\r"),
+        ("ab|cde|f|gh|i", 2, "ab|cd|ef|gh|i"),
     ];
-    assert_fill(&rt, rt.alloc(), cases);
+    for (pieces, cols, rows) in cases {
+        assert!(rt; fill(rt.alloc(), pieces, *cols, rows), "at {pieces}");
+    }
 }
 
 // Whether a line of two words has a row for each.

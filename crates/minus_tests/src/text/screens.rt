@@ -1,7 +1,6 @@
 //! Screens for tests, and what they have. Pieces, and rows, stand in one text with a bar between them. Where memory runs out, each answer is `false`.
 use minus_text::{Layout, LineNumbers, PendingPush, Screen};
 use std::alloc::Global;
-use std::process::Abort;
 
 // Pushes a text.
 pub(crate) fn push(
@@ -61,17 +60,4 @@ pub(crate) fn sees(
     let mut row = String::new(alloc);
     let is_there = matches!(screen.push_row_after(alloc, pending, &mut row, i), Ok(true));
     is_there && row.as_str() == wanted
-}
-
-// Whether pieces, pushed one after another, have these rows and no others.
-fn fill(alloc: Global, pieces: &str, cols: usize, rows: &str) -> bool {
-    let mut screen = Screen::new(alloc);
-    push_all(alloc, &mut screen, pieces, cols) && has_rows(&screen, rows)
-}
-
-// Fails where pieces do not fill these rows: pieces, columns and rows of each case.
-pub(crate) fn assert_fill(rt: &impl Abort, alloc: Global, cases: &[(&str, usize, &str)]) {
-    for (pieces, cols, rows) in cases {
-        assert!(rt; fill(alloc, pieces, *cols, rows), "at {pieces}");
-    }
 }

@@ -16,46 +16,49 @@ fn add(matching: &mut BTreeSet<usize>, rows: &[usize]) -> bool {
     true
 }
 
-// Whether each of these jumps goes there.
-fn go(matching: &BTreeSet<usize>, jumps: &[Jump]) -> bool {
+// Whether each of these jumps goes there among the rows that match.
+fn go(alloc: Global, rows: &[usize], jumps: &[Jump]) -> bool {
+    let mut matching = BTreeSet::new(alloc);
+    let mut is_there = add(&mut matching, rows);
     for (row, by, place) in jumps {
-        if next_nth_match(matching, *row, *by) != *place {
-            return false;
-        }
+        is_there &= next_nth_match(&matching, *row, *by) == *place;
     }
-    true
+    is_there
 }
 
-#[test]
-fn a_jump_goes_on_at_the_first_match(rt: HostRuntime) {
-    let jumps = &[
-        (7, 1, Some(1)),
-        (7, 3, Some(3)),
-        (17, 0, Some(1)),
-        (42, 1, Some(0)),
-        (41, usize::MAX, Some(3)),
-    ];
-    let mut matching = BTreeSet::new(rt.alloc());
-    assert!(rt; add(&mut matching, &[5, 17, 25, 34, 42]) && go(&matching, jumps));
-}
+// The rows that match, and jumps among them.
+const JUMPS: [(&[usize], &[Jump]); 3] = [
+    // on at the first match
+    (
+        &[5, 17, 25, 34, 42],
+        &[
+            (7, 1, Some(1)),
+            (7, 3, Some(3)),
+            (17, 0, Some(1)),
+            (42, 1, Some(0)),
+            (41, usize::MAX, Some(3)),
+        ],
+    ),
+    // by one to the next match
+    (
+        &[2, 10, 15, 17, 50],
+        &[
+            (0, 1, Some(0)),
+            (2, 1, Some(1)),
+            (10, 1, Some(2)),
+            (15, 1, Some(3)),
+            (17, 1, Some(4)),
+        ],
+    ),
+    // nowhere
+    (&[], &[(7, 1, None)]),
+];
 
 #[test]
-fn a_jump_by_one_goes_to_the_next_match(rt: HostRuntime) {
-    let jumps = &[
-        (0, 1, Some(0)),
-        (2, 1, Some(1)),
-        (10, 1, Some(2)),
-        (15, 1, Some(3)),
-        (17, 1, Some(4)),
-    ];
-    let mut matching = BTreeSet::new(rt.alloc());
-    assert!(rt; add(&mut matching, &[2, 10, 15, 17, 50]) && go(&matching, jumps));
-}
-
-#[test]
-fn a_jump_goes_nowhere_where_no_row_matches(rt: HostRuntime) {
-    let matching = BTreeSet::new(rt.alloc());
-    assert!(rt; next_nth_match(&matching, 7, 1).is_none());
+fn a_jump_goes_to_a_match(rt: HostRuntime) {
+    for (rows, jumps) in &JUMPS {
+        assert!(rt; go(rt.alloc(), rows, jumps), "among {rows:?}");
+    }
 }
 
 // Whether a text without its escape sequences is this.

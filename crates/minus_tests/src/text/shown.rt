@@ -1,7 +1,6 @@
 //! What is shown of a text in some columns, and the prefixes of numbered rows.
 use minus_text::{LineNumbers, crop_columns, prefix_columns, push_fitted, push_prefix};
 use std::alloc::Global;
-use std::process::Abort;
 
 // Whether a text shows this in so many columns from one on.
 fn shows(alloc: Global, text: &str, left: usize, width: usize, shown: &str) -> bool {
@@ -11,19 +10,10 @@ fn shows(alloc: Global, text: &str, left: usize, width: usize, shown: &str) -> b
     }
 }
 
-// Fails where one of these is not so: text, left column, columns, and what is shown.
-fn assert_shows(rt: &impl Abort, alloc: Global, cases: &[(&str, usize, usize, &str)]) {
-    for (text, left, width, shown) in cases {
-        assert!(rt;
-            shows(alloc, text, *left, *width, shown),
-            "at {text} from {left}"
-        );
-    }
-}
-
 #[test]
 fn a_text_is_cropped_by_columns(rt: HostRuntime) {
-    let cases = &[
+    // the text, its left column, columns, and what is shown
+    let cases: &[(&str, usize, usize, &str)] = &[
         // a wide character that is cut shows a space for each of its columns
         ("日本語abc", 0, 4, "日本"),
         ("日本語abc", 1, 4, " 本 "),
@@ -36,7 +26,12 @@ fn a_text_is_cropped_by_columns(rt: HostRuntime) {
         ("\u{301}e\u{301}a", 0, 1, "\u{301}e\u{301}"),
         ("\u{301}e\u{301}a", 1, 1, "a"),
     ];
-    assert_shows(&rt, rt.alloc(), cases);
+    for (text, left, width, shown) in cases {
+        assert!(rt;
+            shows(rt.alloc(), text, *left, *width, shown),
+            "at {text} from {left}"
+        );
+    }
 }
 
 // Whether a text is cut or filled so.
@@ -47,11 +42,18 @@ fn fits(alloc: Global, text: &str, cols: usize, fitted: &str) -> bool {
 
 #[test]
 fn a_text_is_cut_or_filled(rt: HostRuntime) {
-    assert!(rt; fits(rt.alloc(), "日本", 20, "日本                "));
-    assert!(rt; fits(rt.alloc(), "日本", 3, "日 "));
-    assert!(rt; fits(rt.alloc(), "\x1b[1mhi", 20, "\x1b[1mhi                  "));
-    let help = "Help: q:quit | j/k:scroll";
-    assert!(rt; fits(rt.alloc(), help, 17, "Help: q:quit | j/"));
+    let cases: &[(&str, usize, &str)] = &[
+        ("日本", 20, "日本                "),
+        ("日本", 3, "日 "),
+        ("\x1b[1mhi", 20, "\x1b[1mhi                  "),
+        ("Help: q:quit | j/k:scroll", 17, "Help: q:quit | j/"),
+    ];
+    for (text, cols, fitted) in cases {
+        assert!(rt;
+            fits(rt.alloc(), text, *cols, fitted),
+            "at {text} in {cols}"
+        );
+    }
 }
 
 // Whether a first row has its number, one without numbers has nothing, and one that goes on has blanks.

@@ -3,7 +3,6 @@ use minus_text::FormatResult;
 
 // What a result has to tell: the rows that match, each a digit; the first row of its first line; its lines, rows and
 // unfinished rows; its longest line; and whether nothing was attached.
-#[derive(Clone, Copy)]
 pub(crate) struct Told<'a> {
     pub(crate) matching: &'a str,
     pub(crate) first: Option<usize>,
