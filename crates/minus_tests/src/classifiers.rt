@@ -46,19 +46,14 @@ fn leads_to(session: &mut Moving, input: InputOf<Own>, mark: usize) -> bool {
 }
 
 // Whether an event moves to row 2, another classifier moves nothing when it is set, and the next event moves to row 5.
-fn exchanges(session: &mut Moving) -> bool {
-    let other = CommandOf::SetInputClassifier(ToRow(5));
-    let moves = leads_to(session, InputOf::Event(Event::FocusGained), 2);
-    let stays = leads_to(session, InputOf::Command(other), 2);
-    moves && stays && leads_to(session, InputOf::Event(Event::FocusGained), 5)
-}
-
-// Whether they do in a session of ten lines.
 fn are_exchanged(alloc: Global) -> bool {
-    match moving_to(alloc, TEN_LINES, 2) {
-        Some(mut session) => exchanges(&mut session),
-        None => false,
-    }
+    let Some(mut session) = moving_to(alloc, TEN_LINES, 2) else {
+        return false;
+    };
+    let other = CommandOf::SetInputClassifier(ToRow(5));
+    let moves = leads_to(&mut session, InputOf::Event(Event::FocusGained), 2);
+    let stays = leads_to(&mut session, InputOf::Command(other), 2);
+    moves && stays && leads_to(&mut session, InputOf::Event(Event::FocusGained), 5)
 }
 
 #[test]

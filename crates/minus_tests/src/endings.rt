@@ -16,18 +16,13 @@ fn exit_of<S: OutputSink + Drop>(session: &mut Session<S>) -> Option<(ExitStrate
 }
 
 // Whether an exit ends a session, so that the next step is refused.
-fn ends_by_an_exit<S: OutputSink + Drop>(alloc: Global, session: &mut Session<S>) -> bool {
-    exit_of(session) == Some((ExitStrategy::ProcessQuit, 0))
-        && number_of(alloc, session, Asked::Push("a")) == 11
-        && session.mode() == RunMode::Uninitialized
-}
-
-// Whether it ends one over a terminal.
 fn is_ended(alloc: Global) -> bool {
-    match session_on(alloc, terminal(alloc), 6, 2) {
-        Some(mut session) => ends_by_an_exit(alloc, &mut session),
-        None => false,
-    }
+    let Some(mut session) = session_on(alloc, terminal(alloc), 6, 2) else {
+        return false;
+    };
+    exit_of(&mut session) == Some((ExitStrategy::ProcessQuit, 0))
+        && number_of(alloc, &mut session, Asked::Push("a")) == 11
+        && session.mode() == RunMode::Uninitialized
 }
 
 #[test]
@@ -103,24 +98,20 @@ fn refuses<S: OutputSink + Drop>(session: &mut Session<S>, inputs: Vec<Input>, n
     }
 }
 
+const AN_EXIT_BETWEEN: &[Asked<'static>] = &[
+    Asked::Push("a"),
+    Asked::Exit,
+    Asked::Push("b"),
+    Asked::Push("c"),
+];
+
 // Whether a run with an exit in its middle stops there, and a run of the two inputs that it left is refused.
-fn stops_at_an_exit<S: OutputSink + Drop>(alloc: Global, session: &mut Session<S>) -> bool {
-    let asked = &[
-        Asked::Push("a"),
-        Asked::Exit,
-        Asked::Push("b"),
-        Asked::Push("c"),
-    ];
-    let Some(ran) = run(alloc, session, asked) else {
+fn is_stopped(alloc: Global) -> bool {
+    let Some(mut session) = session_on(alloc, terminal(alloc), 6, 2) else {
         return false;
     };
-    has_exited(&ran, 2) && refuses(session, ran.rest, 11)
-}
-
-// Whether one over a terminal does.
-fn is_stopped(alloc: Global) -> bool {
-    match session_on(alloc, terminal(alloc), 6, 2) {
-        Some(mut session) => stops_at_an_exit(alloc, &mut session),
+    match run(alloc, &mut session, AN_EXIT_BETWEEN) {
+        Some(ran) => has_exited(&ran, 2) && refuses(&mut session, ran.rest, 11),
         None => false,
     }
 }

@@ -119,24 +119,16 @@ fn leads_to(session: &mut Offering, input: InputOf<Own>, is_open: bool, page: &[
     goes_on && session.state().help_open() == is_open && has_page(session, page)
 }
 
-// Whether an event opens help, and an exit leaves it, and the session goes on.
-fn opens_and_leaves(session: &mut Offering) -> bool {
-    let exit = InputOf::Command(CommandOf::UserInput(InputEvent::Exit));
-    let opens = leads_to(
-        session,
-        InputOf::Event(Event::FocusGained),
-        true,
-        &["one", "two", HELP_ROW],
-    );
-    opens && leads_to(session, exit, false, &["a", "", PROMPT_ROW])
-}
-
-// Whether it does in a session whose classifier gives a help text.
+// Whether an event opens the help that the classifier gives, and an exit leaves it, and the session goes on.
 fn is_left_by_an_exit(alloc: Global) -> bool {
-    match offering(alloc) {
-        Some(mut session) => opens_and_leaves(&mut session),
-        None => false,
-    }
+    let Some(mut session) = offering(alloc) else {
+        return false;
+    };
+    let open = InputOf::Event(Event::FocusGained);
+    let exit = InputOf::Command(CommandOf::UserInput(InputEvent::Exit));
+    let opens = leads_to(&mut session, open, true, &["one", "two", HELP_ROW]);
+    let leaves = leads_to(&mut session, exit, false, &["a", "", PROMPT_ROW]);
+    opens && leaves
 }
 
 #[test]

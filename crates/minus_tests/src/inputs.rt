@@ -1,8 +1,6 @@
 //! What events and bad sizes come to.
 use crate::sessions::{Asked, Worked, assert_drawn, has_len, number_of, session_on, terminal};
-use minus::{
-    Event, KeyCode, KeyEvent, KeyEventKind, KeyEventState, KeyModifiers, OutputSink, Session,
-};
+use minus::{Event, KeyCode, KeyEvent, KeyEventKind, KeyEventState, KeyModifiers};
 use std::alloc::Global;
 
 // The press of a digit's key with control.
@@ -51,24 +49,13 @@ fn other_events_write_nothing(rt: HostRuntime) {
 }
 
 // Whether a size is answered by this number, the page has so many rows then, and the next step works.
-fn answers<S: OutputSink + Drop>(
-    alloc: Global,
-    session: &mut Session<S>,
-    asked: Asked<'_>,
-    number: u8,
-    rows: usize,
-) -> bool {
-    number_of(alloc, session, asked) == number
-        && has_len(session, rows)
-        && number_of(alloc, session, Asked::Push("a")) == 0
-}
-
-// Whether it is on a page of five rows.
 fn is_answered(alloc: Global, asked: Asked<'_>, number: u8, rows: usize) -> bool {
-    match session_on(alloc, terminal(alloc), 20, 5) {
-        Some(mut session) => answers(alloc, &mut session, asked, number, rows),
-        None => false,
-    }
+    let Some(mut session) = session_on(alloc, terminal(alloc), 20, 5) else {
+        return false;
+    };
+    number_of(alloc, &mut session, asked) == number
+        && has_len(&session, rows)
+        && number_of(alloc, &mut session, Asked::Push("a")) == 0
 }
 
 // A size, the number that answers it, and the rows of the page then: one of no terminal changes nothing, by a command and

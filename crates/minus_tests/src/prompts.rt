@@ -3,7 +3,7 @@ use crate::sessions::{
     Asked, PROMPT_ROW, TEN_LINES, Worked, assert_drawn, assert_shown, has_page, number_of,
     session_on, terminal,
 };
-use minus::{Event, IoCommand, OutputSink, Session};
+use minus::{Event, IoCommand};
 use std::alloc::Global;
 
 // What stands before the prompt row of a page of two rows.
@@ -176,23 +176,14 @@ const NO_TEXT: [&str; 2] = ["", PROMPT_ROW];
 const TEXT: [&str; 2] = ["a", PROMPT_ROW];
 
 // Whether a session refuses a text of two lines, its page stays, and the next step works.
-fn refuses<S: OutputSink + Drop>(
-    alloc: Global,
-    session: &mut Session<S>,
-    asked: Asked<'_>,
-) -> bool {
-    number_of(alloc, session, asked) == 2
-        && has_page(session, &NO_TEXT)
-        && number_of(alloc, session, Asked::Push("a")) == 0
-        && has_page(session, &TEXT)
-}
-
-// Whether one does on two rows.
 fn is_refused(alloc: Global, asked: Asked<'_>) -> bool {
-    match session_on(alloc, terminal(alloc), 20, 2) {
-        Some(mut session) => refuses(alloc, &mut session, asked),
-        None => false,
-    }
+    let Some(mut session) = session_on(alloc, terminal(alloc), 20, 2) else {
+        return false;
+    };
+    number_of(alloc, &mut session, asked) == 2
+        && has_page(&session, &NO_TEXT)
+        && number_of(alloc, &mut session, Asked::Push("a")) == 0
+        && has_page(&session, &TEXT)
 }
 
 #[test]

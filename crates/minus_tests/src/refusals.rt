@@ -107,23 +107,14 @@ fn is_broken(ran: &Ran) -> bool {
     }
 }
 
-// Whether a session refuses what is asked of it by that.
-fn hands_on<S: OutputSink + Drop>(
-    alloc: Global,
-    session: &mut Session<S>,
-    asked: Asked<'_>,
-) -> bool {
-    match run(alloc, session, &[asked]) {
-        Some(ran) => is_broken(&ran),
-        None => false,
-    }
-}
-
-// Whether one does whose sink refuses its next write.
+// Whether a session whose sink refuses its next write refuses what is asked of it by that.
 fn is_handed_on(alloc: Global, asked: Asked<'_>) -> bool {
     let sink = Stubborn::terminal(alloc, write(START_WRITES + 1));
-    match session_on(alloc, sink, 20, 5) {
-        Some(mut session) => hands_on(alloc, &mut session, asked),
+    let Some(mut session) = session_on(alloc, sink, 20, 5) else {
+        return false;
+    };
+    match run(alloc, &mut session, &[asked]) {
+        Some(ran) => is_broken(&ran),
         None => false,
     }
 }
@@ -153,20 +144,16 @@ fn is_stopped(ran: &Ran, text: &str) -> bool {
     is_refused && ran.done == 1 && ran.last.is_some() && is_left(&ran.rest, text)
 }
 
-// Whether a run of three pushes, of which the second is refused a write, stops so.
-fn stops<S: OutputSink + Drop>(alloc: Global, session: &mut Session<S>) -> bool {
-    let asked = &[Asked::Push("a"), Asked::Push("b"), Asked::Push("c")];
-    match run(alloc, session, asked) {
-        Some(ran) => is_stopped(&ran, "c"),
-        None => false,
-    }
-}
+const THREE_PUSHES: &[Asked<'static>] = &[Asked::Push("a"), Asked::Push("b"), Asked::Push("c")];
 
-// Whether one does whose sink refuses its 20th write.
+// Whether a run of three pushes, the second of which is refused its 20th write, stops so.
 fn stops_on_its_way(alloc: Global) -> bool {
     let sink = Stubborn::terminal(alloc, write(START_WRITES + 20));
-    match session_on(alloc, sink, 20, 5) {
-        Some(mut session) => stops(alloc, &mut session),
+    let Some(mut session) = session_on(alloc, sink, 20, 5) else {
+        return false;
+    };
+    match run(alloc, &mut session, THREE_PUSHES) {
+        Some(ran) => is_stopped(&ran, "c"),
         None => false,
     }
 }

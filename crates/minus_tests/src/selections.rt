@@ -3,7 +3,7 @@ use crate::sessions::{
     Asked, PROMPT_ROW, TEN_LINES, Worked, assert_drawn, assert_shown, does, run, session_on,
     terminal,
 };
-use minus::{InputEvent, LineNumbers, OutputSink, PagerState, Ran, Session};
+use minus::{InputEvent, LineNumbers, PagerState, Ran};
 use std::alloc::Global;
 
 const CLEAR: Asked<'static> = Asked::Does(InputEvent::ClearSelection);
@@ -152,22 +152,12 @@ fn is_copied(ran: &Ran, text: Option<&str>) -> bool {
 }
 
 // Whether a run of all of this copies this text at last, or nothing where there is none.
-fn runs_to_copy<S: OutputSink + Drop>(
-    alloc: Global,
-    session: &mut Session<S>,
-    asked: &[Asked<'_>],
-    text: Option<&str>,
-) -> bool {
-    match run(alloc, session, asked) {
-        Some(ran) => is_copied(&ran, text),
-        None => false,
-    }
-}
-
-// Whether one does on so many columns.
 fn copies(alloc: Global, cols: usize, asked: &[Asked<'_>], text: Option<&str>) -> bool {
-    match session_on(alloc, terminal(alloc), cols, 10) {
-        Some(mut session) => runs_to_copy(alloc, &mut session, asked, text),
+    let Some(mut session) = session_on(alloc, terminal(alloc), cols, 10) else {
+        return false;
+    };
+    match run(alloc, &mut session, asked) {
+        Some(ran) => is_copied(&ran, text),
         None => false,
     }
 }

@@ -74,25 +74,20 @@ fn an_append_tells_the_first_row_that_it_changes(rt: HostRuntime) {
     assert!(rt; goes_on(rt.alloc()));
 }
 
-// Numbers before nine lines, and a tenth line.
-fn counts_to_ten(alloc: Global, state: &mut PagerState) -> bool {
+// Whether a tenth line forms all rows of numbered lines anew.
+fn forms_anew(alloc: Global) -> bool {
+    let Some(mut state) = empty(alloc) else {
+        return false;
+    };
     state.line_numbers = LineNumbers::Enabled;
     state.reformat_display(alloc).is_ok()
         && appends(
             alloc,
-            state,
+            &mut state,
             "1\n2\n3\n4\n5\n6\n7\n8\n9\n",
             AppendStyle::PartialUpdate((0, 9)),
         )
-        && appends(alloc, state, "10", AppendStyle::FullRedraw)
-}
-
-// Whether that forms all rows anew.
-fn forms_anew(alloc: Global) -> bool {
-    match empty(alloc) {
-        Some(mut state) => counts_to_ten(alloc, &mut state),
-        None => false,
-    }
+        && appends(alloc, &mut state, "10", AppendStyle::FullRedraw)
 }
 
 #[test]
@@ -100,23 +95,16 @@ fn a_line_whose_number_has_one_more_digit_forms_all_rows_anew(rt: HostRuntime) {
     assert!(rt; forms_anew(rt.alloc()));
 }
 
-// A line of two rows, and of one where lines are not wrapped.
-fn wraps(alloc: Global, state: &mut PagerState) -> bool
-    requires { IsFormed state.old }
-{
+// Whether a line takes two rows, and one where lines are not wrapped.
+fn are_wrapped(alloc: Global) -> bool {
+    let Some(mut state) = empty(alloc) else {
+        return false;
+    };
     state.append_str(alloc, "one\n").is_ok()
         && state.append_str(alloc, LONG).is_ok()
-        && has_rows(state, &["one", "abcdefghijklmnopqrst", "uvwxy"])
+        && has_rows(&state, &["one", "abcdefghijklmnopqrst", "uvwxy"])
         && state.set_line_wrapping(alloc, false).is_ok()
-        && has_rows(state, &["one", LONG])
-}
-
-// Whether lines are wrapped so.
-fn are_wrapped(alloc: Global) -> bool {
-    match empty(alloc) {
-        Some(mut state) => wraps(alloc, &mut state),
-        None => false,
-    }
+        && has_rows(&state, &["one", LONG])
 }
 
 #[test]
@@ -124,10 +112,11 @@ fn lines_are_one_row_where_they_are_not_wrapped(rt: HostRuntime) {
     assert!(rt; are_wrapped(rt.alloc()));
 }
 
-// The first rows of three lines, of which the second takes two.
-fn has_first_rows(alloc: Global, state: &mut PagerState) -> bool
-    requires { IsFormed state.old }
-{
+// Whether three lines, of which the second takes two rows, tell their first rows.
+fn are_first_rows(alloc: Global) -> bool {
+    let Some(mut state) = empty(alloc) else {
+        return false;
+    };
     state.append_str(alloc, "one\n").is_ok()
         && state.append_str(alloc, LONG).is_ok()
         && state.line_first_row(1) == Some(1)
@@ -136,38 +125,23 @@ fn has_first_rows(alloc: Global, state: &mut PagerState) -> bool
         && state.line_first_row(3).is_none()
 }
 
-// Whether lines have these first rows.
-fn are_first_rows(alloc: Global) -> bool {
-    match empty(alloc) {
-        Some(mut state) => has_first_rows(alloc, &mut state),
-        None => false,
-    }
-}
-
 #[test]
 fn lines_tell_their_first_rows(rt: HostRuntime) {
     assert!(rt; are_first_rows(rt.alloc()));
 }
 
-// Help over a text, opened and left.
-fn opens_and_leaves(alloc: Global, state: &mut PagerState) -> bool
-    requires { IsFormed state.old }
-{
+// Whether help over a text is shown, and the text once it is left.
+fn help_comes_and_goes(alloc: Global) -> bool {
+    let Some(mut state) = empty(alloc) else {
+        return false;
+    };
     state.append_str(alloc, "a").is_ok()
         && state.show_help(alloc, "one\ntwo").is_ok()
-        && has_rows(state, &["one", "two"])
-        && has_prompt_row(alloc, state, "\x1b[2;40;37mHELP -- Press q or S\x1b[0m")
+        && has_rows(&state, &["one", "two"])
+        && has_prompt_row(alloc, &state, "\x1b[2;40;37mHELP -- Press q or S\x1b[0m")
         && state.exit_help(alloc).is_ok()
-        && has_rows(state, &["a"])
-        && has_prompt_row(alloc, state, PROMPT_ROW)
-}
-
-// Whether help comes and goes so.
-fn help_comes_and_goes(alloc: Global) -> bool {
-    match empty(alloc) {
-        Some(mut state) => opens_and_leaves(alloc, &mut state),
-        None => false,
-    }
+        && has_rows(&state, &["a"])
+        && has_prompt_row(alloc, &state, PROMPT_ROW)
 }
 
 #[test]
