@@ -1,3 +1,4 @@
+use Rattle.std.proofs.lemmas.Grind.{common_steps}
 -- A row that stands alone, or the line's start.
 use Rattle.std.proofs.Common.{◌≡◌, ℕ, ◌+◌, ◌-◌, ◌<◌, ◌≤◌, true, false, length, drop, get_or, arith, sym, ap, ◌∙◌}
 use Rattle.std.proofs.lemmas.List.{length-drop, get_or-drop}
@@ -50,3 +51,6 @@ loop-i-preserved c =
       count = omega (arith, c.loop-i.invariant.count);
       none = none_from c.args.line.now c.args.base c.args.border c.loop-i.i (c.loop-i.i - 1) c.args.rows.now d (omega (arith, c.loop-i.invariant.count, c.loop-i-test.true)) (omega (arith, c.loop-i-test.true)) here c.loop-i.invariant.none;
     }
+
+pub loop-i-init : goal.loop-i-init
+loop-i-init c = grind (arith, common_steps)
