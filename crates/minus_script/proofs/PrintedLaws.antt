@@ -1,4 +1,4 @@
--- What stands in front of printed rows.
+-- What stands in front of printed rows, and one row more.
 use Rattle.std.proofs.Common.{◌≡◌, ℕ, List, [], ◌∷◌, ◌++◌, length, drop, take, ◌∙◌, ap}
 use Rattle.std.specs.Io.{StartsWith}
 use Rattle.std.proofs.KnownBytes.{starts_with_rest}
