@@ -6,10 +6,17 @@ use Rattle.minus_state.specs.Control.{Control, Saved, clamp, top, cleared, IsCla
 use Rattle.minus_state.specs.Help.{left_help, restored}
 use Rattle.minus_state.specs.Appending.{added}
 use Rattle.minus.specs.Seen.{Seen}
-use Rattle.minus.specs.Table.{Wanted, adds_text, moved_by, drawing_by, sets_data, appends_data, moves_mark, resizes, exits, ignores, sets_prompt, sends_message, shows_prompt, follows, types, restores_prompt, redraws_prompt, redraws_page, sets_classifier, sets_numbers, sets_wrapping, shifts, starts_selection, updates_selection, clears_selection, copies_selection, shows_help, Exit, Effect, effect, changed_by, kept_after, drawing_of, IsPossible}
+use Rattle.minus.specs.Table.{Wanted, answered, handed, adds_text, moved_by, drawing_by, sets_data, appends_data, moves_mark, resizes, exits, ignores, sets_prompt, sends_message, shows_prompt, follows, types, restores_prompt, redraws_prompt, redraws_page, sets_classifier, sets_numbers, sets_wrapping, shifts, starts_selection, updates_selection, clears_selection, copies_selection, shows_help, Exit, Effect, effect, changed_by, kept_after, drawing_of, IsPossible}
 use Rattle.minus.specs.Works.{Work, WorkedOff, all, one, up_to, is_full, some_full, ResizesAreFull}
 use Rattle.minus.specs.Starts.{taken, taken_all, first_control}
 use Rattle.minus_state.specs.States.{at_start}
+use Rattle.minus_state.specs.declared.input.InputEvent.{InputEvent}
+use Rattle.minus_state.specs.declared.input.InputEvent.TheVariants as events
+use Rattle.minus.specs.declared.commands.CommandOf.{CommandOf}
+use Rattle.minus.specs.declared.commands.CommandOf.TheVariants.{SetData, AppendData, SetPrompt, SendMessage, ShowPrompt, SetLineNumbers, LineWrapping, FollowOutput, UserInput, Io, SetInputClassifier}
+use Rattle.minus.specs.declared.commands.IoCommand.{IoCommand}
+use Rattle.minus.specs.declared.commands.IoCommand.TheVariants.{RedrawPrompt, RedrawDisplay, DrawAppendedText, SetUpperMark}
+use Rattle.minus.specs.Reads.{event_wanted, io_wanted, wanted_with}
 
 -- what the clamp leaves
 pub clamp_still : (c : Control) → IsClamped c → clamp c ≡ c
@@ -215,3 +222,41 @@ added_with c text (Some saved) = refl
 
 pub added_is : (c : Control) (text : List ℕ) → added c text ≡ moved_by (adds_text c text)
 added_is c text = added_with c text c.help
+
+-- no event of the pager hands a classifier over, and no command that asks for a drawing
+no_event_hands : {K : Type 0} (text : List ℕ) (event : InputEvent) → handed {K = K} (answered text (event_wanted event)) ≡ None
+no_event_hands text (events.UpdateUpperMark mark) = refl
+no_event_hands text (events.UpdateTermArea cols rows) = refl
+no_event_hands text (events.UpdateLeftMark left) = refl
+no_event_hands text (events.UpdateLineNumber numbers) = refl
+no_event_hands text (events.StartSelection x y) = refl
+no_event_hands text (events.UpdateSelection x y) = refl
+no_event_hands text events.ClearSelection = refl
+no_event_hands text events.CopySelection = refl
+no_event_hands text (events.HorizontalScroll wrapping) = refl
+no_event_hands text (events.FollowOutput follow) = refl
+no_event_hands text events.RestorePrompt = refl
+no_event_hands text events.ShowHelp = refl
+no_event_hands text (events.Number character) = refl
+no_event_hands text events.Exit = refl
+no_event_hands text events.Ignore = refl
+
+no_drawing_hands : {K : Type 0} (text : List ℕ) (io : IoCommand) → handed {K = K} (answered text (io_wanted io)) ≡ None
+no_drawing_hands text RedrawPrompt = refl
+no_drawing_hands text RedrawDisplay = refl
+no_drawing_hands text (DrawAppendedText unfinished rows style) = refl
+no_drawing_hands text (SetUpperMark mark) = refl
+
+-- a classifier is handed over by the command for it alone
+pub no_other_hands : {P K : Type 0} (text : List ℕ) (command : CommandOf P K) → ((k : K) → command ≡ SetInputClassifier k → ⊥) → handed (wanted_with text command) ≡ None
+no_other_hands text (SetData text₁) h = refl
+no_other_hands text (AppendData text₁) h = refl
+no_other_hands text (SetPrompt prompt) h = refl
+no_other_hands text (SendMessage message) h = refl
+no_other_hands text (ShowPrompt is_shown) h = refl
+no_other_hands text (SetLineNumbers numbers) h = refl
+no_other_hands text (LineWrapping wrapping) h = refl
+no_other_hands text (FollowOutput follow) h = refl
+no_other_hands text (UserInput event) h = no_event_hands text event
+no_other_hands text (Io io) h = no_drawing_hands text io
+no_other_hands text (SetInputClassifier k) h = absurd (h k refl)

@@ -14,7 +14,7 @@ ghost use Rattle.minus_state.specs.States.{IsFormed, control_of};
 
 use crate::commands::Drawing;
 use crate::display;
-use crate::drawing::{draw_after, draw_rows_from, drawing_by};
+use crate::drawing::{draw_rows_from, drawing_by, drawn};
 use crate::state::PagerState;
 use minus_state::change::Change;
 use minus_term::{MinusError, OutputSink, draw_bytes};
@@ -42,24 +42,6 @@ pub fn write_prompt<W: OutputSink>(
     Ok(())
 }
 
-// The bytes that draw the page that a change leads to over the page of a state, in this way.
-fn drawn(
-    alloc: Global,
-    state: &PagerState,
-    drawing: Drawing,
-    change: &Change,
-) -> Result<Vec<u8>, AllocError>
-    requires formed { IsFormed state.now }
-    requires belongs { IsNext state.now.screen change.now.text }
-    ensures { IfOk result (λ bytes. (new : Control) → IsChange (control_of state.now) change.now new →
-        bytes.items ≡ written_all (ops_between drawing (control_of state.now) new)) }
-{
-    let prompt = state.prompt_row_after(alloc, change)?;
-    let mut bytes = Vec::new(alloc);
-    draw_after(state, alloc, &mut bytes, drawing, change, &prompt)?;
-    Ok(bytes)
-}
-
 // The mark of a state as it is clamped, and the bytes that draw the whole page there.
 fn drawn_whole(alloc: Global, state: &PagerState) -> Result<(usize, Vec<u8>), AllocError>
     requires { IsFormed state.now }
@@ -67,7 +49,7 @@ fn drawn_whole(alloc: Global, state: &PagerState) -> Result<(usize, Vec<u8>), Al
     ensures bytes { IfOk result (λ d. d.1.items ≡ written_all (whole_page (clamp (control_of state.now)))) }
 {
     let clamped = state.moved_to(state.upper_mark);
-    let bytes = drawn(alloc, state, Drawing::Full, &clamped)?;
+    let (_, bytes) = drawn(alloc, state, Drawing::Full, &clamped)?;
     Ok((clamped.mark, bytes))
 }
 
@@ -82,7 +64,8 @@ fn drawn_scroll(
     ensures bytes { IfOk result (λ d. d.1.items ≡ written_all (scroll_to (control_of state.now) mark)) }
 {
     let change = state.moved_to(mark);
-    let bytes = drawn(alloc, state, drawing_by(&change, state.upper_mark), &change)?;
+    let drawing = drawing_by(&change, state.upper_mark);
+    let (_, bytes) = drawn(alloc, state, drawing, &change)?;
     Ok((change.mark, bytes))
 }
 

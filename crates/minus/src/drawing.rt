@@ -1,5 +1,5 @@
 //! How what comes of a command is drawn.
-ghost use Rattle.std.specs.Prelude.{◌≡◌, ◌+◌, ◌++◌, ◌^◌, ◌<◌, OnOk};
+ghost use Rattle.std.specs.Prelude.{◌≡◌, ◌+◌, ◌++◌, ◌^◌, ◌<◌, string_bytes, OnOk, IfOk};
 ghost use Rattle.minus_state.specs.Control.{Control};
 ghost use Rattle.minus_state.specs.ShownPrompt.{prompt_row};
 ghost use Rattle.minus_term.specs.Written.{written_all};
@@ -148,4 +148,23 @@ pub(crate) fn draw_step<'a>(
     }
     write_changed_prompt(alloc, out, change.rows as u16, prompt, before)?;
     Ok(())
+}
+
+// The prompt row of the page that a change leads to, and the bytes that draw the page over that of a state, in this way.
+pub(crate) fn drawn(
+    alloc: Global,
+    state: &PagerState,
+    drawing: Drawing,
+    change: &Change,
+) -> Result<(String, Vec<u8>), AllocError>
+    requires formed { IsFormed state.now }
+    requires belongs { IsNext state.now.screen change.now.text }
+    ensures prompt { IfOk result (λ d. (new : Control) → IsChange (control_of state.now) change.now new → string_bytes d.0 ≡ prompt_row new) }
+    ensures bytes { IfOk result (λ d. (new : Control) → IsChange (control_of state.now) change.now new →
+        d.1.items ≡ written_all (ops_between drawing (control_of state.now) new)) }
+{
+    let prompt = state.prompt_row_after(alloc, change)?;
+    let mut bytes = Vec::new(alloc);
+    draw_after(state, alloc, &mut bytes, drawing, change, &prompt)?;
+    Ok((prompt, bytes))
 }

@@ -5,11 +5,11 @@ ghost use Rattle.minus_term.specs.Counts.{Stays, Rises};
 ghost use Rattle.minus_term.specs.Refusals.{refusal_of};
 ghost use Rattle.minus_term.specs.Terminal.{setup_bytes};
 ghost use Rattle.minus_term.specs.Written.{written_all};
-ghost use Rattle.minus_state.specs.Changes.{IsChange, IsUnformedState};
+ghost use Rattle.minus_state.specs.Changes.{IsUnformedState};
 ghost use Rattle.minus_state.specs.Control.{IsClamped};
 ghost use Rattle.minus.specs.Drawings.{whole_page};
 ghost use Rattle.minus.specs.Drawn.{StartLeavesItsPage};
-ghost use Rattle.minus_state.specs.ShownPrompt.{prompt_row, prompt_row_of};
+ghost use Rattle.minus_state.specs.ShownPrompt.{prompt_row_of};
 ghost use Rattle.minus_state.specs.States.{IsFormed, control_of, settings_of};
 ghost use Rattle.minus.specs.Reads.{wanted_of};
 ghost use Rattle.minus.specs.SessionStarts.{IsStart, IsRefusedStart};
@@ -17,7 +17,7 @@ ghost use Rattle.minus_state.specs.Sizes.{IsSize};
 ghost use Rattle.minus.specs.Starts.{taken_all, first_control, IsShowRefused, ShowBreaksOff, IsStartFault};
 
 use crate::commands::{CommandOf, Drawing};
-use crate::drawing::draw_after;
+use crate::drawing::drawn;
 use crate::pager::{Pager, PagerOf};
 use crate::parts::Parts;
 use crate::prepare::take_text;
@@ -25,9 +25,9 @@ use crate::session::{Core, Session};
 use crate::stand_in::{StandIn, StandIns};
 use crate::state::{PagerState, RunMode};
 use crate::status::Status;
-use minus_state::change::{Change, NextText, Redraw};
+use minus_state::change::{NextText, Redraw};
 use minus_term::{MinusError, OutputSink, cleanup, draw_bytes, setup};
-use std::alloc::{AllocError, Global};
+use std::alloc::Global;
 
 /// A start that was refused, over the kinds of what the session would keep.
 #[derive(Drop)]
@@ -90,40 +90,6 @@ fn first_state<P: Parts>(
     Ok(state)
 }
 
-// The prompt row of a state, and the bytes that draw its whole page, by a change that changes nothing.
-fn draw_unchanged(
-    alloc: Global,
-    state: &PagerState,
-    change: &Change,
-) -> Result<(String, Vec<u8>), AllocError>
-    requires formed { IsFormed state.now }
-    requires same { IsChange (control_of state.now) change.now (control_of state.now) }
-    ensures prompt { IfOk result (λ p. string_bytes p.0 ≡ prompt_row (control_of state.now)) }
-    ensures drawn { IfOk result (λ p. p.1.items ≡ written_all (whole_page (control_of state.now))) }
-{
-    let prompt_row = state.prompt_row_after(alloc, change)?;
-    let mut drawing = Vec::new(alloc);
-    draw_after(
-        state,
-        alloc,
-        &mut drawing,
-        Drawing::Full,
-        change,
-        &prompt_row,
-    )?;
-    Ok((prompt_row, drawing))
-}
-
-// The prompt row of a state, and the bytes that draw its whole page.
-fn draw_first(alloc: Global, state: &PagerState) -> Result<(String, Vec<u8>), AllocError>
-    requires { IsFormed state.now }
-    ensures prompt { IfOk result (λ p. string_bytes p.0 ≡ prompt_row (control_of state.now)) }
-    ensures drawn { IfOk result (λ p. p.1.items ≡ written_all (whole_page (control_of state.now))) }
-{
-    let change = state.change_to(NextText::Same, Redraw::Whole, false);
-    draw_unchanged(alloc, state, &change)
-}
-
 // The first state of a pager, with its page. A size that is none is refused.
 fn first_page<P: Parts>(pager: &PagerOf<P>, cols: usize, rows: usize) -> Result<First, MinusError>
     ensures control { IfOk result (λ f. control_of f.state ≡ first_control cols rows (map wanted_of pager.now.queue.items)) }
@@ -131,7 +97,8 @@ fn first_page<P: Parts>(pager: &PagerOf<P>, cols: usize, rows: usize) -> Result<
     ensures refused { IfErr result (λ e. IsUnformedState (refusal_of e) cols rows) }
 {
     let state = first_state(pager, cols, rows)?;
-    let (prompt_row, drawing) = draw_first(pager.alloc, &state)?;
+    let change = state.change_to(NextText::Same, Redraw::Whole, false);
+    let (prompt_row, drawing) = drawn(pager.alloc, &state, Drawing::Full, &change)?;
     Ok(First {
         state,
         prompt_row,

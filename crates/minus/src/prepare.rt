@@ -252,7 +252,48 @@ fn next_of_message<P: Parts>(
     Ok(state.set(Setting::Message(Some(message)), Redraw::Stays, clears))
 }
 
-// What comes of a command, before the mark is clamped.
+// What comes of a command, before the mark is clamped. A classifier that it hands over is let go.
+fn next_of_command<P: Parts>(
+    state: &PagerState,
+    alloc: Global,
+    command: CommandOf<P>,
+    help: &str,
+    clears: bool,
+) -> Result<Change, MinusError>
+    requires { IsFormed state.now }
+    ensures next { IfOk result (λ c. IsChange (control_of state.now) c
+        (moved_by (effect (cleared clears (control_of state.now)) (wanted_with help.now command)))) }
+    ensures redraw { IfOk result (λ c. c.redraw ≡ (effect (cleared clears (control_of state.now)) (wanted_with help.now command)).redraw) }
+    ensures possible { OnOk result (IsPossible (wanted_with help.now command)) }
+    ensures unformed { IfErr result (λ e. IsUnformed (refusal_of e) (wanted_with help.now command)) }
+{
+    match command {
+        CommandOf::SetData(text) => state.replaced(alloc, text, clears),
+        CommandOf::AppendData(text) => state.added(alloc, text, clears),
+        CommandOf::SetPrompt(text) => next_of_prompt::<P>(state, text, clears),
+        CommandOf::SendMessage(text) => next_of_message::<P>(state, text, clears),
+        CommandOf::ShowPrompt(is_shown) => {
+            Ok(state.set(Setting::Shown(is_shown), Redraw::Stays, clears))
+        }
+        CommandOf::SetLineNumbers(numbers) => {
+            let event = InputEvent::UpdateLineNumber(numbers);
+            next_of_event::<P>(state, alloc, event, help, clears)
+        }
+        CommandOf::LineWrapping(wrapping) => {
+            let event = InputEvent::HorizontalScroll(wrapping);
+            next_of_event::<P>(state, alloc, event, help, clears)
+        }
+        CommandOf::FollowOutput(follow) => {
+            let event = InputEvent::FollowOutput(follow);
+            next_of_event::<P>(state, alloc, event, help, clears)
+        }
+        CommandOf::UserInput(event) => next_of_event::<P>(state, alloc, event, help, clears),
+        CommandOf::Io(io) => Ok(next_of_io::<P>(state, io, clears)),
+        CommandOf::SetInputClassifier(_) => Ok(state.redrawn(Redraw::Stays, clears)),
+    }
+}
+
+// The same, with the classifier.
 fn next<P: Parts>(
     state: &PagerState,
     alloc: Global,
@@ -269,36 +310,15 @@ fn next<P: Parts>(
     ensures unformed { IfErr result (λ e. IsUnformed (refusal_of e) (wanted_with help.now command)) }
 {
     match command {
-        CommandOf::SetData(text) => Ok(Prepared::of(state.replaced(alloc, text, clears)?)),
-        CommandOf::AppendData(text) => Ok(Prepared::of(state.added(alloc, text, clears)?)),
-        CommandOf::SetPrompt(text) => Ok(Prepared::of(next_of_prompt::<P>(state, text, clears)?)),
-        CommandOf::SendMessage(text) => Ok(Prepared::of(next_of_message::<P>(
-            state, text, clears,
-        )?)),
-        CommandOf::ShowPrompt(is_shown) => {
-            Ok(Prepared::of(state.set(Setting::Shown(is_shown), Redraw::Stays, clears)))
-        }
-        CommandOf::SetLineNumbers(numbers) => {
-            let event = InputEvent::UpdateLineNumber(numbers);
-            Ok(Prepared::of(next_of_event::<P>(state, alloc, event, help, clears)?))
-        }
-        CommandOf::LineWrapping(wrapping) => {
-            let event = InputEvent::HorizontalScroll(wrapping);
-            Ok(Prepared::of(next_of_event::<P>(state, alloc, event, help, clears)?))
-        }
-        CommandOf::FollowOutput(follow) => {
-            let event = InputEvent::FollowOutput(follow);
-            Ok(Prepared::of(next_of_event::<P>(state, alloc, event, help, clears)?))
-        }
-        CommandOf::UserInput(event) => {
-            Ok(Prepared::of(next_of_event::<P>(state, alloc, event, help, clears)?))
-        }
-        CommandOf::Io(io) => Ok(Prepared::of(next_of_io::<P>(state, io, clears))),
         CommandOf::SetInputClassifier(classifier) => Ok(Prepared {
             change: state.redrawn(Redraw::Stays, clears),
             classifier: Some(classifier),
             copied: None,
         }),
+        command => {
+            let change = next_of_command(state, alloc, command, help, clears)?;
+            Ok(Prepared::of(change))
+        }
     }
 }
 

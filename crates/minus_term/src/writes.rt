@@ -8,7 +8,7 @@ ghost use Rattle.minus_term.specs.Written.{written};
 
 use crate::draw::{DrawOp, write_op};
 use crate::error::MinusError;
-use crate::sink::{OutputSink, write_bytes};
+use crate::sink::{OutputSink, draw_bytes, write_bytes};
 use std::alloc::{AllocError, Global};
 use std::convert::AsStr;
 
@@ -20,9 +20,10 @@ fn write_formed<W: OutputSink>(out: &mut W, bytes: &[u8], flush: bool) -> Result
     ensures stays { OnOk result (Stays (W.refused out.old) (W.refused out.new)) }
     ensures err { IfErr result (λ e. SinkRefuses W.contents W.refused e out.old out.new bytes.now) }
 {
-    write_bytes(out, bytes)?;
     if flush {
-        out.settle()?;
+        draw_bytes(out, bytes)?;
+    } else {
+        write_bytes(out, bytes)?;
     }
     Ok(())
 }

@@ -12,5 +12,5 @@ pub returns-clause-bytes : goal.returns-clause-bytes
 returns-clause-bytes c =
     let old : Control = control_of c.args.state.now in
     let is = c.moved_to-change.ensures in
-    let kind = c.drawing_by.ensures ∙ ap (λ r. drawing_by r old.mark c.moved_to-change.result.mark) is.redraw ∙ ap (λ m. drawing_by Moved old.mark m) is.next.mark_is in
-    c.in_ok-bytes.ensures _ is.next ∙ ap (λ k. written_all (ops_between k old (moved_to old c.args.mark))) kind
+    let kind = c.drawing_by-drawing.ensures ∙ ap (λ r. drawing_by r old.mark c.moved_to-change.result.mark) is.redraw ∙ ap (λ m. drawing_by Moved old.mark m) is.next.mark_is in
+    c.in_ok-bytes.ensures.bytes _ is.next ∙ ap (λ k. written_all (ops_between k old (moved_to old c.args.mark))) kind

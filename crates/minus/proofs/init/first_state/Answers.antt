@@ -1,5 +1,5 @@
 -- No command that waited moved the mark.
-use Rattle.std.proofs.Common.{map, ap, ◌∙◌}
+use Rattle.std.proofs.Common.{map, ap, sym, subst, ◌∙◌}
 use Rattle.minus_state.specs.Control.{Control}
 use Rattle.minus_state.specs.Changes.{IsUnformedState}
 use Rattle.minus_state.specs.States.{at_start, control_of}
@@ -25,3 +25,6 @@ returns-clause-size g c = c.in_ok-state.ensures.size
 
 pub returns-in_err-state-clause-refused : goal.returns-in_err-state-clause-refused
 returns-in_err-state-clause-refused g c = passed_on c.from_residual.result (λ e. IsUnformedState (refusal_of e) c.args.cols c.args.rows) c.in_err-state.field-0.0 c.from_residual.ensures c.in_err-state.ensures.refused
+
+pub returns-in_err-take_waiting-clause-refused : goal.returns-in_err-take_waiting-clause-refused
+returns-in_err-take_waiting-clause-refused g c = passed_on c.from_residual-in_err-take_waiting.result (λ e. IsUnformedState (refusal_of e) c.args.cols c.args.rows) c.in_err-take_waiting.field-0.0 c.from_residual-in_err-take_waiting.ensures (subst (λ e. IsUnformedState (refusal_of e) c.args.cols c.args.rows) (sym c.in_err-take_waiting.ensures.memory) c.in_ok-state.ensures.size)

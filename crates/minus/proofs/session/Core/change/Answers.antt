@@ -31,3 +31,9 @@ returns-then-is_empty-clause-step g c told asked answer answers =
       step = quiet_step _ (seen_of c.args.self.now) (seen_of c.take.new.self) told _ c.args.clears _ answer _ _ c.take.new.self.drawing.items asked.0 asked.1 taken.drawn (search rules) c.requires.on c.args.self.now.clamped c.requires.running taken.possible c.args.self.now.state.sized taken.size taken.done (ap g.S.Write.contents taken.sink) taken.copied answers;
       stays = rw taken.sink (Stays-refl (g.S.OutputSink.refused c.args.self.now.sink));
     }
+
+pub returns-in-Err-clause-step : goal.returns-in-Err-clause-step
+returns-in-Err-clause-step g c = tt
+
+pub returns-then-is_empty-clause-refused : goal.returns-then-is_empty-clause-refused
+returns-then-is_empty-clause-refused g c = tt

@@ -24,3 +24,9 @@ returns-clause-step g c told asked = record {
       (ap (λ (x : Control). let r : Seen _ = record (seen_of c.args.self.now) { control = x; status = status.Ended } in r) c.clear_prefix-2.ensures.control) c.in_default.ensures.ok c.of_step.ensures;
   stays = c.in_default.ensures.stays;
 }
+
+pub returns-in-Err-clause-step : goal.returns-in-Err-clause-step
+returns-in-Err-clause-step g c = tt
+
+pub invariant_of-self-2-clause-prompted : goal.invariant_of-self-2-clause-prompted
+invariant_of-self-2-clause-prompted g c = λ e. cc

@@ -14,3 +14,9 @@ answer-requires g c = search rules
 
 pub returns-clause-step : goal.returns-clause-step
 returns-clause-step g c = c.in_ok-answer.ensures.step (told_of c.args.input) c.command_of-command.ensures
+
+pub returns-in_err-answer-clause-failed : goal.returns-in_err-answer-clause-failed
+returns-in_err-answer-clause-failed g c = search rules
+
+pub returns-clause-failed : goal.returns-clause-failed
+returns-clause-failed g c = search rules
