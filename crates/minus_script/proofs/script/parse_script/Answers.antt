@@ -25,3 +25,7 @@ loop-line-preserved c =
       told = c.loop-line.invariant.told ∙ ap (told_after old (c.loop-line.number - 1)) lines
           ∙ told_after-more old now (c.loop-line.number - 1) first later c.in_ok-push_line-in-Some-2.ensures ∙ ap (λ n. told_after now n later) count;
     }
+
+-- a faulty line is a fault
+pub returns-in-None-clause-ok : goal.returns-in-None-clause-ok
+returns-in-None-clause-ok c = tt

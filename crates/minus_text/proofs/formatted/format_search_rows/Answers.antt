@@ -1,4 +1,4 @@
-use Rattle.std.proofs.Common.{◌≡◌, ℕ, ◌+◌, ◌<◌, Bool, false, List, [], ◌∷◌, ◌++◌, length, map, take, get_or, sym, ap, ap₂, ◌∙◌, rules}
+use Rattle.std.proofs.Common.{◌≡◌, ℕ, ◌+◌, ◌<◌, Bool, false, List, [], ◌∷◌, ◌++◌, length, map, take, get_or, sym, ap, ap₂, ◌∙◌}
 use Rattle.std.proofs.lemmas.List.{take_all, take_more, map-append}
 use Rattle.std.proofs.lemmas.Result.{IfOk-from_err}
 use Rattle.minus_text.specs.declared.formatted.FormattedRow.{FormattedRow}
@@ -22,7 +22,7 @@ returns-clause-matches c =
     c.loop-row.invariant.2 ∙ ap (map (λ r. row_matches (pattern_of c.args.search_term) r.row.now)) (take_all c.loop-row.row-index c.args.rows.now c.loop-row-test.false)
 
 pub loop-row-init : goal.loop-row-init
-loop-row-init c = search rules
+loop-row-init c = (c.in_ok-finder.ensures, ap (map (λ (r : SearchFormattedRow × Bool). printed_searched r.0)) c.new-found.ensures.items, ap (map (λ (r : SearchFormattedRow × Bool). r.1)) c.new-found.ensures.items)
 
 pub returns-in_err-finder-clause-printed : goal.returns-in_err-finder-clause-printed
 returns-in_err-finder-clause-printed c = IfOk-from_err _ _ c.from_residual.ensures.0

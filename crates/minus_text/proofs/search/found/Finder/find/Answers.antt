@@ -1,4 +1,4 @@
-use Rattle.std.proofs.Common.{◌∙◌, ap, rules}
+use Rattle.std.proofs.Common.{refl, ap, ◌∙◌}
 use Rattle.minus_text.specs.Escapes.{stripped, outside}
 use Rattle.minus_text.specs.FixedPatterns.{match_places}
 use Rattle.minus_text.specs.FoundRows.{finder_pattern}
@@ -11,4 +11,4 @@ returns-clause-matches c =
     (c.deref.ensures.value ∙ c.in_ok-escapes.ensures.found ∙ c.args.self.now.escape_matches c.args.row.now (λ k. (c.type_inv.row k).fits))
 
 pub returns-clause-row : goal.returns-clause-row
-returns-clause-row c = search rules
+returns-clause-row c = refl
