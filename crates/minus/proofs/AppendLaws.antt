@@ -1,5 +1,5 @@
 -- A page to which a text was appended.
-use Rattle.std.proofs.Common.{◌≡◌, ℕ, zero, suc, ◌+◌, ◌-◌, ◌≤◌, min, leb, true, List, [], ◌∷◌, ◌++◌, length, take, drop, None, refl, sym, ap, subst, ◌∙◌, arith, inl, inr}
+use Rattle.std.proofs.Common.{◌≡◌, ℕ, zero, suc, ◌+◌, ◌-◌, ◌<◌, ◌≤◌, min, max, leb, true, List, [], ◌∷◌, ◌++◌, length, take, drop, None, refl, sym, ap, subst, ◌∙◌, arith, inl, inr}
 use Rattle.std.proofs.lemmas.Bool.{cases_Bool, leb-true, leb-false}
 use Rattle.std.proofs.lemmas.List.{length-take, length-drop, take-take, drop-take}
 use Rattle.minus_term.specs.Append.{append_ops, rows_anew}
@@ -7,13 +7,13 @@ use Rattle.minus_term.specs.FullRedraw.{page_of}
 use Rattle.minus_term.specs.Operations.{Op, GoTo, ClearRow, Put}
 use Rattle.minus_term.specs.PlayedScreen.{PlayedScreen, ShownPage, Shows, play_all, screen_of}
 use Rattle.minus_term.specs.Puts.{puts}
-use Rattle.minus_term.proofs.AppendLaws.{append_shows_lem, IsClean-changed}
+use Rattle.minus_term.proofs.AppendLaws.{append_near, append_shows_lem, IsClean-changed}
 use Rattle.minus_term.proofs.PlayLaws.{play_all-append, draws_from, length-play_all}
 use Rattle.minus_term.proofs.ScrollLaws.{one_put}
 use Rattle.minus_term.proofs.WrittenLaws.{IsClean-append}
 use Rattle.minus_state.specs.Selection.{ends_in_order}
 use Rattle.minus_state.proofs.ShownRowsLaws.{length-shown_rows, shown_kept}
-use Rattle.minus.specs.declared.commands.Drawing.TheVariants.{Nothing, Append}
+use Rattle.minus.specs.declared.commands.Drawing.TheVariants.{Nothing, Append, Prompt}
 use Rattle.minus_state.specs.Control.{Control, Settings, document_of, text_rows, first_changed, keeps_rows_with}
 use Rattle.minus.specs.Drawings.{ops_of_step, changed_prompt}
 use Rattle.minus.specs.Drawn.{IsDrawing}
@@ -60,6 +60,10 @@ append_draws c text s keeps some =
     let count : length (shown new) ≡ min n (length (text_rows new) - c.mark) = omega (arith, length-take n (drop c.mark (all_shown new)), length-drop c.mark (all_shown new), all_there new) in
     let same : take first (shown c) ≡ take first (shown new) = agree_shown (all_shown c) (all_shown new) (first_changed c) c.mark n first (rows_stay c text keeps) (omega arith) (omega (arith, count)) in
     let rows : List Op = append_ops first (length (shown c)) (shown new) in
+    let kept : min (first_changed c) (length (all_shown c)) ≡ min (first_changed c) (length (all_shown new)) = omega (arith, ap length (rows_stay c text keeps), length-take (first_changed c) (all_shown c), length-take (first_changed c) (all_shown new)) in
+    let old_count : length (shown c) ≡ min n (length (text_rows c) - c.mark) = omega (arith, length-take n (drop c.mark (all_shown c)), length-drop c.mark (all_shown c), all_there c) in
+    let past : length (shown new) < first_changed c - c.mark → length (shown c) ≤ length (shown new) = λ l. omega (arith, l, kept, count, old_count, all_there c, all_there new) in
+    let near : rows ≡ append_ops (first_changed c - c.mark) (length (shown c)) (shown new) = append_near (first_changed c - c.mark) (length (shown c)) (shown new) past in
     let prompt : List Op = changed_prompt c new in
     let screen : PlayedScreen = screen_of (page c) in
     let pages : List ShownPage = page c ∷ page new ∷ [] in
@@ -67,10 +71,11 @@ append_draws c text s keeps some =
     let then_prompt = next_prompt_shows c.rows (shown new) (prompt_row c) (prompt_row new) (shown_fits new some) in
     let all : Shows (play_all prompt (play_all rows screen)) (page new) = draws_from prompt (page_of c.rows (shown new) (prompt_row c)) (page new) (play_all rows screen) then_prompt drawn in
     let none = next_prompt_puts c.rows (prompt_row c) (prompt_row new) (play_all rows screen) (length-play_all rows screen ∙ page_size c some) some in
-    let few = puts_anew first (drop first (shown new)) (length (shown c) - length (shown new)) prompt screen in
-    record {
+    let few = puts_anew first (drop first (shown new)) (length (shown c) - max first (length (shown new))) prompt screen in
+    subst (λ (ops : List Op). IsDrawing (ops ++ prompt) c (work_drawn Append new ∷ []) new) near record {
       shows = subst (λ (s : PlayedScreen). Shows s (page new)) (sym (play_all-append rows prompt screen)) all;
       clean = IsClean-append pages rows prompt (IsClean-changed pages c.rows first (length (shown c)) (shown new) (prompt_row new) (1, omega arith, refl)) (next_prompt_clean pages c.rows (prompt_row c) (prompt_row new) (prompt_there c new));
       few = omega (arith, few, none, count, length-drop first (shown new));
+      asked = (λ e. absurd (let drawn : Append ≡ Prompt = e in cc), tt);
       none = λ q. absurd (let drawn : Append ≡ Nothing = q.0 in cc);
     }

@@ -3,7 +3,7 @@ use Rattle.std.proofs.Common.{◌≡◌, ℕ, ◌+◌, ◌-◌, ◌<◌, ◌≤�
 use Rattle.std.specs.Prelude.{bytes_eq, if◌then◌else◌}
 use Rattle.std.specs.Io.KnownBytes.{Appends}
 use Rattle.std.proofs.lemmas.Bool.{cases_Bool}
-use Rattle.std.proofs.lemmas.List.{length-append, length-map, length-replicate, length-take, map-append}
+use Rattle.std.proofs.lemmas.List.{append-nil, length-append, length-map, length-replicate, length-take, map-append}
 use Rattle.std.proofs.lemmas.List.Elements.{Contains-push}
 use Rattle.std.proofs.lemmas.Slice.Eq.{bytes_eq-Decides}
 use Rattle.std.proofs.KnownBytes.{Appends-nil}
@@ -85,6 +85,7 @@ whole_draws old new some = record {
   shows = full_redraw_lem new.rows (shown new) (prompt_row new) (unknown_screen new.rows) (length-replicate {A = Option (List ℕ)} new.rows None) (shown_fits new some);
   clean = IsClean-full (page old ∷ page new ∷ []) new.rows (shown new) (prompt_row new) (1, omega arith, refl);
   few = tt;
+  asked = (λ e. absurd (let drawn : Full ≡ Prompt = e in cc), tt);
   none = λ q. absurd (let drawn : Full ≡ Nothing = q.0 in cc);
 }
 
@@ -96,6 +97,7 @@ aside_draws c s help some =
       shows = next_prompt_shows c.rows (shown c) (prompt_row c) (prompt_row new) (shown_fits c some);
       clean = next_prompt_clean (page c ∷ page new ∷ []) c.rows (prompt_row c) (prompt_row new) (prompt_there c new);
       few = omega (arith, next_prompt_puts c.rows (prompt_row c) (prompt_row new) (screen_of (page c)) (page_size c some) some);
+      asked = (λ e. absurd (let drawn : Nothing ≡ Prompt = e in cc), tt);
       none = λ q. (let same : bytes_eq (prompt_row new) (prompt_row c) ≡ true = (bytes_eq-Decides (prompt_row new) (prompt_row c)).1 q.1 in rw same refl);
     }
 
@@ -110,6 +112,7 @@ prompt_draws c s some =
       shows = prompt_shows c.rows (shown c) (prompt_row c) (prompt_row new) (shown_fits c some);
       clean = IsClean-prompt (page c ∷ page new ∷ []) c.rows (prompt_row new) (prompt_there c new);
       few = omega (arith, puts-prompt c.rows (prompt_row new) (screen_of (page c)) (page_size c some) some);
+      asked = (λ e. ([], [], sym (append-nil (whole_prompt new))), tt);
       none = λ q. absurd (let drawn : Prompt ≡ Nothing = q.0 in cc);
     }
 
@@ -121,6 +124,7 @@ scroll_draws c s mark some =
       shows = scroll_shows_lem c.rows c.mark mark (all_shown c) (prompt_row c) (prompt_row new) some;
       clean = IsClean-scroll (page c ∷ page new ∷ []) c.rows c.mark mark (shown new) (prompt_row new) (1, omega arith, refl);
       few = scroll_puts_lem c.rows c.mark mark (all_shown c) (prompt_row new) (screen_of (page c)) some (page_size c some);
+      asked = (λ e. absurd (let drawn : Scroll ≡ Prompt = e in cc), tt);
       none = λ q. absurd (let drawn : Scroll ≡ Nothing = q.0 in cc);
     }
 
@@ -130,6 +134,7 @@ no_work c = record {
   shows = record { texts = refl; cursor = tt };
   clean = tt;
   few = omega arith;
+  asked = tt;
   none = λ q. refl;
 }
 

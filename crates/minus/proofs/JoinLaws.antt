@@ -1,5 +1,5 @@
 -- The drawings of some works after those of others are the drawings of them all.
-use Rattle.std.proofs.Common.{◌≡◌, ℕ, ◌+◌, ◌≤◌, ◌||◌, Bool, true, false, List, [], ◌∷◌, ◌++◌, length, map, Option, None, Some, refl, sym, ap, subst, ◌∙◌, arith, inl, inr}
+use Rattle.std.proofs.Common.{◌≡◌, ℕ, ◌+◌, ◌≤◌, ◌||◌, Bool, true, false, List, [], ◌∷◌, ◌++◌, length, map, Option, None, Some, refl, sym, ap, subst, ◌∙◌, arith, append_assoc, inl, inr}
 use Rattle.std.specs.List.{Contains}
 use Rattle.std.proofs.lemmas.Bool.{cases_Bool}
 use Rattle.std.proofs.lemmas.List.{append-nil, map-append, length-replicate}
@@ -20,7 +20,8 @@ use Rattle.minus.proofs.TableLaws.{unresized}
 use Rattle.minus.proofs.LeavesLaws.{last_passed, pages_before, pages_after}
 use Rattle.minus_term.specs.Written.{IsClean}
 use Rattle.minus_term.proofs.WrittenLaws.{IsClean-append, IsClean-more}
-use Rattle.minus.specs.Drawn.{screen_before, most_of, most_puts, then_most, IsWithin, IsDrawing, DrawingsJoin}
+use Rattle.minus.specs.Drawn.{screen_before, most_of, most_puts, then_most, IsWithin, DrawsPrompts, IsDrawing, DrawingsJoin}
+use Rattle.minus.specs.Drawings.{whole_prompt}
 use Rattle.minus.specs.declared.commands.Drawing.{Drawing}
 
 within_sum : (m n : ℕ) (o p : Option ℕ) → IsWithin m o → IsWithin n p → IsWithin (m + 1 + n) (then_most o p)
@@ -149,6 +150,19 @@ quiet_from : (c d : Control) (ws : List Work) → prompt_row d ≡ prompt_row c 
 quiet_from c d [] same q = tt
 quiet_from c d (w ∷ ws) same q = (q.0, q.1 ∙ sym same, quiet_from c d ws same q.2)
 
+-- what has the prompt rows that are asked for has them with other operations behind and before
+prompts_before : (xs ys : List Op) (works : List Work) → DrawsPrompts xs works → DrawsPrompts (xs ++ ys) works
+prompts_before xs ys [] p = tt
+prompts_before xs ys (w ∷ works) p = (λ e. (let q = p.0 e in (q.0, q.1 ++ ys, ap (λ ops. ops ++ ys) q.2 ∙ append_assoc (q.0 ++ whole_prompt w.left) q.1 ys)), prompts_before xs ys works p.1)
+
+prompts_behind : (xs ys : List Op) (works : List Work) → DrawsPrompts ys works → DrawsPrompts (xs ++ ys) works
+prompts_behind xs ys [] p = tt
+prompts_behind xs ys (w ∷ works) p = (λ e. (let q = p.0 e in (xs ++ q.0, q.1, ap (λ ops. xs ++ ops) q.2 ∙ sym (append_assoc xs (q.0 ++ whole_prompt w.left) q.1) ∙ ap (λ ops. ops ++ q.1) (sym (append_assoc xs q.0 (whole_prompt w.left))))), prompts_behind xs ys works p.1)
+
+prompts_join : (ops : List Op) (ws vs : List Work) → DrawsPrompts ops ws → DrawsPrompts ops vs → DrawsPrompts ops (ws ++ vs)
+prompts_join ops [] vs p q = q
+prompts_join ops (w ∷ ws) vs p q = (p.0, prompts_join ops ws vs p.1 q)
+
 -- the drawings of works after others are the drawings of them all
 some_join : (a b c : Control) (w v : Work) (ws vs : List Work) (xs ys : List Op) → (some_full (v ∷ vs) ≡ false → b.rows ≡ c.rows) → b ≡ reached a (w ∷ ws) → Contains (a ∷ passed_in (w ∷ ws)) b → IsDrawing xs a (w ∷ ws) b → IsDrawing ys b (v ∷ vs) c → IsDrawing (xs ++ ys) a ((w ∷ ws) ++ v ∷ vs) c
 some_join a b c w v ws vs xs ys rows is there h k =
@@ -156,6 +170,7 @@ some_join a b c w v ws vs xs ys rows is there h k =
       shows = by_full.0;
       clean = joined_clean;
       few = by_full.1;
+      asked = prompts_join (xs ++ ys) (w ∷ ws) (v ∷ vs) (prompts_before xs ys (w ∷ ws) h.asked) (prompts_behind xs ys (v ∷ vs) k.asked);
       none = λ q. (
           let both = quiet_parts a (w ∷ ws) (v ∷ vs) q in
           let same : prompt_row b ≡ prompt_row a = ap prompt_row is ∙ quiet_reached a a (w ∷ ws) refl both.0 in

@@ -21,13 +21,9 @@ whole_page c = full_ops c.rows (shown c) (prompt_row c)
 abbrev pub page_rows : Control → List Op
 page_rows c = flat_map row_ops (shown c)
 
--- the list that draws the rows of text of a page from one of them on, where so many were shown
-abbrev pub rows_after : ℕ → ℕ → List (List ℕ) → List Op
-rows_after first were shown = append_ops (min first (length shown)) were shown
-
--- the list that draws those from a row of the text on, where there were so many rows in all
+-- the list that draws the rows of text of a page from a row of the text on, where there were so many rows in all
 abbrev pub append_from : Control → ℕ → ℕ → List Op
-append_from c first were = rows_after (first - c.mark) (min (were - c.mark) (c.rows - 1)) (shown c)
+append_from c first were = append_ops (first - c.mark) (min (were - c.mark) (c.rows - 1)) (shown c)
 
 -- the list that draws the prompt row
 abbrev pub whole_prompt : Control → List Op
@@ -38,7 +34,7 @@ abbrev pub ops_between : Drawing → Control → Control → List Op
 ops_between Nothing old new = []
 ops_between Full old new = whole_page new
 ops_between Scroll old new = scroll_ops new.rows old.mark new.mark (shown new) (prompt_row new)
-ops_between Append old new = rows_after (first_changed old - old.mark) (length (shown old)) (shown new)
+ops_between Append old new = append_ops (first_changed old - old.mark) (length (shown old)) (shown new)
 ops_between Prompt old new = whole_prompt new
 
 -- the list that draws a prompt row which is another one than before

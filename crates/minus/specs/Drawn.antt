@@ -2,6 +2,7 @@
 use Rattle.std.specs.Prelude.{◌≡◌, ℕ, ◌+◌, ◌-◌, ◌≤◌, min, List, [], ◌∷◌, ◌++◌, length, map, Option, None, Some, if◌then◌else◌}
 use Rattle.std.specs.List.{Contains}
 use Rattle.std.specs.Io.KnownBytes.{Appends}
+use Rattle.minus_term.specs.FullRedraw.{prompt_ops}
 use Rattle.minus_term.specs.Operations.{Op}
 use Rattle.minus_term.specs.Counts.{AppendsFront}
 use Rattle.minus_term.specs.PlayedScreen.{PlayedScreen, Shows, play_all, screen_of, unknown_screen}
@@ -11,6 +12,7 @@ use Rattle.minus_term.specs.Scroll.{distance}
 use Rattle.minus_term.specs.Terminal.{setup_bytes}
 use Rattle.minus_state.specs.Control.{Control, text_rows, first_changed}
 use Rattle.minus_state.specs.Page.{page}
+use Rattle.minus_state.specs.ShownPrompt.{prompt_row}
 use Rattle.minus.specs.Seen.{Seen}
 use Rattle.minus.specs.Table.{Wanted, Exit}
 use Rattle.minus.specs.Works.{Work, WorkedOff, passed_in, some_full, IsQuiet}
@@ -46,12 +48,23 @@ abbrev pub IsWithin : ℕ → Option ℕ → Type 0
 IsWithin n None = Unit {0}
 IsWithin n (Some most) = n ≤ most
 
+-- a list of operations stands in another, as one piece
+abbrev pub HasPiece : List Op → List Op → Type 0
+HasPiece ops piece = (front back : List Op) × (ops ≡ front ++ piece ++ back)
+
+-- the prompt row is drawn for each work that asks for it alone, whether it is another one or not
+abbrev pub DrawsPrompts : List Op → List Work → Type 0
+DrawsPrompts ops [] = Unit {0}
+DrawsPrompts ops (w ∷ works) = (w.drawing ≡ Prompt → HasPiece ops (prompt_ops w.left.rows (prompt_row w.left))) × DrawsPrompts ops works
+
 -- the operations are the drawings of works: they lead to the page of the new control, put rows of the pages of the controls
--- passed alone, as few as the works allow, and are none where none is drawn and the prompt row stays
+-- passed alone, as few as the works allow, draw each prompt row that is asked for, and are none where none is drawn and the
+-- prompt row stays
 pub record IsDrawing (ops : List Op) (old : Control) (works : List Work) (new : Control) : Type 0 where
   pub shows : Shows (play_all ops (screen_before old works new)) (page new)
   pub clean : IsClean (map page (old ∷ passed_in works)) ops
   pub few : IsWithin (puts ops (screen_before old works new)) (most_puts old works)
+  pub asked : DrawsPrompts ops works
   pub none : IsQuiet old works → ops ≡ []
 
 -- the drawings of some works, and after them those of others, are the drawings of them all

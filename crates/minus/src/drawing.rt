@@ -3,7 +3,8 @@ ghost use Rattle.std.specs.Prelude.{◌≡◌, ◌+◌, ◌++◌, ◌^◌, ◌<�
 ghost use Rattle.minus_state.specs.Control.{Control};
 ghost use Rattle.minus_state.specs.ShownPrompt.{prompt_row};
 ghost use Rattle.minus_term.specs.Written.{written_all};
-ghost use Rattle.minus.specs.Drawings.{rows_after, append_from, ops_between, ops_of_step};
+ghost use Rattle.minus.specs.Drawings.{append_from, ops_between, ops_of_step};
+ghost use Rattle.minus_term.specs.Append.{append_ops};
 ghost use Rattle.minus_state.specs.States.{control_of, IsFormed};
 ghost use Rattle.minus_state.specs.NextTexts.{IsNext};
 ghost use Rattle.minus_state.specs.Changes.{IsChange, shown_by};
@@ -43,17 +44,13 @@ fn draw_rows_after<'a>(
 ) -> Result<(), AllocError>
     requires belongs { IsNext state.now.screen change.now.text }
     requires few { were < 2 ^ 16 }
-    ensures { OnOk result (out.new.items ≡ out.old.items ++ written_all (rows_after first were (shown_by state.now change.now))) }
+    ensures { OnOk result (out.new.items ≡ out.old.items ++ written_all (append_ops first were (shown_by state.now change.now))) }
 {
     let count = state.count_after(change);
     let texts = state.shown_after(alloc, change, first)?;
-    draw_append_text(
-        alloc,
-        out,
-        first.min(count),
-        were.saturating_sub(count),
-        &texts,
-    )?;
+    let from = first.min(count.max(were));
+    let blanks = were.saturating_sub(count.max(first));
+    draw_append_text(alloc, out, from, blanks, &texts)?;
     Ok(())
 }
 

@@ -1,6 +1,7 @@
 -- An append.
-use Rattle.std.proofs.Common.{◌≡◌, ℕ, zero, suc, ◌+◌, ◌-◌, ◌<◌, ◌≤◌, min, List, [], ◌∷◌, ◌++◌, length, map, take, drop, replicate, set, get_or, Option, Some, None, refl, sym, ap, ◌∙◌, arith, inr, append_assoc}
+use Rattle.std.proofs.Common.{◌≡◌, ℕ, zero, suc, ◌+◌, ◌-◌, ◌<◌, ◌≤◌, min, max, List, [], ◌∷◌, ◌++◌, length, map, take, drop, replicate, set, get_or, Option, Some, None, refl, sym, ap, ◌∙◌, arith, inl, inr, append_assoc}
 use Rattle.std.proofs.Math.ListN.{drop_of_length-le}
+use Rattle.std.proofs.lemmas.Bool.{cases_lt}
 use Rattle.std.proofs.lemmas.List.{length-append, length-map, length-take, length-drop, get_or_at, set_at, map-append, take-append-drop}
 use Rattle.minus_term.specs.Append.{rows_anew, append_ops, AppendShowsItsPage, AppendPutsFew}
 use Rattle.minus_term.specs.FullRedraw.{page_of}
@@ -90,7 +91,7 @@ pub append_shows_lem : AppendShowsItsPage
 append_shows_lem rows first old new prompt lo ln lf same =
     let n : ℕ = rows - 1 in
     let texts : List (List ℕ) = drop first new in
-    let blanks : ℕ = length old - length new in
+    let blanks : ℕ = length old - max first (length new) in
     let k : ℕ = length texts + blanks in
     let count : length texts ≡ length new - first = length-drop first new in
     let front : List (List ℕ) = take first (fit n old) in
@@ -144,7 +145,7 @@ puts-anew i (t ∷ ts) b s =
     omega (arith, one, more)
 
 pub append_puts_lem : AppendPutsFew
-append_puts_lem first were new s = let few = puts-anew first (drop first new) (were - length new) s in omega (arith, few, length-drop first new)
+append_puts_lem first were new s = let few = puts-anew first (drop first new) (were - max first (length new)) s in omega (arith, few, length-drop first new)
 
 -- nothing but rows of the page is put
 IsClean-anew : (pages : List ShownPage) (i : ℕ) (texts : List (List ℕ)) (blanks : ℕ) → ((text : List ℕ) → Contains texts text → IsRowOf pages text) → IsClean pages (rows_anew i texts blanks)
@@ -155,4 +156,29 @@ IsClean-anew pages i (t ∷ ts) b rows = (tt, (tt, (inr (rows t (Contains-head t
 pub IsClean-changed : (pages : List ShownPage) (rows first were : ℕ) (shown : List (List ℕ)) (prompt : List ℕ) → Contains pages (page_of rows shown prompt) → IsClean pages (append_ops first were shown)
 IsClean-changed pages rows first were shown prompt h =
     let blanks : List (List ℕ) = replicate (rows - 1 - length shown) [] in
-    IsClean-anew pages first (drop first shown) (were - length shown) (λ text k. (page_of rows shown prompt, h, Contains-append_left (shown ++ blanks) (prompt ∷ []) text (Contains-append_left shown blanks text (in_rest first shown text k))))
+    IsClean-anew pages first (drop first shown) (were - max first (length shown)) (λ text k. (page_of rows shown prompt, h, Contains-append_left (shown ++ blanks) (prompt ∷ []) text (Contains-append_left shown blanks text (in_rest first shown text k))))
+
+-- past the rows of text there is nothing to draw: so one may draw from the end on
+pub append_near : (first were : ℕ) (shown : List (List ℕ)) → (length shown < first → were ≤ length shown) → append_ops (min first (length shown)) were shown ≡ append_ops first were shown
+append_near first were shown few = elim (cases_lt (length shown) first) [
+  | inl l ↦
+      let there : drop first shown ≡ [] = drop_of_length-le shown (omega arith) in
+      let here : drop (min first (length shown)) shown ≡ [] = drop_of_length-le shown (omega arith) in
+      let none : were - max first (length shown) ≡ 0 = omega (arith, few l) in
+      let nothing : were - max (min first (length shown)) (length shown) ≡ 0 = omega (arith, few l) in
+      rw (there, here, none, nothing) refl
+  | inr g ↦ let same : min first (length shown) ≡ first = omega arith in ap (λ n. append_ops n were shown) same
+]
+
+pub anew_near : (first were : ℕ) (shown : List (List ℕ)) → rows_anew (min first (max (length shown) were)) (drop first shown) (were - max (length shown) first) ≡ append_ops first were shown
+anew_near first were shown = elim (cases_lt (max (length shown) were) first) [
+  | inl l ↦
+      let there : drop first shown ≡ [] = drop_of_length-le shown (omega arith) in
+      let none : were - max first (length shown) ≡ 0 = omega arith in
+      let nothing : were - max (length shown) first ≡ 0 = omega arith in
+      rw (there, none, nothing) refl
+  | inr g ↦
+      let same : min first (max (length shown) were) ≡ first = omega arith in
+      let many : were - max (length shown) first ≡ were - max first (length shown) = omega arith in
+      rw (same, many) refl
+]

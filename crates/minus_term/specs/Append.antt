@@ -1,5 +1,5 @@
 -- The drawing of a page whose last rows changed.
-use Rattle.std.specs.Prelude.{◌≡◌, ℕ, zero, suc, ◌+◌, ◌-◌, ◌<◌, ◌≤◌, List, [], ◌∷◌, length, take, drop}
+use Rattle.std.specs.Prelude.{◌≡◌, ℕ, zero, suc, ◌+◌, ◌-◌, ◌<◌, ◌≤◌, max, List, [], ◌∷◌, length, take, drop}
 use Rattle.minus_term.specs.Operations.{Op, ClearRow, GoTo, Put}
 use Rattle.minus_term.specs.FullRedraw.{page_of}
 use Rattle.minus_term.specs.PlayedScreen.{PlayedScreen, Draws}
@@ -11,9 +11,9 @@ rows_anew i [] zero = []
 rows_anew i [] (suc blanks) = GoTo 0 i ∷ ClearRow ∷ rows_anew (i + 1) [] blanks
 rows_anew i (text ∷ texts) blanks = GoTo 0 i ∷ ClearRow ∷ Put text ∷ rows_anew (i + 1) texts blanks
 
--- the rows from the first that changed up to the last that is or was a row of text, where so many were
+-- the rows from one on up to the last that is or was a row of text, where so many were: none where it lies past them
 abbrev pub append_ops : ℕ → ℕ → List (List ℕ) → List Op
-append_ops first were shown = rows_anew first (drop first shown) (were - length shown)
+append_ops first were shown = rows_anew first (drop first shown) (were - max first (length shown))
 
 -- an append leads from the page of the old rows of text to that of the new ones, which agree up to the first that changed
 abbrev pub AppendShowsItsPage : Type 0

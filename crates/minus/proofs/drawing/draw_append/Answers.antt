@@ -6,7 +6,7 @@ use Rattle.minus_text.specs.Document.{rows_of}
 use Rattle.minus_text.specs.Searched.{Searched}
 use Rattle.minus_state.specs.Control.{Control, text_rows, first_changed}
 use Rattle.minus_state.specs.Changes.{shown_by}
-use Rattle.minus.specs.Drawings.{rows_after}
+use Rattle.minus_term.specs.Append.{append_ops}
 use Rattle.minus_state.specs.Page.{all_shown, shown}
 use Rattle.minus_state.specs.States.{control_of}
 use Rattle.minus.proofs.AppendLaws.{all_there}
@@ -22,6 +22,6 @@ returns c new h =
     let were : c.min-were.result ≡ length (shown old) = omega (arith, c.min-were.ensures, c.saturating_sub.ensures, rows, length-take (old.rows - 1) (drop old.mark (all_shown old)), length-drop old.mark (all_shown old), all_there old) in
     let first : c.saturating_sub-first.result ≡ first_changed old - old.mark = c.saturating_sub-first.ensures ∙ ap (λ (n : ℕ). n - old.mark) c.first_changed.ensures in
     c.in_ok-draw_rows_after.ensures
-    ∙ ap (λ (n : ℕ). out ++ written_all (rows_after n c.min-were.result (shown_by self c.args.change.now))) first
-    ∙ ap (λ (n : ℕ). out ++ written_all (rows_after (first_changed old - old.mark) n (shown_by self c.args.change.now))) were
-    ∙ ap (λ rs. out ++ written_all (rows_after (first_changed old - old.mark) (length (shown old)) rs)) (shown_is self c.args.change.now new c.requires.formed h)
+    ∙ ap (λ (n : ℕ). out ++ written_all (append_ops n c.min-were.result (shown_by self c.args.change.now))) first
+    ∙ ap (λ (n : ℕ). out ++ written_all (append_ops (first_changed old - old.mark) n (shown_by self c.args.change.now))) were
+    ∙ ap (λ rs. out ++ written_all (append_ops (first_changed old - old.mark) (length (shown old)) rs)) (shown_is self c.args.change.now new c.requires.formed h)
