@@ -5,7 +5,6 @@ use Rattle.std.proofs.Math.Seq.{drop-nil}
 use Rattle.std.proofs.lemmas.List.{map_more, length-map, length-take-le}
 use Rattle.std.proofs.lemmas.List.Concat.{flat_map-append}
 use Rattle.minus_term.specs.Append.{rows_anew}
-use Rattle.minus.specs.Drawings.{rows_after}
 use Rattle.minus_term.specs.Operations.{Op, GoTo, ClearRow, Put}
 use Rattle.minus_term.specs.Written.{written, written_all}
 use Rattle.minus_term.specs.FullRedraw.{row_ops}
@@ -79,8 +78,3 @@ blank_next first i old a b e g = ops_added old a b (rows_anew first [] i) (GoTo 
 -- the texts, and the blank rows after them
 pub anew_added : (old a b : List ℕ) (first blanks : ℕ) (texts : List (List ℕ)) → a ≡ old ++ written_all (rows_anew first texts 0) → b ≡ a ++ written_all (rows_anew (first + length texts) [] blanks) → b ≡ old ++ written_all (rows_anew first texts blanks)
 anew_added old a b first blanks texts e g = ops_added old a b (rows_anew first texts 0) (rows_anew (first + length texts) [] blanks) e g ∙ ap (λ ops. old ++ written_all ops) (sym (anew_parts first texts blanks))
-
--- the rows from one on are those from the page's end where there are no more
-pub rows_after_is : (first were count : ℕ) (shown texts : List (List ℕ)) → count ≡ length shown → texts ≡ drop first shown → rows_anew (min first count) texts (were - count) ≡ rows_after first were shown
-rows_after_is first were count shown texts c t =
-    ap (λ (n : ℕ). rows_anew (min first n) texts (were - n)) c ∙ ap (λ (ts : List (List ℕ)). rows_anew (min first (length shown)) ts (were - length shown)) (t ∙ sym (drop_all shown first))

@@ -8,8 +8,6 @@ use Rattle.minus_term.specs.Refusals.{Refusal, for_memory, for_newline, for_size
 use Rattle.minus_term.specs.Written.{written_all}
 use Rattle.minus_state.specs.Control.{Control}
 use Rattle.minus_state.specs.declared.state.RunMode.{RunMode}
-use Rattle.minus_state.specs.declared.state.RunMode.TheVariants.{Uninitialized}
-use Rattle.minus_state.specs.Changes.{IsUnformedState}
 use Rattle.minus.specs.Starts.{CanStart, IsStartRefused, IsEarly, IsShowRefused, CleansUp, DrawingBreaksOff, ShowBreaksOff, StartBreaksOff}
 use Rattle.minus.specs.Drawings.{whole_page}
 use Rattle.minus.proofs.DrawnLaws.{whole_shows}
@@ -38,19 +36,6 @@ shown_at_start after_failure mode cols rows terminal can h = absurd h
 shown_at_start after_exit mode cols rows terminal can h = absurd h
 shown_at_start (at_cleanup cause) mode cols rows terminal can h = absurd h
 shown_at_start of_no_call mode cols rows terminal can h = absurd h
-
--- a state that is not formed is a start that is refused
-pub unformed_at_start : (refusal : Refusal) (mode : RunMode) (cols rows : ℕ) (terminal : Bool) → (mode ≡ Uninitialized → ⊥) → IsUnformedState refusal cols rows → IsStartRefused refusal mode cols rows terminal
-unformed_at_start for_memory mode cols rows terminal runs h = record { runs = runs; size = h }
-unformed_at_start (for_size c r) mode cols rows terminal runs h = (runs, h.0, h.1, h.2)
-unformed_at_start for_newline mode cols rows terminal runs h = absurd h
-unformed_at_start for_mode mode cols rows terminal runs h = absurd h
-unformed_at_start after_failure mode cols rows terminal runs h = absurd h
-unformed_at_start after_exit mode cols rows terminal runs h = absurd h
-unformed_at_start (at_setup cause) mode cols rows terminal runs h = absurd h
-unformed_at_start (at_cleanup cause) mode cols rows terminal runs h = absurd h
-unformed_at_start at_drawing mode cols rows terminal runs h = absurd h
-unformed_at_start of_no_call mode cols rows terminal runs h = absurd h
 
 -- the cleanup, whatever came of it
 pub cleaned_up : (r : Result (Unit {0}) CleanupError) (a b : Option (List ℕ)) (m n : Option ℕ) → OnOk r (Appends a b cleanup_bytes) → OnOk r (Stays m n) → AppendsFront a b cleanup_bytes → OnErr r (Rises m n) → CleansUp a b m n

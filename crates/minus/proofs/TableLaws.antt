@@ -4,9 +4,8 @@ use Rattle.std.proofs.lemmas.List.{map_more}
 use Rattle.minus_state.specs.declared.change.Redraw.{Redraw}
 use Rattle.minus_state.specs.Control.{Control, Saved, clamp, top, cleared, IsClamped, SameSize}
 use Rattle.minus_state.specs.Help.{left_help, restored}
-use Rattle.minus_state.specs.Appending.{added}
 use Rattle.minus.specs.Seen.{Seen}
-use Rattle.minus.specs.Table.{Wanted, answered, handed, adds_text, moved_by, drawing_by, sets_data, appends_data, moves_mark, resizes, exits, ignores, sets_prompt, sends_message, shows_prompt, follows, types, restores_prompt, redraws_prompt, redraws_page, sets_classifier, sets_numbers, sets_wrapping, shifts, starts_selection, updates_selection, clears_selection, copies_selection, shows_help, Exit, Effect, effect, changed_by, kept_after, drawing_of, IsPossible}
+use Rattle.minus.specs.Table.{Wanted, answered, handed, drawing_by, sets_data, appends_data, moves_mark, resizes, exits, ignores, sets_prompt, sends_message, shows_prompt, follows, types, restores_prompt, redraws_prompt, redraws_page, sets_classifier, sets_numbers, sets_wrapping, shifts, starts_selection, updates_selection, clears_selection, copies_selection, shows_help, Exit, effect, changed_by, kept_after, drawing_of, IsPossible}
 use Rattle.minus.specs.Works.{Work, WorkedOff, all, one, up_to, is_full, some_full, ResizesAreFull}
 use Rattle.minus.specs.Starts.{taken, taken_all, first_control}
 use Rattle.minus_state.specs.States.{at_start}
@@ -21,10 +20,6 @@ use Rattle.minus.specs.Reads.{event_wanted, io_wanted, wanted_with}
 -- what the clamp leaves
 pub clamp_still : (c : Control) → IsClamped c → clamp c ≡ c
 clamp_still c h = let m : min c.mark (top c) ≡ c.mark = omega (arith, h) in ap (λ (n : ℕ). let k : Control = record c { mark = n } in k) m
-
--- the clamp ends each change
-pub changed_is_clamped : (e : Effect) → IsClamped (changed_by e)
-changed_is_clamped e = omega arith
 
 exits_still : (K : Type 0) (c : Control) (help : Option Saved) (x : Exit) → (let k : Control = record c { help = help } in IsClamped k → (effect {K = K} k exits).exits_by ≡ Some x → changed_by (effect {K = K} k exits) ≡ k)
 exits_still K c None x h e = clamp_still (record c { help = None }) h
@@ -214,14 +209,6 @@ take_one f commands i d x first now new l is so_far e =
 -- a change is drawn as the table says of its command
 pub drawn_as : {K : Type 0} (c : Control) (w : Wanted K) (redraw : Redraw) (mark : ℕ) → redraw ≡ (effect c w).redraw → mark ≡ (changed_by (effect c w)).mark → drawing_by redraw c.mark mark ≡ drawing_of c w
 drawn_as c w redraw mark r m = ap (λ (x : Redraw). drawing_by x c.mark mark) r ∙ ap (λ (n : ℕ). drawing_by (effect c w).redraw c.mark n) m
-
--- a text that is added, to the one on show or to the one that is put aside
-added_with : (c : Control) (text : List ℕ) (help : Option Saved) → (let k : Control = record c { help = help } in added k text ≡ moved_by (adds_text k text))
-added_with c text None = refl
-added_with c text (Some saved) = refl
-
-pub added_is : (c : Control) (text : List ℕ) → added c text ≡ moved_by (adds_text c text)
-added_is c text = added_with c text c.help
 
 -- no event of the pager hands a classifier over, and no command that asks for a drawing
 no_event_hands : {K : Type 0} (text : List ℕ) (event : InputEvent) → handed {K = K} (answered text (event_wanted event)) ≡ None

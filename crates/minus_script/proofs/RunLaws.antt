@@ -8,7 +8,7 @@ use Rattle.minus_term.specs.declared.error.MinusError.TheVariants.{Memory, Newli
 use Rattle.minus_term.specs.Refusals.{number_of, refusal_of}
 use Rattle.minus.specs.declared.stand_in.StandIn.{StandIn}
 use Rattle.minus.specs.declared.session.Answer.{Answer}
-use Rattle.minus_state.specs.declared.state.RunMode.TheVariants.{Dynamic, Uninitialized}
+use Rattle.minus_state.specs.declared.state.RunMode.TheVariants.{Dynamic}
 use Rattle.minus.specs.declared.status.Status.{Status}
 use Rattle.minus.specs.declared.status.Status.TheVariants as status
 use Rattle.minus.specs.Answers.{IsAnswer, ends_run}
@@ -18,7 +18,7 @@ use Rattle.minus.specs.Classifying.{Classifies}
 use Rattle.minus_state.specs.Control.{Control}
 use Rattle.minus.specs.Reads.{Told}
 use Rattle.minus.specs.Runs.{Stops, StopsSo, StopsAfter, IsRun}
-use Rattle.minus.specs.Starts.{IsStarted, IsStartRefused}
+use Rattle.minus.specs.Starts.{IsStarted}
 use Rattle.minus.specs.Seen.{Seen}
 use Rattle.minus.specs.Steps.{IsStep, Steps, none, more, Refuses, status_after, cleanup_after}
 use Rattle.minus.specs.Table.{Wanted, Exit}
@@ -121,23 +121,6 @@ still_runs says old new ts cs answers x y e rest (none {a = a}) runs h = runs
 still_runs says old new ts cs answers x y e rest (more {b = b} {t = t} {answer = answer} {answers = []} {x = u} {y = v} s none) runs h = step_goes_on says old b t answer u v s (ends_not (ends_run answer) e rest h)
 still_runs says old new ts cs answers x y e rest (more {b = b} {c = c} {t = t} {ts = us} {cs = ds} {answer = answer} {answers = next ∷ others} {x = u} {y = v} {z = w} s steps) runs h =
     still_runs says b c us ds (next ∷ others) v w e rest steps (step_goes_on says old b t answer u v s h.0) h.1
-
--- a start that is refused
-pub start_refused : (e : MinusError) (cols rows : ℕ) (told : List (Told StandIn)) → IsStartRefused (refusal_of e) Dynamic cols rows true → IsRefusal (number_of e) cols rows told
-start_refused Memory cols rows told h = inl (inl refl)
-start_refused NewlineInPrompt cols rows told h = absurd h
-start_refused (BadSize c r) cols rows told h = inr (inl (refl, inl h.3))
-start_refused BadMode cols rows told h = absurd (let both : Dynamic ≡ Uninitialized = h in cc)
-start_refused Failed cols rows told h = absurd h
-start_refused Ended cols rows told h = absurd h
-start_refused (Setup cause) cols rows told h = inl (inr (inl refl))
-start_refused (Cleanup cause) cols rows told h = absurd h
-start_refused (Draw cause) cols rows told h = inl (inr (inr (inr refl)))
-start_refused (HandleEvent cause) cols rows told h = absurd h
-start_refused (Cursor cause) cols rows told h = absurd h
-start_refused (FmtWriteError cause) cols rows told h = absurd h
-start_refused Conversion cols rows told h = absurd h
-start_refused (SearchExpError cause) cols rows told h = absurd h
 
 -- a step that is refused while the session runs
 step_refused : (e : MinusError) (cols rows : ℕ) (told rest : List (Told StandIn)) (t : Told StandIn) (answers : List Answer) (reached new : Seen StandIn) (a b : Option (List ℕ)) → IsTaken cols rows told answers reached a (t ∷ rest) → reached.status ≡ status.Running → Refuses stand_in_says (refusal_of e) reached t new a b → IsRefusal (number_of e) cols rows told

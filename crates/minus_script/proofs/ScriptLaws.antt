@@ -2,7 +2,7 @@
 use Rattle.std.proofs.Common.{◌≡◌, ℕ, ◌+◌, ◌<◌, List, [], ◌∷◌, ◌++◌, length, Some, None, Result, Ok, Err, false, eqb, refl, sym, arith, ◌∙◌, ap, inl, inr, not, ◌&&◌}
 use Rattle.std.specs.List.{position, position_or_len, before_first, after_first, slice_split, onto_first}
 use Rattle.std.proofs.lemmas.Bool.{cases_Bool, cases_lt, lt-ltb, ne_eqb, false_from_ne_true, cond-true, and_from}
-use Rattle.std.proofs.lemmas.List.{append_assoc, append-nil}
+use Rattle.std.proofs.lemmas.List.{append_assoc}
 use Rattle.std.proofs.lemmas.List.Splits.{slice_split_first, length-slice_split}
 use Rattle.std.specs.Str.{IsUtf8, is_utf8}
 use Rattle.std.proofs.lemmas.Str.{IsUtf8-from_is_utf8, is_utf8-from_IsUtf8}
@@ -64,11 +64,3 @@ told_after done lines (Err number) = Err (lines + number)
 pub told_after-more : (done now : List (Told StandIn)) (lines : ℕ) (first : List (Told StandIn)) (later : Result (List (Told StandIn)) ℕ) → now ≡ done ++ first → told_after done lines (then_told (Some first) later) ≡ told_after now (lines + 1) later
 told_after-more done now lines first (Ok later) e = ap Ok (sym (append_assoc done first later) ∙ ap (λ x. x ++ later) (sym e))
 told_after-more done now lines first (Err number) e = ap Err (omega arith)
-
--- no line more
-pub told_after-end : (done : List (Told StandIn)) (lines : ℕ) → told_after done lines (Ok []) ≡ Ok done
-told_after-end done lines = ap Ok (append-nil done)
-
-pub told_after-nil : (later : Result (List (Told StandIn)) ℕ) → told_after [] 0 later ≡ later
-told_after-nil (Ok later) = refl
-told_after-nil (Err number) = ap Err (omega arith)

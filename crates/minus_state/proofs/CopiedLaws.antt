@@ -1,8 +1,7 @@
 -- Places in a row as places in the text, where it may be cut.
-use Rattle.std.proofs.Common.{◌≡◌, ℕ, ◌+◌, ◌-◌, ◌≤◌, max, List, ◌++◌, length, take, drop, Some, append_assoc, refl, sym, subst, ap, ◌∙◌, arith, inl, inr}
-use Rattle.std.specs.List.{concat, slice_get, slice_range}
+use Rattle.std.proofs.Common.{◌≡◌, ℕ, ◌+◌, ◌-◌, ◌≤◌, List, ◌++◌, length, take, drop, Some, append_assoc, refl, sym, subst, ap, ◌∙◌}
+use Rattle.std.specs.List.{concat, slice_get}
 use Rattle.std.specs.Str.{IsUtf8, IsCharBoundary}
-use Rattle.std.proofs.lemmas.Bool.{cases_lt}
 use Rattle.std.proofs.lemmas.List.{length-append, take-append-drop}
 use Rattle.std.proofs.lemmas.List.Folds.{drop_split}
 use Rattle.std.proofs.lemmas.Str.{IsUtf8-append, IsUtf8-between, IsUtf8-drop, IsCharBoundary-at_seam, IsCharBoundary-from_rest}
@@ -63,17 +62,6 @@ cut_in_text text row s place u at c =
     let cut : IsCharBoundary (drop s.start text) (length c.front) = IsCharBoundary-at_seam (drop s.start text) c.front (c.rest ++ rest) here (IsUtf8-append c.rest rest c.rest_is (IsUtf8-drop text s.end u at.end)) in
     let b : IsCharBoundary text (s.start + place) = rw c.place_is (IsCharBoundary-from_rest text s.start (length c.front) at.start.0 cut) in
     record { within = b.0; boundary = b }
-
--- the later of two places
-pub later_in_text : (text : List ℕ) (a b : ℕ) → IsCharBoundary text a → IsCharBoundary text b → IsCharBoundary text (max b a)
-later_in_text text a b x y = elim (cases_lt a b) [
-  | inl l ↦ let e : max b a ≡ b = omega arith in rw e y
-  | inr g ↦ let e : max b a ≡ a = omega arith in rw e x
-]
-
--- what stands between them
-pub range_to_later : (text : List ℕ) (a b : ℕ) → slice_range text a (max b a) ≡ slice_range text a b
-range_to_later text a b = let e : max b a - a ≡ b - a = omega arith in ap (λ n. take n (drop a text)) e
 
 -- a side of a character of a row, as a place in the text
 pub side_in_text : (d : Document) (side : Side) (i column : ℕ) (s : Span) (row : List ℕ) (place : ℕ) → IsUtf8 d.text → Some s ≡ slice_get (row_places d) i → Some row ≡ slice_get (rows_of d) i → place ≡ side_in_row side column row → IsInText d.text (s.start + place)

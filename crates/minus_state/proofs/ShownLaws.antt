@@ -1,9 +1,8 @@
 -- The rows of text on a page.
-use Rattle.std.proofs.Common.{◌≡◌, ℕ, zero, suc, ◌+◌, ◌-◌, ◌<◌, ◌≤◌, min, List, [], ◌∷◌, ◌++◌, length, map, take, drop, get_or, Option, Some, None, refl, sym, ap, ◌∙◌, arith}
+use Rattle.std.proofs.Common.{◌≡◌, ℕ, zero, suc, ◌+◌, ◌-◌, ◌<◌, ◌≤◌, min, List, [], ◌∷◌, ◌++◌, length, take, drop, get_or, Option, Some, None, refl, sym, ap, ◌∙◌, arith}
 use Rattle.std.specs.List.{slice_get}
 use Rattle.minus_state.specs.ShownRow.{before_rows}
-use Rattle.std.proofs.Math.ListN.{drop_of_length-le}
-use Rattle.std.proofs.lemmas.List.{take_more, get_or-drop, length-drop, length-take, drop-append-le, take_min, drop_min, map_push}
+use Rattle.std.proofs.lemmas.List.{take_more, get_or-drop, length-drop, length-take, drop-append-le, take_min, drop_min}
 
 get_some : {X : Type 0} (xs : List X) (i : ℕ) (x d : X) → Some x ≡ slice_get xs i → get_or xs i d ≡ x
 get_some [] i x d e = cc
@@ -15,24 +14,6 @@ pub row_there : {X : Type 0} (xs : List X) (i : ℕ) → i < length xs → None 
 row_there [] i l e = omega arith
 row_there (x ∷ xs) zero l e = cc
 row_there (x ∷ xs) (suc i) l e = row_there xs i (omega arith) e
-
--- one more row on the page
-pub shown_more : {X : Type 0} (f : X → List ℕ) (xs news : List X) (x : X) (rows : List (List ℕ)) (mark i : ℕ) → mark + i < length rows → map f xs ≡ take i (drop mark rows) → Some (f x) ≡ slice_get rows (mark + i) → news ≡ xs ++ x ∷ []
-    → map f news ≡ take (i + 1) (drop mark rows)
-shown_more f xs news x rows mark i l h e g =
-    let left : i < length (drop mark rows) = omega (arith, length-drop mark rows) in
-    let is : get_or (drop mark rows) i [] ≡ f x = get_or-drop mark rows i [] ∙ get_some rows (mark + i) (f x) [] e in
-    ap (map f) g ∙ map_push f xs x ∙ ap (λ rs. rs ++ f x ∷ []) h ∙ sym (take_more (drop mark rows) i [] left ∙ ap (λ r. take i (drop mark rows) ++ r ∷ []) is)
-
--- no more rows than there are
-pub shown_all : (rows : List (List ℕ)) (mark n k : ℕ) → n ≡ min (length rows - mark) k → take n (drop mark rows) ≡ take k (drop mark rows)
-shown_all rows mark n k e =
-    let m : n ≡ min k (length (drop mark rows)) = omega (arith, e, length-drop mark rows) in
-    ap (λ j. take j (drop mark rows)) m ∙ take_min k (drop mark rows)
-
--- no row yet, from one on
-pub none_yet : {X : Type 0} (n : ℕ) (xs : List X) → [] ≡ drop n (take n xs)
-none_yet n xs = sym (drop_of_length-le (take n xs) (omega (arith, length-take n xs)))
 
 -- one more row from one on
 pub more_from : (n i : ℕ) (xs news rows : List (List ℕ)) (row : List ℕ) → n ≤ i → i < length rows → get_or rows i [] ≡ row → xs ≡ drop n (take i rows) → news ≡ xs ++ row ∷ [] → news ≡ drop n (take (i + 1) rows)

@@ -36,9 +36,6 @@ pub record VisibleSoFar (count left : ℕ) (all rest : List (List ℕ)) (bytes b
   pub before : text_of (before_visible count all) ≡ done ++ text_of (before_visible left rest)
   pub bytes_are : bytes ≡ done ++ bytes_rest
 
-pub none_passed : (count : ℕ) (all : List (List ℕ)) (bytes : List ℕ) → VisibleSoFar count count all all bytes bytes
-none_passed count all bytes = record { done = []; behind = refl; before = refl; bytes_are = refl }
-
 -- a unit is passed: a sequence, or a visible character that comes before the one that is looked for
 passed : (count left left' : ℕ) (all rest more : List (List ℕ)) (unit text bytes bytes_rest bytes_more : List ℕ) → VisibleSoFar count left all rest bytes bytes_rest → bytes_rest ≡ text ++ bytes_more → text ≡ encode_utf8_all unit
     → behind_visible left rest ≡ behind_visible left' more → before_visible left rest ≡ unit ∷ before_visible left' more → VisibleSoFar count left' all more bytes bytes_more
@@ -68,14 +65,6 @@ found : (count left : ℕ) (all rest : List (List ℕ)) (bytes bytes_rest : List
 found count left all rest bytes bytes_rest s behind before =
     let none : text_of (before_visible count all) ≡ s.done = s.before ∙ ap (λ us. s.done ++ text_of us) before ∙ append-nil s.done in
     record { units = sym behind ∙ s.behind; bytes_are = s.bytes_are ∙ ap (λ bs. bs ++ bytes_rest) (sym none) }
-
-pub found_here : (count left : ℕ) (all rest more : List (List ℕ)) (unit bytes bytes_rest : List ℕ) → VisibleSoFar count left all rest bytes bytes_rest → rest ≡ unit ∷ more → begins_sequence unit ≡ false → left ≡ 0 → Found count all bytes rest bytes_rest
-found_here count left all rest more unit bytes bytes_rest s e q z =
-    found count left all rest bytes bytes_rest s (ap (behind_visible left) e ∙ rw (q, z) (sym e)) (ap (before_visible left) e ∙ rw (q, z) refl)
-
-pub found_none : (count left : ℕ) (all rest : List (List ℕ)) (bytes bytes_rest : List ℕ) → VisibleSoFar count left all rest bytes bytes_rest → rest ≡ [] → Found count all bytes rest bytes_rest
-found_none count left all rest bytes bytes_rest s e =
-    found count left all rest bytes bytes_rest s (ap (behind_visible left) e ∙ sym e) (ap (before_visible left) e)
 
 -- ---- marks
 

@@ -20,27 +20,9 @@ pub Below-refl : {A : Type 0} (o : Option A) → Below o o
 Below-refl None = tt
 Below-refl (Some x) = refl
 
-pub Below-trans : {A : Type 0} (o p q : Option A) → Below o p → Below p q → Below o q
-Below-trans None p q h k = tt
-Below-trans (Some x) None q h k = absurd (let e : None ≡ Some x = h in cc)
-Below-trans (Some x) (Some y) q h k = let e : Some y ≡ Some x = h in let f : q ≡ Some y = k in f ∙ e
-
 pub AllBelow-refl : (xs : Texts) → AllBelow xs xs
 AllBelow-refl [] = tt
 AllBelow-refl (x ∷ xs) = (Below-refl x, AllBelow-refl xs)
-
-pub AllBelow-trans : (xs ys zs : Texts) → AllBelow xs ys → AllBelow ys zs → AllBelow xs zs
-AllBelow-trans [] [] zs h k = k
-AllBelow-trans [] (y ∷ ys) zs h k = absurd h
-AllBelow-trans (x ∷ xs) [] zs h k = absurd h
-AllBelow-trans (x ∷ xs) (y ∷ ys) [] h k = absurd k
-AllBelow-trans (x ∷ xs) (y ∷ ys) (z ∷ zs) h k = (Below-trans x y z h.0 k.0, AllBelow-trans xs ys zs h.1 k.1)
-
-pub IsBelow-refl : (s : PlayedScreen) → IsBelow s s
-IsBelow-refl s = record { texts = AllBelow-refl s.texts; row = Below-refl s.row; column = Below-refl s.column }
-
-pub IsBelow-trans : (s t u : PlayedScreen) → IsBelow s t → IsBelow t u → IsBelow s u
-IsBelow-trans s t u h k = record { texts = AllBelow-trans s.texts t.texts u.texts h.texts k.texts; row = Below-trans s.row t.row u.row h.row k.row; column = Below-trans s.column t.column u.column h.column k.column }
 
 pub length_below : (xs ys : Texts) → AllBelow xs ys → length xs ≡ length ys
 length_below [] [] h = refl

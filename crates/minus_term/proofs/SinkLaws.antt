@@ -37,15 +37,6 @@ Stays-rises (Some k) b None p q = tt
 Stays-rises (Some k) None (Some n) p q = absurd q
 Stays-rises (Some k) (Some m) (Some n) p q = omega (arith, p, q)
 
--- calls that were not refused after calls of which one was
-pub Rises-stays : (a b c : Option ℕ) → Rises a b → Stays b c → Rises a c
-Rises-stays None None None p q = tt
-Rises-stays None None (Some n) p q = absurd q
-Rises-stays None (Some m) c p q = absurd p
-Rises-stays (Some k) b None p q = tt
-Rises-stays (Some k) None (Some n) p q = absurd q
-Rises-stays (Some k) (Some m) (Some n) p q = omega arith
-
 -- a call that added nothing, after some that did
 pub Appends-kept : (a b c : Option (List ℕ)) (bytes : List ℕ) → Appends a b bytes → Keeps b c → Appends a c bytes
 Appends-kept None b c bytes p q = tt

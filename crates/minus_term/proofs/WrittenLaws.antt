@@ -3,7 +3,6 @@ use Rattle.std.proofs.Common.{◌≡◌, ℕ, ◌+◌, ◌-◌, ◌==◌, Bool, 
 use Rattle.std.specs.List.{Contains}
 use Rattle.std.proofs.lemmas.Grind.{flat_map-append}
 use Rattle.std.proofs.lemmas.List.{append-nil, take_rest}
-use Rattle.std.proofs.lemmas.List.Elements.{Contains-append_left, Contains-append_right}
 use Rattle.minus_term.specs.Operations.{Op, ClearAll, ClearRow, GoTo, Return, NextRow, Put, ScrollUp, ScrollDown, ShowCursor, HideCursor}
 use Rattle.minus_term.specs.PlayedScreen.{ShownPage}
 use Rattle.minus_term.specs.Written.{escape, scroll_bytes, written, written_all, IsCleanOp, IsClean}
@@ -22,16 +21,6 @@ written_all-append xs ys = flat_map-append written xs ys
 pub written_all-one : (op : Op) → written_all (op ∷ []) ≡ written op
 unfolding written_all
 written_all-one op = append-nil (written op)
-
--- the bytes of an operation come before those of the operations after it
-pub written_all-cons : (op : Op) (ops : List Op) → written_all (op ∷ ops) ≡ written op ++ written_all ops
-unfolding written_all
-written_all-cons op ops = refl
-
--- the bytes of a text are the text
-pub written-put : (text : List ℕ) → written (Put text) ≡ text
-unfolding written
-written-put text = refl
 
 -- clean lists after one another are clean
 pub IsClean-append : (pages : List ShownPage) (xs ys : List Op) → IsClean pages xs → IsClean pages ys → IsClean pages (xs ++ ys)
@@ -55,13 +44,6 @@ clean_op these those more HideCursor h = tt
 pub IsClean-more : (these those : List ShownPage) → ((page : ShownPage) → Contains these page → Contains those page) → (ops : List Op) → IsClean these ops → IsClean those ops
 IsClean-more these those more [] h = tt
 IsClean-more these those more (op ∷ ops) h = (clean_op these those more op h.0, IsClean-more these those more ops h.1)
-
--- a clean list stays clean where further pages are put behind or before
-pub IsClean-pages_behind : (pages further : List ShownPage) (ops : List Op) → IsClean pages ops → IsClean (pages ++ further) ops
-IsClean-pages_behind pages further ops h = IsClean-more pages (pages ++ further) (λ page k. Contains-append_left pages further page k) ops h
-
-pub IsClean-pages_before : (further pages : List ShownPage) (ops : List Op) → IsClean pages ops → IsClean (further ++ pages) ops
-IsClean-pages_before further pages ops h = IsClean-more pages (further ++ pages) (λ page k. Contains-append_right further pages page k) ops h
 
 -- three lists after another, as one list
 pub append-three : (xs a b c : List ℕ) → xs ++ a ++ b ++ c ≡ xs ++ (a ++ b ++ c ++ [])

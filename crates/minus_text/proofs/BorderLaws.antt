@@ -9,7 +9,7 @@ use Rattle.std.proofs.lemmas.Bool.Decides.{nat_tests}
 use Rattle.std.proofs.lemmas.List.{append-nil, append_cancel_right, length-append, length-take-le, drop-append-le, take_at, drop_at, drop_all, take_all, take-append-drop, take_more, nil_from_length}
 use Rattle.std.proofs.lemmas.List.Folds.{list_all-append}
 use Rattle.std.proofs.lemmas.List.Sums.{sum_by-cons}
-use Rattle.std.proofs.lemmas.Str.{chars-append, chars-IsAscii, encodes-chars, encodes-IsAscii, IsCharBoundary-end, IsCharBoundary-at_seam, IsCharBoundary-from_rest, IsUtf8-nil, IsUtf8-append, IsUtf8-take, IsUtf8-drop, IsUtf8-from_ascii}
+use Rattle.std.proofs.lemmas.Str.{chars-append, chars-IsAscii, encodes-chars, encodes-IsAscii, IsCharBoundary-end, IsCharBoundary-at_seam, IsCharBoundary-from_rest, IsUtf8-append, IsUtf8-take, IsUtf8-drop, IsUtf8-from_ascii}
 use Rattle.minus_text.specs.Plain.{is_unescaped}
 use Rattle.minus_text.specs.Units.{char_columns, is_final, begins_sequence, units, unit_columns, unit_len, body_of, text_columns, columns}
 use Rattle.minus_text.specs.declared.formed.Border.{Border}
@@ -252,9 +252,6 @@ pub record SettledSoFar (text : List ℕ) (width : ℕ) (rest : List ℕ) : Type
   pub front : List ℕ
   pub joins : text ≡ front ++ rest
   pub settled : Settled front width
-
-pub nothing_settled : (text : List ℕ) → SettledSoFar text 0 text
-nothing_settled text = record { front = []; joins = refl; settled = record { text = IsUtf8-nil; adds = λ more u. omega arith; keeps = λ more. refl } }
 
 -- the bytes of a unit
 unit_settled : (text rest : List ℕ) (width : ℕ) → IsUtf8 text → IsUtf8 rest → SettlesFirst (chars text) width (chars rest) → SettledSoFar text width rest

@@ -3,7 +3,7 @@ use Rattle.std.proofs.Common.{◌≡◌, ℕ, zero, suc, ◌+◌, ◌<◌, eqb, 
 use Rattle.std.specs.Str.{IsUtf8, encode_utf8_all}
 use Rattle.std.specs.List.{sum_by}
 use Rattle.std.proofs.lemmas.Bool.{cases_Bool, eqb-true}
-use Rattle.std.proofs.lemmas.List.{append-nil, length-append, length-replicate, nil_from_length}
+use Rattle.std.proofs.lemmas.List.{length-append, length-replicate, nil_from_length}
 use Rattle.std.proofs.lemmas.List.Sums.{sum_by-cons}
 use Rattle.std.proofs.lemmas.Str.{chars-append, encodes-append, encodes-chars, chars-IsAscii}
 use Rattle.minus_text.specs.Units.{body_of, units, unit_columns}
@@ -36,9 +36,6 @@ body_whole (c ∷ cs) h =
 pub record BodySoFar (text body : List ℕ) : Type 0 where
   pub spaces : ℕ
   pub text_is : text ≡ body ++ replicate spaces 32
-
-pub all_body : (text : List ℕ) → BodySoFar text text
-all_body text = record { spaces = 0; text_is = sym (append-nil text) }
 
 -- one more space is gone
 pub less_space : (text body front : List ℕ) → BodySoFar text body → body ≡ front ++ 32 ∷ [] → BodySoFar text front

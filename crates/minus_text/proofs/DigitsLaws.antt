@@ -2,7 +2,7 @@
 use Rattle.std.proofs.Common.{◌≡◌, ℕ, zero, suc, ◌+◌, ◌*◌, ◌<◌, ◌≤◌, ◌/◌, ◌^◌, length, arith, ap, ◌∙◌}
 use native.Mathlib.Nat.{pow-zero, pow-suc}
 use Rattle.std.specs.Fmt.{decimal}
-use Rattle.std.proofs.lemmas.Fmt.{decimal-digits_of, decimal_digit, length-decimal-le}
+use Rattle.std.proofs.lemmas.Fmt.{decimal-digits_of, decimal_digit}
 use Rattle.std.proofs.lemmas.Int.Digits.{length-digits_of_step}
 use Rattle.std.specs.Int.Digits.{digits_of}
 use Rattle.std.proofs.lemmas.List.{length-map}
@@ -19,9 +19,6 @@ length-decimal_step n big fits =
 
 pub length-decimal_digit : (n : ℕ) → n < 10 → length (decimal n) ≡ 1
 length-decimal_digit n small = ap length (decimal_digit n small)
-
-pub length-decimal_small : (n : ℕ) → n < 2 ^ 64 → length (decimal n) ≤ 20
-length-decimal_small n fits = length-decimal-le 20 n (omega arith) (omega arith) fits
 
 -- a number from a power of ten on and below the next has one digit more than the power
 pub length-decimal_power : (k n : ℕ) → 10 ^ k ≤ n → n < 10 * 10 ^ k → n < 2 ^ 64 → length (decimal n) ≡ k + 1

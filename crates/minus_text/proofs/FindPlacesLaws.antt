@@ -1,5 +1,5 @@
 -- The matches of a pattern, found one after another.
-use Rattle.std.proofs.Common.{◌≡◌, ℕ, zero, suc, ◌+◌, ◌-◌, ◌<◌, ◌≤◌, Bool, true, false, cond, eqb, ne_eqb, List, [], ◌∷◌, ◌++◌, map, length, Option, None, Some, option_map, refl, sym, ap, ◌∙◌, subst, arith, append_assoc}
+use Rattle.std.proofs.Common.{◌≡◌, ℕ, zero, suc, ◌+◌, ◌-◌, ◌<◌, ◌≤◌, Bool, true, false, cond, eqb, List, [], ◌∷◌, ◌++◌, map, length, Option, None, Some, option_map, refl, sym, ap, ◌∙◌, subst, arith, append_assoc}
 use Rattle.std.proofs.lemmas.List.{append-nil, length-append}
 use Rattle.std.proofs.lemmas.Option.{none-some, same_Some}
 use Rattle.regex_hir.specs.Find.{matches_from, find_after, find_str, Match}
@@ -19,16 +19,6 @@ pub record IsLeft (re : Re) (text : List ℕ) (done : List (ℕ × ℕ)) (next :
   pub same_span : next ≡ option_map span first
   pub all : done ++ map span (matches_from (find_str re text) (room text done) first) ≡ match_places re text
   pub fits : (m : Match) → first ≡ Some m → (length text < room text done + m.trace.end) × (m.trace.end ≤ length text)
-
-pub all_left : (re : Re) (text : List ℕ) (next : Option (ℕ × ℕ)) → next ≡ option_map span (find_str re text 0) → IsLeft re text [] next
-all_left re text next e =
-    let none : room text [] ≡ length text + 1 = omega arith in
-    record {
-      first = find_str re text 0;
-      same_span = e;
-      all = ap (λ n. map span (matches_from (find_str re text) n (find_str re text 0))) none;
-      fits = λ m h. let lies = match_lies re text 0 m h in (omega (arith, none), lies.2);
-    }
 
 ends_behind : (re : Re) (text : List ℕ) (i : ℕ) (o : Option Match) (m : Match) → find_str re text i ≡ o → cond (is_some_and o (λ x. eqb x.trace.end i)) (find_str re text (i + 1)) o ≡ Some m → (i < m.trace.end) × (m.trace.end ≤ length text)
 ends_behind re text i None m e h = absurd (none-some m h)
@@ -72,18 +62,6 @@ pub more_left : (re : Re) (text : List ℕ) (done : List (ℕ × ℕ)) (p : ℕ 
     (next : Option (ℕ × ℕ)) → next ≡ option_map span (find_after (find_str re text) p.1) → IsLeft re text (done ++ p ∷ []) next
 more_left re text done p left next e = some_more re text done p left.first left.same_span left.all left.fits next e
 
-some_fits : (re : Re) (text : List ℕ) (done : List (ℕ × ℕ)) (p : ℕ × ℕ) (o : Option Match) → Some p ≡ option_map span o →
-    ((m : Match) → o ≡ Some m → (length text < room text done + m.trace.end) × (m.trace.end ≤ length text)) → (p.1 ≤ length text) × (length done ≤ length text)
-some_fits re text done p None same fits = absurd (none-some p (sym same))
-some_fits re text done p (Some m) same fits =
-    let is : p ≡ span m = same_Some p (span m) same in
-    let h = fits m refl in
-    (subst (λ (q : ℕ × ℕ). q.1 ≤ length text) (sym is) h.1, omega (arith, h.0, h.1))
-
--- a match that is found ends in the text, and there is room for it
-pub left_fits : (re : Re) (text : List ℕ) (done : List (ℕ × ℕ)) (p : ℕ × ℕ) → IsLeft re text done (Some p) → (p.1 ≤ length text) × (length done ≤ length text)
-left_fits re text done p left = some_fits re text done p left.first left.same_span left.fits
-
 no_more : (re : Re) (text : List ℕ) (n : ℕ) (o : Option Match) → None ≡ option_map span o → map span (matches_from (find_str re text) n o) ≡ []
 unfolding matches_from
 no_more re text zero o e = refl
@@ -93,27 +71,6 @@ no_more re text (suc n) (Some m) e = absurd (none-some (span m) e)
 pub none_left : (re : Re) (text : List ℕ) (done : List (ℕ × ℕ)) → IsLeft re text done None → done ≡ match_places re text
 none_left re text done left = sym (append-nil done) ∙ ap (λ l. done ++ l) (sym (no_more re text _ left.first left.same_span)) ∙ left.all
 
-tested : (o : Option Match) (p : ℕ × ℕ) (end : ℕ) (x : Option Match) (b : Bool) → Some p ≡ option_map span o → eqb p.1 end ≡ b →
-    cond (is_some_and o (λ m. eqb m.trace.end end)) x o ≡ cond b x o
-tested None p end x b same e = absurd (none-some p (sym same))
-tested (Some m) p end x b same e = ap (λ t. cond t x (Some m)) (ap (λ (q : ℕ × ℕ). eqb q.1 end) (sym (same_Some p (span m) same)) ∙ e)
-
--- an empty match where the last one ended is passed over
-pub after_empty : (re : Re) (text : List ℕ) (p : ℕ × ℕ) (end : ℕ) → Some p ≡ option_map span (find_str re text end) → p.1 ≡ end →
-    option_map span (find_str re text (end + 1)) ≡ option_map span (find_after (find_str re text) end)
-after_empty re text p end same empty =
-    let is : eqb p.1 end ≡ true = grind (arith, empty) in
-    ap (option_map span) (sym (tested (find_str re text end) p end (find_str re text (end + 1)) true same is))
-
-pub after_some : (re : Re) (text : List ℕ) (p : ℕ × ℕ) (end : ℕ) → Some p ≡ option_map span (find_str re text end) → ¬ (p.1 ≡ end) →
-    Some p ≡ option_map span (find_after (find_str re text) end)
-after_some re text p end same some =
-    let is : eqb p.1 end ≡ false = ne_eqb p.1 end some in
-    same ∙ ap (option_map span) (sym (tested (find_str re text end) p end (find_str re text (end + 1)) false same is))
-
 none_after : (o x : Option Match) (test : Match → Bool) → None ≡ option_map span o → None ≡ option_map span (cond (is_some_and o test) x o)
 none_after None x test e = e
 none_after (Some m) x test e = absurd (none-some (span m) e)
-
-pub after_none : (re : Re) (text : List ℕ) (end : ℕ) → None ≡ option_map span (find_str re text end) → None ≡ option_map span (find_after (find_str re text) end)
-after_none re text end e = none_after (find_str re text end) (find_str re text (end + 1)) (λ m. eqb m.trace.end end) e

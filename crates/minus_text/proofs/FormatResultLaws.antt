@@ -1,5 +1,5 @@
 -- What the result of a push tells.
-use Rattle.std.proofs.Common.{◌≡◌, ℕ, ◌+◌, ◌-◌, ◌≤◌, Bool, true, false, eqb, cond, Option, None, List, [], ◌++◌, length, refl, sym, subst, ap, ◌∙◌, arith, inl, inr}
+use Rattle.std.proofs.Common.{◌≡◌, ℕ, ◌+◌, ◌-◌, ◌≤◌, Bool, true, eqb, cond, Option, None, List, [], ◌++◌, length, refl, sym, subst, ap, ◌∙◌, arith, inl, inr}
 use Rattle.std.specs.List.{sum_by}
 use Rattle.std.specs.Str.Lines.{lines}
 use Rattle.std.specs.BTreeSet.{BTreeSet}
@@ -25,7 +25,7 @@ use Rattle.minus_text.specs.Fragments.{Fragment, rows_in}
 use Rattle.minus_text.specs.Found.{RowMatches, found_by, found_from, row_numbers}
 use Rattle.minus_text.specs.Kept.{bytes_of, IsFormOf, IsFormed, IsRestartOf, line_going_on, piece_behind}
 use Rattle.minus_text.specs.Searched.{Searched, IsFoundBy}
-use Rattle.minus_text.specs.FormatResults.{Tells, TellsWith, TellsPlan, TellsPush, TellsFound, formed_by, first_formed, is_clean}
+use Rattle.minus_text.specs.FormatResults.{Tells, TellsWith, TellsPush, TellsFound, formed_by, first_formed, is_clean}
 use Rattle.minus_text.proofs.LinesLaws.{open_at}
 use Rattle.minus_text.proofs.PushedLaws.{lines_pushed, keeps_wrap}
 use Rattle.minus_text.proofs.FoundFromLaws.{from_behind}
@@ -86,13 +86,6 @@ tells_push text piece wrap rows firsts finished n b start f r d plan v h w k is 
       longest_told = ew ∙ is.its_longest ∙ ap (λ t. longest_of (lines t)) ej;
       clean_told = ec ∙ clean_is text wrap rows firsts finished n b plan h ∙ ap (λ t. is_clean t plan) v;
     }
-
--- what tells of a push that forms all anew
-pub tells_anew : (r : FormatResult) (d : Document) (piece : List ℕ) (plan : Plan) (all : List ℕ) (wrap : Wrap) → plan ≡ record { keeps = false; wrap = wrap } → d.text ++ piece ≡ all → TellsPlan r None d piece plan → Tells r None (record { text = all; wrap = wrap }) 0 true
-tells_anew r d piece plan all wrap e t h =
-    let anew : Plan = record { keeps = false; wrap = wrap } in
-    let told : TellsPlan r None d piece anew = subst (λ (p : Plan). TellsPlan r None d piece p) e h in
-    subst (λ x. Tells r None (record { text = x; wrap = wrap }) 0 true) t told
 
 -- ---- the rows that match
 

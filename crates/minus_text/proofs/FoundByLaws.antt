@@ -1,10 +1,9 @@
 -- What is found in rows, row by row, and before and behind a row.
-use Rattle.std.proofs.Common.{inl, inr, ◌≡◌, ℕ, zero, suc, ◌+◌, ◌<◌, ◌≤◌, true, false, cond, nat_le, ltb, List, [], ◌∷◌, ◌++◌, map, length, take, get_or, position, Option, None, Some, refl, sym, ap, ap₂, ◌∙◌, arith, append_assoc}
+use Rattle.std.proofs.Common.{inl, inr, ◌≡◌, ℕ, zero, suc, ◌+◌, ◌<◌, ◌≤◌, true, false, cond, nat_le, ltb, List, [], ◌∷◌, ◌++◌, map, length, take, get_or, Option, None, Some, refl, sym, ap, ap₂, ◌∙◌, arith, append_assoc}
 use Rattle.std.specs.List.{position_or_len, slice_get}
 use Rattle.std.specs.Option.{unwrap_or}
 use Rattle.std.proofs.lemmas.Bool.{cases_Bool, cases_lt}
 use Rattle.std.proofs.lemmas.List.{append-nil, take_more, length-take-le}
-use Rattle.std.proofs.lemmas.List.Sums.{prefix_len-le-length}
 use Rattle.std.proofs.lemmas.Option.{slice_get-get_or}
 use Rattle.regex.specs.Patterns.{Re}
 use Rattle.minus_text.specs.declared.search.found.FoundRow.{FoundRow}
@@ -81,6 +80,3 @@ found_or_all n size le = elim (cases_lt n size) [
   | inl h ↦ let t : ltb n size ≡ true = grind (arith, h) in rw t refl
   | inr h ↦ let f : ltb n size ≡ false = grind (arith, h) in rw f (omega (arith, le, h))
 ]
-
-pub above_is : (row : ℕ) (fs : List FoundRow) → unwrap_or (position (λ (f : FoundRow). nat_le row f.row) fs) (length fs) ≡ position_or_len (λ (f : RowMatches). nat_le row f.row) (map matches_of fs)
-above_is row fs = found_or_all (position_or_len (λ (f : FoundRow). nat_le row f.row) fs) (length fs) (prefix_len-le-length _ fs) ∙ count_mapped row fs

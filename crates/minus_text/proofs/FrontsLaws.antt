@@ -2,11 +2,11 @@
 use Rattle.std.proofs.Common.{◌≡◌, ℕ, ◌+◌, ◌≤◌, ◌<◌, Bool, true, false, cond, nat_le, leb, ltb, List, [], ◌∷◌, ◌++◌, length, arith, refl, sym, ap, ◌∙◌, append_assoc, inl, inr}
 use mir.Val.{bool_byte}
 use Rattle.std.specs.List.{concat, sum_by, count_by}
-use Rattle.std.proofs.lemmas.Bool.{cases_Bool, le-leb, lt-leb, or_left, or_right, or_from}
+use Rattle.std.proofs.lemmas.Bool.{cases_Bool, le-leb, or_left, or_right}
 use Rattle.std.proofs.lemmas.List.{append-nil, length_push}
 use Rattle.std.proofs.lemmas.List.Sums.{sum_by-append}
 use Rattle.minus_text.specs.Units.{units, unit_columns}
-use Rattle.minus_text.specs.Fronts.{is_wide, fits_front, front_rule}
+use Rattle.minus_text.specs.Fronts.{is_wide, fits_front}
 use Rattle.minus_text.specs.Measures.{SplitsUnit, SplitsFront}
 
 pub concat-append : (xs ys : List (List ℕ)) → concat (xs ++ ys) ≡ concat xs ++ concat ys
@@ -23,18 +23,6 @@ pub record SoFar (cols : ℕ) (all rest : List ℕ) (width wide size left : ℕ)
   pub fitting : fits_front cols seen ≡ true
   pub begun : left < size → 0 < length seen
   pub less : 0 < length seen → left < size
-
-pub none_yet : (cols : ℕ) (all : List ℕ) (size : ℕ) → SoFar cols all all 0 0 size size
-none_yet cols all size = record {
-  seen = [];
-  joins = refl;
-  first = refl;
-  columns = refl;
-  wides = refl;
-  fitting = or_left (nat_le 0 cols) (nat_le 0 1) (le-leb 0 cols (omega arith));
-  begun = λ l. absurd (omega arith);
-  less = λ l. absurd (omega arith);
-}
 
 -- a `bool` as a number
 pub as_number : (b : Bool) → bool_byte b ≡ cond b 1 0
@@ -68,21 +56,6 @@ one_more cols all rest after width wide more count size left left' s h e less wi
       begun = λ l. omega (arith, length_push s.seen h.unit);
       less = λ l. omega arith;
     }
-
--- the next unit does not fit
-pub full_front : (cols : ℕ) (all rest after : List ℕ) (width wide more count size left : ℕ) → SoFar cols all rest width wide size left → (h : SplitsUnit rest more after)
-    → count ≡ wide + cond (ltb 0 more) 1 0 → cols < width + more → 1 < count → SplitsFront cols all width rest × (left < size)
-full_front cols all rest after width wide more count size left s h e over many =
-    let us : List (List ℕ) = s.seen ++ h.unit ∷ [] in
-    let sum : width + more ≡ sum_by unit_columns us = omega (arith, s.columns, h.columns, sum_by-append unit_columns s.seen (h.unit ∷ [])) in
-    let number : count ≡ count_by is_wide us = omega (arith, s.wides, wide_one h.unit more count wide h.columns e, sum_by-append (λ u. cond (is_wide u) 1 0) s.seen (h.unit ∷ [])) in
-    let not_full : fits_front cols us ≡ false = or_from (nat_le (sum_by unit_columns us) cols) (nat_le (count_by is_wide us) 1) (lt-leb (sum_by unit_columns us) cols (omega arith)) (lt-leb (count_by is_wide us) 1 (omega arith)) in
-    let some : 0 < length s.seen = some_seen s.seen h.unit not_full in
-    (record { front = s.seen; joins = s.joins; first = s.first; run = rw h.first (record { some = some; fitting = s.fitting; full = not_full }); columns = s.columns }, s.less some)
-  where
-    some_seen : (seen : List (List ℕ)) (u : List ℕ) → fits_front cols (seen ++ u ∷ []) ≡ false → 0 < length seen
-    some_seen [] u f = let t : fits_front cols (u ∷ []) ≡ true = (front_rule cols).one u in let both : true ≡ false = sym t ∙ f in cc
-    some_seen (x ∷ seen) u f = omega arith
 
 -- all units are in the front
 pub whole_front : (cols : ℕ) (all rest : List ℕ) (width wide size left : ℕ) → SoFar cols all rest width wide size left → rest ≡ [] → units rest ≡ [] → left < size → SplitsFront cols all width rest

@@ -13,9 +13,6 @@ pub count_mapped : (place : ℕ) (is : List Insert) → position_or_len (λ (i :
 count_mapped place [] = refl
 count_mapped place (i ∷ is) = elim (cases_Bool (nat_le place i.place)) [ inl e ↦ rw e refl | inr e ↦ rw e (ap (λ n. 1 + n) (count_mapped place is)) ]
 
-pub count_within : (place : ℕ) (es : List (ℕ × List ℕ)) → count_before place es ≤ length es
-count_within place es = prefix_len-le-length _ es
-
 found_or_all : (n size : ℕ) → n ≤ size → unwrap_or (cond (ltb n size) (Some n) None) size ≡ n
 found_or_all n size le = elim (cases_lt n size) [
   | inl h ↦ let t : ltb n size ≡ true = grind (arith, h) in rw t refl

@@ -5,7 +5,7 @@ use Rattle.std.specs.Str.Lines.{lines_of_parts, strip_carriage_return}
 use Rattle.std.proofs.lemmas.Bool.{cases_Bool, eqb-true, cases_lt}
 use Rattle.std.specs.Str.{IsUtf8, IsCharBoundary}
 use Rattle.std.proofs.lemmas.Str.{IsCharBoundary-start, IsCharBoundary-after_ascii}
-use Rattle.std.proofs.lemmas.List.{length-take-le, length-drop, length-append, drop-append-le, get_or_append_left}
+use Rattle.std.proofs.lemmas.List.{length-take-le, length-drop, length-append, get_or_append_left}
 use Rattle.std.proofs.lemmas.List.Sums.{sum_by-cons}
 use Rattle.minus_text.specs.Lines.{Cut, onto, cut, LinesAreCut}
 use Rattle.minus_text.specs.Kept.{bytes_of}
@@ -128,12 +128,6 @@ open_at (b ∷ bs) =
           let is : cut (b ∷ bs) ≡ onto b (cut bs).closed (cut bs).open_line = rw f refl in
           rw is (record { within = m.0; rest = rw is m.1; after = m.2 })
     ]
-
--- the place of the open line in a text that went on
-pub open_in : (text piece : List ℕ) → drop (sum_by bytes_of (cut text).closed) (text ++ piece) ≡ (cut text).open_line ++ piece
-open_in text piece =
-    let h = open_at text in
-    drop-append-le (sum_by bytes_of (cut text).closed) text piece h.within ∙ ap (λ xs. xs ++ piece) h.rest
 
 pub open_boundary : (text piece : List ℕ) → IsUtf8 (text ++ piece) → IsCharBoundary (text ++ piece) (sum_by bytes_of (cut text).closed)
 open_boundary text piece u =

@@ -1,6 +1,6 @@
 -- The matches of a pattern lie in order, each between two characters.
 use Rattle.std.proofs.Common.{◌≡◌, ℕ, zero, suc, ◌+◌, ◌≤◌, Bool, true, false, cond, not, is_some, ◌==◌, List, [], ◌∷◌, ◌++◌, map, length, drop, Option, None, Some, refl, sym, ap, ◌∙◌, arith, true≢false, IsCharBoundary, append_assoc}
-use Rattle.std.proofs.lemmas.List.{append-nil, map-append}
+use Rattle.std.proofs.lemmas.List.{map-append}
 use Rattle.regex_hir.specs.Find.{matches_from, find_after, find_str, Match}
 use Rattle.regex_hir.proofs.FindLemmas.{IsFirst-of_first_between}
 use Rattle.regex_hir.proofs.MatchesLemmas.{Matches-IsSpan}
@@ -49,14 +49,6 @@ cuts_text text at (p ∷ ps) b a e = (b, a.0, e.1, e.0, cuts_text text p.1 ps e.
 abbrev pub placed : List ℕ → ℕ × ℕ → List ℕ × (ℕ × ℕ)
 placed text p = (text, p)
 
-spans_of : (text : List ℕ) (ps : List (ℕ × ℕ)) → map (λ (x : List ℕ × (ℕ × ℕ)). x.1) (map (placed text) ps) ≡ ps
-spans_of text [] = refl
-spans_of text (p ∷ ps) = ap (λ qs. p ∷ qs) (spans_of text ps)
-
--- the places that a search yields beside its text
-pub places_of_placed : (text : List ℕ) (ps qs : List (ℕ × ℕ)) → map (placed text) ps ≡ map (placed text) qs → ps ≡ qs
-places_of_placed text ps qs e = sym (spans_of text ps) ∙ ap (map (λ (x : List ℕ × (ℕ × ℕ)). x.1)) e ∙ spans_of text qs
-
 abbrev first_text : List (List ℕ × (ℕ × ℕ)) → List ℕ
 first_text [] = []
 first_text (x ∷ xs) = x.0
@@ -88,9 +80,6 @@ module _ (text : List ℕ) (items more all : List (ℕ × ℕ)) (x : List ℕ ×
       ∙ append_assoc (map (placed text) items) _ later
       ∙ ap (λ y. map (placed text) items ++ y ∷ later) (sym one)
       ∙ ap (λ l. map (placed text) items ++ l) (sym next) ∙ inv
-
-pub all_found : (text : List ℕ) (items all : List (ℕ × ℕ)) (left : List (List ℕ × (ℕ × ℕ))) → map (placed text) items ++ left ≡ map (placed text) all → left ≡ [] → items ≡ all
-all_found text items all left inv none = places_of_placed text items all (sym (append-nil _) ∙ ap (λ l. map (placed text) items ++ l) (sym none) ∙ inv)
 
 -- each place begins no earlier than the one before ends, and lies in a text of this size
 abbrev pub LieIn : ℕ → ℕ → List (ℕ × ℕ) → Type 0

@@ -36,15 +36,6 @@ pub record PartSoFar (cols : ℕ) (all rest : List ℕ) (old items : List Measur
   pub begun : 0 < length done → 0 < left
   pub none : done ≡ [] → rest ≡ all
 
-pub no_part_yet : (cols : ℕ) (all : List ℕ) (old : List Measured) (size : ℕ) → PartSoFar cols all all old old size size
-no_part_yet cols all old size = record {
-  done = [];
-  whole = λ more h. h;
-  added = sym (append-nil old);
-  begun = λ l. absurd (omega arith);
-  none = λ e. refl;
-}
-
 -- what a front measures
 pub measure_front : (cols : ℕ) (rest more : List ℕ) (width len n : ℕ) → IsUtf8 rest → IsUtf8 more → (h : SplitsFront cols (chars rest) width (chars more)) → len ≡ length rest - length more
     → measure (spaced h.front n) ≡ record { len = len; width = width; spaces = n }

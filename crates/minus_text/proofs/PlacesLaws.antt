@@ -25,12 +25,6 @@ ArePlaces-append text [] ys (t ∷ ts) us h k = absurd h
 ArePlaces-append text (x ∷ xs) ys [] us h k = absurd h
 ArePlaces-append text (x ∷ xs) ys (t ∷ ts) us h k = (h.0, ArePlaces-append text xs ys ts us h.1 k)
 
-pub length-stored : (text : List ℕ) (rs : List Span) (ts : List (List ℕ)) → ArePlaces text rs ts → length rs ≡ length ts
-length-stored text [] [] h = refl
-length-stored text [] (t ∷ ts) h = absurd h
-length-stored text (r ∷ rs) [] h = absurd h
-length-stored text (r ∷ rs) (t ∷ ts) h = ap suc (length-stored text rs ts h.1)
-
 -- the row at a number, if there is one
 pub stored_some : (text : List ℕ) (rs : List Span) (ts : List (List ℕ)) (i : ℕ) (r : Span) → ArePlaces text rs ts → slice_get rs i ≡ Some r → (t : List ℕ) × (slice_get ts i ≡ Some t) × IsPlace text r t
 stored_some text [] [] i r h e = absurd cc

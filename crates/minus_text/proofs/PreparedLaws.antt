@@ -157,17 +157,6 @@ grown_boundary xs ys at u v h =
 pub left_of_front : (xs ys : List ℕ) (at : ℕ) → IsUtf8 xs → IsUtf8 (xs ++ ys) → IsCharBoundary xs at → IsUtf8 (drop at xs ++ ys)
 left_of_front xs ys at u v h = rw (drop-append-le at xs ys h.0) at (IsUtf8-drop (xs ++ ys) at v (grown_boundary xs ys at u v h))
 
-pub border_grows : (line piece : List ℕ) (border : Border) → IsUtf8 line → IsUtf8 (line ++ piece) → IsBorder line border → IsBorder (line ++ piece) border
-border_grows line piece border u v h =
-    let front : take border.bytes (line ++ piece) ≡ take border.bytes line = take-append-le border.bytes line piece h.within in
-    let within : border.bytes ≤ length line = h.within in
-    record {
-      within = omega (arith, within, length-append line piece);
-      boundary = grown_boundary line piece border.bytes u v h.boundary;
-      adds = rw front h.adds;
-      keeps = rw front h.keeps;
-    }
-
 split_on : (line more : List ℕ) (n : ℕ) → take n line ++ (drop n line ++ more) ≡ line ++ more
 split_on line more n = sym (append_assoc (take n line) (drop n line) more) ∙ ap (λ xs. xs ++ more) (take-append-drop n line)
 

@@ -2,7 +2,7 @@
 use Rattle.std.proofs.Common.{◌≡◌, ℕ, ◌+◌, ◌<◌, ◌≤◌, true, nat_le, List, [], ◌∷◌, ◌++◌, length, take, drop, get_or, refl, sym, ap, ◌∙◌, arith, append_assoc, inl, inr}
 use Rattle.std.specs.List.{sum_by}
 use Rattle.std.proofs.lemmas.Bool.{le-leb, lt-leb, or_left, or_right, or_from, cases_lt}
-use Rattle.std.proofs.lemmas.List.{length-append, take_more, drop_more, length-take-le, drop_all, drop-drop, take-append-drop}
+use Rattle.std.proofs.lemmas.List.{length-append, take_more, drop_more, length-take-le, drop-drop, take-append-drop}
 use Rattle.std.proofs.lemmas.List.Sums.{sum_by-append}
 use Rattle.std.proofs.Math.Seq.{take-add}
 use Rattle.minus_text.specs.declared.wrap.Span.{Span}
@@ -66,11 +66,6 @@ run_before cols ps i d some lt fits full =
       fitting = fits_by cols (take i ps) (λ l. fits (omega arith));
       full = rw (drop_more ps i d lt) (or_from (nat_le (length more) 1) (nat_le (measured_columns more) cols) (lt-leb (length more) 1 (omega arith)) (lt-leb (measured_columns more) cols (omega arith)));
     }
-
-pub run_whole : (cols : ℕ) (ps : List Measured) (n : ℕ) → n ≡ length ps → 0 < n → (1 < n → measured_columns (take n ps) ≤ cols) → IsRun (fits_measured cols) (take n ps) (drop n ps)
-run_whole cols ps n e some fits =
-    let len : length (take n ps) ≡ n = length-take-le n ps (omega arith) in
-    record { some = omega arith; fitting = fits_by cols (take n ps) (λ l. fits (omega arith)); full = rw (drop_all n ps (omega arith)) tt }
 
 -- one more run goes in front of a division of the rest
 pub divided_more : (cols at done n : ℕ) (ps : List Measured) (rows : List Span) (end : ℕ)

@@ -54,10 +54,6 @@ formed-unfinished text layout rows firsts finished n b d v h =
     let here : length rows - finished.rows ≡ length (open_rows wrap (unfinished_line text)) = omega (arith, all, h.its_count, h.its_finish.by_rows) in
     (omega (arith, h.its_count, h.its_finish.by_rows), subst (λ (x : Document). length rows - finished.rows ≡ unfinished_rows x) v here)
 
--- nothing is formed of no text
-pub none_formed : (text : List ℕ) (wrap : Wrap) (rows : List Span) (firsts : List ℕ) → text ≡ [] → rows ≡ [] → firsts ≡ [] → IsFormed text wrap rows firsts at_start 0 (record { bytes = 0; columns = 0 })
-none_formed text wrap rows firsts e f g = rw (e, f, g) (record { its_rows = refl; its_count = refl; its_map = refl; its_finish = record { by_lines = refl; by_rows = refl; by_bytes = refl; longest_line = refl }; its_longest = refl; its_border = no_border [] IsUtf8-nil })
-
 -- ---- where a push begins
 
 -- the unfinished line has no newline

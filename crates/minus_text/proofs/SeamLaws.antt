@@ -5,8 +5,8 @@ use Rattle.std.specs.Str.{IsUtf8, IsAscii, IsCharBoundary, encode_utf8_all}
 use Rattle.std.specs.Str.Lines.{strip_carriage_return}
 use Rattle.std.proofs.lemmas.Bool.{cases_Bool, cases_lt, and_parts, eqb-true, ne_eqb}
 use Rattle.std.proofs.lemmas.Bool.Decides.{nat_tests}
-use Rattle.std.proofs.lemmas.List.{append-nil, length-append, length-drop, length-take-le, length-map, take-append-drop, take_at, take_all, take_more, map-append, take-map, get_or-drop, get_or-take, get_or-map, get_or_push, get_or_append_left, get_or-append_right, drop_all, drop_more, drop-drop}
-use Rattle.std.proofs.lemmas.List.Elements.{All-nil, All-cons, All-drop}
+use Rattle.std.proofs.lemmas.List.{append-nil, length-append, length-drop, length-take-le, length-map, take-append-drop, take_at, take_all, take_more, map-append, take-map, get_or-drop, get_or-take, get_or-map, get_or_push, get_or_append_left, get_or-append_right, drop_more, drop-drop}
+use Rattle.std.proofs.lemmas.List.Elements.{All-cons, All-drop}
 use Rattle.std.proofs.lemmas.List.Concat.{flat_map-append}
 use Rattle.std.proofs.lemmas.Str.{IsUtf8-take, IsUtf8-drop, IsCharBoundary-start, chars-append, chars-IsAscii, encodes-IsAscii, encodes-append, encodes-chars, length-le-encodes}
 use Rattle.minus_text.specs.declared.wrap.Span.{Span}
@@ -329,10 +329,6 @@ stored_seam Off base line rows at (suc i) d u e s l is =
     absurd (omega (arith, ap length stored, l))
 
 -- ---- rows that do not
-
--- behind the last row there is none
-pub none_behind : (line : List ℕ) (base border n : ℕ) (rows : List Span) → length rows ≤ n → NoneAlone line base border (drop n rows)
-none_behind line base border n rows l = rw (drop_all n rows l) (All-nil (λ r. r.start - base ≤ border → StandsAlone line (r.start - base) → ⊥))
 
 -- nor from one that does not stand alone up to the border
 pub none_from : (line : List ℕ) (base border n m : ℕ) (rows : List Span) (d : Span) → m < length rows → m + 1 ≡ n → ((get_or rows m d).start - base ≤ border → StandsAlone line ((get_or rows m d).start - base) → ⊥)

@@ -1,15 +1,15 @@
 -- The stored rows of a document: what stands before each row, and the row.
-use Rattle.std.proofs.Common.{◌≡◌, ℕ, zero, suc, ◌+◌, ◌-◌, ◌<◌, ◌≤◌, Bool, true, false, eqb, List, [], ◌∷◌, ◌++◌, length, map, get_or, Option, option_map, Some, None, refl, sym, ap, ◌∙◌, arith}
+use Rattle.std.proofs.Common.{◌≡◌, ℕ, zero, suc, ◌+◌, ◌-◌, ◌<◌, ◌≤◌, Bool, true, false, eqb, List, [], ◌∷◌, ◌++◌, length, map, get_or, option_map, Some, None, refl, sym, ap, ◌∙◌, arith}
 use Rattle.std.specs.List.{slice_get}
 use Rattle.std.specs.Str.Lines.{lines}
 use Rattle.std.proofs.lemmas.Bool.{ne_eqb, eq-eqb}
-use Rattle.std.proofs.lemmas.List.{append-nil, length-append, length-map}
+use Rattle.std.proofs.lemmas.List.{append-nil, length-map}
 use Rattle.std.proofs.lemmas.Option.{slice_get-map}
 use Rattle.minus_text.specs.declared.layout.Wrap.{Wrap}
 use Rattle.minus_text.specs.Prefixes.{is_on, prefix}
 use Rattle.minus_text.specs.Layouts.{own_rows}
 use Rattle.minus_text.specs.LineMaps.{IsLineOfRow}
-use Rattle.minus_text.specs.Document.{Document, rows_of_lines, first_rows, rows_of, line_map, line_count, wrap_in, stored_line, stored_lines, stored_rows, GrowsByRow}
+use Rattle.minus_text.specs.Document.{Document, rows_of_lines, first_rows, rows_of, line_map, line_count, wrap_in, stored_line, stored_lines, stored_rows}
 use Rattle.minus_text.proofs.FormatResultLaws.{same_part}
 use Rattle.minus_text.proofs.PendingLaws.{get_behind}
 
@@ -39,21 +39,11 @@ pub length-stored_line : (on : Bool) (count k : ℕ) (rows : List (List ℕ)) �
 length-stored_line on count k [] = refl
 length-stored_line on count k (row ∷ more) = ap suc (length-map more (λ r. prefix on count k false ++ r))
 
-length-stored_lines : (wrap : Wrap) (on : Bool) (count k : ℕ) (ls : List (List ℕ)) → length (stored_lines wrap on count k ls) ≡ length (rows_of_lines wrap ls)
-length-stored_lines wrap on count k [] = refl
-length-stored_lines wrap on count k (x ∷ xs) =
-    omega (arith, length-append (stored_line on count k (own_rows wrap x)) (stored_lines wrap on count (k + 1) xs), length-append (own_rows wrap x) (rows_of_lines wrap xs), length-stored_line on count k (own_rows wrap x), length-stored_lines wrap on count (k + 1) xs)
-
 pub none_alike : {X Y : Type 0} (xs : List X) (ys : List Y) (i : ℕ) → length xs ≡ length ys → slice_get xs i ≡ None → slice_get ys i ≡ None
 none_alike xs [] i l e = refl
 none_alike [] (y ∷ ys) i l e = absurd (omega arith)
 none_alike (x ∷ xs) (y ∷ ys) zero l e = absurd cc
 none_alike (x ∷ xs) (y ∷ ys) (suc i) l e = none_alike xs ys i (omega arith) e
-
-pub no_stored : (d : Document) (i : ℕ) → None ≡ slice_get (rows_of d) i → slice_get (stored_rows d) i ≡ None
-unfolding stored_rows rows_of
-no_stored d i e = none_alike (rows_of_lines (wrap_in d) (lines d.text)) (stored_lines (wrap_in d) (is_on d.layout.numbers) (line_count d) 1 (lines d.text)) i
-    (sym (length-stored_lines (wrap_in d) (is_on d.layout.numbers) (line_count d) 1 (lines d.text))) (sym e)
 
 -- ---- a row with its number
 
@@ -133,15 +123,6 @@ stored_row d entries i line first row m h f e =
     row_stored (wrap_in d) (is_on d.layout.numbers) (line_count d) 1 0 (lines d.text) i line row e is
     ∙ ap (λ l. Some (prefix (is_on d.layout.numbers) (line_count d) l (eqb (get_or (first_rows (wrap_in d) 0 (lines d.text)) line 0) (0 + i)) ++ row)) number
     ∙ ap (λ (b : Bool). Some (prefix (is_on d.layout.numbers) (line_count d) (line + 1) b ++ row)) same
-
--- a text that grew from nothing by a row is the row
-pub found_row : (o : Option (List ℕ)) (old new : List ℕ) → old ≡ [] → GrowsByRow o old new true → Some new ≡ o
-found_row None old new z h = absurd (let d : true ≡ false = h.0 in cc)
-found_row (Some row) old new z h = ap (λ r. Some r) (h.1 ∙ ap (λ xs. xs ++ row) z)
-
-pub found_none : (o : Option (List ℕ)) (old new : List ℕ) → GrowsByRow o old new false → None ≡ o
-found_none None old new h = refl
-found_none (Some row) old new h = absurd (let d : false ≡ true = h.0 in cc)
 
 -- without a line there is no row
 pub no_line : (d : Document) (i : ℕ) (row : List ℕ) → line_map d ≡ [] → slice_get (rows_of d) i ≡ Some row → ⊥

@@ -1,24 +1,11 @@
 -- Laws on stretches of characters of one class at the start of a text.
-use Rattle.std.proofs.Common.{◌≡◌, ◌≢◌, ◌⊎◌, ℕ, zero, suc, ◌+◌, ◌-◌, ◌<◌, ◌≤◌, Bool, true, false, not, List, [], ◌∷◌, ◌++◌, length, take, drop, get_or, chars, encode_utf8, arith, refl, sym, ap, ◌∙◌, inl, inr}
+use Rattle.std.proofs.Common.{◌≡◌, ◌≢◌, ◌⊎◌, ℕ, zero, suc, ◌+◌, ◌-◌, ◌<◌, ◌≤◌, Bool, false, not, List, [], ◌∷◌, ◌++◌, length, take, drop, get_or, chars, encode_utf8, arith, refl, sym, ap, ◌∙◌, inl, inr}
 use Rattle.std.specs.List.{prefix_len}
 use Rattle.std.specs.Str.{IsUtf8, IsAscii, encode_utf8_all}
 use Rattle.std.proofs.lemmas.Bool.{cases_Bool, eqb-true}
 use Rattle.std.proofs.lemmas.List.{append-nil, length-append, drop-drop, drop_at, drop_all, drop_more, take_all, take-append-drop, length-take-le, get_or-take, get_or-append_right}
 use Rattle.std.proofs.lemmas.Str.{chars-append, chars-nil, chars-IsAscii, encodes-IsAscii, encodes-append, encodes-chars, IsUtf8-from_ascii, IsUtf8-take, IsCharBoundary-before_ascii}
 use Rattle.minus_text.specs.Pieces.{is_space, body_len}
-
-pub drop_passed : (p : ℕ → Bool) (c : ℕ) (cs : List ℕ) → p c ≡ true → drop (prefix_len p (c ∷ cs)) (c ∷ cs) ≡ drop (prefix_len p cs) cs
-drop_passed p c cs e = let s : 1 + prefix_len p cs ≡ suc (prefix_len p cs) = omega arith in rw (e, s) refl
-
-pub drop_stopped : (p : ℕ → Bool) (c : ℕ) (cs : List ℕ) → p c ≡ false → drop (prefix_len p (c ∷ cs)) (c ∷ cs) ≡ c ∷ cs
-drop_stopped p c cs e = rw e refl
-
--- one more character of the class, of what is left
-pub left_more : (p : ℕ → Bool) (c : ℕ) (rest more all : List ℕ) → rest ≡ c ∷ more → p c ≡ true → drop (prefix_len p rest) rest ≡ all → drop (prefix_len p more) more ≡ all
-left_more p c rest more all e t h = sym (drop_passed p c more t) ∙ ap (λ xs. drop (prefix_len p xs) xs) (sym e) ∙ h
-
-pub left_stop : (p : ℕ → Bool) (c : ℕ) (rest more all : List ℕ) → rest ≡ c ∷ more → p c ≡ false → drop (prefix_len p rest) rest ≡ all → rest ≡ all
-left_stop p c rest more all e t h = e ∙ sym (drop_stopped p c more t) ∙ ap (λ xs. drop (prefix_len p xs) xs) (sym e) ∙ h
 
 pub left_none : (p : ℕ → Bool) (rest all : List ℕ) → rest ≡ [] → drop (prefix_len p rest) rest ≡ all → rest ≡ all
 left_none p rest all e h = e ∙ ap (λ xs. drop (prefix_len p xs) xs) (sym e) ∙ h

@@ -4,10 +4,10 @@ use Rattle.std.specs.List.{concat, sum_by}
 use Rattle.std.specs.Str.{IsUtf8, encode_utf8_all}
 use Rattle.std.proofs.lemmas.Bool.{cases_Bool, and_parts, eqb-true}
 use Rattle.std.proofs.lemmas.List.{append-nil, append_cancel_right, length-append, length-replicate, nil_from_length}
-use Rattle.std.proofs.lemmas.List.Sums.{sum_by-append, sum_by-cons}
+use Rattle.std.proofs.lemmas.List.Sums.{sum_by-cons}
 use Rattle.std.proofs.lemmas.Str.{chars-append, chars-nil, chars-IsAscii, encodes-append, encodes-chars}
 use Rattle.std.proofs.lemmas.Str.Ascii.{IsAscii-nil, IsAscii-cons}
-use Rattle.minus_text.specs.Units.{units, unit_len, unit_columns, body_of, text_columns}
+use Rattle.minus_text.specs.Units.{units, unit_len, unit_columns, body_of}
 use Rattle.minus_text.specs.TextUnits.{text_units}
 use Rattle.minus_text.specs.Measures.{SplitsUnit}
 use Rattle.minus_text.proofs.CutsLaws.{cuts-nil, cuts-cons}
@@ -54,13 +54,6 @@ space_columns = ap (λ n. 0 + n) (printable_column 32 refl)
 pub spaces_columns : (n : ℕ) → sum_by unit_columns (replicate n (32 ∷ [])) ≡ n
 spaces_columns zero = refl
 spaces_columns (suc n) = omega (arith, sum_by-cons unit_columns (32 ∷ []) (replicate n (32 ∷ [])), space_columns, spaces_columns n)
-
--- they take the columns of the text
-pub text_units_columns : (cs : List ℕ) → sum_by unit_columns (text_units cs) ≡ text_columns cs
-unfolding text_units text_columns
-text_units_columns cs =
-    let n : ℕ = length cs - length (body_of cs) in
-    omega (arith, sum_by-append unit_columns (units (body_of cs)) (replicate n (32 ∷ [])), spaces_columns n)
 
 -- what stands before the rest of a text is its first unit
 pub front_is_unit : (text front rest unit : List ℕ) → IsUtf8 front → text ≡ front ++ rest → chars text ≡ unit ++ chars rest → chars front ≡ unit

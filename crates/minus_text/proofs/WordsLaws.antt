@@ -82,12 +82,6 @@ part_cut body rest more front before c s e ends u b =
     ends_after true false d e = cc
     ends_after false b d e = cc
 
-pub part_whole : (body rest : List ℕ) (before : Bool) → PartScan body rest before → chars rest ≡ [] → part_len_after false (chars body) ≡ length (chars body)
-part_whole body rest before s e =
-    let none : part_len_after before (chars rest) ≡ 0 = ap (part_len_after before) e in
-    let nil : length (chars rest) ≡ 0 = ap length e in
-    omega (arith, s.len, none, ap length s.chars_are, length-append s.passed (chars rest), nil)
-
 -- what stands before a character's rest
 pub before_more : (body rest more : List ℕ) (before : Bool) (c : ℕ) → PartScan body rest before → rest ≡ encode_utf8 c ++ more → (x : List ℕ) × (body ≡ x ++ more)
 before_more body rest more before c s b = (s.bytes ++ encode_utf8 c, s.body_is ∙ ap (λ xs. s.bytes ++ xs) b ∙ sym (append_assoc s.bytes (encode_utf8 c) more))
