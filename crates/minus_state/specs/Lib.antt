@@ -4,6 +4,7 @@ pub mod VisibleCharacters
 pub mod Selection
 pub mod ScrollBounds
 pub mod View
+pub mod Frame
 pub mod Copied
 pub mod ShownRow
 pub mod Sizes

@@ -4,6 +4,7 @@
 
 pub mod change;
 pub mod copied;
+mod frame;
 pub mod input;
 pub mod prompt;
 pub mod rendering;

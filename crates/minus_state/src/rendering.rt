@@ -4,29 +4,23 @@ ghost use Rattle.regex.specs.Patterns.{Re};
 ghost use Rattle.minus_text.specs.Document.{rows_of};
 ghost use Rattle.minus_text.specs.Searched.{IsFoundBy, shown_for, stored_rows_for};
 ghost use Rattle.minus_state.specs.Selection.{ends_in_order};
-ghost use Rattle.minus_state.specs.ShownRow.{columns_for_text, cropped_line, cropped_row, unmarked_row, selected_range, with_marks, shown_row, before_rows, shown_rows, ShownRowsFit, SelectionAddsMarkersAlone};
+ghost use Rattle.minus_state.specs.ShownRow.{cropped_row, unmarked_row, with_marks, shown_row, before_rows, shown_rows, ShownRowsFit, SelectionAddsMarkersAlone};
 
-use crate::selection::{SelectionEnds, marked_range};
-use crate::view::{cut_of, prefix_of};
+use crate::frame::Frame;
+use crate::selection::SelectionEnds;
 use crate::visible::highlight_visible_range;
-use minus_text::{Row, Rows, Screen, crop_columns, push_prefix};
+use minus_text::{Row, Rows, Screen};
 use std::alloc::{AllocError, Global};
 
 /// What rows are shown of, and how.
 #[derive(Clone, Copy)]
 pub struct Rendering<'s> {
+    /// The text with its rows.
     pub screen: &'s Screen,
     /// The columns of the text that are cut off at the left where lines are not wrapped.
     pub left_mark: usize,
     /// What is selected.
     pub ends: SelectionEnds,
-}
-
-// The columns that are left for the text of a row.
-fn columns_for_text(screen: &Screen) -> usize
-    ensures { result ≡ columns_for_text screen.now.document }
-{
-    screen.layout().cols.saturating_sub(prefix_of(screen))
 }
 
 // A row as it is stored, counted from 0, if there is one.
@@ -53,26 +47,6 @@ fn own_text(alloc: Global, screen: &Screen, i: usize) -> Result<Option<Row>, All
     Ok(None)
 }
 
-// What is shown of a line that is one row, counted from 0, with this text: of the text what stands from the
-// left mark on.
-fn cropped_line(
-    alloc: Global,
-    screen: &Screen,
-    left_mark: usize,
-    i: usize,
-    text: &str,
-) -> Result<Row, AllocError>
-    requires { i < 2 ^ 63 }
-    ensures { IfOk result (λ row. string_bytes row ≡ cropped_line screen.now.document left_mark i text.now) }
-{
-    let numbers = screen.layout().numbers.is_on();
-    let mut row = String::new(alloc);
-    push_prefix(&mut row, numbers, screen.line_count(), i + 1, true)?;
-    let shown = crop_columns(alloc, text, left_mark, columns_for_text(screen))?;
-    row.push_str(shown.as_str())?;
-    Ok(row)
-}
-
 // A line that is its one row, counted from 0, from the left mark on, if there is one.
 fn cropped_row(
     alloc: Global,
@@ -85,7 +59,10 @@ fn cropped_row(
         → option_map string_bytes row ≡ cropped_row term screen.now.document left_mark i) }
 {
     match own_text(alloc, screen, i)? {
-        Some(text) => Ok(Some(cropped_line(alloc, screen, left_mark, i, text.as_str())?)),
+        Some(text) => {
+            let frame = Frame::of(screen, left_mark);
+            Ok(Some(frame.cropped_line(alloc, i, text.as_str())?))
+        }
         None => Ok(None),
     }
 }
@@ -105,16 +82,6 @@ fn unmarked_row(
         return stored_row(alloc, screen, i);
     }
     cropped_row(alloc, screen, left_mark, i)
-}
-
-// The visible characters of a row that are selected.
-fn selected_range(rendering: &Rendering<'_>, i: usize) -> Option<(usize, Option<usize>)>
-    ensures { result ≡ selected_range rendering.now.screen.now.document rendering.now.left_mark (ends_in_order rendering.now.ends) i }
-{
-    let (first, last) = rendering.ends.in_order()?;
-    let screen = rendering.screen;
-    let cut = cut_of(screen, rendering.left_mark);
-    marked_range(first, last, i, prefix_of(screen), cut)
 }
 
 // A row with marks around a range of its visible characters.
@@ -137,8 +104,9 @@ fn shown_row(alloc: Global, rendering: &Rendering<'_>, i: usize) -> Result<Optio
     ensures { IfOk result (λ row. (term : Option Re) → IsFoundBy term rendering.now.screen.now → option_map string_bytes row
         ≡ shown_row term rendering.now.screen.now.document rendering.now.left_mark (ends_in_order rendering.now.ends) i) }
 {
+    let frame = Frame::of(rendering.screen, rendering.left_mark);
     match unmarked_row(alloc, rendering.screen, rendering.left_mark, i)? {
-        Some(row) => Ok(Some(with_marks(alloc, row, selected_range(rendering, i))?)),
+        Some(row) => Ok(Some(with_marks(alloc, row, frame.selected_range(rendering.ends, i))?)),
         None => Ok(None),
     }
 }

@@ -2,14 +2,15 @@
 ghost use Rattle.std.specs.Prelude.{◌≡◌, ◌+◌, ◌<◌, ◌^◌, ℕ, Option, None, option_map, slice_get, string_bytes, IfOk};
 ghost use Rattle.minus_text.specs.Searched.{stored_rows_for};
 ghost use Rattle.minus_state.specs.Selection.{ends_in_order};
-ghost use Rattle.minus_state.specs.View.{prefix_in, cut_in};
-ghost use Rattle.minus_state.specs.ShownRow.{columns_for_text, cropped_line, unmarked_row, selected_range, with_marks, shown_row};
+ghost use Rattle.minus_state.specs.Frame.{frame_of};
+ghost use Rattle.minus_state.specs.ShownRow.{unmarked_row, with_marks, shown_row};
 ghost use Rattle.minus_state.specs.Showing.{row_text, document_shown, IsShowing};
 
 use crate::change::NextText;
-use crate::selection::{SelectionEnds, marked_range};
+use crate::frame::Frame;
+use crate::selection::SelectionEnds;
 use crate::visible::highlight_visible_range;
-use minus_text::{Layout, Screen, crop_columns, prefix_columns, push_prefix};
+use minus_text::Screen;
 use std::alloc::{AllocError, Global};
 
 /// What is shown of a row: its own text as it stands, or a text that was put together.
@@ -62,41 +63,16 @@ pub(crate) struct Showing<'a> {
 }
 
 impl<'a> Showing<'a> {
-    // How its rows are laid out.
-    fn layout(&self) -> Layout
+    // What stands around the text of its rows.
+    fn frame(&self) -> Frame
         requires { IsShowing self.now }
-        ensures { result ≡ (document_shown self.now).layout }
+        ensures { result ≡ frame_of (document_shown self.now) self.now.left }
     {
-        self.text.layout_after(self.screen)
-    }
-
-    // The columns that stand before the text of each row.
-    fn prefix(&self) -> usize
-        requires { IsShowing self.now }
-        ensures { result ≡ prefix_in (document_shown self.now) }
-    {
-        let lines = self.text.line_count_after(self.screen);
-        prefix_columns(self.layout().numbers.is_on(), lines)
-    }
-
-    // The columns of the text that are cut off at the left.
-    fn cut(&self) -> usize
-        requires { IsShowing self.now }
-        ensures { result ≡ cut_in (document_shown self.now) self.now.left }
-    {
-        if self.layout().wrapping {
-            return 0;
+        Frame {
+            layout: self.text.layout_after(self.screen),
+            line_count: self.text.line_count_after(self.screen),
+            left_mark: self.left,
         }
-        self.left
-    }
-
-    // The visible characters of a row that are selected, counted from 0.
-    fn selected(&self, i: usize) -> Option<(usize, Option<usize>)>
-        requires { IsShowing self.now }
-        ensures { result ≡ selected_range (document_shown self.now) self.now.left (ends_in_order self.now.ends) i }
-    {
-        let (first, last) = self.ends.in_order()?;
-        marked_range(first, last, i, self.prefix(), self.cut())
     }
 
     // A row as it is stored, counted from 0, if there is one.
@@ -116,30 +92,13 @@ impl<'a> Showing<'a> {
         requires { IsShowing self.now }
         ensures { IfOk result (λ row. option_map row_text row ≡ slice_get (stored_rows_for None (document_shown self.now)) i) }
     {
-        if self.layout().numbers.is_on() {
-            let row = self.stored(alloc, i)?;
-            return Ok(row);
+        if self.frame().layout.numbers.is_on() {
+            return self.stored(alloc, i);
         }
         match self.text.row_after(self.screen, i) {
             Some(row) => Ok(Some(ShownRow::Own(row))),
             None => Ok(None),
         }
-    }
-
-    // What is shown of a line that is one row, counted from 0, with this text.
-    fn cropped(&self, alloc: Global, i: usize, text: &str) -> Result<String, AllocError>
-        requires showing { IsShowing self.now }
-        requires few { i + 1 < 2 ^ 64 }
-        ensures { IfOk result (λ row. string_bytes row ≡ cropped_line (document_shown self.now) self.now.left i text.now) }
-    {
-        let layout = self.layout();
-        let lines = self.text.line_count_after(self.screen);
-        let mut row = String::new(alloc);
-        push_prefix(&mut row, layout.numbers.is_on(), lines, i + 1, true)?;
-        let columns = layout.cols.saturating_sub(self.prefix());
-        let shown = crop_columns(alloc, text, self.left, columns)?;
-        row.push_str(shown.as_str())?;
-        Ok(row)
     }
 
     // A row without a selection, counted from 0, if there is one.
@@ -148,12 +107,12 @@ impl<'a> Showing<'a> {
         requires few { i + 1 < 2 ^ 64 }
         ensures { IfOk result (λ row. option_map row_text row ≡ unmarked_row None (document_shown self.now) self.now.left i) }
     {
-        if self.layout().wrapping {
-            let row = self.wrapped(alloc, i)?;
-            return Ok(row);
+        let frame = self.frame();
+        if frame.layout.wrapping {
+            return self.wrapped(alloc, i);
         }
         match self.text.row_after(self.screen, i) {
-            Some(text) => Ok(Some(ShownRow::Formed(self.cropped(alloc, i, text)?))),
+            Some(text) => Ok(Some(ShownRow::Formed(frame.cropped_line(alloc, i, text)?))),
             None => Ok(None),
         }
     }
@@ -166,7 +125,10 @@ impl<'a> Showing<'a> {
             ≡ shown_row None (document_shown self.now) self.now.left (ends_in_order self.now.ends) i) }
     {
         match self.unmarked(alloc, i)? {
-            Some(row) => Ok(Some(with_marks(alloc, row, self.selected(i))?)),
+            Some(row) => {
+                let range = self.frame().selected_range(self.ends, i);
+                Ok(Some(with_marks(alloc, row, range)?))
+            }
             None => Ok(None),
         }
     }

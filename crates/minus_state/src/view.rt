@@ -1,9 +1,10 @@
 //! Which part of a text the page shows, and what a place on the page selects.
 ghost use Rattle.std.specs.Prelude.{◌≡◌};
-ghost use Rattle.minus_state.specs.View.{prefix_in, cut_in, selected_at};
+ghost use Rattle.minus_state.specs.View.{selected_at};
 
+use crate::frame::Frame;
 use crate::selection::Selection;
-use minus_text::{Screen, prefix_columns};
+use minus_text::Screen;
 
 /// Which part of a text the page shows.
 #[derive(Clone, Copy)]
@@ -14,23 +15,6 @@ pub struct View {
     pub left_mark: usize,
     /// The rows of the terminal, the prompt's among them.
     pub rows: usize,
-}
-
-// The columns that stand before the text of each row.
-pub(crate) fn prefix_of(screen: &Screen) -> usize
-    ensures { result ≡ prefix_in screen.now.document }
-{
-    prefix_columns(screen.layout().numbers.is_on(), screen.line_count())
-}
-
-// The columns of the text that are cut off at the left mark.
-pub(crate) fn cut_of(screen: &Screen, left_mark: usize) -> usize
-    ensures { result ≡ cut_in screen.now.document left_mark }
-{
-    if screen.layout().wrapping {
-        return 0;
-    }
-    left_mark
 }
 
 /// The end of a selection at a column and a row of the page, both counted from 0. `None` where there is no
@@ -45,9 +29,10 @@ pub fn selection_from_coordinates(screen: &Screen, view: View, x: u16, y: u16) -
     if count == 0 || row >= view.rows.saturating_sub(1) {
         return None;
     }
-    let column = usize::from(x).saturating_sub(prefix_of(screen));
+    let frame = Frame::of(screen, view.left_mark);
+    let column = usize::from(x).saturating_sub(frame.prefix());
     Some(Selection {
         absolute_row: view.upper_mark.saturating_add(row).min(count - 1),
-        col: column.saturating_add(cut_of(screen, view.left_mark)),
+        col: column.saturating_add(frame.cut()),
     })
 }

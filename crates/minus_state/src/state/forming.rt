@@ -1,6 +1,7 @@
 //! What changes of a state leave, formed beside it.
 
 use crate::change::{Change, NextText, Redraw, Setting};
+use crate::frame::Frame;
 use crate::state::{PagerState, formed};
 use minus_term::MinusError;
 use minus_text::{Layout, LineNumbers, prefix_columns};
@@ -92,7 +93,8 @@ impl PagerState {
         self.change_to(NextText::Same, redraw, clears)
     }
 
-    /// The state at another mark, with one thing set beside its text.
+    /// The state at another mark, a row counted from 0, with one thing set beside its text. The mark is taken as it
+    /// is, past the last page too: `moved_to` clamps it.
     pub fn moved(&self, mark: usize, setting: Setting, clears: bool) -> Change
         requires { IsFormed self.now }
         ensures next { IsChange (control_of self.now) result (record (control_of self.now) {
@@ -107,7 +109,8 @@ impl PagerState {
         self.changed(mark, setting, Redraw::Moved, clears)
     }
 
-    /// The greatest mark.
+    /// The greatest mark, where the last page begins, a row counted from 0: the rows of text less those that a page
+    /// has, or 0 where one page has them all.
     pub fn top(&self) -> usize
         requires { IsFormed self.now }
         ensures { result ≡ top (control_of self.now) }
@@ -116,7 +119,8 @@ impl PagerState {
         rows.saturating_sub(self.rows - 1)
     }
 
-    /// The state with its mark moved, as far as the text goes.
+    /// The state with its mark moved to a row, counted from 0, or to the greatest mark (`top`) where that is less.
+    /// `moved` clamps nothing.
     pub fn moved_to(&self, mark: usize) -> Change
         requires { IsFormed self.now }
         ensures next { IsChange (control_of self.now) result (moved_to (control_of self.now) mark) }
@@ -159,7 +163,11 @@ impl PagerState {
         self.formed_anew(alloc, text, self.layout(), clears)
     }
 
-    /// The state with numbers before its rows, or none.
+    /// The state with numbers before its rows, or none, for which the text is formed anew.
+    ///
+    /// # Errors
+    ///
+    /// [`MinusError::Memory`] where there is no memory for it.
     pub fn renumbered(
         &self,
         alloc: Global,
@@ -178,7 +186,11 @@ impl PagerState {
         self.formed_anew(alloc, self.screen.orig_text(), layout, clears)
     }
 
-    /// The state with its lines wrapped, or not.
+    /// The state with its lines wrapped, or not, for which the text is formed anew.
+    ///
+    /// # Errors
+    ///
+    /// [`MinusError::Memory`] where there is no memory for it.
     pub fn rewrapped(
         &self,
         alloc: Global,
@@ -197,7 +209,11 @@ impl PagerState {
         self.formed_anew(alloc, self.screen.orig_text(), layout, clears)
     }
 
-    /// The state in another size, for which the text is formed anew.
+    /// The state in another size, columns and rows each from 1 to 65,535, for which the text is formed anew.
+    ///
+    /// # Errors
+    ///
+    /// [`MinusError::Memory`] where there is no memory for it.
     pub fn resized(
         &self,
         alloc: Global,
@@ -230,8 +246,7 @@ impl PagerState {
     pub(crate) fn prefix(&self) -> usize
         ensures { result ≡ prefix_in self.now.screen.document }
     {
-        let numbers = self.screen.layout().numbers.is_on();
-        prefix_columns(numbers, self.screen.line_count())
+        Frame::of(&self.screen, self.left_mark).prefix()
     }
 
     // Whether the page does not go beyond the longest line at a left mark.
@@ -323,7 +338,8 @@ impl PagerState {
         })
     }
 
-    /// The same with one more character.
+    /// The typed prefix with one more character; that character alone where the prefix goes first. Fails for want of
+    /// memory alone.
     pub fn typed(&self, alloc: Global, character: char, clears: bool) -> Result<String, AllocError>
         ensures { IfOk result (λ text. string_bytes text ≡ (if clears then [] else string_bytes self.now.prefix_num) ++ encode_utf8 character) }
     {

@@ -1,0 +1,75 @@
+//! What stands around the text of a row: the number before it, and the columns that it has.
+ghost use Rattle.std.specs.Prelude.{◌≡◌, ◌<◌, ◌+◌, ◌^◌, ℕ, string_bytes, IfOk};
+ghost use Rattle.minus_text.specs.Document.{Document};
+ghost use Rattle.minus_state.specs.Frame.{frame_of};
+ghost use Rattle.minus_state.specs.Selection.{ends_in_order};
+ghost use Rattle.minus_state.specs.ShownRow.{cropped_line, selected_range};
+ghost use Rattle.minus_state.specs.View.{prefix_in, cut_in};
+
+use crate::selection::{SelectionEnds, marked_range};
+use minus_text::{Layout, Row, Screen, crop_columns, prefix_columns, push_prefix};
+use std::alloc::{AllocError, Global};
+
+// How a text is laid out, how many lines it has, and the left mark that it is shown from.
+#[derive(Clone, Copy)]
+pub(crate) struct Frame {
+    pub(crate) layout: Layout,
+    pub(crate) line_count: usize,
+    pub(crate) left_mark: usize,
+}
+
+impl Frame {
+    // That of the rows of a screen.
+    pub(crate) fn of(screen: &Screen, left_mark: usize) -> Frame
+        ensures { result ≡ frame_of screen.now.document left_mark }
+    {
+        Frame {
+            layout: screen.layout(),
+            line_count: screen.line_count(),
+            left_mark,
+        }
+    }
+
+    // The columns that stand before the text of each row.
+    pub(crate) fn prefix(self) -> usize
+        ensures { (d : Document) (left : ℕ) → self ≡ frame_of d left → result ≡ prefix_in d }
+    {
+        prefix_columns(self.layout.numbers.is_on(), self.line_count)
+    }
+
+    // The columns of the text that are cut off at the left.
+    pub(crate) fn cut(self) -> usize
+        ensures { (d : Document) (left : ℕ) → self ≡ frame_of d left → result ≡ cut_in d left }
+    {
+        if self.layout.wrapping {
+            return 0;
+        }
+        self.left_mark
+    }
+
+    // What is shown of a line that is one row, counted from 0, with this text: of the text what stands from the left mark on.
+    pub(crate) fn cropped_line(self, alloc: Global, i: usize, text: &str) -> Result<Row, AllocError>
+        requires { i + 1 < 2 ^ 64 }
+        ensures { IfOk result (λ row. (d : Document) (left : ℕ) → self ≡ frame_of d left → string_bytes row ≡ cropped_line d left i text.now) }
+    {
+        let numbers = self.layout.numbers.is_on();
+        let mut row = String::new(alloc);
+        push_prefix(&mut row, numbers, self.line_count, i + 1, true)?;
+        let columns = self.layout.cols.saturating_sub(self.prefix());
+        let shown = crop_columns(alloc, text, self.left_mark, columns)?;
+        row.push_str(shown.as_str())?;
+        Ok(row)
+    }
+
+    // The visible characters of a row, counted from 0, that are selected.
+    pub(crate) fn selected_range(
+        self,
+        ends: SelectionEnds,
+        i: usize,
+    ) -> Option<(usize, Option<usize>)>
+        ensures { (d : Document) (left : ℕ) → self ≡ frame_of d left → result ≡ selected_range d left (ends_in_order ends) i }
+    {
+        let (first, last) = ends.in_order()?;
+        marked_range(first, last, i, self.prefix(), self.cut())
+    }
+}
