@@ -44,6 +44,15 @@ pub struct StartErrorOf<S, P: Parts> {
 /// A refused start of a session to which no classifier was given.
 pub type StartError<S> = StartErrorOf<S, StandIns>;
 
+/// Why a start was refused; the sink and the pager are let go.
+impl<S: Drop, P: Parts> From<StartErrorOf<S, P>> for MinusError {
+    ghost from_gives = { λ start e. e ≡ start.cause };
+
+    fn from(refused: StartErrorOf<S, P>) -> MinusError {
+        refused.cause
+    }
+}
+
 // Takes over the texts that wait in a pager.
 fn take_waiting<P: Parts>(
     alloc: Global,

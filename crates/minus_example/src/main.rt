@@ -23,10 +23,7 @@ fn events(alloc: Global) -> Result<[Input; 3], MinusError> {
 fn page<S: OutputSink + Drop>(alloc: Global, sink: S) -> Result<(), MinusError> {
     let mut pager = Pager::new(alloc);
     pager.push_str(REPORT)?;
-    let mut session = match dynamic_paging(pager, sink, 20, 4) {
-        Ok(session) => session,
-        Err(refused) => return Err(refused.cause),
-    };
+    let mut session = dynamic_paging(pager, sink, 20, 4)?;
     for event in events(alloc)? {
         let _ = session.step(event)?;
     }

@@ -27,10 +27,14 @@ pub use format::{FormatOpts, format_lines_into, format_text_block};
 pub use formatted::{FormattedRow, SearchFormattedRow, format_search_rows};
 pub use layout::Layout;
 pub use line_numbers::{LineNumbers, digits, numbers_toggle_twice, prefix_columns, push_prefix};
-pub use lines::{last_line_end, parts_are_of_lines, push_lines, rows_stand_in_lines};
+pub use lines::{
+    last_line_end, lines_are_cut, parts_are_of_lines, push_lines, rows_stand_in_lines,
+};
 pub use lines_row_map::LinesRowMap;
 pub use pending::PendingPush;
-pub use screen::{FormatResult, Line, OwnedTextBlock, Row, Rows, Screen, TextBlock};
+pub use screen::{
+    FormatResult, Line, OwnedTextBlock, Row, Rows, Screen, TextBlock, line_map_ascends, pushes_join,
+};
 pub use seams::rows_go_on;
 pub use search::{
     HighlightMatchesArgs, Patterns, Term, found_rows_go_on, highlight_line_matches,
