@@ -15,11 +15,14 @@ The text is made up: words of 2 to 9 letters, lines of 60 to 100 bytes. docs/MEA
 import argparse
 import re
 import subprocess
+import sys
 import tempfile
 
 PAGE = ["page", "80", "24"]
 FAULT = b"no such word\n"
-FORMING = ["formed::form", "screen::Screen::place_formed", "screen::Screen::tail"]
+# What forms text or puts it in place. None calls another, since callgrind would stop counting there, and each is called at
+# two places or more, since the compiler puts what is called at one place into its caller.
+FORMING = ["store::Store::prepare_push", "store::Store::push_by", "screen::Screen::put"]
 
 
 class Words:
@@ -118,6 +121,16 @@ def text_of(change, size):
     return change(block(size)).encode()[:size].decode(errors="ignore")
 
 
+def stop_on_unknown(program):
+    """Ends where the program has no function of a name in FORMING, which callgrind would not tell of."""
+    with open(program, "rb") as it:
+        held = it.read()
+    # (a symbol's name ends in a zero byte)
+    unknown = [name for name in FORMING if f"minus_text::{name}\0".encode() not in held]
+    if unknown:
+        sys.exit(f"measure.py: {program} has no function of the name minus_text::{', nor minus_text::'.join(unknown)}: see FORMING")
+
+
 def instructions(program, script, functions=()):
     with tempfile.TemporaryDirectory() as folder, tempfile.TemporaryFile() as given:
         given.write(script)
@@ -151,6 +164,7 @@ def main():
     parser.add_argument("--only", help="these works alone")
     parser.add_argument("--small", action="store_true", help="the smallest number of each alone")
     given = parser.parse_args()
+    stop_on_unknown(given.program)
     names = [name for name in WORKS if not given.only or name in given.only.split(",")]
     print("| work | number | instructions | each | forming, each | growth |\n|---|---|---|---|---|---|")
     for name in names:

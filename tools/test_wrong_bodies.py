@@ -1,12 +1,12 @@
 #!/usr/bin/env python3
-"""Tests of wrong_bodies.py: how a body's function is found, how rounds are made, and how a check's lines are judged."""
+"""Tests of wrong_bodies.py: how a body's function is found, how rounds are made, how a check's lines are judged, and what the words of a call name."""
 import os
 import sys
 import tempfile
 import unittest
 
 sys.path.insert(0, os.path.dirname(os.path.abspath(__file__)))
-from wrong_bodies import Body, Place, functions_of, judge, next_round, paths_of, place_of, read_body, texts_of, try_all, verdicts_of, with_twins, without_bodies, without_proofs
+from wrong_bodies import Body, Place, functions_of, given_by, judge, next_round, paths_of, place_of, read_body, texts_of, try_all, verdicts_of, with_twins, without_bodies, without_proofs
 
 SOURCE = """const LIMIT: usize = 3;
 
@@ -74,6 +74,10 @@ class Places(unittest.TestCase):
     def test_an_argument_tells_impls_apart(self):
         self.assertTrue(place("Fault::Six").is_of("krate::m::FaultFromFmtError::from"))
         self.assertFalse(place("Fault::Six").is_of("krate::m::FaultFromIoError::from"))
+
+    def test_an_arrow_ends_no_generics(self):
+        text = "impl<F: Fn(u8) -> u8, T> Sink for Held<F, T> {\n    fn put(&mut self) -> usize {\n        9\n    }\n}\n"
+        self.assertEqual(place_of(text, text.index("9"), "m"), Place("m", "Held", "Sink", "", "put"))
 
     def test_a_check_is_asked_for_what_bodies_turn(self):
         bodies = [Body(mark, [], {place(mark)}) for mark in ("else", "5", "Fault::Six")]
@@ -211,6 +215,20 @@ class Tries(unittest.TestCase):
         told = [*try_all([body("a", "f")], lambda _: beside["proved"] + "\nlogic=proved", lambda _: beside["unproved"] + "\nlogic=not-proved")]
         self.assertEqual([it[1:] for it in told], [(False, "NOT REFUSED: it is proved")])
 
+    def test_of_two_that_wait_for_each_other_one_is_tried_alone(self):
+        waits = {"a": "fn k::m::f: no proof: it calls `k::m::g`, which is not proved", "b": "fn k::m::g: no proof: it calls `k::m::f`, which is not proved"}
+        own = {"a": "fn k::m::f: no proof: `search` did not prove `returns`", "b": "fn k::m::g: no proof: `search` did not prove `returns`"}
+
+        def told_where(alone):
+            def check(bodies):
+                lines = waits if len(bodies) == 2 else alone
+                return "\n".join([*(lines[it.label] for it in bodies), "logic=not-proved"])
+
+            return [(it.label, is_refused) for it, is_refused, _ in try_all([body("a", "f"), body("b", "g", 3)], check, check)]
+
+        self.assertEqual(told_where(own), [("a", True), ("b", True)])
+        self.assertEqual(told_where(waits), [("a", False), ("b", False)])
+
     def test_what_stands_in_no_function_is_tried_beside_the_proved(self):
         said = "fn k::m::f: no proof: `search` did not prove `returns`\nlogic=not-proved"
         told = [*try_all([Body("a", [("src/m.rt", 0, 1, "x")], {Place("m")})], lambda _: said, None)]
@@ -224,6 +242,48 @@ class Tries(unittest.TestCase):
 
         told = {it.label: is_refused for it, is_refused, _ in try_all([body("a", "f"), body("b", "g", 3)], check, check)}
         self.assertEqual(told, {"a": True, "b": False})
+
+
+class Calls(unittest.TestCase):
+    def setUp(self):
+        held = tempfile.TemporaryDirectory()
+        self.addCleanup(held.cleanup)
+        self.top = held.name
+        for file in ("one/wrong-bodies/a.edit", "one/wrong-bodies/b.edit", "one/wrong-bodies/notes", "one/must-fail/c.edit", "two/src/lib.rt"):
+            os.makedirs(os.path.dirname(f"{self.top}/crates/{file}"), exist_ok=True)
+            with open(f"{self.top}/crates/{file}", "w", encoding="utf-8"):
+                pass
+        with open(f"{self.top}/crates.txt", "w", encoding="utf-8") as out:
+            out.write("# Each crate: lowest first.\none: regex\ntwo staticlib: one\n")
+
+    def files(self, *names):
+        return {"one": [f"{self.top}/crates/one/{it}" for it in names]}
+
+    def refused(self, *words):
+        with self.assertRaises(SystemExit) as ended:
+            given_by(words, self.top)
+        # (a text is printed, and ends with 1)
+        return ended.exception.code
+
+    def test_no_name_is_each_crate_with_bodies(self):
+        for words in ([], ["one"]):
+            self.assertEqual(given_by(words, self.top), self.files("wrong-bodies/a.edit", "wrong-bodies/b.edit"))
+
+    def test_a_file_is_a_path_or_stands_among_the_crates_bodies(self):
+        words = ["one", "b.edit", "c.edit", f"{self.top}/crates/one/wrong-bodies/a.edit"]
+        self.assertEqual(given_by(words, self.top), self.files("wrong-bodies/b.edit", "must-fail/c.edit", "wrong-bodies/a.edit"))
+
+    def test_an_unknown_name_is_said(self):
+        self.assertIn("no crate 'on'", self.refused("on"))
+        self.assertIn("no crate '--prove'", self.refused("--prove"))
+        self.assertIn("no file 'd.edit'", self.refused("one", "a.edit", "d.edit"))
+        self.assertIn("no file 'two'", self.refused("one", "two"))
+
+    def test_nothing_to_try_is_said(self):
+        self.assertIn("nothing to try", self.refused("two"))
+        for it in ("a", "b"):
+            os.remove(f"{self.top}/crates/one/wrong-bodies/{it}.edit")
+        self.assertIn("nothing to try", self.refused())
 
 
 if __name__ == "__main__":

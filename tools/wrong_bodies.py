@@ -2,9 +2,11 @@
 """Tries the wrong bodies crates/NAME/wrong-bodies/*.edit: the prover must refuse each of them for itself.
 
 usage, at the top of the repository:
-    tools/wrong_bodies.py                     every crate, side by side
-    tools/wrong_bodies.py NAME [FILE.edit ..] one crate, or these files of it
-    tools/wrong_bodies.py --proved [NAME ..]  the same, right after an rt ci that proved them all
+    tools/wrong_bodies.py                                every crate, side by side
+    tools/wrong_bodies.py NAME [FILE.edit ..]            one crate, or these files of it
+    tools/wrong_bodies.py --proved [NAME [FILE.edit ..]] the same, right after an rt ci that proved them all
+
+A FILE.edit is a path, or the name of a file in crates/NAME/wrong-bodies/ or crates/NAME/must-fail/.
 
 A wrong body has the lines of a must-fail edit: `file: src/F.rt`, and pairs of `old: TEXT` and `new: TEXT`, where each old
 text stands once in its file. The bodies of a crate go into rounds in which each function is turned at most once, and one check
@@ -20,7 +22,8 @@ its module must be refused for itself.
 All this happens on a copy of the repository, over the work that `rt check` kept in out/, where there is some. The crate as
 it stands must be proved there first. With --proved that is taken from the caller, in a repository where nothing is kept: the
 rounds then stand on the libraries that rt ci built. RT_JOBS is how many checks run side by side, as it is for rt ci. The last
-line is `wrong-bodies: N passed, M failed`.
+line is `wrong-bodies: N passed, M failed`; where a name is unknown or there is nothing to try, it says that. Both that and
+a body that failed end with 1.
 """
 import importlib.machinery
 import importlib.util
@@ -88,7 +91,8 @@ class Body:
 
 def head_of(line):
     """Returns the type, the trait and the trait's argument, if any, of an impl's first line, as the check names them."""
-    text = line[len("impl") :]
+    # (an arrow's `>` closes nothing)
+    text = line[len("impl") :].replace("->", "")
     if text.startswith("<"):
         depth = at = 0
         while at == 0 or depth:
@@ -319,8 +323,11 @@ def try_all(bodies, check, check_beside_unproved, twins=list):
             else:
                 waiting.append(of_label[body.label])
     while waiting:
-        # (each round decides a body at least: one whose functions call no other function that it turns)
-        for body, is_refused, why in [*tried(next_round(waiting), check)]:
+        found = [*tried(next_round(waiting), check)]
+        if all(is_refused is None for _, is_refused, _ in found):
+            # (each waits for another of them, as where their functions call one another: one that is tried alone is decided)
+            found = [*tried(waiting[:1], check)]
+        for body, is_refused, why in found:
             if is_refused is not None:
                 waiting.remove(body)
                 yield body, is_refused, why
@@ -372,11 +379,11 @@ def paths_of(bodies, proofs):
 
 
 def try_crate(rt, crate, files, is_proved):
-    """Tries wrong bodies of a crate, which stands on a copy, and returns how many passed and how many failed."""
+    """Tries wrong bodies of a crate, which stands on a copy, and returns how many passed."""
     plain = "logic=proved" if is_proved else call(["rt", "check", "--jobs", "1"], crate.folder)
     if not re.search(r"^logic=proved", plain, re.M):
         print(f"{crate.name}: the crate as it stands is not proved\n{plain[-2000:]}", flush=True)
-        return 0, len(files)
+        return 0
     proofs, passed = proofs_of(crate), 0
     functions = functions_of(crate.folder, proofs)
 
@@ -403,12 +410,31 @@ def try_crate(rt, crate, files, is_proved):
         print(f"{crate.name}/{body.label}: {'refused: ' if is_refused else 'FAILED: '}{' '.join(why.split())[:160]}", flush=True)
         passed += is_refused
     shutil.rmtree(f"{crate.folder}/out/incremental", ignore_errors=True)
-    return passed, len(files) - passed
+    return passed
 
 
 def files_of(top, name):
     where = f"{top}/crates/{name}/wrong-bodies"
     return sorted(f"{where}/{it}" for it in os.listdir(where) if it.endswith(".edit")) if os.path.isdir(where) else []
+
+
+def file_of(top, name, word):
+    """Returns the file that a word names, as it stands or among a crate's bodies, or ends where there is none."""
+    for it in (word, f"{top}/crates/{name}/wrong-bodies/{word}", f"{top}/crates/{name}/must-fail/{word}"):
+        if os.path.isfile(it):
+            return os.path.abspath(it)
+    sys.exit(f"wrong_bodies.py: there is no file {word!r}, and none of that name among the wrong bodies of {name}")
+
+
+def given_by(words, top):
+    """Returns the files to try of each crate that the words name, or ends where that is unknown or nothing."""
+    listed = re.findall(r"^(\w+)\b.*:", read(f"{top}/crates.txt"), re.M)
+    if words and words[0] not in listed:
+        sys.exit(f"wrong_bodies.py: crates.txt names no crate {words[0]!r}")
+    given = {name: [file_of(top, name, it) for it in words[1:]] or files_of(top, name) for name in words[:1] or listed}
+    if not any(given.values()):
+        sys.exit(f"wrong_bodies.py: nothing to try, since no file ends in .edit in crates/{words[0] if words else '*'}/wrong-bodies/")
+    return {name: files for name, files in given.items() if files}
 
 
 def main(words):
@@ -417,9 +443,7 @@ def main(words):
         sys.exit("wrong_bodies.py runs at the top of the repository, where crates.txt stands")
     is_proved = "--proved" in words and not has_kept(top)
     words = [it for it in words if it != "--proved"]
-    names = words[:1] or sorted(os.listdir(f"{top}/crates"))
-    given = {it: words[1:] or files_of(top, it) for it in names}
-    given = {it: [os.path.abspath(file) for file in files] for it, files in given.items() if files}
+    given = given_by(words, top)
     rt = load_rt()
     with tempfile.TemporaryDirectory(prefix="wrong-bodies-") as base:
         copy_of(top, base)
@@ -429,9 +453,11 @@ def main(words):
         # (the crate with the most bodies goes first)
         crates = sorted((it for it in rt.rtlib.crates_below(base) if it.name in given), key=lambda it: -len(given[it.name]))
         with ThreadPoolExecutor(lanes) as pool:
-            counts = [*pool.map(lambda it: try_crate(rt, it, given[it.name], is_proved), crates)]
-    print(f"wrong-bodies: {sum(it[0] for it in counts)} passed, {sum(it[1] for it in counts)} failed")
-    return 1 if any(it[1] for it in counts) else 0
+            passed = sum(pool.map(lambda it: try_crate(rt, it, given[it.name], is_proved), crates))
+    # (who was not tried has failed too)
+    failed = sum(map(len, given.values())) - passed
+    print(f"wrong-bodies: {passed} passed, {failed} failed")
+    return 1 if failed else 0
 
 
 if __name__ == "__main__":
