@@ -394,7 +394,7 @@ impl<S: OutputSink + Drop, P: Calls> Core<S, P> {
         Ok(answer)
     }
 
-    // Works inputs off from the end of a list, until one is refused or the session has exited.
+    // Works inputs off from the end of a list, until one is refused, or after a step that exits, copies a text or refuses items.
     fn run_from_end(&mut self, left: &mut Vec<InputOf<P>>) -> Progress
         ensures { IsRunOf S.contents S.refused (classifies P.Classifier.allows P.Classifier.helps) self.old self.new (reverse left.old.items)
             result.done result.last result.stopped (reverse left.new.items) }
@@ -430,8 +430,9 @@ impl<S: OutputSink + Drop, P: Calls> Core<S, P> {
         }
     }
 
-    /// Works inputs off in order, until one is refused or the session has exited. An input that is refused is dropped,
-    /// and those after it, or after an exit, are handed back.
+    /// Works inputs off in order, until one is refused, or after a step that exits, copies a text or refuses items; the
+    /// answer of the last step that ended well says which. An input that is refused is dropped, and those after it, or
+    /// after such a step, are handed back.
     pub fn run(&mut self, inputs: Vec<InputOf<P>>) -> RanOf<P>
         ensures { IsRunOf S.contents S.refused (classifies P.Classifier.allows P.Classifier.helps) self.old self.new inputs.items result.done result.last result.stopped result.rest.items }
     {

@@ -25,7 +25,17 @@ fn described(text: &str) -> Result<&str, DescriptionError>
 }
 
 /// The key that a text describes, pressed: its modifiers as `m-`, `c-` or `s-`, and a character or
-/// a name, such as `c-s-h`, `f5` or `m-dash`. With modifiers alone it is the key Null.
+/// a name, such as `c-s-h`, `f5` or `m-dash`. With modifiers alone it is the key Null. It takes no
+/// memory.
+///
+/// # Errors
+///
+/// [`DescriptionError::NotAscii`] where a character is not ASCII, and else
+/// [`DescriptionError::Empty`] where nothing but white space stands there. Else the fault of the
+/// first segment from the left that has one: [`DescriptionError::EmptySegment`] where it is empty,
+/// neither first nor last, and not right after a modifier, [`DescriptionError::RepeatedModifier`]
+/// where it is a modifier that stands before it too, [`DescriptionError::UnknownName`] where it is
+/// no modifier and names no key, and [`DescriptionError::SecondKey`] where it names a second one.
 pub fn parse_key_event(text: &str) -> Result<KeyEvent, DescriptionError>
     ensures ok { IfOk result (DescribesKey text.now) }
     ensures err { IfErr result (KeyFault text.now) }
@@ -41,7 +51,17 @@ pub fn parse_key_event(text: &str) -> Result<KeyEvent, DescriptionError>
 }
 
 /// The action of the mouse that a text describes, at column and row 0: its modifiers, and an
-/// action such as `left:down`, `move` or `scroll:up`.
+/// action such as `left:down`, `move` or `scroll:up`. It takes no memory.
+///
+/// # Errors
+///
+/// [`DescriptionError::NotAscii`] where a character is not ASCII, and else
+/// [`DescriptionError::Empty`] where nothing but white space stands there. Else the fault of the
+/// first segment from the left that has one: [`DescriptionError::EmptySegment`] where it is empty,
+/// neither first nor last, and not right after a modifier, [`DescriptionError::RepeatedModifier`]
+/// where it is a modifier that stands before it too, [`DescriptionError::UnknownName`] where it is
+/// no modifier and names no action, and [`DescriptionError::SecondKey`] where it names a second one.
+/// [`DescriptionError::NoAction`] where no segment has a fault, and none names an action.
 pub fn parse_mouse_event(text: &str) -> Result<MouseEvent, DescriptionError>
     ensures ok { IfOk result (DescribesMouse text.now) }
     ensures err { IfErr result (MouseFault text.now) }

@@ -235,6 +235,7 @@ impl Setting {
 /// What a command leaves: the text, the mark, the size and what is set beside them; whether the typed prefix went before it;
 /// and what of it is asked to be drawn.
 pub struct Change {
+    /// The text that there will be.
     pub text: NextText,
     /// The first row of text on the page, counted from 0.
     pub mark: usize,
@@ -244,7 +245,9 @@ pub struct Change {
     pub rows: usize,
     /// Whether the typed prefix goes first.
     pub clears: bool,
+    /// What there will be beside the text.
     pub setting: Setting,
+    /// How much of it is asked to be drawn.
     pub redraw: Redraw,
     pub ghost sized: { IsSize cols rows },
 }

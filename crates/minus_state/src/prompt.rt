@@ -22,6 +22,7 @@ const STYLE_END: &str = "\x1b[0m";
 pub struct PromptRow<'p> {
     /// A hidden prompt has an empty row.
     pub is_shown: bool,
+    /// What the row says where there is no message.
     pub prompt: &'p str,
     /// Stands in the prompt's place.
     pub message: Option<&'p str>,
@@ -31,6 +32,7 @@ pub struct PromptRow<'p> {
     pub search_mark: usize,
     /// How many rows match.
     pub match_count: usize,
+    /// Whether the pager follows its text.
     pub follow: bool,
     /// The row's columns.
     pub cols: usize,

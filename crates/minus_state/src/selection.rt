@@ -5,7 +5,9 @@ ghost use Rattle.minus_state.specs.Selection.{comes_first, in_order, ends_in_ord
 /// An end of what is selected: a row of the document and a column of it, both counted from 0.
 #[derive(Clone, Copy, Debug, PartialEq, Eq)]
 pub struct Selection {
+    /// The row, counted from 0 at the text's first one.
     pub absolute_row: usize,
+    /// The column of the row's own text, counted from 0 behind the number of its line.
     pub col: usize,
 }
 
@@ -34,7 +36,9 @@ impl Selection {
 /// was led to.
 #[derive(Clone, Copy)]
 pub struct SelectionEnds {
+    /// Where it began.
     pub anchor: Option<Selection>,
+    /// Where it was led to.
     pub selection: Option<Selection>,
 }
 

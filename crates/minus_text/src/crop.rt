@@ -13,7 +13,9 @@ use std::alloc::{AllocError, Global};
 /// Columns of a text that are shown: how many, from the column `left` on, counted from 0.
 #[derive(Clone, Copy)]
 pub struct Window {
+    /// The first column that is shown, counted from 0.
     pub left: usize,
+    /// How many columns are shown.
     pub width: usize,
 }
 
@@ -111,7 +113,8 @@ pub fn crop_columns(alloc: Global, text: &str, left: usize, width: usize) -> Res
 }
 
 /// Adds a text, taken as one piece, cut to its longest front of whole units that takes at most so many
-/// columns, and filled with spaces to as many. Fails for want of memory alone.
+/// columns, and filled with spaces to as many. An `Err` is for want of memory alone; it may leave a part of
+/// that behind.
 pub fn push_fitted(row: &mut String, text: &str, cols: usize) -> Result<(), AllocError>
     ensures row { OnOk result (string_bytes row.new ≡ string_bytes row.old ++ fitted cols text.now) }
     ensures fills { OnOk result (columns (fitted cols text.now) ≡ cols) }

@@ -17,10 +17,12 @@ use std::alloc::{AllocError, Global};
 pub struct FormatOpts<'a, B> {
     /// The rows are put at the end of it.
     pub buffer: &'a mut B,
+    /// The text.
     pub text: TextBlock<'a>,
     /// The line that the text goes on in, if a newline does not end the last one before it. It is
     /// formatted again with the text.
     pub attachment: Option<TextBlock<'a>>,
+    /// Whether rows begin with the numbers of their lines.
     pub line_numbers: LineNumbers,
     /// How many lines there are before the text, with the attachment. They are fewer than 2^63.
     pub lines_count: usize,

@@ -175,7 +175,7 @@ pub(crate) fn search_row<'a>(
 }
 
 /// Each of these rows with the matches of a term in reverse, and whether it matches; as they are
-/// without a term. One search serves all rows.
+/// without a term. One search serves all rows. Fails for want of memory alone.
 pub fn format_search_rows<'a>(
     alloc: Global,
     rows: &[FormattedRow<'a>],

@@ -11,9 +11,13 @@ use std::ops::Not;
 /// other two stay.
 #[derive(Clone, Copy, Debug, PartialEq, Eq)]
 pub enum LineNumbers {
+    /// They do, and `!` leaves it so.
     AlwaysOn,
+    /// They do.
     Enabled,
+    /// They do not.
     Disabled,
+    /// They do not, and `!` leaves it so.
     AlwaysOff,
 }
 
@@ -75,7 +79,8 @@ fn push_number(out: &mut String, line_count: usize, line: usize) -> Result<(), A
 /// Adds what stands before a row: nothing where numbers are off. Where they are on, it is the number of
 /// the row's line in bold, counted from 1, before the first row of the line, and blanks before its other
 /// rows. A number stands at the right of as many columns as `line_count`, the lines of the text, has
-/// digits, and six more; behind it stands a space. Fails for want of memory alone.
+/// digits, and six more; behind it stands a space. An `Err` is for want of memory alone; it may leave a
+/// part of that behind.
 pub fn push_prefix(
     out: &mut String,
     numbers: bool,

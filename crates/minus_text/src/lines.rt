@@ -44,7 +44,7 @@ pub(crate) fn split_line(text: &str) -> Option<(&str, &str)>
 }
 
 /// Adds the lines of a text, joined by newlines: the text without the carriage return at the end of each
-/// line that a newline ends. Fails for want of memory alone.
+/// line that a newline ends. An `Err` is for want of memory alone; it may leave a part of that behind.
 pub fn push_lines(out: &mut String, text: &str) -> Result<(), AllocError>
     ensures { OnOk result (string_bytes out.new ≡ string_bytes out.old ++ joined_lines text.now) }
 {

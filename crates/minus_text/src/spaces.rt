@@ -7,7 +7,7 @@ use std::alloc::AllocError;
 const SPACES: &str =
     "                                                                                ";
 
-/// Adds so many spaces. Fails for want of memory alone.
+/// Adds so many spaces. An `Err` is for want of memory alone; it may leave some of them behind.
 pub fn push_spaces(out: &mut String, count: usize) -> Result<(), AllocError>
     ensures { OnOk result (string_bytes out.new ≡ string_bytes out.old ++ replicate count 32) }
 {

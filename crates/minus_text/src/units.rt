@@ -9,8 +9,11 @@ use crate::wrap::{front, split_unit, strip_escape, without_spaces};
 /// A unit of a text: an `ESC[` sequence, which takes no columns, or a character with its columns.
 #[derive(Clone, Copy)]
 pub struct Unit<'t> {
+    /// The sequence or the character.
     pub text: &'t str,
+    /// How many columns it takes.
     pub columns: usize,
+    /// Whether it is a sequence.
     pub is_sequence: bool,
 }
 

@@ -22,7 +22,9 @@ use unicode_width::UnicodeWidthChar;
 /// A part of a text, as two places in its bytes.
 #[derive(Clone, Copy, Debug, PartialEq, Eq)]
 pub struct Span {
+    /// The place of its first byte, counted from 0.
     pub start: usize,
+    /// The place behind its last byte, counted from 0.
     pub end: usize,
 }
 

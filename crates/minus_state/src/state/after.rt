@@ -47,7 +47,7 @@ impl PagerState {
         }
     }
 
-    /// The prompt row after a change.
+    /// The prompt row after a change; empty where it is hidden. Fails for want of memory alone.
     pub fn prompt_row_after(&self, alloc: Global, change: &Change) -> Result<String, AllocError>
         ensures { IfOk result (λ row. (new : Control) → IsChange (control_of self.now) change.now new → string_bytes row ≡ prompt_row new) }
     {
@@ -56,7 +56,7 @@ impl PagerState {
         Ok(text)
     }
 
-    /// The text of the prompt row; empty where it is hidden.
+    /// The text of the prompt row; empty where it is hidden. Fails for want of memory alone.
     pub fn displayed_prompt(&self, alloc: Global) -> Result<String, AllocError>
         ensures { IfOk result (λ row. string_bytes row ≡ prompt_row (control_of self.now)) }
     {
@@ -78,7 +78,8 @@ impl PagerState {
         }
     }
 
-    /// The prompt row after a change, where it may be another one.
+    /// The prompt row after a change, where it may be another one; `None` where it stays as it is. Fails for want of
+    /// memory alone.
     pub fn new_prompt_row(
         &self,
         alloc: Global,
@@ -143,7 +144,8 @@ impl PagerState {
         Ok(shown)
     }
 
-    /// The texts of the rows of text on the page that a change leads to, from one of them on.
+    /// The texts of the rows of text on the page that a change leads to, from one of them on, counted from 0 at the
+    /// top of the page. Fails for want of memory alone.
     pub fn shown_after<'a>(
         &'a self,
         alloc: Global,
@@ -156,7 +158,8 @@ impl PagerState {
         self.shown_between(alloc, change, first, change.rows - 1)
     }
 
-    /// The texts of the rows of text that come onto the page that a change leads to, where the mark was this one.
+    /// The texts of the rows of text that come onto the page that a change leads to, where the mark was this one, a
+    /// row counted from 0. Fails for want of memory alone.
     pub fn shown_newly<'a>(
         &'a self,
         alloc: Global,
@@ -176,7 +179,8 @@ impl PagerState {
         }
     }
 
-    /// The first row that an append may change.
+    /// The first row that an append may change, counted from 0: the first one of the line that no newline ends, or the
+    /// first new one.
     pub fn first_changed(&self) -> usize
         requires { IsFormed self.now }
         ensures { result ≡ first_changed (control_of self.now) }

@@ -15,14 +15,17 @@ const PROMPT: &str = "HELP -- Press q or Shift-m to return to pager";
 /// What is put aside while help is open.
 #[derive(Debug, Drop)]
 pub struct Saved {
+    /// The text that was on show, as it was replaced or added to since.
     pub text: String,
     /// Whether lines that are too long for the columns are wrapped.
     pub wrapping: bool,
+    /// Whether rows begin with the numbers of their lines.
     pub numbers: LineNumbers,
     /// The first row of text on the page, counted from 0.
     pub upper_mark: usize,
     /// The columns that are cut off at the left where lines are not wrapped.
     pub left_mark: usize,
+    /// What the prompt says.
     pub prompt: String,
     /// Whether the page goes on with what is appended.
     pub follow: bool,
@@ -31,6 +34,7 @@ pub struct Saved {
 /// What is set beside the text as help is opened or left, and what is put aside then. No message is shown.
 #[derive(Drop)]
 pub struct HelpSwitch {
+    /// What the prompt says.
     pub prompt: String,
     /// Whether the page goes on with what is appended.
     pub follow: bool,
@@ -173,6 +177,10 @@ impl PagerState {
     }
 
     /// The state with help left where it is open.
+    ///
+    /// # Errors
+    ///
+    /// [`MinusError::Memory`] where there is no memory for it.
     pub fn left_help(&self, alloc: Global, clears: bool) -> Result<Change, MinusError>
         requires { IsFormed self.now }
         ensures next { IfOk result (λ c. IsChange (control_of self.now) c (left_help (cleared clears (control_of self.now)) (control_of self.now).help)) }
@@ -186,6 +194,10 @@ impl PagerState {
     }
 
     /// The state with help left where it is open, and else without the message.
+    ///
+    /// # Errors
+    ///
+    /// [`MinusError::Memory`] where there is no memory for it.
     pub fn restored(&self, alloc: Global, clears: bool) -> Result<Change, MinusError>
         requires { IsFormed self.now }
         ensures next { IfOk result (λ c. IsChange (control_of self.now) c (restored (cleared clears (control_of self.now)) (control_of self.now).help)) }
@@ -199,6 +211,10 @@ impl PagerState {
     }
 
     /// The state with help left where it is open, and else opened with a text.
+    ///
+    /// # Errors
+    ///
+    /// [`MinusError::Memory`] where there is no memory for it.
     pub fn turned(&self, alloc: Global, text: &str, clears: bool) -> Result<Change, MinusError>
         requires { IsFormed self.now }
         ensures next { IfOk result (λ c. IsChange (control_of self.now) c (turned (cleared clears (control_of self.now)) (control_of self.now).help text.now)) }
@@ -212,6 +228,10 @@ impl PagerState {
     }
 
     /// The state with another text; while help is open, with another one put aside.
+    ///
+    /// # Errors
+    ///
+    /// [`MinusError::Memory`] where there is no memory for it.
     pub fn replaced(&self, alloc: Global, text: String, clears: bool) -> Result<Change, MinusError>
         requires { IsFormed self.now }
         ensures next { IfOk result (λ c. IsChange (control_of self.now) c (with_text (cleared clears (control_of self.now)) (string_bytes text))) }
@@ -224,7 +244,12 @@ impl PagerState {
         self.with_text(alloc, &text, clears)
     }
 
-    /// The state with a text added to its text; while help is open, to the one put aside.
+    /// The state with a text added to its text, and the mark at the last page where the text is followed; while help
+    /// is open, with the text added to the one put aside, for which `place` takes memory.
+    ///
+    /// # Errors
+    ///
+    /// [`MinusError::Memory`] where there is no memory for it.
     pub fn added(&self, alloc: Global, text: String, clears: bool) -> Result<Change, MinusError>
         requires { IsFormed self.now }
         ensures next { IfOk result (λ c. IsChange (control_of self.now) c (added (cleared clears (control_of self.now)) (string_bytes text))) }

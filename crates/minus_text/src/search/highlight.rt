@@ -129,7 +129,7 @@ impl<'l> HighlightMatchesArgs<'l> {
 
     /// Finds the matches of a pattern in a line, which are those of the line without its escape
     /// sequences. These stay where they stand if the highlight is to be accurate; else those inside
-    /// a match come right behind it.
+    /// a match come right behind it. Fails for want of memory alone.
     pub fn new(
         alloc: Global,
         patterns: &Patterns,
@@ -217,7 +217,7 @@ impl fmt::Display for HighlightMatchesArgs<'_> {
 
 /// A line with each match of a pattern shown in reverse, and whether it matches. Matches are those
 /// of the line without its escape sequences. These stay where they stand if the highlight is to be
-/// accurate; else those inside a match come right behind it.
+/// accurate; else those inside a match come right behind it. Fails for want of memory alone.
 pub fn highlight_line_matches(
     alloc: Global,
     patterns: &Patterns,
