@@ -1,12 +1,13 @@
 //! Classifiers of one's own.
 use crate::sessions::{TEN_LINES, terminal};
+use crate::shown::is_debugged;
 use minus::{
     CommandOf, Core, Event, InputClassifier, InputEvent, InputOf, Kinds, PagerOf, PagerState,
     RunMode, WithTty, init_core_with,
 };
 use std::alloc::{AllocError, Global};
 
-// A classifier that asks at each event for a move to one row.
+// A classifier that asks at each event for a move to one row of the text, or past it.
 #[derive(Drop)]
 struct ToRow(usize);
 
@@ -45,18 +46,31 @@ fn leads_to(session: &mut Moving, input: InputOf<Own>, mark: usize) -> bool {
     session.step(input).is_ok() && session.state().upper_mark == mark
 }
 
-// Whether an event moves to row 2, another classifier moves nothing when it is set, and the next event moves to row 5.
+// Whether an event moves to row 2, another classifier moves nothing when it is set, and the next event moves as far as the
+// text goes, since it asks for more than that.
 fn are_exchanged(alloc: Global) -> bool {
     let Some(mut session) = moving_to(alloc, TEN_LINES, 2) else {
         return false;
     };
-    let other = CommandOf::SetInputClassifier(ToRow(5));
+    let other = CommandOf::SetInputClassifier(ToRow(usize::MAX));
     let moves = leads_to(&mut session, InputOf::Event(Event::FocusGained), 2);
     let stays = leads_to(&mut session, InputOf::Command(other), 2);
-    moves && stays && leads_to(&mut session, InputOf::Event(Event::FocusGained), 5)
+    moves && stays && leads_to(&mut session, InputOf::Event(Event::FocusGained), 7)
 }
 
 #[test]
 fn the_classifier_last_set_decides(rt: HostRuntime) {
     assert!(rt; are_exchanged(rt.alloc()));
+}
+
+// Whether commands that hand over two classifiers are equal, and one is shown by its name alone.
+fn are_alike(alloc: Global) -> bool {
+    let one: CommandOf<Own> = CommandOf::SetInputClassifier(ToRow(2));
+    let other: CommandOf<Own> = CommandOf::SetInputClassifier(ToRow(5));
+    one == other && is_debugged(alloc, &one, "SetInputClassifier")
+}
+
+#[test]
+fn commands_do_not_tell_their_classifiers(rt: HostRuntime) {
+    assert!(rt; are_alike(rt.alloc()));
 }

@@ -3,14 +3,16 @@ ghost use Rattle.std.specs.Prelude.{IfSome};
 ghost use Rattle.minus_state.specs.States.{IsFormed};
 
 use crate::sessions::{Asked, PROMPT_ROW, TEN_LINES, Worked, are_bytes, assert_drawn};
-use minus::{Layout, PagerState, draw_append_text, draw_for_change, draw_full, write_prompt};
+use minus::{
+    IoCommand, Layout, PagerState, draw_append_text, draw_for_change, draw_full, write_prompt,
+};
 use std::alloc::Global;
 
 // What stands before the prompt row of a page of four rows.
 const FIFTH_ROW: &str = "\x1b[5;1H\r\x1b[2K";
 
 // What the last step of a session draws.
-const DRAWN: [&Worked<'static>; 12] = [
+const DRAWN: [&Worked<'static>; 13] = [
     &Worked {
         name: "a scroll down by two rows",
         cols: 20,
@@ -93,6 +95,19 @@ const DRAWN: [&Worked<'static>; 12] = [
         texts: &["\x1b[2;1H\x1b[2Ktwo"],
     },
     &Worked {
+        name: "the whole page ends with a blank row",
+        cols: 20,
+        rows: 5,
+        asked: &[
+            Asked::Push("one\ntwo\nthree"),
+            Asked::Io(IoCommand::RedrawDisplay),
+        ],
+        texts: &[
+            "\x1b[1;1H\x1b[2J\rone\n\rtwo\n\rthree\n\x1b[6;1H\r\x1b[2K",
+            PROMPT_ROW,
+        ],
+    },
+    &Worked {
         name: "a resize draws the whole page",
         cols: 6,
         rows: 2,
@@ -109,17 +124,14 @@ fn scrolls_and_appends_are_drawn(rt: HostRuntime) {
     assert_drawn(&rt, rt.alloc(), &DRAWN);
 }
 
-// A state of 20 columns and 4 rows with ten lines.
-fn state_of_ten_lines(alloc: Global) -> Option<PagerState>
+// A state of 20 columns and 4 rows with this text.
+fn state_of(alloc: Global, text: &str) -> Option<PagerState>
     ensures { IfSome result IsFormed }
 {
     let Ok(mut state) = PagerState::new(alloc, 20, 4) else {
         return None;
     };
-    match state
-        .screen
-        .set_text(alloc, TEN_LINES, Layout::plain(20), None)
-    {
+    match state.screen.set_text(alloc, text, Layout::plain(20), None) {
         Ok(_) => Some(state),
         Err(_) => None,
     }
@@ -139,7 +151,7 @@ fn draw_by_itself(alloc: Global, state: &mut PagerState, sink: &mut Vec<u8>) -> 
 // Whether that is drawn as these texts.
 fn is_drawn_by_itself(alloc: Global, texts: &[&str]) -> bool {
     let mut sink = Vec::new(alloc);
-    let is_drawn = match state_of_ten_lines(alloc) {
+    let is_drawn = match state_of(alloc, TEN_LINES) {
         Some(mut state) => draw_by_itself(alloc, &mut state, &mut sink),
         None => false,
     };
@@ -158,4 +170,32 @@ fn a_state_is_drawn_by_itself(rt: HostRuntime) {
         "\x1b[3;1H\x1b[2Kl9\x1b[5;1H\r\x1b[2Kend",
     ];
     assert!(rt; is_drawn_by_itself(rt.alloc(), texts));
+}
+
+// Whether the rows of a state of one line are drawn so from a row on, where there were so many.
+fn is_drawn_from(alloc: Global, first: usize, old_count: usize, drawn: &str) -> bool {
+    let mut sink = Vec::new(alloc);
+    let is_drawn = match state_of(alloc, "a") {
+        Some(state) => draw_append_text(alloc, &mut sink, &state, first, old_count).is_ok(),
+        None => false,
+    };
+    is_drawn && are_bytes(&sink, &[drawn])
+}
+
+// A row of the text, how many rows there were, and what is drawn from it on: the greater of old and new count ends it.
+const FROM: [(usize, usize, &str); 4] = [
+    (0, 1, "\x1b[1;1H\x1b[2Ka"),
+    (1, 3, "\x1b[2;1H\x1b[2K\x1b[3;1H\x1b[2K"),
+    (2, 3, "\x1b[3;1H\x1b[2K"),
+    (3, 2, ""),
+];
+
+#[test]
+fn rows_are_drawn_from_one_on(rt: HostRuntime) {
+    for (first, old_count, drawn) in &FROM {
+        assert!(rt;
+            is_drawn_from(rt.alloc(), *first, *old_count, drawn),
+            "from row {first}"
+        );
+    }
 }

@@ -1,47 +1,56 @@
 //! Exits and their cleanup.
-use crate::sessions::{Asked, CLEANUP, Worked, assert_drawn, number_of, run, session_on, terminal};
-use crate::stubborn::{Stubborn, write};
+use crate::sessions::{Asked, CLEANUP, number_of, run, session_on, terminal};
+use crate::shown::is_debugged;
+use crate::stubborn::{NOTHING, Refusal, Refused, Stubborn, write};
 use minus::{
     CleanupError, Command, ExitStrategy, Input, InputEvent, MinusError, OutputSink, Ran, RunMode,
     Session,
 };
 use std::alloc::Global;
 
-// How a session that is asked for an exit ends.
-fn exit_of<S: OutputSink + Drop>(session: &mut Session<S>) -> Option<(ExitStrategy, u8)> {
+// So many writes a start on 6 columns and 2 rows takes, the setup and the first page, and so many a cleanup.
+const START_WRITES: usize = 54 + 41;
+
+const CLEANUP_WRITES: usize = 54;
+
+// Refuses all writes behind a start and a cleanup.
+const ONE_CLEANUP: Refused = Refused {
+    write: START_WRITES + CLEANUP_WRITES + 1,
+    writes: usize::MAX,
+    ..NOTHING
+};
+
+// Whether a session that is asked for an exit answers this.
+fn exits<S: OutputSink + Drop>(alloc: Global, session: &mut Session<S>, answer: &str) -> bool {
     match session.step(Input::Command(Command::UserInput(InputEvent::Exit))) {
-        Ok(answer) => answer.exited,
-        Err(_) => None,
+        Ok(told) => is_debugged(alloc, &told, answer),
+        Err(_) => false,
     }
 }
 
 // Whether an exit ends a session, so that the next step is refused.
-fn is_ended(alloc: Global) -> bool {
-    let Some(mut session) = session_on(alloc, terminal(alloc), 6, 2) else {
-        return false;
-    };
-    exit_of(&mut session) == Some((ExitStrategy::ProcessQuit, 0))
-        && number_of(alloc, &mut session, Asked::Push("a")) == 11
+fn ends<S: OutputSink + Drop>(alloc: Global, session: &mut Session<S>) -> bool {
+    let answer = "Answer { exited: Some((ProcessQuit, 0)), copied: None, refused: [] }";
+    exits(alloc, session, answer)
+        && number_of(alloc, session, Asked::Push("a")) == 11
         && session.mode() == RunMode::Uninitialized
 }
 
-#[test]
-fn an_exit_ends_the_session(rt: HostRuntime) {
-    assert!(rt; is_ended(rt.alloc()));
+// Whether it does, and `finish` writes nothing more: the cleanup is that of the exit.
+fn is_ended(alloc: Global) -> bool {
+    let sink = Stubborn::terminal(alloc, ONE_CLEANUP);
+    let Some(mut session) = session_on(alloc, sink, 6, 2) else {
+        return false;
+    };
+    let has_ended = ends(alloc, &mut session);
+    let (sink, finished) = session.finish();
+    let is_finished = finished.is_ok() && sink.refusals == 0;
+    has_ended && is_finished && sink.inner.held.ends_with(CLEANUP.as_bytes())
 }
 
-// What the last step of a session draws.
-const DRAWN: [&Worked<'static>; 1] = [&Worked {
-    name: "the cleanup is that of the exit, and finish writes none",
-    cols: 6,
-    rows: 2,
-    asked: &[Asked::Exit],
-    texts: &[],
-}];
-
 #[test]
-fn an_exit_cleans_up_once(rt: HostRuntime) {
-    assert_drawn(&rt, rt.alloc(), &DRAWN);
+fn an_exit_ends_the_session_and_cleans_up_once(rt: HostRuntime) {
+    assert!(rt; is_ended(rt.alloc()));
 }
 
 // Whether a session refuses an exit by the second part of its cleanup.
@@ -67,7 +76,7 @@ fn is_cleaned_twice(bytes: &[u8]) -> bool {
 
 // Whether a cleanup that is refused at its seventh write fails the session, and is tried again by `finish`.
 fn is_refused(alloc: Global) -> bool {
-    let sink = Stubborn::terminal(alloc, write(54 + 41 + 7));
+    let sink = Stubborn::terminal(alloc, write(START_WRITES + 7, Refusal::Broken));
     let Some(mut session) = session_on(alloc, sink, 6, 2) else {
         return false;
     };

@@ -19,7 +19,7 @@ const NUMBERS: Asked<'static> = Asked::Numbers(LineNumbers::Enabled);
 const UNWRAPPED: Asked<'static> = Asked::Wrapped(false);
 
 // The pages that sessions lead to.
-const SHOWN: [&Worked<'static>; 17] = [
+const SHOWN: [&Worked<'static>; 18] = [
     &Worked {
         name: "a left mark cuts the text behind its number",
         cols: 12,
@@ -40,6 +40,13 @@ const SHOWN: [&Worked<'static>; 17] = [
         rows: 3,
         asked: &[TEXT, NUMBERS, UNWRAPPED, Asked::Left(2), Asked::Left(6)],
         texts: &["     \x1b[1m1.\x1b[0m ghij", "", TWELVE],
+    },
+    &Worked {
+        name: "a left mark past all columns stays",
+        cols: 4,
+        rows: 2,
+        asked: &[UNWRAPPED, TEXT, Asked::Left(3), Asked::Left(usize::MAX)],
+        texts: &["defg", FOUR],
     },
     &Worked {
         name: "a left mark goes back",
@@ -166,7 +173,7 @@ fn lines_are_shown_from_the_left_mark_on_and_behind_numbers(rt: HostRuntime) {
 }
 
 // What the last step of a session draws.
-const DRAWN: [&Worked<'static>; 7] = [
+const DRAWN: [&Worked<'static>; 8] = [
     &Worked {
         name: "a left mark is drawn in full",
         cols: 12,
@@ -183,6 +190,13 @@ const DRAWN: [&Worked<'static>; 7] = [
         cols: 12,
         rows: 3,
         asked: &[TEXT, NUMBERS, UNWRAPPED, Asked::Left(2), Asked::Left(7)],
+        texts: &[],
+    },
+    &Worked {
+        name: "a left mark past all columns writes nothing",
+        cols: 4,
+        rows: 2,
+        asked: &[UNWRAPPED, TEXT, Asked::Left(usize::MAX)],
         texts: &[],
     },
     &Worked {

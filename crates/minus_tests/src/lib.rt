@@ -5,6 +5,8 @@
 #[cfg(test)]
 mod classifiers;
 #[cfg(test)]
+mod commands;
+#[cfg(test)]
 mod drawings;
 #[cfg(test)]
 mod endings;

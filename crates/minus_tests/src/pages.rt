@@ -11,7 +11,7 @@ const FOLLOWED: Asked<'static> = Asked::Follow(true);
 const TEN_ROWS: Asked<'static> = Asked::Push("l0\nl1\nl2\nl3\nl4\nl5\nl6\nl7\nl8\nl9\n");
 
 // The pages that sessions lead to.
-const SHOWN: [&Worked<'static>; 6] = [
+const SHOWN: [&Worked<'static>; 7] = [
     &Worked {
         name: "three lines leave a blank row",
         cols: 20,
@@ -59,6 +59,13 @@ const SHOWN: [&Worked<'static>; 6] = [
         asked: &[Asked::Push("one\ntwo"), Asked::Told(Event::Resize(4, 2))],
         texts: &["one", "\x1b[2;40;37mminu\x1b[0m"],
     },
+    &Worked {
+        name: "a control sequence in a text is text",
+        cols: 20,
+        rows: 3,
+        asked: &[Asked::Push("a\x1b[2Jb")],
+        texts: &["a\x1b[2Jb", "", PROMPT_ROW],
+    },
 ];
 
 #[test]
@@ -93,6 +100,7 @@ fn ends_at(alloc: Global, asked: &[Asked<'_>], rows: usize, mark: usize) -> bool
 fn the_last_page_begins_at_the_mark(rt: HostRuntime) {
     let cases: &[(&[Asked<'_>], usize, usize)] = &[
         (&[Asked::Push(TEN_LINES), Asked::Mark(100)], 10, 7),
+        (&[Asked::Push(TEN_LINES), Asked::Mark(usize::MAX)], 10, 7),
         (&[Asked::Push("l0\nl1\nl2\nl3"), Asked::Mark(100)], 4, 1),
         (&[FOLLOWED, TEN_ROWS, Asked::Push("l10\n")], 11, 8),
     ];

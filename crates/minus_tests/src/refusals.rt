@@ -1,7 +1,12 @@
 //! Sinks that refuse a step.
-use crate::sessions::{Asked, CLEANUP, TEN_LINES, are_bytes, does, number_of, run, session_on};
-use crate::stubborn::{Refused, Stubborn, write};
-use minus::{CleanupError, Command, Input, MinusError, OutputSink, Ran, RunMode, Session, WithTty};
+use crate::sessions::{
+    Asked, CLEANUP, PROMPT_ROW, SETUP, TEN_LINES, are_bytes, number_of, run, session_on,
+};
+use crate::stubborn::{NOTHING, Refusal, Refused, Stubborn, write};
+use minus::{
+    CleanupError, Command, Input, MinusError, OutputSink, Pager, Ran, RunMode, Session, WithTty,
+    init_core,
+};
 use std::alloc::Global;
 use std::io::ErrorKind;
 
@@ -9,6 +14,9 @@ use std::io::ErrorKind;
 const START_WRITES: usize = 54 + 55;
 
 const START_FLUSHES: usize = 4;
+
+// What stands before the prompt row of a page of four rows.
+const FIFTH_ROW: &str = "\x1b[5;1H\r\x1b[2K";
 
 // Whether a first push fails a session, so that each later one is refused as failed.
 fn is_over<S: OutputSink + Drop>(alloc: Global, session: &mut Session<S>) -> bool {
@@ -26,7 +34,8 @@ fn holds(sink: &WithTty<Stubborn>, refusals: u64, texts: &[&str]) -> bool {
     }
 }
 
-// What the first step of a session is refused, what comes of the cleanup, and what the sink holds.
+// What the first step of a session is refused, whether the cleanup works then or is refused as it shows the cursor, and
+// what the sink holds.
 struct Failed<'a> {
     name: &'a str,
     refused: Refused,
@@ -44,7 +53,12 @@ fn is_failed(alloc: Global, case: &Failed<'_>) -> bool {
     };
     let is_over = is_over(alloc, &mut session);
     let (sink, finished) = session.finish();
-    is_over && finished.is_ok() == case.is_cleaned && holds(&sink, case.refusals, case.texts)
+    let is_as_told = match finished {
+        Ok(()) => case.is_cleaned,
+        Err(CleanupError::ShowCursor(_)) => !case.is_cleaned,
+        Err(_) => false,
+    };
+    is_over && is_as_told && holds(&sink, case.refusals, case.texts)
 }
 
 const FAILED: [Failed<'static>; 3] = [
@@ -52,8 +66,7 @@ const FAILED: [Failed<'static>; 3] = [
         name: "a refused write fails the session",
         refused: Refused {
             write: START_WRITES + 3,
-            writes: 1,
-            flush: 0,
+            ..NOTHING
         },
         is_cleaned: true,
         refusals: 1,
@@ -62,9 +75,8 @@ const FAILED: [Failed<'static>; 3] = [
     Failed {
         name: "a refused flush fails the session",
         refused: Refused {
-            write: 0,
-            writes: 0,
             flush: START_FLUSHES + 1,
+            ..NOTHING
         },
         is_cleaned: true,
         refusals: 1,
@@ -75,7 +87,7 @@ const FAILED: [Failed<'static>; 3] = [
         refused: Refused {
             write: START_WRITES + 3,
             writes: 2,
-            flush: 0,
+            ..NOTHING
         },
         is_cleaned: false,
         refusals: 2,
@@ -109,7 +121,7 @@ fn is_broken(ran: &Ran) -> bool {
 
 // Whether a session whose sink refuses its next write refuses what is asked of it by that.
 fn is_handed_on(alloc: Global, asked: Asked<'_>) -> bool {
-    let sink = Stubborn::terminal(alloc, write(START_WRITES + 1));
+    let sink = Stubborn::terminal(alloc, write(START_WRITES + 1, Refusal::Broken));
     let Some(mut session) = session_on(alloc, sink, 20, 5) else {
         return false;
     };
@@ -146,9 +158,9 @@ fn is_stopped(ran: &Ran, text: &str) -> bool {
 
 const THREE_PUSHES: &[Asked<'static>] = &[Asked::Push("a"), Asked::Push("b"), Asked::Push("c")];
 
-// Whether a run of three pushes, the second of which is refused its 20th write, stops so.
+// Whether a run of three pushes, the second of which is refused its ninth write, stops so.
 fn stops_on_its_way(alloc: Global) -> bool {
-    let sink = Stubborn::terminal(alloc, write(START_WRITES + 20));
+    let sink = Stubborn::terminal(alloc, write(START_WRITES + 20, Refusal::Broken));
     let Some(mut session) = session_on(alloc, sink, 20, 5) else {
         return false;
     };
@@ -163,43 +175,53 @@ fn a_run_stops_at_a_refused_write(rt: HostRuntime) {
     assert!(rt; stops_on_its_way(rt.alloc()));
 }
 
-// Whether a scroll of ten lines is done, or refused for want of memory with the mark as it was, and done when it is asked
-// for again.
+// Whether a session does this, or refuses it for want of memory and does it when it is asked for again.
+fn does_at_last<S: OutputSink + Drop>(
+    alloc: Global,
+    session: &mut Session<S>,
+    asked: Asked<'_>,
+) -> bool {
+    let first = number_of(alloc, session, asked);
+    first == 0 || (first == 1 && number_of(alloc, session, asked) == 0)
+}
+
+// Whether a session does a push of ten lines and a scroll so.
 fn scrolls<S: OutputSink + Drop>(alloc: Global, session: &mut Session<S>) -> bool {
-    if !does(alloc, session, &[Asked::Push(TEN_LINES)]) {
-        return false;
-    }
-    let first = number_of(alloc, session, Asked::Mark(2));
-    let mark = session.state().upper_mark;
-    let again = number_of(alloc, session, Asked::Mark(2));
-    again == 0 && ((first == 0 && mark == 2) || (first == 1 && mark == 0))
+    does_at_last(alloc, session, Asked::Push(TEN_LINES))
+        && does_at_last(alloc, session, Asked::Mark(2))
 }
 
-// Whether these bytes end with a text and a cleanup.
-fn ends_with(bytes: &[u8], text: &str) -> bool {
-    match bytes.strip_suffix(CLEANUP.as_bytes()) {
-        Some(before) => before.ends_with(text.as_bytes()),
-        None => false,
-    }
-}
-
-// Whether it is, on four rows, and drawn so at last. The sink has its room before, so that it refuses nothing.
-fn scrolls_to(alloc: Global, drawn: &str) -> bool {
+// Whether a session of four rows does, so that its sink holds these texts at the end, or its start is refused for want of
+// memory. The sink has its room before, so that it refuses nothing.
+fn writes_once(alloc: Global, texts: &[&str]) -> bool {
     let Ok(held) = Vec::with_capacity(alloc, 4096) else {
-        return false;
+        return true;
     };
-    let Some(mut session) = session_on(alloc, WithTty::new(held, true), 20, 4) else {
-        return false;
-    };
-    let is_scrolled = scrolls(alloc, &mut session);
-    let (sink, _) = session.finish();
-    is_scrolled && ends_with(&sink.inner, drawn)
+    let sink = WithTty::new(held, true);
+    match init_core(Pager::new(alloc), RunMode::Static, sink, 20, 4) {
+        Ok(mut session) => {
+            let is_scrolled = scrolls(alloc, &mut session);
+            let (sink, _) = session.finish();
+            is_scrolled && are_bytes(&sink.inner, texts)
+        }
+        Err(refused) => refused.cause.number() == 1,
+    }
 }
 
-// Run as it is, memory suffices. `rt try --test --fail-alloc N` has the Nth request refused.
+// With ample memory this shows the bytes of the two steps. Under `rt try --test --fail-alloc N`, which refuses the Nth
+// request, it shows that they stay these: what is refused writes nothing and changes nothing.
 #[test]
-fn a_scroll_that_wants_memory_changes_nothing(rt: HostRuntime) {
-    let rows =
-        "\x1b[2S\x1b[2;1H\x1b[2K\rl3\n\rl4\n\x1b[5;1H\r\x1b[2K\x1b[2;40;37mminus               \x1b[0m";
-    assert!(rt; scrolls_to(rt.alloc(), rows));
+fn a_push_and_a_scroll_are_written_once(rt: HostRuntime) {
+    let texts = &[
+        SETUP,
+        "\x1b[1;1H\x1b[2J",
+        FIFTH_ROW,
+        PROMPT_ROW,
+        "\x1b[1;1H\x1b[2Kl0\x1b[2;1H\x1b[2Kl1\x1b[3;1H\x1b[2Kl2",
+        "\x1b[2S\x1b[2;1H\x1b[2K\rl3\n\rl4\n",
+        FIFTH_ROW,
+        PROMPT_ROW,
+        CLEANUP,
+    ];
+    assert!(rt; writes_once(rt.alloc(), texts));
 }

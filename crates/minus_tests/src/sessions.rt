@@ -82,8 +82,8 @@ fn input(alloc: Global, asked: Asked<'_>) -> Result<Input, AllocError> {
     Ok(Input::Command(command))
 }
 
-// The inputs that ask for all of it.
-fn inputs(alloc: Global, asked: &[Asked<'_>]) -> Result<Vec<Input>, AllocError> {
+/// The inputs that ask for all of it.
+pub fn inputs(alloc: Global, asked: &[Asked<'_>]) -> Result<Vec<Input>, AllocError> {
     let mut given = Vec::new(alloc);
     for it in asked {
         given.push(input(alloc, *it)?)?;

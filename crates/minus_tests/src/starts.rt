@@ -1,6 +1,6 @@
 //! Starts, and sinks that refuse them.
 use crate::sessions::{CLEANUP, PROMPT_ROW, SETUP, are_bytes, has_page, terminal};
-use crate::stubborn::{Refused, Stubborn, write};
+use crate::stubborn::{NOTHING, Refusal, Refused, Stubborn, write};
 use minus::{
     MinusError, OutputSink, Pager, RunMode, Session, SetupError, StartError, WithTty,
     dynamic_paging, init_core,
@@ -68,24 +68,37 @@ fn a_dynamic_start_shows_what_a_push_would(rt: HostRuntime) {
     assert!(rt; shows_what_was_pushed(rt.alloc(), "one\ntwo", rows));
 }
 
-// Whether a start on a sink is refused as it is no terminal, and the pager is gone.
-fn is_no_terminal<S: OutputSink + Drop>(alloc: Global, sink: S) -> bool {
+// The sink that a start hands back which is refused as that is no terminal, with the pager gone.
+fn sink_back<S: OutputSink + Drop>(alloc: Global, sink: S) -> Option<S> {
     match init_core(Pager::new(alloc), RunMode::Static, sink, 20, 5) {
-        Ok(_) => false,
-        Err(refused) => refused.cause.number() == 12 && refused.pager.is_none(),
+        Ok(_) => None,
+        Err(refused) => {
+            let is_no_terminal = part_of(&refused.cause) == "no terminal"
+                && refused.cause.number() == 12
+                && refused.pager.is_none();
+            is_no_terminal.then_some(refused.sink)
+        }
+    }
+}
+
+// Whether a vector is refused and comes back empty.
+fn comes_back_empty(alloc: Global) -> bool {
+    match sink_back(alloc, Vec::new(alloc)) {
+        Some(sink) => sink.is_empty(),
+        None => false,
     }
 }
 
 #[test]
-fn a_sink_that_is_no_terminal_is_refused(rt: HostRuntime) {
-    assert!(rt; is_no_terminal(rt.alloc(), Vec::new(rt.alloc())));
+fn a_sink_that_is_no_terminal_comes_back_empty(rt: HostRuntime) {
+    assert!(rt; comes_back_empty(rt.alloc()));
 }
 
 // A stream is no terminal by itself, so that nothing is written to those of the tests.
 #[test]
 fn the_standard_streams_are_no_terminals(rt: HostRuntime) {
-    assert!(rt; is_no_terminal(rt.alloc(), rt.stdout()));
-    assert!(rt; is_no_terminal(rt.alloc(), rt.stderr()));
+    assert!(rt; sink_back(rt.alloc(), rt.stdout()).is_some());
+    assert!(rt; sink_back(rt.alloc(), rt.stderr()).is_some());
 }
 
 // Whether a start was refused by this number before anything was written, with the pager handed back.
@@ -153,9 +166,10 @@ fn a_pager_that_came_back_starts(rt: HostRuntime) {
     assert!(rt; starts_again(rt.alloc(), rows));
 }
 
-// The part of what a start writes at which it was refused.
+// The part of what a start writes at which it was refused, or that nothing is written to such a sink.
 fn part_of(cause: &MinusError) -> &'static str {
     match cause {
+        MinusError::Setup(SetupError::InvalidTerminal) => "no terminal",
         MinusError::Setup(SetupError::AlternateScreen(_)) => "the alternate screen",
         MinusError::Setup(SetupError::EnableMouseCapture(_)) => "the mouse",
         MinusError::Setup(SetupError::HideCursor(_)) => "the cursor",
@@ -175,8 +189,10 @@ fn broken(alloc: Global, calls: Refused) -> Option<StartError<WithTty<Stubborn>>
 
 // Whether a start that is refused a write names this part, and has this number.
 fn names(alloc: Global, at: usize, part: &str, number: u8) -> bool {
-    match broken(alloc, write(at)) {
-        Some(refused) => part_of(&refused.cause) == part && refused.cause.number() == number,
+    match broken(alloc, write(at, Refusal::Broken)) {
+        Some(refused) => {
+            part_of(&refused.cause) == part && MinusError::from(refused).number() == number
+        }
         None => false,
     }
 }
@@ -223,8 +239,8 @@ fn a_start_refused_after_the_setup_cleans_up(rt: HostRuntime) {
     for (write, flush, texts) in &LEFT {
         let calls = Refused {
             write: *write,
-            writes: 1,
             flush: *flush,
+            ..NOTHING
         };
         assert!(rt;
             leaves(rt.alloc(), calls, texts),

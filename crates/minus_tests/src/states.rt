@@ -3,45 +3,162 @@ ghost use Rattle.std.specs.Prelude.{IfSome};
 ghost use Rattle.minus_state.specs.States.{IsFormed};
 
 use crate::sessions::{TEN_LINES, are_bytes};
-use minus::{PagerState, write_from_pagerstate};
+use minus::{LineNumbers, PagerState, draw_full, write_from_pagerstate};
 use std::alloc::Global;
 
-// A state of 20 columns and four rows with ten lines.
-fn state_of_ten_lines(alloc: Global) -> Option<PagerState>
+// A text on 80 columns and so many rows, written from a mark on, its whole page or its rows alone, the texts that this
+// writes, and the mark that it leaves.
+#[derive(Clone, Copy)]
+struct Written<'a> {
+    name: &'a str,
+    text: &'a str,
+    rows: usize,
+    numbers: LineNumbers,
+    mark: usize,
+    is_whole: bool,
+    texts: &'a [&'a str],
+    left: usize,
+}
+
+// A state with a text.
+fn state_of(alloc: Global, case: &Written<'_>) -> Option<PagerState>
     ensures { IfSome result IsFormed }
 {
-    let Ok(mut state) = PagerState::new(alloc, 20, 4) else {
+    let Ok(mut state) = PagerState::new(alloc, 80, case.rows) else {
         return None;
     };
-    match state.append_str(alloc, TEN_LINES) {
-        Ok(_) => Some(state),
-        Err(_) => None,
+    let is_appended = state.append_str(alloc, case.text).is_ok();
+    state.line_numbers = case.numbers;
+    match state.reformat_display(alloc) {
+        Ok(()) if is_appended => Some(state),
+        _ => None,
     }
 }
 
-// Writes a state from the first row on, and from past its last full page.
-fn write_by_itself(alloc: Global, state: &mut PagerState, sink: &mut Vec<u8>) -> bool
+// Writes a state, and answers whether its mark is left so.
+fn write_by_itself(
+    alloc: Global,
+    state: &mut PagerState,
+    sink: &mut Vec<u8>,
+    case: &Written<'_>,
+) -> bool
     requires { IsFormed state.old }
 {
-    if write_from_pagerstate(alloc, sink, state).is_err() {
-        return false;
-    }
-    state.upper_mark = 9;
-    write_from_pagerstate(alloc, sink, state).is_ok() && state.upper_mark == 7
+    state.upper_mark = case.mark;
+    let is_written = if case.is_whole {
+        draw_full(alloc, sink, state).is_ok()
+    } else {
+        write_from_pagerstate(alloc, sink, state).is_ok()
+    };
+    is_written && state.upper_mark == case.left
 }
 
-// Whether that is written as these texts.
-fn is_written_by_itself(alloc: Global, texts: &[&str]) -> bool {
+// Whether a state is written so.
+fn is_written_by_itself(alloc: Global, case: &Written<'_>) -> bool {
     let mut sink = Vec::new(alloc);
-    let is_written = match state_of_ten_lines(alloc) {
-        Some(mut state) => write_by_itself(alloc, &mut state, &mut sink),
+    let is_written = match state_of(alloc, case) {
+        Some(mut state) => write_by_itself(alloc, &mut state, &mut sink, case),
         None => false,
     };
-    is_written && are_bytes(&sink, texts)
+    is_written && are_bytes(&sink, case.texts)
 }
 
+// Two lines on more rows.
+const SHORT: Written<'static> = Written {
+    name: "all rows of a short text",
+    text: "A line\nAnother line",
+    rows: 10,
+    numbers: LineNumbers::Disabled,
+    mark: 0,
+    is_whole: false,
+    texts: &["\rA line\n\rAnother line\n"],
+    left: 0,
+};
+
+// The same with numbers.
+const NUMBERED: Written<'static> = Written {
+    name: "all rows of a short text with numbers",
+    numbers: LineNumbers::Enabled,
+    texts: &[
+        "\r     \x1b[1m1.\x1b[0m A line\n",
+        "\r     \x1b[1m2.\x1b[0m Another line\n",
+    ],
+    ..SHORT
+};
+
+// The same, its whole page.
+const WHOLE: Written<'static> = Written {
+    name: "the whole page of a short text",
+    numbers: LineNumbers::AlwaysOff,
+    is_whole: true,
+    texts: &[
+        "\x1b[1;1H\x1b[2J\rA line\n\rAnother line\n\x1b[11;1H\r\x1b[2K\x1b[2;40;37mminus",
+        "                                                                           \x1b[0m",
+    ],
+    ..SHORT
+};
+
+// Fifteen lines behind 95 empty ones.
+const MANY: &str =
+    "\n\n\n\n\n\n\n\n\n\n\n\n\n\n\n\n\n\n\n\n\n\n\n\n\n\n\n\n\n\n\n\n\n\n\n\n\n\n\n\n\n\n\n\n\n\n\n\n\n\n\n\n\n\n\n\n\n\n\n\n\n\n\n\n\n\n\n\n\n\n\n\n\n\n\n\n\n\n\n\n\n\n\n\n\n\n\n\n\n\n\n\n\n\n\nL95\nL96\nL97\nL98\nL99\nL100\nL101\nL102\nL103\nL104\nL105\nL106\nL107\nL108\nL109\n";
+
+const WRITTEN: [Written<'static>; 9] = [
+    SHORT,
+    Written {
+        name: "a mark in a short text is clamped",
+        mark: 1,
+        ..SHORT
+    },
+    NUMBERED,
+    Written {
+        name: "a mark in a short text with numbers is clamped",
+        mark: 1,
+        numbers: LineNumbers::AlwaysOn,
+        ..NUMBERED
+    },
+    WHOLE,
+    Written {
+        name: "a mark in a short text is clamped for its whole page",
+        mark: 1,
+        ..WHOLE
+    },
+    Written {
+        name: "numbers of fewer digits are padded",
+        text: MANY,
+        rows: 11,
+        numbers: LineNumbers::AlwaysOn,
+        mark: 95,
+        texts: &[
+            "\r      \x1b[1m96.\x1b[0m L95\n\r      \x1b[1m97.\x1b[0m L96\n",
+            "\r      \x1b[1m98.\x1b[0m L97\n\r      \x1b[1m99.\x1b[0m L98\n",
+            "\r     \x1b[1m100.\x1b[0m L99\n\r     \x1b[1m101.\x1b[0m L100\n",
+            "\r     \x1b[1m102.\x1b[0m L101\n\r     \x1b[1m103.\x1b[0m L102\n",
+            "\r     \x1b[1m104.\x1b[0m L103\n\r     \x1b[1m105.\x1b[0m L104\n",
+        ],
+        left: 95,
+        ..SHORT
+    },
+    Written {
+        name: "the first rows of a page",
+        text: TEN_LINES,
+        rows: 4,
+        texts: &["\rl0\n\rl1\n\rl2\n"],
+        ..SHORT
+    },
+    Written {
+        name: "the last rows of a page, whose mark was past them",
+        text: TEN_LINES,
+        rows: 4,
+        mark: 9,
+        texts: &["\rl7\n\rl8\n\rl9\n"],
+        left: 7,
+        ..SHORT
+    },
+];
+
 #[test]
-fn the_rows_of_a_page_are_written_by_themselves(rt: HostRuntime) {
-    let texts = ["\rl0\n\rl1\n\rl2\n", "\rl7\n\rl8\n\rl9\n"];
-    assert!(rt; is_written_by_itself(rt.alloc(), &texts));
+fn a_page_is_written_by_itself(rt: HostRuntime) {
+    for case in &WRITTEN {
+        assert!(rt; is_written_by_itself(rt.alloc(), case), "{}", case.name);
+    }
 }

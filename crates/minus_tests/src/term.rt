@@ -4,6 +4,5 @@ mod errors;
 mod events;
 mod operations;
 mod sinks;
-mod stubborn;
 mod terminal;
 mod writes;

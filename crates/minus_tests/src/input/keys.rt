@@ -1,11 +1,14 @@
 //! Worked descriptions of keys.
 use minus_input::parse_key_event;
-use minus_term::{DescriptionError, KeyCode, KeyModifiers};
+use minus_term::{DescriptionError, KeyCode, KeyEventKind, KeyEventState, KeyModifiers};
 
-// Whether a text describes a key with this code and these modifiers.
+// Whether a text describes the press of a key with this code and these modifiers.
 fn is_key(text: &str, code: KeyCode, modifiers: KeyModifiers) -> bool {
     match parse_key_event(text) {
-        Ok(key) => key.code == code && key.modifiers == modifiers,
+        Ok(key) => {
+            let is_pressed = key.kind == KeyEventKind::Press && key.state == KeyEventState::NONE;
+            is_pressed && key.code == code && key.modifiers == modifiers
+        }
         Err(_) => false,
     }
 }
@@ -25,6 +28,13 @@ fn modifiers_and_keys_are_read(rt: HostRuntime) {
         ("q-c-", KeyCode::Char('q'), KeyModifiers::CONTROL),
         ("s-g", KeyCode::Char('g'), KeyModifiers::SHIFT),
         (" x\n", KeyCode::Char('x'), KeyModifiers::NONE),
+        ("c-u", KeyCode::Char('u'), KeyModifiers::CONTROL),
+        ("m-h", KeyCode::Char('h'), KeyModifiers::ALT),
+        (
+            "c-s-h",
+            KeyCode::Char('h'),
+            KeyModifiers::CONTROL | KeyModifiers::SHIFT,
+        ),
     ];
     for (text, code, modifiers) in cases {
         assert!(rt; is_key(text, *code, *modifiers), "at {text}");

@@ -2,10 +2,13 @@
 use minus_input::parse_mouse_event;
 use minus_term::{DescriptionError, KeyModifiers, MouseButton, MouseEventKind};
 
-// Whether a text describes this action of the mouse with these modifiers.
+// Whether a text describes this action of the mouse with these modifiers, at the first column and row.
 fn is_mouse(text: &str, kind: MouseEventKind, modifiers: KeyModifiers) -> bool {
     match parse_mouse_event(text) {
-        Ok(mouse) => mouse.kind == kind && mouse.modifiers == modifiers,
+        Ok(mouse) => {
+            let is_first = mouse.column == 0 && mouse.row == 0;
+            is_first && mouse.kind == kind && mouse.modifiers == modifiers
+        }
         Err(_) => false,
     }
 }
@@ -26,6 +29,7 @@ fn buttons_and_wheel_are_read(rt: HostRuntime) {
         ("right:DRAG", MouseEventKind::Drag(MouseButton::Right)),
         ("mid:down", MouseEventKind::Down(MouseButton::Middle)),
         ("Mid:drag", MouseEventKind::Drag(MouseButton::Middle)),
+        ("move", MouseEventKind::Moved),
         ("scroll:UP", MouseEventKind::ScrollUp),
         ("Scroll:down", MouseEventKind::ScrollDown),
     ];
@@ -37,11 +41,27 @@ fn buttons_and_wheel_are_read(rt: HostRuntime) {
 #[test]
 fn modifiers_are_read_before_an_action(rt: HostRuntime) {
     let two = KeyModifiers::ALT | KeyModifiers::CONTROL;
-    let all = two | KeyModifiers::SHIFT;
-    let up = MouseEventKind::Up(MouseButton::Middle);
-    let has_two = is_mouse("m-c-mid:up", up, two);
-    let has_all = is_mouse("m-c-s-move", MouseEventKind::Moved, all);
-    assert!(rt; has_two && has_all);
+    let cases: &[(&str, MouseEventKind, KeyModifiers)] = &[
+        (
+            "m-left:down",
+            MouseEventKind::Down(MouseButton::Left),
+            KeyModifiers::ALT,
+        ),
+        (
+            "c-scroll:up",
+            MouseEventKind::ScrollUp,
+            KeyModifiers::CONTROL,
+        ),
+        ("m-c-mid:up", MouseEventKind::Up(MouseButton::Middle), two),
+        (
+            "m-c-s-move",
+            MouseEventKind::Moved,
+            two | KeyModifiers::SHIFT,
+        ),
+    ];
+    for (text, kind, modifiers) in cases {
+        assert!(rt; is_mouse(text, *kind, *modifiers), "at {text}");
+    }
 }
 
 #[test]

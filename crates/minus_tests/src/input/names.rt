@@ -57,7 +57,7 @@ const ALL: &[KeyModifiers] = &[
     KeyModifiers::SHIFT,
 ];
 
-const NAMES: [&Named<'static>; 9] = [
+const NAMES: [&Named<'static>; 10] = [
     &Named {
         code: KeyCode::Char('q'),
         modifiers: &[],
@@ -82,6 +82,11 @@ const NAMES: [&Named<'static>; 9] = [
         code: KeyCode::Char(' '),
         modifiers: &[KeyModifiers::ALT],
         name: "Alt-<Space>",
+    },
+    &Named {
+        code: KeyCode::Up,
+        modifiers: &[KeyModifiers::ALT],
+        name: "Alt-Up",
     },
     &Named {
         code: KeyCode::F(12),

@@ -22,7 +22,7 @@ fn is_formed(alloc: Global, row: &PromptRow<'_>, text: &str) -> bool {
     }
 }
 
-const ROWS: [(&PromptRow<'static>, &str); 8] = [
+const ROWS: [(&PromptRow<'static>, &str); 9] = [
     // a prompt fills its row
     (&PLAIN, "\x1b[2;40;37mminus               \x1b[0m"),
     (
@@ -47,7 +47,14 @@ const ROWS: [(&PromptRow<'static>, &str); 8] = [
         },
         "\x1b[2;40;37m\x1b[1mhi                  \x1b[0m",
     ),
-    // a message is cut before the indicator
+    // a message is cut at the last column, or before the indicator
+    (
+        &PromptRow {
+            message: Some("Help: q:quit | j/k:scroll | Space:page"),
+            ..PLAIN
+        },
+        "\x1b[30;1;41mHelp: q:quit | j/k:s\x1b[0m",
+    ),
     (
         &PromptRow {
             message: Some("Help: q:quit | j/k:scroll | Space:page"),

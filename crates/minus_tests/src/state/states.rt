@@ -74,6 +74,89 @@ fn an_append_tells_the_first_row_that_it_changes(rt: HostRuntime) {
     assert!(rt; goes_on(rt.alloc()));
 }
 
+// Four texts that are appended, and the rows of 80 columns that they have together.
+struct Appended<'a> {
+    texts: [&'a str; 4],
+    rows: &'a [&'a str],
+}
+
+// Whether they have them.
+fn fills(alloc: Global, case: &Appended<'_>) -> bool {
+    let Ok(mut state) = PagerState::new(alloc, 80, 10) else {
+        return false;
+    };
+    let [first, second, third, fourth] = case.texts;
+    state.append_str(alloc, first).is_ok()
+        && state.append_str(alloc, second).is_ok()
+        && state.append_str(alloc, third).is_ok()
+        && state.append_str(alloc, fourth).is_ok()
+        && has_rows(&state, case.rows)
+}
+
+const APPENDED: [Appended<'static>; 5] = [
+    // a carriage return before a newline ends a line with it
+    Appended {
+        texts: [
+            "hello,\n",
+            "this is ",
+            "a test\r\n",
+            "of weird line endings",
+        ],
+        rows: &["hello,", "this is a test", "of weird line endings"],
+    },
+    // empty lines have empty rows, and nothing more is appended
+    Appended {
+        texts: ["This\n\n\nhas many\n newlines\n", "", "", ""],
+        rows: &["This", "", "", "has many", " newlines"],
+    },
+    // spaces at the end of a text stay where the line goes on, and those at a line's start
+    Appended {
+        texts: [
+            "This line has trailing whitespace      ",
+            "     This has leading whitespace\n",
+            "   This has whitespace on both sides   ",
+            "Andthishasnone",
+        ],
+        rows: &[
+            "This line has trailing whitespace           This has leading whitespace",
+            "   This has whitespace on both sides   Andthishasnone",
+        ],
+    },
+    // a line goes on until its newline
+    Appended {
+        texts: [
+            "this is a line",
+            " and this is another",
+            " and this is yet another\n",
+            "and this should be on a newline",
+        ],
+        rows: &[
+            "this is a line and this is another and this is yet another",
+            "and this should be on a newline",
+        ],
+    },
+    Appended {
+        texts: [
+            "This is a line with a bunch of\nin between\nbut not at the end",
+            "",
+            "",
+            "",
+        ],
+        rows: &[
+            "This is a line with a bunch of",
+            "in between",
+            "but not at the end",
+        ],
+    },
+];
+
+#[test]
+fn appended_texts_fill_rows(rt: HostRuntime) {
+    for (i, case) in APPENDED.iter().enumerate() {
+        assert!(rt; fills(rt.alloc(), case), "at case {i}");
+    }
+}
+
 // Whether a tenth line forms all rows of numbered lines anew.
 fn forms_anew(alloc: Global) -> bool {
     let Some(mut state) = empty(alloc) else {

@@ -1,6 +1,8 @@
 //! The texts and numbers of the errors.
-use crate::shown::is_shown;
-use minus_term::{CleanupError, Hook, MinusError, RegexError, SetupError, TermError};
+use crate::shown::{is_debugged, is_shown};
+use minus_term::{
+    CleanupError, DescriptionError, Hook, MinusError, RegexError, SetupError, TermError,
+};
 use std::alloc::Global;
 use std::io::ErrorKind;
 use std::{fmt, io};
@@ -152,15 +154,26 @@ fn names_a_faulty_pattern_by_its_cause(rt: HostRuntime) {
     assert!(rt; is_named_by_its_cause(rt.alloc(), &mut text));
 }
 
-// Whether a hook has this name.
-fn is_hook(alloc: Global, hook: Hook, name: &str) -> bool {
-    let mut text = String::new(alloc);
-    write!(text, "{hook:?}").is_ok() && text.as_str() == name
-}
-
 #[test]
 fn names_a_hook(rt: HostRuntime) {
     let hook = Hook::PostPagerExit;
     let is_told_apart = hook == Hook::PostPagerExit && hook != Hook::PrePagerExit;
-    assert!(rt; is_told_apart && is_hook(rt.alloc(), hook, "PostPagerExit"));
+    assert!(rt; is_told_apart && is_debugged(rt.alloc(), &hook, "PostPagerExit"));
+}
+
+const FAULTS: [(DescriptionError, &str); 7] = [
+    (DescriptionError::NotAscii, "NotAscii"),
+    (DescriptionError::Empty, "Empty"),
+    (DescriptionError::EmptySegment, "EmptySegment"),
+    (DescriptionError::RepeatedModifier, "RepeatedModifier"),
+    (DescriptionError::UnknownName, "UnknownName"),
+    (DescriptionError::SecondKey, "SecondKey"),
+    (DescriptionError::NoAction, "NoAction"),
+];
+
+#[test]
+fn names_each_fault_of_a_description(rt: HostRuntime) {
+    for (fault, name) in &FAULTS {
+        assert!(rt; is_shown(rt.alloc(), fault, name), "at {name}");
+    }
 }

@@ -1,6 +1,6 @@
 //! The bytes of each operation, and how they reach a sink.
+use crate::stubborn::{NOTHING, Refusal, Stubborn, write};
 use crate::term::sinks::draws;
-use crate::term::stubborn::{Refusal, Stubborn};
 use minus_term::{DrawOp, OutputSink, draw_bytes, write_bytes, write_op};
 use std::alloc::Global;
 use std::io;
@@ -43,7 +43,7 @@ fn draws_to_a_vector(rt: HostRuntime) {
 
 #[test]
 fn settles_once_after_all_bytes(rt: HostRuntime) {
-    let mut sink = Stubborn::new(rt.alloc(), 0, Refusal::Interrupted);
+    let mut sink = Stubborn::new(rt.alloc(), NOTHING);
     let drawn = draws(&mut sink, b"xyz");
     assert!(rt; drawn && sink.has_taken(b"xyz", 3, 1));
 }
@@ -58,14 +58,14 @@ fn kind_of(outcome: io::Result<()>) -> Option<ErrorKind> {
 
 #[test]
 fn hands_on_the_first_refusal(rt: HostRuntime) {
-    let mut sink = Stubborn::new(rt.alloc(), 3, Refusal::Interrupted);
+    let mut sink = Stubborn::new(rt.alloc(), write(3, Refusal::Interrupted));
     let kind = kind_of(draw_bytes(&mut sink, b"xyz!"));
     assert!(rt; kind == Some(ErrorKind::Interrupted) && sink.has_taken(b"xy", 3, 0));
 }
 
 #[test]
 fn takes_nothing_for_a_refusal(rt: HostRuntime) {
-    let mut sink = Stubborn::new(rt.alloc(), 2, Refusal::NothingTaken);
+    let mut sink = Stubborn::new(rt.alloc(), write(2, Refusal::NothingTaken));
     let kind = kind_of(write_bytes(&mut sink, b"xyz"));
     assert!(rt; kind == Some(ErrorKind::WriteZero) && sink.has_taken(b"x", 2, 0));
 }

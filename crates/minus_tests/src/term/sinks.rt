@@ -1,5 +1,5 @@
 //! Drawings to each sink, and the count of refusals.
-use crate::term::stubborn::{Refusal, Stubborn};
+use crate::stubborn::{NOTHING, Refusal, Stubborn, write};
 use minus_term::{OutputSink, WithTty, draw_bytes};
 use std::alloc::Global;
 use std::io::{Cursor, Read};
@@ -45,7 +45,7 @@ fn boxed_settles(alloc: Global, inner: Stubborn, bytes: &[u8]) -> bool {
 
 #[test]
 fn a_box_settles_what_it_holds(rt: HostRuntime) {
-    let inner = Stubborn::new(rt.alloc(), 0, Refusal::Interrupted);
+    let inner = Stubborn::new(rt.alloc(), NOTHING);
     assert!(rt; boxed_settles(rt.alloc(), inner, b"settled"));
 }
 
@@ -56,7 +56,7 @@ fn draws_to_nothing(rt: HostRuntime) {
 
 // No bytes are drawn to the standard streams, since the test's own output goes there.
 #[test]
-fn draws_to_each_standard_stream(rt: HostRuntime) {
+fn each_standard_stream_takes_an_empty_drawing(rt: HostRuntime) {
     let (mut out, mut err) = (rt.stdout(), rt.stderr());
     let streams = takes(&mut out, b"") && takes(&mut err, b"");
     let puts = matches!(out.put(b""), Ok(0)) && matches!(err.put(b""), Ok(0));
@@ -96,10 +96,10 @@ fn is_refused(sink: &mut WithTty<Stubborn>, bytes: &[u8], refusals: u64) -> bool
 // is not.
 fn counts(sink: &mut WithTty<Stubborn>) -> bool {
     let nothing_taken = is_refused(sink, b"xyz", 1);
-    sink.inner.refused_write = 4;
-    sink.inner.refusal = Refusal::Interrupted;
+    sink.inner.refused.write = 4;
+    sink.inner.refused.refusal = Refusal::Interrupted;
     let interrupted = is_refused(sink, b"yz", 2);
-    sink.inner.refused_flush = 1;
+    sink.inner.refused.flush = 1;
     let flush_refused = is_refused(sink, b"z", 3);
     let drawn = draws(sink, b"!") && sink.refusals == 3;
     nothing_taken && interrupted && flush_refused && drawn
@@ -107,7 +107,7 @@ fn counts(sink: &mut WithTty<Stubborn>) -> bool {
 
 #[test]
 fn counts_each_refusal(rt: HostRuntime) {
-    let stubborn = Stubborn::new(rt.alloc(), 2, Refusal::NothingTaken);
+    let stubborn = Stubborn::new(rt.alloc(), write(2, Refusal::NothingTaken));
     let mut sink = WithTty::new(stubborn, true);
     assert!(rt; counts(&mut sink) && sink.inner.held.as_slice() == b"xyz!".as_slice());
 }

@@ -1,6 +1,6 @@
 //! What sets a terminal up and cleans it up, and which part of it a sink refused.
 use crate::shown::is_shown;
-use crate::term::stubborn::{Refusal, Stubborn};
+use crate::stubborn::{Refusal, Stubborn, write};
 use minus_term::{OutputSink, SetupError, WithTty, cleanup, setup};
 use std::alloc::Global;
 
@@ -9,12 +9,9 @@ const SETUP: &[u8] = b"\x1b[?1049h\x1b[?1000h\x1b[?1002h\x1b[?1003h\x1b[?1015h\x
 const CLEANUP: &[u8] =
     b"\x1b[?25h\x1b[?1006l\x1b[?1015l\x1b[?1003l\x1b[?1002l\x1b[?1000l\x1b[?1049l";
 
-// A terminal that refuses one write.
-fn terminal(alloc: Global, refused_write: u32) -> WithTty<Stubborn> {
-    WithTty::new(
-        Stubborn::new(alloc, refused_write, Refusal::Interrupted),
-        true,
-    )
+// A terminal that is interrupted at one write.
+fn terminal(alloc: Global, number: usize) -> WithTty<Stubborn> {
+    Stubborn::terminal(alloc, write(number, Refusal::Interrupted))
 }
 
 // Whether a sink is set up.
@@ -77,7 +74,7 @@ fn is_refused_for(alloc: Global, sink: &mut WithTty<Stubborn>, text: &str) -> bo
 }
 
 // The same of one that refuses this write, and that was settled so often before.
-fn is_setup_refused(alloc: Global, write: u32, flushes: u32, text: &str) -> bool {
+fn is_setup_refused(alloc: Global, write: usize, flushes: usize, text: &str) -> bool {
     let mut sink = terminal(alloc, write);
     let is_named = is_refused_for(alloc, &mut sink, text);
     is_named && sink.inner.writes == write && sink.inner.flushes == flushes
@@ -85,7 +82,7 @@ fn is_setup_refused(alloc: Global, write: u32, flushes: u32, text: &str) -> bool
 
 #[test]
 fn names_the_part_of_a_setup(rt: HostRuntime) {
-    let cases: &[(u32, u32, &str)] = &[
+    let cases: &[(usize, usize, &str)] = &[
         (1, 0, "Failed to switch to alternate screen"),
         (8, 0, "Failed to switch to alternate screen"),
         (9, 1, "Failed to enable mouse capture"),
@@ -110,15 +107,15 @@ fn is_left_for(alloc: Global, sink: &mut Stubborn, text: &str) -> bool {
 }
 
 // The same of one that takes nothing at this write, and that was settled so often before.
-fn is_cleanup_refused(alloc: Global, write: u32, flushes: u32, text: &str) -> bool {
-    let mut sink = Stubborn::new(alloc, write, Refusal::NothingTaken);
+fn is_cleanup_refused(alloc: Global, number: usize, flushes: usize, text: &str) -> bool {
+    let mut sink = Stubborn::new(alloc, write(number, Refusal::NothingTaken));
     let is_named = is_left_for(alloc, &mut sink, text);
-    is_named && sink.writes == write && sink.flushes == flushes
+    is_named && sink.writes == number && sink.flushes == flushes
 }
 
 #[test]
 fn names_the_part_of_a_cleanup(rt: HostRuntime) {
-    let cases: &[(u32, u32, &str)] = &[
+    let cases: &[(usize, usize, &str)] = &[
         (1, 0, "Failed to show the cursor"),
         (6, 0, "Failed to show the cursor"),
         (7, 1, "Failed to disable mouse capture"),
@@ -142,6 +139,6 @@ fn is_without_mouse<S: OutputSink>(sink: &mut S) -> bool {
 #[test]
 fn hands_on_a_refused_flush(rt: HostRuntime) {
     let mut sink = terminal(rt.alloc(), 0);
-    sink.inner.refused_flush = 2;
+    sink.inner.refused.flush = 2;
     assert!(rt; is_without_mouse(&mut sink) && sink.inner.writes == 48);
 }

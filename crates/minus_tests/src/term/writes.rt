@@ -1,5 +1,5 @@
 //! Writes beside the drawing of a page.
-use crate::term::stubborn::{Refusal, Stubborn};
+use crate::stubborn::{NOTHING, Refusal, Stubborn, write};
 use minus_term::{MinusError, clear_entire_screen, move_cursor, write_raw_lines};
 use std::alloc::Global;
 use std::convert::AsStr;
@@ -7,7 +7,7 @@ use std::io::ErrorKind;
 
 // A sink that refuses nothing.
 fn sink(alloc: Global) -> Stubborn {
-    Stubborn::new(alloc, 0, Refusal::Interrupted)
+    Stubborn::new(alloc, NOTHING)
 }
 
 // The kind of the sink's own error, where that refused a write.
@@ -73,7 +73,7 @@ fn writes_raw_lines(rt: HostRuntime) {
 
 #[test]
 fn hands_on_a_refused_write(rt: HostRuntime) {
-    let mut out = Stubborn::new(rt.alloc(), 4, Refusal::NothingTaken);
+    let mut out = Stubborn::new(rt.alloc(), write(4, Refusal::NothingTaken));
     let kind = kind_of(move_cursor(rt.alloc(), &mut out, 0, 0, true));
     assert!(rt; kind == Some(ErrorKind::WriteZero) && out.has_taken(b"\x1b[1", 4, 0));
 }
@@ -81,7 +81,7 @@ fn hands_on_a_refused_write(rt: HostRuntime) {
 #[test]
 fn hands_on_a_refused_flush(rt: HostRuntime) {
     let mut out = sink(rt.alloc());
-    out.refused_flush = 1;
+    out.refused.flush = 1;
     let kind = kind_of(clear_entire_screen(&mut out, true));
     assert!(rt; kind == Some(ErrorKind::BrokenPipe));
 }

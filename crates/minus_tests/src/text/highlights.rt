@@ -31,7 +31,7 @@ struct Shown<'a> {
     plain: &'a str,
 }
 
-const SHOWN: [Shown<'static>; 8] = [
+const SHOWN: [Shown<'static>; 15] = [
     Shown {
         name: "an escape cuts a match",
         line: "this \x1b[34mis a te\x1b[0mst",
@@ -59,6 +59,55 @@ const SHOWN: [Shown<'static>; 8] = [
         query: "\\W\\w+t\\W",
         accurate: "nisl.\x1b[7m placerat \x1b[27mnon",
         plain: "nisl.\x1b[7m placerat \x1b[27mnon",
+    },
+    Shown {
+        name: "a word is found three times",
+        line: "Integer placerat tristique nisl. placerat non mollis, magna orci dolor, placerat at vulputate neque nulla lacinia eros.",
+        query: "\\W\\w+t\\W",
+        accurate: "Integer\x1b[7m placerat \x1b[27mtristique nisl.\x1b[7m placerat \x1b[27mnon mollis, magna orci dolor,\x1b[7m placerat \x1b[27mat vulputate neque nulla lacinia eros.",
+        plain: "Integer\x1b[7m placerat \x1b[27mtristique nisl.\x1b[7m placerat \x1b[27mnon mollis, magna orci dolor,\x1b[7m placerat \x1b[27mat vulputate neque nulla lacinia eros.",
+    },
+    Shown {
+        name: "two matches at both ends of a row",
+        line: "test another test",
+        query: "test",
+        accurate: "\x1b[7mtest\x1b[27m another \x1b[7mtest\x1b[27m",
+        plain: "\x1b[7mtest\x1b[27m another \x1b[7mtest\x1b[27m",
+    },
+    Shown {
+        name: "two escapes stand outside a match",
+        line: "\x1b[34mcolor\x1b[0m and test",
+        query: "test",
+        accurate: "\x1b[34mcolor\x1b[0m and \x1b[7mtest\x1b[27m",
+        plain: "\x1b[34mcolor\x1b[0m and \x1b[7mtest\x1b[27m",
+    },
+    Shown {
+        name: "the first of two escapes cuts a match",
+        line: "this is a te\x1b[34mst again\x1b[0m",
+        query: "test",
+        accurate: "this is a \x1b[7mte\x1b[34mst\x1b[27m again\x1b[0m",
+        plain: "this is a \x1b[7mtest\x1b[27m\x1b[34m again\x1b[0m",
+    },
+    Shown {
+        name: "two escapes stand around a match",
+        line: "this is \x1b[34ma test again\x1b[0m",
+        query: "test",
+        accurate: "this is \x1b[34ma \x1b[7mtest\x1b[27m again\x1b[0m",
+        plain: "this is \x1b[34ma \x1b[7mtest\x1b[27m again\x1b[0m",
+    },
+    Shown {
+        name: "two matches and four escapes",
+        line: "this \x1b[34mis a te\x1b[0mst again \x1b[34myeah\x1b[0m test",
+        query: "test",
+        accurate: "this \x1b[34mis a \x1b[7mte\x1b[0mst\x1b[27m again \x1b[34myeah\x1b[0m \x1b[7mtest\x1b[27m",
+        plain: "this \x1b[34mis a \x1b[7mtest\x1b[27m\x1b[0m again \x1b[34myeah\x1b[0m \x1b[7mtest\x1b[27m",
+    },
+    Shown {
+        name: "three matches and six escapes, at the ends of a match and inside one",
+        line: "\x1b[34mtest\x1b[0m this \x1b[34mis a te\x1b[0mst again \x1b[34myeah\x1b[0m test",
+        query: "test",
+        accurate: "\x1b[7m\x1b[34mtest\x1b[27m\x1b[0m this \x1b[34mis a \x1b[7mte\x1b[0mst\x1b[27m again \x1b[34myeah\x1b[0m \x1b[7mtest\x1b[27m",
+        plain: "\x1b[7mtest\x1b[27m\x1b[34m\x1b[0m this \x1b[34mis a \x1b[7mtest\x1b[27m\x1b[0m again \x1b[34myeah\x1b[0m \x1b[7mtest\x1b[27m",
     },
     Shown {
         name: "a match of no characters",

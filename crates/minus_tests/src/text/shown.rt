@@ -75,5 +75,7 @@ fn rows_begin_with_numbers(rt: HostRuntime) {
 fn numbers_are_exchanged(rt: HostRuntime) {
     let exchanged = !LineNumbers::Enabled == LineNumbers::Disabled
         && (!LineNumbers::Disabled).is_on();
-    assert!(rt; exchanged && !LineNumbers::AlwaysOff == LineNumbers::AlwaysOff);
+    let stays = !LineNumbers::AlwaysOn == LineNumbers::AlwaysOn
+        && !LineNumbers::AlwaysOff == LineNumbers::AlwaysOff;
+    assert!(rt; exchanged && stays);
 }
