@@ -79,6 +79,10 @@ class Places(unittest.TestCase):
         text = "impl<F: Fn(u8) -> u8, T> Sink for Held<F, T> {\n    fn put(&mut self) -> usize {\n        9\n    }\n}\n"
         self.assertEqual(place_of(text, text.index("9"), "m"), Place("m", "Held", "Sink", "", "put"))
 
+    def test_an_impls_own_parameters_are_not_in_its_name(self):
+        text = "impl<S: Drop, P> From<Start<S, P>> for Fault {\n    fn from(start: Start<S, P>) -> Fault {\n        9\n    }\n}\n"
+        self.assertEqual(place_of(text, text.index("9"), "m"), Place("m", "Fault", "From", "Start", "from"))
+
     def test_a_check_is_asked_for_what_bodies_turn(self):
         bodies = [Body(mark, [], {place(mark)}) for mark in ("else", "5", "Fault::Six")]
         self.assertEqual(paths_of(bodies, []), ["CursorSink::put", "FaultFromFmtError::from", "m::free"])

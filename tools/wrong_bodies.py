@@ -92,16 +92,19 @@ class Body:
 def head_of(line):
     """Returns the type, the trait and the trait's argument, if any, of an impl's first line, as the check names them."""
     # (an arrow's `>` closes nothing)
-    text = line[len("impl") :].replace("->", "")
+    text, generics = line[len("impl") :].replace("->", ""), ""
     if text.startswith("<"):
         depth = at = 0
         while at == 0 or depth:
             depth += {"<": 1, ">": -1}.get(text[at], 0)
             at += 1
-        text = text[at:]
+        text, generics = text[at:], text[:at]
+    # (a check leaves the impl's own parameters out of its name)
+    own = re.findall(r"[<,]\s*(\w+)", generics)
     *of_trait, of_type = re.split(r"\bfor\b", re.split(r"\bwhere\b|\{", text)[0])
     last = lambda path: path.partition("<")[0].split("::")[-1].strip("& \n")
-    argument = "".join(it[0].upper() + it[1:] for it in re.findall(r"\w+", "".join(of_trait).partition("<")[2]))
+    words = [it for it in re.findall(r"\w+", "".join(of_trait).partition("<")[2]) if it not in own]
+    argument = "".join(it[0].upper() + it[1:] for it in words)
     lent = of_type.strip().startswith("&mut ")
     return "RefMut" if lent else last(of_type), last("".join(of_trait)), argument
 
