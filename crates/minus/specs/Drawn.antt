@@ -2,7 +2,6 @@
 use Rattle.std.specs.Prelude.{◌≡◌, ℕ, ◌+◌, ◌-◌, ◌≤◌, min, List, [], ◌∷◌, ◌++◌, length, map, Option, None, Some, if◌then◌else◌}
 use Rattle.std.specs.List.{Contains}
 use Rattle.std.specs.Io.KnownBytes.{Appends}
-use Rattle.minus_term.specs.FullRedraw.{prompt_ops}
 use Rattle.minus_term.specs.Operations.{Op}
 use Rattle.minus_term.specs.Counts.{AppendsFront}
 use Rattle.minus_term.specs.PlayedScreen.{PlayedScreen, Shows, play_all, screen_of, unknown_screen}
@@ -12,7 +11,7 @@ use Rattle.minus_term.specs.Scroll.{distance}
 use Rattle.minus_term.specs.Terminal.{setup_bytes}
 use Rattle.minus_state.specs.Control.{Control, text_rows, first_changed}
 use Rattle.minus_state.specs.Page.{page}
-use Rattle.minus_state.specs.ShownPrompt.{prompt_row}
+use Rattle.minus.specs.Drawings.{whole_prompt}
 use Rattle.minus.specs.Seen.{Seen}
 use Rattle.minus.specs.Table.{Wanted, Exit}
 use Rattle.minus.specs.Works.{Work, WorkedOff, passed_in, some_full, IsQuiet}
@@ -55,7 +54,7 @@ HasPiece ops piece = (front back : List Op) × (ops ≡ front ++ piece ++ back)
 -- the prompt row is drawn for each work that asks for it alone, whether it is another one or not
 abbrev pub DrawsPrompts : List Op → List Work → Type 0
 DrawsPrompts ops [] = Unit {0}
-DrawsPrompts ops (w ∷ works) = (w.drawing ≡ Prompt → HasPiece ops (prompt_ops w.left.rows (prompt_row w.left))) × DrawsPrompts ops works
+DrawsPrompts ops (w ∷ works) = (w.drawing ≡ Prompt → HasPiece ops (whole_prompt w.left)) × DrawsPrompts ops works
 
 -- the operations are the drawings of works: they lead to the page of the new control, put rows of the pages of the controls
 -- passed alone, as few as the works allow, draw each prompt row that is asked for, and are none where none is drawn and the
