@@ -1,12 +1,15 @@
 #!/usr/bin/env python3
-"""Tests of wrong_bodies.py: how a body's function is found, how rounds are made, how a check's lines are judged, and what the words of a call name."""
+"""Tests of wrong_bodies.py: how a body's function is found, how rounds are made, how a check's lines are judged, what is kept, and what the words of a call name."""
+import contextlib
+import io
 import os
 import sys
 import tempfile
 import unittest
+from types import SimpleNamespace
 
 sys.path.insert(0, os.path.dirname(os.path.abspath(__file__)))
-from wrong_bodies import Body, Place, functions_of, given_by, judge, next_round, paths_of, place_of, read_body, texts_of, try_all, verdicts_of, with_twins, without_bodies, without_proofs
+from wrong_bodies import Body, Place, bodies_of, functions_of, given_by, judge, next_round, paths_of, place_of, read_body, texts_of, try_all, untried, verdicts_of, with_twins, without_bodies, without_proofs
 
 SOURCE = """const LIMIT: usize = 3;
 
@@ -246,6 +249,44 @@ class Tries(unittest.TestCase):
 
         told = {it.label: is_refused for it, is_refused, _ in try_all([body("a", "f"), body("b", "g", 3)], check, check)}
         self.assertEqual(told, {"a": True, "b": False})
+
+
+class Keeping(unittest.TestCase):
+    """What is kept of earlier runs, over a stand-in for what rt keeps."""
+
+    def setUp(self):
+        held = tempfile.TemporaryDirectory()
+        self.addCleanup(held.cleanup)
+        self.crate, self.edit, self.stamp = SimpleNamespace(name="k", folder=held.name), f"{held.name}/a.edit", "as it stands"
+        os.makedirs(f"{held.name}/src")
+        self.write(f"{held.name}/src/m.rt", SOURCE)
+        self.write(self.edit, "file: src/m.rt\nold: 1\nnew: 9\n")
+
+    def write(self, file, text):
+        with open(file, "w", encoding="utf-8") as out:
+            out.write(text)
+
+    def read(self):
+        rt = SimpleNamespace(stamp_of=lambda crate, _: f"{crate.name} {self.stamp}")
+        kept = SimpleNamespace(of_edit=lambda file, read: repr((read, open(file, encoding="utf-8").read())))
+        return bodies_of(rt, kept, self.crate, [self.edit])[0]
+
+    def test_a_name_is_made_of_all_that_a_try_reads(self):
+        names = [self.read().kept_as]
+        self.stamp = "as it was changed"
+        names.append(self.read().kept_as)
+        self.write(self.edit, "file: src/m.rt\nold: 1\nnew: 8\n")
+        names.append(self.read().kept_as)
+        self.assertEqual(len(set(names)), 3)
+        self.assertTrue(all("def bodies_of" in it for it in names))
+
+    def test_who_was_refused_in_an_earlier_run_is_not_tried(self):
+        earlier, other = body("a", "f"), body("b", "g")
+        earlier.kept_as, other.kept_as = "1", "2"
+        kept = SimpleNamespace(tried={"1": ("refused", "why")}.get)
+        with contextlib.redirect_stdout(io.StringIO()) as said:
+            self.assertEqual(untried(kept, self.crate, [earlier, other]), [other])
+        self.assertEqual(said.getvalue(), "k/a: refused, in an earlier run: why\n")
 
 
 class Calls(unittest.TestCase):

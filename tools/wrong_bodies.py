@@ -5,6 +5,7 @@ usage, at the top of the repository:
     tools/wrong_bodies.py                                every crate, side by side
     tools/wrong_bodies.py NAME [FILE.edit ..]            one crate, or these files of it
     tools/wrong_bodies.py --proved [NAME [FILE.edit ..]] the same, right after an rt ci that proved them all
+    tools/wrong_bodies.py --anew ..                      the same, with those that an earlier run refused
 
 A FILE.edit is a path, or the name of a file in crates/NAME/wrong-bodies/ or crates/NAME/must-fail/.
 
@@ -21,9 +22,13 @@ its module must be refused for itself.
 
 All this happens on a copy of the repository, over the work that `rt check` kept in out/, where there is some. The crate as
 it stands must be proved there first. With --proved that is taken from the caller, in a repository where nothing is kept: the
-rounds then stand on the libraries that rt ci built. RT_JOBS is how many checks run side by side, as it is for rt ci. The last
-line is `wrong-bodies: N passed, M failed`; where a name is unknown or there is nothing to try, it says that. Both that and
-a body that failed end with 1.
+rounds then stand on the libraries that rt ci built. RT_JOBS is how many checks run side by side, as it is for rt ci.
+
+That a body was refused is kept where rt ci keeps what it passed, on this machine alone, under a sum of the kit, this tool, the
+body, and all that was proved of its crate and of those below it. So a later run tries what has changed.
+
+The last line is `wrong-bodies: N passed, M failed`; where a name is unknown or there is nothing to try, it says that. Both that
+and a body that failed end with 1.
 """
 import importlib.machinery
 import importlib.util
@@ -79,6 +84,7 @@ class Body:
     places: set = field(default_factory=set)
     fault: str = ""
     files: dict = field(default_factory=dict)  # the proof of a twin: path, text
+    kept_as: str = ""  # the name under which it is kept that it was refused
 
     def stands_alone(self):
         return any(not it.name for it in self.places)
@@ -381,8 +387,25 @@ def paths_of(bodies, proofs):
     return paths if all(paths) else []
 
 
-def try_crate(rt, crate, files, is_proved):
-    """Tries wrong bodies of a crate, which stands on a copy, and returns how many passed."""
+def bodies_of(rt, kept, crate, files):
+    """Reads wrong bodies of a crate, each with its name for what is kept: one made of all that a try of it reads."""
+    bodies, read_by_each = [read_body(it, crate.folder) for it in files], (rt.stamp_of(crate, {}), read(__file__))
+    for body, file in zip(bodies, files):
+        body.kept_as = kept.of_edit(file, read_by_each)
+    return bodies
+
+
+def untried(kept, crate, bodies):
+    """Tells of the bodies that an earlier run refused, and returns the others."""
+    told = [kept.tried(it.kept_as) for it in bodies]
+    for body, found in zip(bodies, told):
+        if found:
+            print(f"{crate.name}/{body.label}: refused, in an earlier run: {found[1]}", flush=True)
+    return [body for body, found in zip(bodies, told) if not found]
+
+
+def try_crate(rt, kept, crate, bodies, is_proved):
+    """Tries wrong bodies of a crate, which stands on a copy, keeps which are refused, and returns how many."""
     plain = "logic=proved" if is_proved else call(["rt", "check", "--jobs", "1"], crate.folder)
     if not re.search(r"^logic=proved", plain, re.M):
         print(f"{crate.name}: the crate as it stands is not proved\n{plain[-2000:]}", flush=True)
@@ -392,14 +415,14 @@ def try_crate(rt, crate, files, is_proved):
 
     def check(bodies, proofs_beside=None, others=()):
         texts = {**texts_of([*bodies, *others], crate.folder), **(proofs_beside or {})}
-        kept, jobs = f"{crate.folder}/out/incremental", ["--jobs", "1"]
+        work, jobs = f"{crate.folder}/out/incremental", ["--jobs", "1"]
         only = [f"--only={it}" for it in paths_of(bodies, proofs)]
         for it in proofs_beside or {}:
             os.makedirs(os.path.dirname(f"{crate.folder}/{it}"), exist_ok=True)
-        said = rt.checked(crate, texts, [*jobs, *only], kept).stdout
+        said = rt.checked(crate, texts, [*jobs, *only], work).stdout
         # (an impl's name may need arguments that only a whole check tells)
         is_unnamed = re.search(r"has no function|several functions are named", said) and not re.search(r"^only=", said, re.M)
-        return rt.checked(crate, texts, jobs, kept).stdout if is_unnamed else said
+        return rt.checked(crate, texts, jobs, work).stdout if is_unnamed else said
 
     def check_beside_unproved(bodies):
         of_twins = {path: text for body in bodies for path, text in body.files.items()}
@@ -409,8 +432,11 @@ def try_crate(rt, crate, files, is_proved):
     def twins(bodies):
         return with_twins(bodies, crate.folder, functions)
 
-    for body, is_refused, why in try_all([read_body(it, crate.folder) for it in files], check, check_beside_unproved, twins):
-        print(f"{crate.name}/{body.label}: {'refused: ' if is_refused else 'FAILED: '}{' '.join(why.split())[:160]}", flush=True)
+    for body, is_refused, why in try_all(bodies, check, check_beside_unproved, twins):
+        why = " ".join(why.split())[:160]
+        print(f"{crate.name}/{body.label}: {'refused: ' if is_refused else 'FAILED: '}{why}", flush=True)
+        if is_refused:
+            kept.keep_tried(body.kept_as, rt.REFUSED, why)
         passed += is_refused
     shutil.rmtree(f"{crate.folder}/out/incremental", ignore_errors=True)
     return passed
@@ -444,23 +470,26 @@ def main(words):
     top, lanes = os.getcwd(), int(os.environ.get("RT_JOBS") or os.cpu_count() or 1)
     if not os.path.isfile(f"{top}/crates.txt"):
         sys.exit("wrong_bodies.py runs at the top of the repository, where crates.txt stands")
-    is_proved = "--proved" in words and not has_kept(top)
-    words = [it for it in words if it != "--proved"]
+    is_proved, is_anew = "--proved" in words and not has_kept(top), "--anew" in words
+    words = [it for it in words if it not in ("--proved", "--anew")]
     given = given_by(words, top)
-    rt = load_rt()
+    rt, count = load_rt(), sum(map(len, given.values()))
     with tempfile.TemporaryDirectory(prefix="wrong-bodies-") as base:
         copy_of(top, base)
-        if not words and not is_proved:
+        every = rt.rtlib.crates_below(base)
+        kept = rt.Kept(every, is_anew)
+        left = {it: untried(kept, it, bodies_of(rt, kept, it, given[it.name])) for it in every if it.name in given}
+        passed = count - sum(map(len, left.values()))
+        if passed < count and not words and not is_proved:
             # (the crates are proved side by side, and the libraries below the others are built)
             call(["rt", "all", "check", "--jobs", str(lanes)], base)
         # (the crate with the most bodies goes first)
-        crates = sorted((it for it in rt.rtlib.crates_below(base) if it.name in given), key=lambda it: -len(given[it.name]))
+        crates = sorted((it for it in left if left[it]), key=lambda it: -len(left[it]))
         with ThreadPoolExecutor(lanes) as pool:
-            passed = sum(pool.map(lambda it: try_crate(rt, it, given[it.name], is_proved), crates))
+            passed += sum(pool.map(lambda it: try_crate(rt, kept, it, left[it], is_proved), crates))
     # (who was not tried has failed too)
-    failed = sum(map(len, given.values())) - passed
-    print(f"wrong-bodies: {passed} passed, {failed} failed")
-    return 1 if failed else 0
+    print(f"wrong-bodies: {passed} passed, {count - passed} failed")
+    return 1 if passed < count else 0
 
 
 if __name__ == "__main__":
