@@ -150,7 +150,7 @@ refused_one told e (x ∷ []) rest inputs taken old reached new passed answers s
     step_refused e cols rows (map told inputs) (map told rest) (told x) answers reached new a b (record { first = old; begun = start; taken = map told taken; passed = passed; started = s; steps = steps; all = ap (map told) all ∙ map-append told taken (x ∷ rest) }) runs h
 
 pub run_refused : {A : Type 0} (told : A → Told StandIn) (old new : Seen StandIn) (inputs : List A) (done : ℕ) (last : Option Answer) (stopped : Option MinusError) (rest : List A) (a b : Option (List ℕ)) (cols rows : ℕ) (e : MinusError) (fault : ScriptFault) → IsRun stand_in_says told old new inputs done last stopped rest a b → stopped ≡ Some e
-    → IsStarted old (record {}) [] Dynamic cols rows true (Some []) a → fault ≡ Refused (number_of e) → IsShowFault cols rows (map told inputs) fault
+    → IsStarted old (record {}) [] Dynamic cols rows true (Some []) a → fault ≡ Refused e → IsShowFault cols rows (map told inputs) fault
 run_refused told old new inputs done last stopped rest a b cols rows e fault h is s f =
     let stop = subst (λ (x : Option MinusError). Stops stand_in_says told x h.refused h.reached new h.bytes b) is h.stop in
     let stops = told_stops told h.answers (Some e) rest (subst (λ (x : Option MinusError). StopsAfter h.answers x rest) is h.stops) in
@@ -161,4 +161,4 @@ run_refused told old new inputs done last stopped rest a b cols rows e fault h i
 pub memory_fault : (cols rows : ℕ) (told : List (Told StandIn)) (fault : ScriptFault) → IsMemory fault → IsShowFault cols rows told fault
 memory_fault cols rows told (Io stream cause) e = absurd e
 memory_fault cols rows told (Line number) e = absurd e
-memory_fault cols rows told (Refused number) e = inl e
+memory_fault cols rows told (Refused cause) e = inl e

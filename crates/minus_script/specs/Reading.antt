@@ -1,6 +1,7 @@
 -- How the reading of a script may fail.
 use Rattle.std.specs.Prelude.{◌≡◌, ℕ, List, Option}
 use Rattle.std.specs.Io.KnownBytes.{Consumes}
+use Rattle.minus_term.specs.declared.error.MinusError.TheVariants.{Memory}
 use Rattle.minus_script.specs.declared.fault.Stream.TheVariants.{Input}
 use Rattle.minus_script.specs.declared.fault.ScriptFault.{ScriptFault}
 use Rattle.minus_script.specs.declared.fault.ScriptFault.TheVariants.{Io, Line, Refused}
@@ -9,7 +10,7 @@ use Rattle.minus_script.specs.declared.fault.ScriptFault.TheVariants.{Io, Line, 
 abbrev pub IsReadFault : ScriptFault → Type 0
 IsReadFault (Io stream cause) = stream ≡ Input
 IsReadFault (Line number) = ⊥
-IsReadFault (Refused reason) = reason ≡ 1
+IsReadFault (Refused cause) = cause ≡ Memory
 
 -- known bytes lose some at their front
 abbrev pub ConsumesSome : Option (List ℕ) → Option (List ℕ) → Type 0

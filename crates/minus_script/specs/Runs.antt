@@ -4,6 +4,8 @@ use Rattle.std.specs.List.{last_or}
 use Rattle.std.specs.Option.{option_and_then, option_map}
 use Rattle.std.specs.Io.KnownBytes.{Appends, Consumes, IsAtEnd}
 use Rattle.minus_term.specs.Counts.{AppendsFront}
+use Rattle.minus_term.specs.Refusals.{number_of}
+use Rattle.minus_term.specs.declared.error.MinusError.TheVariants.{Memory}
 use Rattle.minus.specs.declared.stand_in.StandIn.{StandIn}
 use Rattle.minus.specs.declared.session.Answer.{Answer}
 use Rattle.minus_state.specs.declared.state.RunMode.TheVariants.{Dynamic}
@@ -123,15 +125,15 @@ abbrev pub IsOutputFault : Mode → ℕ → ℕ → Option (List ℕ) → Option
 IsOutputFault mode cols rows old_input new_input old_output new_output =
     (printed : List ℕ) × IsScriptShown mode cols rows old_input new_input printed × AppendsFront old_output new_output printed
 
--- why a script is refused, before anything is printed: input failed, its first faulty line, or a refusal, by its number; or,
+-- why a script is refused, before anything is printed: input failed, its first faulty line, or a refusal; or,
 -- while it is printed: output failed
 abbrev pub IsRunFault : Mode → ℕ → ℕ → Option (List ℕ) → Option (List ℕ) → Option (List ℕ) → Option (List ℕ) → ScriptFault → Type 0
 IsRunFault mode cols rows old_input new_input old_output new_output (Io Input cause) = ConsumesSome old_input new_input
 IsRunFault mode cols rows old_input new_input old_output new_output (Io Output cause) = IsOutputFault mode cols rows old_input new_input old_output new_output
 IsRunFault mode cols rows old_input new_input old_output new_output (Line number) =
     (script : List ℕ) × IsRead old_input new_input script × (script_told (script_lines script) ≡ Err number)
-IsRunFault mode cols rows old_input new_input old_output new_output (Refused number) =
-    (number ≡ 1) ⊎ ((script : List ℕ) × (told : List (Told StandIn)) × IsRead old_input new_input script × (script_told (script_lines script) ≡ Ok told) × IsRefusal number cols rows told)
+IsRunFault mode cols rows old_input new_input old_output new_output (Refused cause) =
+    (cause ≡ Memory) ⊎ ((script : List ℕ) × (told : List (Told StandIn)) × IsRead old_input new_input script × (script_told (script_lines script) ≡ Ok told) × IsRefusal (number_of cause) cols rows told)
 
 -- a fault that came before anything was printed
 abbrev pub IsBeforePrinting : ScriptFault → Type 0

@@ -2,6 +2,7 @@
 use Rattle.std.specs.Prelude.{◌≡◌, ℕ, List, Result, Err}
 use Rattle.minus.specs.declared.stand_in.StandIn.{StandIn}
 use Rattle.minus.specs.Reads.{Told}
+use Rattle.minus_term.specs.declared.error.MinusError.TheVariants.{Memory}
 use Rattle.minus_script.specs.declared.fault.ScriptFault.{ScriptFault}
 use Rattle.minus_script.specs.declared.fault.ScriptFault.TheVariants.{Io, Line, Refused}
 
@@ -9,4 +10,4 @@ use Rattle.minus_script.specs.declared.fault.ScriptFault.TheVariants.{Io, Line, 
 abbrev pub IsScriptFault : Result (List (Told StandIn)) ℕ → ScriptFault → Type 0
 IsScriptFault told (Io stream cause) = ⊥
 IsScriptFault told (Line number) = told ≡ Err number
-IsScriptFault told (Refused reason) = reason ≡ 1
+IsScriptFault told (Refused cause) = cause ≡ Memory

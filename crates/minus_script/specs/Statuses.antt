@@ -9,4 +9,4 @@ abbrev pub status_of : ProgramFault → ℕ
 status_of Usage = 2
 status_of (Script (Io stream cause)) = 1
 status_of (Script (Line number)) = 2
-status_of (Script (Refused number)) = 3
+status_of (Script (Refused cause)) = 3

@@ -8,4 +8,4 @@ use Rattle.minus_script.specs.declared.fault.ScriptFault.TheVariants.{Io, Line, 
 abbrev pub IsWriteFault : ScriptFault → Type 0
 IsWriteFault (Io stream cause) = stream ≡ Output
 IsWriteFault (Line number) = ⊥
-IsWriteFault (Refused number) = ⊥
+IsWriteFault (Refused cause) = ⊥

@@ -1,6 +1,6 @@
 //! The errors of the program.
 ghost use Rattle.std.specs.Prelude.{◌≡◌};
-ghost use Rattle.minus_term.specs.Refusals.{number_of};
+ghost use Rattle.minus_term.specs.declared.error.MinusError.TheVariants.{Memory};
 ghost use Rattle.minus_script.specs.declared.fault.ScriptFault.TheVariants.{Refused};
 
 use minus::MinusError;
@@ -35,31 +35,31 @@ pub enum ScriptFault {
     /// The line with this number, counted from 1, is faulty.
     #[error("script line {0}")]
     Line(usize),
-    /// A call was refused, for the reason with this number; 1 is want of memory.
-    #[error("refused {0}")]
-    Refused(u8),
+    /// A call was refused; printed by the refusal's number.
+    #[error("refused {}", .0.number())]
+    Refused(MinusError),
 }
 
 impl From<AllocError> for ScriptFault {
-    ghost from_gives = { λ cause e. e ≡ Refused 1 };
+    ghost from_gives = { λ cause e. e ≡ Refused Memory };
 
     fn from(_cause: AllocError) -> ScriptFault {
-        ScriptFault::Refused(1)
+        ScriptFault::Refused(MinusError::Memory)
     }
 }
 
 impl<T: Drop> From<AllocFailed<T>> for ScriptFault {
-    ghost from_gives = { λ cause e. e ≡ Refused 1 };
+    ghost from_gives = { λ cause e. e ≡ Refused Memory };
 
     fn from(_cause: AllocFailed<T>) -> ScriptFault {
-        ScriptFault::Refused(1)
+        ScriptFault::Refused(MinusError::Memory)
     }
 }
 
 impl From<MinusError> for ScriptFault {
-    ghost from_gives = { λ cause e. e ≡ Refused (number_of cause) };
+    ghost from_gives = { λ cause e. e ≡ Refused cause };
 
     fn from(cause: MinusError) -> ScriptFault {
-        ScriptFault::Refused(cause.number())
+        ScriptFault::Refused(cause)
     }
 }

@@ -3,10 +3,12 @@ ghost use Rattle.std.specs.Prelude.{◌≡◌, map, string_bytes, OnOk, IfErr, I
 ghost use Rattle.minus_script.specs.Programs.{IsProgramRun, IsProgramFault, IsSilent};
 ghost use Rattle.minus_script.specs.declared.program.ProgramFault.TheVariants.{Usage, Script};
 ghost use Rattle.minus_script.specs.declared.fault.ScriptFault.TheVariants.{Refused};
+ghost use Rattle.minus_term.specs.declared.error.MinusError.TheVariants.{Memory};
 
 use crate::arguments::{Arguments, parse_arguments};
 use crate::fault::ScriptFault;
 use crate::run::run_script;
+use minus::MinusError;
 use std::alloc::{AllocError, Global};
 use std::env;
 use std::io::{ErrorKind, Read, Write};
@@ -25,7 +27,7 @@ pub enum ProgramFault {
 }
 
 impl From<AllocError> for ProgramFault {
-    ghost from_gives = { λ cause e. e ≡ Script (Refused 1) };
+    ghost from_gives = { λ cause e. e ≡ Script (Refused Memory) };
 
     fn from(cause: AllocError) -> ProgramFault {
         ProgramFault::Script(ScriptFault::from(cause))
@@ -57,7 +59,7 @@ fn words(rt: &HostRuntime) -> Result<Vec<String>, ProgramFault> {
             Ok(Vec::from_iter(rt.alloc(), words)?)
         }
         Err(cause) if cause.kind() == ErrorKind::OutOfMemory => {
-            Err(ProgramFault::Script(ScriptFault::Refused(1)))
+            Err(ProgramFault::Script(ScriptFault::Refused(MinusError::Memory)))
         }
         Err(_) => Err(ProgramFault::Usage),
     }

@@ -25,7 +25,7 @@ pub fn read_script<R: Read>(alloc: Global, reader: &mut R) -> Result<Vec<u8>, Sc
     ensures retried { IfErr result (λ e. elim e [
       | Io stream cause ↦ error_kind cause ≢ ErrorKind.Interrupted
       | Line number ↦ ⊤
-      | Refused reason ↦ ⊤
+      | Refused cause ↦ ⊤
     ]) }
     ensures lost { OnErr result (ConsumesSome (R.remaining reader.old) (R.remaining reader.new)) }
 {
