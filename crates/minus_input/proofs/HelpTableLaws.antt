@@ -6,11 +6,11 @@ use Rattle.std.proofs.lemmas.Bool.{cases_Bool, ne_eqb}
 use Rattle.std.proofs.lemmas.Bool.Decides.{same_from_decides}
 use Rattle.std.proofs.lemmas.Slice.Eq.{bytes_eq-Decides}
 use Rattle.std.proofs.lemmas.List.Elements.{filter-append}
-use Rattle.std.proofs.lemmas.List.{append_assoc, append-nil, map-append, take_more, length-map}
+use Rattle.std.proofs.lemmas.List.{append_assoc, append-nil, map-append, take_more}
 use Rattle.minus_term.specs.declared.event.KeyEvent.{KeyEvent}
 use Rattle.minus_input.specs.declared.help_table.Entry as code
 use Rattle.minus_input.specs.Names.{control, alt}
-use Rattle.minus_input.specs.HelpTable.{key_name, code_name, shown, has, shows_shift, once_each, add_once, Entry, seen_entry, names_of, descriptions, joined, filled, group_line, table_head, table_foot, help_table}
+use Rattle.minus_input.specs.HelpTable.{key_name, code_name, shown, has, shows_shift, once_each, add_once, Entry, seen_entry, names_of, descriptions, joined, filled, group_line}
 
 -- a key's name from its parts
 pub key_name_from : (key : KeyEvent) (ctrl alternate upper code : List ℕ) → ctrl ≡ shown (has key control) (codes "Ctrl-") → alternate ≡ shown (has key alt) (codes "Alt-") →
@@ -209,19 +209,3 @@ group_from entries description names written n small e =
     ∙ sym (append_assoc (codes "  ") fill (codes " " ++ (description ++ codes "\n")))
     ∙ sym (append_assoc (codes "  " ++ fill) (codes " ") (description ++ codes "\n"))
     ∙ sym (append_assoc (codes "  " ++ fill ++ codes " ") description (codes "\n"))
-
-take_whole : {X : Type 0} (i : ℕ) (l : List X) → length l ≤ i → take i l ≡ l
-take_whole zero [] h = refl
-take_whole (suc i) [] h = refl
-take_whole zero (x ∷ l) h = absurd (omega (arith, h))
-take_whole (suc i) (x ∷ l) h = ap (λ m. x ∷ m) (take_whole i l (omega (arith, h)))
-
--- the table from its parts
-pub table_from : (entries : List Entry) (items list : List (Bor (List ℕ))) (index : ℕ) (table written : List ℕ) →
-    map (λ text. text.now) items ≡ descriptions entries → eqb (length items) 0 ≡ false → list ≡ items → length list ≤ index →
-    table ≡ table_head ++ flat_map (group_line entries) (map (λ text. text.now) (take index list)) → written ≡ table ++ table_foot → written ≡ help_table entries
-table_from entries items list index table written d some is h t w =
-    let n : length (descriptions entries) ≡ length items = ap length (sym d) ∙ length-map _ _ in
-    let f : eqb (length (descriptions entries)) 0 ≡ false = ap (λ m. eqb m 0) n ∙ some in
-    let whole : map (λ (text : Bor (List ℕ)). text.now) (take index list) ≡ descriptions entries = ap (map (λ text. text.now)) (take_whole index list h ∙ is) ∙ d in
-    rw f (w ∙ ap (λ l. l ++ table_foot) (t ∙ ap (λ l. table_head ++ flat_map (group_line entries) l) whole))

@@ -1,6 +1,6 @@
 //! The names of keys, and the table of them that a help page shows.
 ghost use Rattle.std.specs.Prelude.{◌≡◌, ◌++◌, ◌==◌, map, not, length, IfOk, OnOk, string_bytes};
-ghost use Rattle.std.specs.List.{filter};
+ghost use Rattle.std.specs.List.{filter, flat_map};
 ghost use Rattle.minus_input.specs.HelpTable.{named_code_name, code_name, key_name, shown, shows_shift, entry_of, seen_entry, add_once, names_of, descriptions, group_line, help_table};
 
 use bitflags::Flags;
@@ -156,24 +156,34 @@ fn format_group(
     format!(in alloc; "  {joined:<30} {description}\n")
 }
 
+/// The lines of some descriptions.
+fn format_groups(
+    alloc: Global,
+    entries: &[Entry<'_>],
+    descriptions: &[&str],
+) -> Result<String, AllocError>
+    ensures { IfOk result (λ lines. string_bytes lines ≡ flat_map (group_line (map seen_entry entries.now)) (map (λ text. text.now) descriptions.now)) }
+{
+    let mut lines = String::new(alloc);
+    for description in descriptions {
+        let line = format_group(alloc, entries, description)?;
+        lines.push_str(line.as_str())?;
+    }
+    Ok(lines)
+}
+
 /// The table of some entries.
 fn format_entries(alloc: Global, entries: &[Entry<'_>]) -> Result<String, AllocError>
     ensures { IfOk result (λ table. string_bytes table ≡ help_table (map seen_entry entries.now)) }
 {
-    let mut table = String::new(alloc);
     let texts = descriptions(alloc, entries)?;
     if texts.is_empty() {
-        return Ok(table);
+        return Ok(String::new(alloc));
     }
-    table.push_str("             COMMAND SUMMARY\n\n")?;
-    table.push_str("  Key(s)                         Action\n")?;
-    table.push_str("  ------                         ------\n")?;
-    for text in &texts {
-        let line = format_group(alloc, entries, text)?;
-        table.push_str(line.as_str())?;
-    }
-    table.push_str("\n  -- Press q to return to pager --\n")?;
-    Ok(table)
+    let lines = format_groups(alloc, entries, &texts)?;
+    format!(in alloc;
+        "             COMMAND SUMMARY\n\n  Key(s)                         Action\n  ------                         ------\n{lines}\n  -- Press q to return to pager --\n"
+    )
 }
 
 /// The help table: a line for each description that is not empty, in the order of first ones, with
