@@ -1,4 +1,5 @@
 //! Classifiers of one's own.
+use crate::facts::assert_holds;
 use crate::sessions::{TEN_LINES, terminal};
 use crate::shown::is_debugged;
 use minus::{
@@ -60,7 +61,7 @@ fn are_exchanged(alloc: Global) -> bool {
 
 #[test]
 fn the_classifier_last_set_decides(rt: HostRuntime) {
-    assert!(rt; are_exchanged(rt.alloc()));
+    assert_holds(&rt, are_exchanged(rt.alloc()));
 }
 
 // Whether commands that hand over two classifiers are equal, and one is shown by its name alone.
@@ -72,5 +73,5 @@ fn are_alike(alloc: Global) -> bool {
 
 #[test]
 fn commands_do_not_tell_their_classifiers(rt: HostRuntime) {
-    assert!(rt; are_alike(rt.alloc()));
+    assert_holds(&rt, are_alike(rt.alloc()));
 }

@@ -1,4 +1,5 @@
 //! Which commands are equal, and what they are shown as to a programmer.
+use crate::facts::assert_at;
 use crate::sessions::{Asked, inputs};
 use crate::shown::is_debugged;
 use minus::{AppendStyle, Input, InputEvent, IoCommand, LineNumbers};
@@ -99,6 +100,6 @@ const TOLD: [&Told<'static>; 13] = [
 #[test]
 fn commands_are_told_apart_by_what_they_hold(rt: HostRuntime) {
     for case in &TOLD {
-        assert!(rt; is_told(rt.alloc(), case), "at {}", case.text);
+        assert_at(&rt, case.text, is_told(rt.alloc(), case));
     }
 }

@@ -2,6 +2,7 @@
 ghost use Rattle.std.specs.Prelude.{IfSome};
 ghost use Rattle.minus_state.specs.States.{IsFormed};
 
+use crate::facts::assert_holds;
 use crate::sessions::{Asked, PROMPT_ROW, TEN_LINES, Worked, are_bytes, assert_drawn};
 use minus::{
     IoCommand, Layout, PagerState, draw_append_text, draw_for_change, draw_full, write_prompt,
@@ -169,7 +170,7 @@ fn a_state_is_drawn_by_itself(rt: HostRuntime) {
         PROMPT_ROW,
         "\x1b[3;1H\x1b[2Kl9\x1b[5;1H\r\x1b[2Kend",
     ];
-    assert!(rt; is_drawn_by_itself(rt.alloc(), texts));
+    assert_holds(&rt, is_drawn_by_itself(rt.alloc(), texts));
 }
 
 // Whether the rows of a state of one line are drawn so from a row on, where there were so many.

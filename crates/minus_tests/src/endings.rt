@@ -1,4 +1,5 @@
 //! Exits and their cleanup.
+use crate::facts::assert_holds;
 use crate::sessions::{Asked, CLEANUP, number_of, run, session_on, terminal};
 use crate::shown::is_debugged;
 use crate::stubborn::{NOTHING, Refusal, Refused, Stubborn, write};
@@ -50,7 +51,7 @@ fn is_ended(alloc: Global) -> bool {
 
 #[test]
 fn an_exit_ends_the_session_and_cleans_up_once(rt: HostRuntime) {
-    assert!(rt; is_ended(rt.alloc()));
+    assert_holds(&rt, is_ended(rt.alloc()));
 }
 
 // Whether a session refuses an exit by the second part of its cleanup.
@@ -87,7 +88,7 @@ fn is_refused(alloc: Global) -> bool {
 
 #[test]
 fn a_refused_cleanup_fails_the_session(rt: HostRuntime) {
-    assert!(rt; is_refused(rt.alloc()));
+    assert_holds(&rt, is_refused(rt.alloc()));
 }
 
 // Whether the second step of a run exited, and so many inputs are left.
@@ -127,5 +128,5 @@ fn is_stopped(alloc: Global) -> bool {
 
 #[test]
 fn a_run_stops_after_an_exit(rt: HostRuntime) {
-    assert!(rt; is_stopped(rt.alloc()));
+    assert_holds(&rt, is_stopped(rt.alloc()));
 }

@@ -1,4 +1,5 @@
 //! Help: what is shown while it is open, and what is shown once it is left.
+use crate::facts::assert_holds;
 use crate::sessions::{Asked, PROMPT_ROW, Worked, assert_drawn, assert_shown, has_page, terminal};
 use minus::{
     CommandOf, Core, Event, InputClassifier, InputEvent, InputOf, Kinds, LineNumbers, PagerOf,
@@ -133,5 +134,5 @@ fn is_left_by_an_exit(alloc: Global) -> bool {
 
 #[test]
 fn an_exit_leaves_the_help_that_the_classifier_gives(rt: HostRuntime) {
-    assert!(rt; is_left_by_an_exit(rt.alloc()));
+    assert_holds(&rt, is_left_by_an_exit(rt.alloc()));
 }

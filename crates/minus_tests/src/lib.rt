@@ -11,6 +11,8 @@ mod drawings;
 #[cfg(test)]
 mod endings;
 #[cfg(test)]
+mod facts;
+#[cfg(test)]
 mod helps;
 #[cfg(test)]
 mod input;

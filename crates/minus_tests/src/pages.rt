@@ -1,4 +1,5 @@
 //! Worked sessions with the pages and the marks that they must have.
+use crate::facts::assert_holds;
 use crate::sessions::{
     Asked, PROMPT_ROW, TEN_LINES, Worked, assert_shown, does, has_len, session_on, terminal,
 };
@@ -83,7 +84,7 @@ fn may_have_rows(alloc: Global, rows: usize) -> bool {
 
 #[test]
 fn a_page_may_have_hundreds_of_rows(rt: HostRuntime) {
-    assert!(rt; may_have_rows(rt.alloc(), 300));
+    assert_holds(&rt, may_have_rows(rt.alloc(), 300));
 }
 
 // Whether a session of four rows is led to a text of so many rows, and to this mark.
@@ -129,5 +130,5 @@ fn goes_with_its_newline(alloc: Global) -> bool {
 
 #[test]
 fn a_carriage_return_takes_no_columns_of_the_longest_line(rt: HostRuntime) {
-    assert!(rt; goes_with_its_newline(rt.alloc()));
+    assert_holds(&rt, goes_with_its_newline(rt.alloc()));
 }

@@ -1,4 +1,5 @@
 //! The prompt row, what is set in it, and how it is drawn.
+use crate::facts::assert_holds;
 use crate::sessions::{
     Asked, PROMPT_ROW, TEN_LINES, Worked, assert_drawn, assert_shown, has_page, number_of,
     session_on, terminal,
@@ -190,6 +191,6 @@ fn is_refused(alloc: Global, asked: Asked<'_>) -> bool {
 fn a_text_of_two_lines_is_refused_and_the_page_stays(rt: HostRuntime) {
     let two_lines: &[&Asked<'_>] = &[&Asked::Prompt("a\nb"), &Asked::Message("a\nb")];
     for asked in two_lines {
-        assert!(rt; is_refused(rt.alloc(), **asked));
+        assert_holds(&rt, is_refused(rt.alloc(), **asked));
     }
 }

@@ -1,4 +1,5 @@
 //! Sinks that refuse a step.
+use crate::facts::assert_holds;
 use crate::sessions::{
     Asked, CLEANUP, PROMPT_ROW, SETUP, TEN_LINES, are_bytes, number_of, run, session_on,
 };
@@ -135,7 +136,7 @@ fn is_handed_on(alloc: Global, asked: Asked<'_>) -> bool {
 fn a_refusal_hands_on_the_sinks_error(rt: HostRuntime) {
     let refused: &[&Asked<'_>] = &[&Asked::Push("a"), &Asked::Exit];
     for asked in refused {
-        assert!(rt; is_handed_on(rt.alloc(), **asked));
+        assert_holds(&rt, is_handed_on(rt.alloc(), **asked));
     }
 }
 
@@ -172,7 +173,7 @@ fn stops_on_its_way(alloc: Global) -> bool {
 
 #[test]
 fn a_run_stops_at_a_refused_write(rt: HostRuntime) {
-    assert!(rt; stops_on_its_way(rt.alloc()));
+    assert_holds(&rt, stops_on_its_way(rt.alloc()));
 }
 
 // Whether a session does this, or refuses it for want of memory and does it when it is asked for again.
@@ -223,5 +224,5 @@ fn a_push_and_a_scroll_are_written_once(rt: HostRuntime) {
         PROMPT_ROW,
         CLEANUP,
     ];
-    assert!(rt; writes_once(rt.alloc(), texts));
+    assert_holds(&rt, writes_once(rt.alloc(), texts));
 }

@@ -1,4 +1,5 @@
 //! Sessions over other sinks than a vector.
+use crate::facts::assert_holds;
 use crate::sessions::{Asked, CLEANUP, SETUP, are_bytes, number_of, session_on, terminal};
 use minus::{OutputSink, WithTty};
 use std::alloc::Global;
@@ -31,12 +32,15 @@ fn is_in_a_cursor(alloc: Global) -> bool {
 
 #[test]
 fn a_cursor_gets_a_session(rt: HostRuntime) {
-    assert!(rt; is_in_a_cursor(rt.alloc()));
+    assert_holds(&rt, is_in_a_cursor(rt.alloc()));
 }
 
 #[test]
 fn a_sink_that_keeps_nothing_is_taken(rt: HostRuntime) {
-    assert!(rt; paged(rt.alloc(), WithTty::new(io::sink(), true)).is_some());
+    assert_holds(
+        &rt,
+        paged(rt.alloc(), WithTty::new(io::sink(), true)).is_some(),
+    );
 }
 
 // Whether a session that has a text pushed writes to a box, and cleans it up.
@@ -59,7 +63,7 @@ fn is_in_a_box(alloc: Global) -> bool {
 
 #[test]
 fn a_box_gets_a_session(rt: HostRuntime) {
-    assert!(rt; is_in_a_box(rt.alloc()));
+    assert_holds(&rt, is_in_a_box(rt.alloc()));
 }
 
 // Whether a session writes to a file.
@@ -82,5 +86,5 @@ fn is_read_back(rt: &HostRuntime, path: &str) -> bool {
 #[test]
 fn a_file_is_read_back(rt: HostRuntime) {
     let path = "a_file_is_read_back.txt";
-    assert!(rt; is_paged(&rt, path) && is_read_back(&rt, path));
+    assert_holds(&rt, is_paged(&rt, path) && is_read_back(&rt, path));
 }

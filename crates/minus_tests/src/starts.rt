@@ -1,4 +1,5 @@
 //! Starts, and sinks that refuse them.
+use crate::facts::assert_holds;
 use crate::sessions::{CLEANUP, PROMPT_ROW, SETUP, are_bytes, has_page, terminal};
 use crate::stubborn::{NOTHING, Refusal, Refused, Stubborn, write};
 use minus::{
@@ -44,7 +45,7 @@ fn writes_what_waits(alloc: Global, texts: &[&str]) -> bool {
 fn the_text_of_a_pager_is_on_the_first_page(rt: HostRuntime) {
     let page = "\x1b[1;1H\x1b[2J\rone\n\rtwo\n\r2\n";
     let texts = &[SETUP, page, SIXTH_ROW, PROMPT_ROW, CLEANUP];
-    assert!(rt; writes_what_waits(rt.alloc(), texts));
+    assert_holds(&rt, writes_what_waits(rt.alloc(), texts));
 }
 
 // Whether a session is dynamic and shows these rows.
@@ -65,7 +66,7 @@ fn shows_what_was_pushed(alloc: Global, text: &str, rows: &[&str]) -> bool {
 #[test]
 fn a_dynamic_start_shows_what_a_push_would(rt: HostRuntime) {
     let rows = &["one", "two", "", "", PROMPT_ROW];
-    assert!(rt; shows_what_was_pushed(rt.alloc(), "one\ntwo", rows));
+    assert_holds(&rt, shows_what_was_pushed(rt.alloc(), "one\ntwo", rows));
 }
 
 // The sink that a start hands back which is refused as that is no terminal, with the pager gone.
@@ -91,14 +92,14 @@ fn comes_back_empty(alloc: Global) -> bool {
 
 #[test]
 fn a_sink_that_is_no_terminal_comes_back_empty(rt: HostRuntime) {
-    assert!(rt; comes_back_empty(rt.alloc()));
+    assert_holds(&rt, comes_back_empty(rt.alloc()));
 }
 
 // A stream is no terminal by itself, so that nothing is written to those of the tests.
 #[test]
 fn the_standard_streams_are_no_terminals(rt: HostRuntime) {
-    assert!(rt; sink_back(rt.alloc(), rt.stdout()).is_some());
-    assert!(rt; sink_back(rt.alloc(), rt.stderr()).is_some());
+    assert_holds(&rt, sink_back(rt.alloc(), rt.stdout()).is_some());
+    assert_holds(&rt, sink_back(rt.alloc(), rt.stderr()).is_some());
 }
 
 // Whether a start was refused by this number before anything was written, with the pager handed back.
@@ -163,7 +164,7 @@ fn starts_again(alloc: Global, rows: &[&str]) -> bool {
 #[test]
 fn a_pager_that_came_back_starts(rt: HostRuntime) {
     let rows = &["one", "two", "2", "", PROMPT_ROW];
-    assert!(rt; starts_again(rt.alloc(), rows));
+    assert_holds(&rt, starts_again(rt.alloc(), rows));
 }
 
 // The part of what a start writes at which it was refused, or that nothing is written to such a sink.

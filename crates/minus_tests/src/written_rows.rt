@@ -1,4 +1,5 @@
 //! Worked rows of text that are written without a state.
+use crate::facts::{assert_at, assert_holds};
 use crate::sessions::are_bytes;
 use minus::{LineNumbers, write_lines, write_lines_in_horizontal_scroll, write_text_checked};
 use std::alloc::Global;
@@ -134,9 +135,10 @@ const SCROLLED: [Scrolled; 7] = [
 #[test]
 fn rows_are_cropped_by_columns(rt: HostRuntime) {
     for (lines, cols, left, text) in &SCROLLED {
-        assert!(rt;
+        assert_at(
+            &rt,
+            text,
             is_scrolled(rt.alloc(), lines, *cols, *left, text),
-            "at {text}"
         );
     }
 }
@@ -152,7 +154,7 @@ fn is_written(alloc: Global, rows: &[&str], wrapping: bool, lines: usize, texts:
 fn wrapped_rows_are_written_as_they_are(rt: HostRuntime) {
     let rows = &["     \x1b[1m1.\x1b[0m one", "        two"];
     let texts = &["\r     \x1b[1m1.\x1b[0m one\n", "\r        two\n"];
-    assert!(rt; is_written(rt.alloc(), rows, true, 1, texts));
+    assert_holds(&rt, is_written(rt.alloc(), rows, true, 1, texts));
 }
 
 #[test]
@@ -161,5 +163,5 @@ fn rows_that_are_not_wrapped_are_cropped_behind_their_numbers(rt: HostRuntime) {
         "\r     \x1b[1m2.\x1b[0m   \n",
         "\r     \x1b[1m3.\x1b[0m bc\n",
     ];
-    assert!(rt; is_written(rt.alloc(), &NUMBERED[1..], false, 3, texts));
+    assert_holds(&rt, is_written(rt.alloc(), &NUMBERED[1..], false, 3, texts));
 }

@@ -1,4 +1,5 @@
 //! Worked descriptions of keys.
+use crate::facts::assert_at;
 use minus_input::parse_key_event;
 use minus_term::{DescriptionError, KeyCode, KeyEventKind, KeyEventState, KeyModifiers};
 
@@ -37,7 +38,7 @@ fn modifiers_and_keys_are_read(rt: HostRuntime) {
         ),
     ];
     for (text, code, modifiers) in cases {
-        assert!(rt; is_key(text, *code, *modifiers), "at {text}");
+        assert_at(&rt, text, is_key(text, *code, *modifiers));
     }
 }
 
@@ -60,7 +61,7 @@ fn the_first_fault_from_the_left_is_told(rt: HostRuntime) {
         ("C-x", DescriptionError::SecondKey),
     ];
     for (text, fault) in cases {
-        assert!(rt; is_refused(text, *fault), "at {text}");
+        assert_at(&rt, text, is_refused(text, *fault));
     }
 }
 
@@ -98,6 +99,6 @@ fn names_are_read_in_any_case(rt: HostRuntime) {
         ("f12", KeyCode::F(12)),
     ];
     for (name, code) in cases {
-        assert!(rt; is_key(name, *code, KeyModifiers::NONE), "at {name}");
+        assert_at(&rt, name, is_key(name, *code, KeyModifiers::NONE));
     }
 }

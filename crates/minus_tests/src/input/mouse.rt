@@ -1,4 +1,5 @@
 //! Worked descriptions of the mouse's actions.
+use crate::facts::assert_at;
 use minus_input::parse_mouse_event;
 use minus_term::{DescriptionError, KeyModifiers, MouseButton, MouseEventKind};
 
@@ -34,7 +35,7 @@ fn buttons_and_wheel_are_read(rt: HostRuntime) {
         ("Scroll:down", MouseEventKind::ScrollDown),
     ];
     for (text, kind) in cases {
-        assert!(rt; is_mouse(text, *kind, KeyModifiers::NONE), "at {text}");
+        assert_at(&rt, text, is_mouse(text, *kind, KeyModifiers::NONE));
     }
 }
 
@@ -60,7 +61,7 @@ fn modifiers_are_read_before_an_action(rt: HostRuntime) {
         ),
     ];
     for (text, kind, modifiers) in cases {
-        assert!(rt; is_mouse(text, *kind, *modifiers), "at {text}");
+        assert_at(&rt, text, is_mouse(text, *kind, *modifiers));
     }
 }
 
@@ -75,6 +76,6 @@ fn what_is_no_action_is_refused(rt: HostRuntime) {
         ("left:up-move", DescriptionError::SecondKey),
     ];
     for (text, fault) in cases {
-        assert!(rt; is_refused(text, *fault), "at {text}");
+        assert_at(&rt, text, is_refused(text, *fault));
     }
 }

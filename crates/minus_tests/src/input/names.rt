@@ -1,4 +1,5 @@
 //! Letters of modifiers, names of keys, and a worked help table.
+use crate::facts::{assert_at, assert_holds};
 use bitflags::Flags;
 use minus_input::{KeySeq, format_help_table_from_entries, format_key, modifier_of};
 use minus_term::{KeyCode, KeyEvent, KeyEventKind, KeyEventState, KeyModifiers};
@@ -23,13 +24,16 @@ fn modifiers_have_their_letters(rt: HostRuntime) {
         Some(KeyModifiers::SHIFT),
         None,
     ];
-    assert!(rt; read == wanted);
+    assert_holds(&rt, read == wanted);
 }
 
 #[test]
 fn a_sequence_begins_with_nothing(rt: HostRuntime) {
     let seq: KeySeq = KeySeq::default();
-    assert!(rt; seq.code.is_none() && seq.modifiers == KeyModifiers::NONE);
+    assert_holds(
+        &rt,
+        seq.code.is_none() && seq.modifiers == KeyModifiers::NONE,
+    );
 }
 
 // A key, the modifiers that it is pressed with, and its name.
@@ -113,7 +117,7 @@ const NAMES: [&Named<'static>; 10] = [
 #[test]
 fn keys_have_their_names(rt: HostRuntime) {
     for key in &NAMES {
-        assert!(rt; is_named(rt.alloc(), key), "at {}", key.name);
+        assert_at(&rt, key.name, is_named(rt.alloc(), key));
     }
 }
 
@@ -145,11 +149,11 @@ fn a_table_has_a_line_for_each_description(rt: HostRuntime) {
         "\n",
         "  -- Press q to return to pager --\n",
     );
-    assert!(rt; is_table(rt.alloc(), entries, wanted));
+    assert_holds(&rt, is_table(rt.alloc(), entries, wanted));
 }
 
 #[test]
 fn a_table_without_descriptions_is_empty(rt: HostRuntime) {
     let key = pressed(KeyCode::Char('x'), KeyModifiers::NONE);
-    assert!(rt; is_table(rt.alloc(), &[(&key, " ")], ""));
+    assert_holds(&rt, is_table(rt.alloc(), &[(&key, " ")], ""));
 }

@@ -1,4 +1,5 @@
 //! Rows as they are printed, numbers and arguments.
+use crate::facts::assert_holds;
 use crate::script::words::add_words;
 use minus_script::{Arguments, Mode, parse_arguments, parse_usize, print_row, print_rows};
 use std::alloc::Global;
@@ -11,7 +12,10 @@ fn prints(alloc: Global, row: &str, printed: &str) -> bool {
 
 #[test]
 fn prints_a_row_with_escapes(rt: HostRuntime) {
-    assert!(rt; prints(rt.alloc(), "a\x1b[1m\r\\né", "a\\e[1m\\r\\\\né\n"));
+    assert_holds(
+        &rt,
+        prints(rt.alloc(), "a\x1b[1m\r\\né", "a\\e[1m\\r\\\\né\n"),
+    );
 }
 
 // Whether rows are printed so.
@@ -25,7 +29,7 @@ fn prints_all(alloc: Global, texts: &[&str], printed: &str) -> bool {
 
 #[test]
 fn prints_rows(rt: HostRuntime) {
-    assert!(rt; prints_all(rt.alloc(), &["", "b"], "\nb\n"));
+    assert_holds(&rt, prints_all(rt.alloc(), &["", "b"], "\nb\n"));
 }
 
 // Whether these words are these arguments, or none.
@@ -67,5 +71,8 @@ fn reads_arguments(rt: HostRuntime) {
 
 #[test]
 fn reads_numbers(rt: HostRuntime) {
-    assert!(rt; parse_usize("+018") == Some(18) && parse_usize("1 ").is_none());
+    assert_holds(
+        &rt,
+        parse_usize("+018") == Some(18) && parse_usize("1 ").is_none(),
+    );
 }

@@ -1,4 +1,5 @@
 //! The program's statuses, and what it says of its faults.
+use crate::facts::assert_holds;
 use crate::script::doubles::{Broken, Refusal, Refusing};
 use crate::script::words::add_words;
 use crate::shown::is_shown;
@@ -99,7 +100,7 @@ fn a_reader_that_fails_is_told(rt: HostRuntime) {
         &mut out,
         told,
     );
-    assert!(rt; is_told && out.is_empty());
+    assert_holds(&rt, is_told && out.is_empty());
 }
 
 // Whether a writer that refuses so is told.
@@ -126,11 +127,11 @@ fn a_writer_that_refuses_is_told(rt: HostRuntime) {
 #[test]
 fn want_of_memory_is_a_refusal(rt: HostRuntime) {
     let fault = ProgramFault::from(AllocError);
-    assert!(rt; is_told(rt.alloc(), &fault, (3, "refused 1")));
+    assert_holds(&rt, is_told(rt.alloc(), &fault, (3, "refused 1")));
 }
 
 // A test is started with other words than the program's.
 #[test]
 fn the_program_ends_with_the_status_of_its_fault(rt: HostRuntime) {
-    assert!(rt; run_to_end(&rt) == ExitCode::from(2));
+    assert_holds(&rt, run_to_end(&rt) == ExitCode::from(2));
 }

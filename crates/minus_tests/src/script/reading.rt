@@ -1,6 +1,7 @@
 //! Readers that stop, fail or never end.
 ghost use Rattle.std.specs.Prelude.{Some, drop};
 
+use crate::facts::assert_holds;
 use crate::script::doubles::{Broken, Slow, Steady};
 use minus_script::{ScriptFault, Stream, read_script};
 use std::alloc::Global;
@@ -20,7 +21,7 @@ fn reads_on_where_it_is_interrupted(rt: HostRuntime) {
         rest: b"push a\n",
         interrupts: false,
     };
-    assert!(rt; reads(rt.alloc(), &mut slow, "push a\n"));
+    assert_holds(&rt, reads(rt.alloc(), &mut slow, "push a\n"));
 }
 
 // How many bytes a reader gives.
@@ -34,13 +35,16 @@ fn len_of<R: Read>(alloc: Global, reader: &mut R) -> Option<usize> {
 #[test]
 fn reads_as_often_as_it_may(rt: HostRuntime) {
     let mut most = Steady { left: 1_048_575 };
-    assert!(rt; len_of(rt.alloc(), &mut most) == Some(1_048_575));
+    assert_holds(&rt, len_of(rt.alloc(), &mut most) == Some(1_048_575));
 }
 
 #[test]
 fn reads_more_than_a_buffer(rt: HostRuntime) {
     let long = [b'x'; 10_000];
-    assert!(rt; len_of(rt.alloc(), &mut long.as_slice()) == Some(10_000));
+    assert_holds(
+        &rt,
+        len_of(rt.alloc(), &mut long.as_slice()) == Some(10_000),
+    );
 }
 
 // The kind of the fault of standard input.
@@ -54,11 +58,17 @@ fn kind_of<R: Read>(alloc: Global, reader: &mut R) -> Option<ErrorKind> {
 #[test]
 fn gives_up_on_an_endless_reader(rt: HostRuntime) {
     let mut endless = Steady { left: 1_048_576 };
-    assert!(rt; kind_of(rt.alloc(), &mut endless) == Some(ErrorKind::InvalidData));
+    assert_holds(
+        &rt,
+        kind_of(rt.alloc(), &mut endless) == Some(ErrorKind::InvalidData),
+    );
 }
 
 #[test]
 fn hands_on_a_readers_error(rt: HostRuntime) {
     let mut broken = Broken { failed: false };
-    assert!(rt; kind_of(rt.alloc(), &mut broken) == Some(ErrorKind::BrokenPipe));
+    assert_holds(
+        &rt,
+        kind_of(rt.alloc(), &mut broken) == Some(ErrorKind::BrokenPipe),
+    );
 }

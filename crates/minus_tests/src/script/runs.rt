@@ -1,4 +1,5 @@
 //! Runs of scripts with what they must print.
+use crate::facts::{assert_at, assert_holds};
 use crate::shown::is_shown;
 use minus_script::{Mode, run_script};
 use std::alloc::Global;
@@ -43,10 +44,7 @@ fn prints_the_bytes_of_a_script(rt: HostRuntime) {
         ),
     ];
     for (cols, rows, script, drawn) in cases {
-        assert!(rt;
-            draws(rt.alloc(), *cols, *rows, script, drawn),
-            "at {script}"
-        );
+        assert_at(&rt, script, draws(rt.alloc(), *cols, *rows, script, drawn));
     }
 }
 
@@ -103,9 +101,10 @@ const PAGES: [(usize, usize, &str, &str); 8] = [
 #[test]
 fn prints_the_page_that_a_script_leads_to(rt: HostRuntime) {
     for (cols, rows, script, page) in &PAGES {
-        assert!(rt;
+        assert_at(
+            &rt,
+            script,
             leads_to(rt.alloc(), *cols, *rows, script, page),
-            "at {script}"
         );
     }
 }
@@ -121,7 +120,7 @@ fn fills_hundreds(alloc: Global, script: &str, beginning: &str) -> bool {
 
 #[test]
 fn a_page_may_have_hundreds_of_rows(rt: HostRuntime) {
-    assert!(rt; fills_hundreds(rt.alloc(), "push a", "a\n\n"));
+    assert_holds(&rt, fills_hundreds(rt.alloc(), "push a", "a\n\n"));
 }
 
 // Whether a run of a script ends with this fault, and prints nothing.

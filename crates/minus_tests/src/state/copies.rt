@@ -1,4 +1,5 @@
 //! Worked copies of selections.
+use crate::facts::assert_at;
 use crate::state::texts::{NUMBERED, PLAIN, end, form};
 use minus_state::{SelectionEnds, extract_selection};
 use minus_text::{Layout, Screen};
@@ -122,6 +123,6 @@ const COPIES: [&Copied<'static>; 11] = [
 #[test]
 fn what_is_selected_is_copied(rt: HostRuntime) {
     for case in &COPIES {
-        assert!(rt; is_copied(rt.alloc(), case), "at {}", case.text);
+        assert_at(&rt, case.text, is_copied(rt.alloc(), case));
     }
 }

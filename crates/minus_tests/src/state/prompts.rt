@@ -1,4 +1,5 @@
 //! Worked prompt rows.
+use crate::facts::assert_at;
 use minus_state::{PromptRow, format_prompt};
 use std::alloc::Global;
 
@@ -93,6 +94,6 @@ const ROWS: [(&PromptRow<'static>, &str); 9] = [
 #[test]
 fn prompt_rows_are_formed(rt: HostRuntime) {
     for (row, text) in &ROWS {
-        assert!(rt; is_formed(rt.alloc(), row, text), "at {text}");
+        assert_at(&rt, text, is_formed(rt.alloc(), row, text));
     }
 }

@@ -1,4 +1,5 @@
 //! Worked rows: what is marked, and what stands in some columns.
+use crate::facts::assert_holds;
 use minus_state::{
     Selection, get_horizontal_scroll_bounds, highlight_visible_range, marked_range,
     place_after_visible, place_of_visible,
@@ -47,7 +48,7 @@ fn ends_are_taken_in_order(rt: HostRuntime) {
         && marked_range(first, last, 1, 8, 0) == Some((8, None))
         && marked_range(first, last, 2, 8, 1) == Some((8, Some(11)))
         && marked_range(first, last, 3, 0, 0).is_none();
-    assert!(rt; ordered && ranges);
+    assert_holds(&rt, ordered && ranges);
 }
 
 #[test]
@@ -55,7 +56,7 @@ fn places_are_those_of_visible_characters(rt: HostRuntime) {
     let row = "a\x1b[1m日c";
     let begins = place_of_visible(row, 1) == 5 && place_of_visible(row, 7) == 9;
     let ends = place_after_visible(row, 1) == 8 && place_after_visible(row, 7) == 9;
-    assert!(rt; begins && ends);
+    assert_holds(&rt, begins && ends);
 }
 
 #[test]
@@ -66,5 +67,5 @@ fn bounds_are_those_of_whole_units(rt: HostRuntime) {
         && get_horizontal_scroll_bounds(row, 12, 6, true, 1) == (16, 22, 26);
     let wide = get_horizontal_scroll_bounds("日本語abc", 4, 1, false, 1) == (0, 3, 6)
         && get_horizontal_scroll_bounds("日本語abc", 4, 99, false, 1) == (0, 12, 12);
-    assert!(rt; numbered && wide);
+    assert_holds(&rt, numbered && wide);
 }

@@ -1,4 +1,5 @@
 //! Worked shown rows.
+use crate::facts::assert_holds;
 use crate::state::texts::{PLAIN, ends, form, form_searched};
 use minus_state::{Rendering, SelectionEnds, render_rows_for_display};
 use minus_text::{Layout, LineNumbers, Screen};
@@ -231,5 +232,8 @@ fn no_more_rows_are_shown_than_there_are(rt: HostRuntime) {
     let alloc = rt.alloc();
     let mut screen = Screen::new(alloc);
     let is_formed = form(alloc, &mut screen, "a\nb\nc", Layout::plain(20));
-    assert!(rt; is_formed && shows_the_last_two(alloc, &screen, "b", "c"));
+    assert_holds(
+        &rt,
+        is_formed && shows_the_last_two(alloc, &screen, "b", "c"),
+    );
 }

@@ -2,6 +2,7 @@
 ghost use Rattle.std.specs.Prelude.{IfSome};
 ghost use Rattle.minus_state.specs.States.{IsFormed};
 
+use crate::facts::assert_holds;
 use minus_state::{AppendStyle, PagerState};
 use minus_text::LineNumbers;
 use std::alloc::Global;
@@ -71,7 +72,7 @@ fn goes_on(alloc: Global) -> bool {
 
 #[test]
 fn an_append_tells_the_first_row_that_it_changes(rt: HostRuntime) {
-    assert!(rt; goes_on(rt.alloc()));
+    assert_holds(&rt, goes_on(rt.alloc()));
 }
 
 // Four texts that are appended, and the rows of 80 columns that they have together.
@@ -175,7 +176,7 @@ fn forms_anew(alloc: Global) -> bool {
 
 #[test]
 fn a_line_whose_number_has_one_more_digit_forms_all_rows_anew(rt: HostRuntime) {
-    assert!(rt; forms_anew(rt.alloc()));
+    assert_holds(&rt, forms_anew(rt.alloc()));
 }
 
 // Whether a line takes two rows, and one where lines are not wrapped.
@@ -192,7 +193,7 @@ fn are_wrapped(alloc: Global) -> bool {
 
 #[test]
 fn lines_are_one_row_where_they_are_not_wrapped(rt: HostRuntime) {
-    assert!(rt; are_wrapped(rt.alloc()));
+    assert_holds(&rt, are_wrapped(rt.alloc()));
 }
 
 // Whether three lines, of which the second takes two rows, tell their first rows.
@@ -210,7 +211,7 @@ fn are_first_rows(alloc: Global) -> bool {
 
 #[test]
 fn lines_tell_their_first_rows(rt: HostRuntime) {
-    assert!(rt; are_first_rows(rt.alloc()));
+    assert_holds(&rt, are_first_rows(rt.alloc()));
 }
 
 // Whether help over a text is shown, and the text once it is left.
@@ -229,7 +230,7 @@ fn help_comes_and_goes(alloc: Global) -> bool {
 
 #[test]
 fn help_is_opened_and_left(rt: HostRuntime) {
-    assert!(rt; help_comes_and_goes(rt.alloc()));
+    assert_holds(&rt, help_comes_and_goes(rt.alloc()));
 }
 
 // The number by which a prompt is refused, or the want of memory for it; 0 where it is taken.
@@ -256,5 +257,5 @@ fn takes_one_line(alloc: Global) -> bool {
 
 #[test]
 fn a_prompt_of_two_lines_is_refused(rt: HostRuntime) {
-    assert!(rt; takes_one_line(rt.alloc()));
+    assert_holds(&rt, takes_one_line(rt.alloc()));
 }

@@ -1,4 +1,5 @@
 //! The texts and numbers of the errors.
+use crate::facts::{assert_at, assert_holds};
 use crate::shown::{is_debugged, is_shown};
 use minus_term::{
     CleanupError, DescriptionError, Hook, MinusError, RegexError, SetupError, TermError,
@@ -34,7 +35,7 @@ const NAMED: [(&MinusError, u8, &str); 7] = [
 #[test]
 fn names_each_error(rt: HostRuntime) {
     for (error, number, text) in &NAMED {
-        assert!(rt; is_named(rt.alloc(), error, *number, text), "at {text}");
+        assert_at(&rt, text, is_named(rt.alloc(), error, *number, text));
     }
 }
 
@@ -63,7 +64,7 @@ fn names_each_error_with_a_cause(rt: HostRuntime) {
             16,
             "Failed to send formatted data to the pager",
         );
-    assert!(rt; are_named);
+    assert_holds(&rt, are_named);
 }
 
 // Whether an error of a setup has this text.
@@ -100,7 +101,7 @@ fn names_each_error_of_a_setup(rt: HostRuntime) {
         SetupError::TerminalSize(broken()),
         "Couldn't determine the terminal size",
     );
-    assert!(rt; are_named);
+    assert_holds(&rt, are_named);
 }
 
 // Whether an error of a cleanup has this text.
@@ -128,12 +129,12 @@ fn names_each_error_of_a_cleanup(rt: HostRuntime) {
         CleanupError::LeaveAlternateScreen(broken()),
         "Failed to switch back to main screen",
     );
-    assert!(rt; are_named);
+    assert_holds(&rt, are_named);
 }
 
 #[test]
 fn names_a_cause_by_its_own_text(rt: HostRuntime) {
-    assert!(rt; is_shown(rt.alloc(), &broken(), "broken pipe"));
+    assert_holds(&rt, is_shown(rt.alloc(), &broken(), "broken pipe"));
 }
 
 // The fault of a pattern that is too big.
@@ -151,14 +152,17 @@ fn is_named_by_its_cause(alloc: Global, text: &mut String) -> bool {
 #[test]
 fn names_a_faulty_pattern_by_its_cause(rt: HostRuntime) {
     let mut text = String::new(rt.alloc());
-    assert!(rt; is_named_by_its_cause(rt.alloc(), &mut text));
+    assert_holds(&rt, is_named_by_its_cause(rt.alloc(), &mut text));
 }
 
 #[test]
 fn names_a_hook(rt: HostRuntime) {
     let hook = Hook::PostPagerExit;
     let is_told_apart = hook == Hook::PostPagerExit && hook != Hook::PrePagerExit;
-    assert!(rt; is_told_apart && is_debugged(rt.alloc(), &hook, "PostPagerExit"));
+    assert_holds(
+        &rt,
+        is_told_apart && is_debugged(rt.alloc(), &hook, "PostPagerExit"),
+    );
 }
 
 const FAULTS: [(DescriptionError, &str); 7] = [
@@ -174,6 +178,6 @@ const FAULTS: [(DescriptionError, &str); 7] = [
 #[test]
 fn names_each_fault_of_a_description(rt: HostRuntime) {
     for (fault, name) in &FAULTS {
-        assert!(rt; is_shown(rt.alloc(), fault, name), "at {name}");
+        assert_at(&rt, name, is_shown(rt.alloc(), fault, name));
     }
 }

@@ -1,4 +1,5 @@
 //! Keys that are equal and keys that are not, and the bits of the sets.
+use crate::facts::assert_holds;
 use bitflags::Flags;
 use minus_term::{
     Event, KeyCode, KeyEvent, KeyEventKind, KeyEventState, KeyModifiers, MouseButton, MouseEvent,
@@ -41,7 +42,7 @@ fn letters_with_shift_equal_their_capitals(rt: HostRuntime) {
     let is_apart = are_apart(small, pressed('a', KeyModifiers::NONE))
         && are_apart(small, pressed('A', KeyModifiers::CONTROL))
         && are_apart(small, pressed('B', KeyModifiers::SHIFT));
-    assert!(rt; is_equal && is_apart);
+    assert_holds(&rt, is_equal && is_apart);
 }
 
 #[test]
@@ -49,7 +50,7 @@ fn other_characters_stay_apart(rt: HostRuntime) {
     let accents = pressed('É', KeyModifiers::NONE) != pressed('é', KeyModifiers::SHIFT);
     let digits = pressed('1', KeyModifiers::NONE) != pressed('1', KeyModifiers::SHIFT);
     let one = pressed('É', KeyModifiers::NONE) == pressed('É', KeyModifiers::NONE);
-    assert!(rt; accents && digits && one);
+    assert_holds(&rt, accents && digits && one);
 }
 
 #[test]
@@ -63,7 +64,7 @@ fn events_compare_all_of_a_key(rt: HostRuntime) {
     let equal = Event::Key(key) == Event::Key(capital);
     let kinds = Event::Key(key) != Event::Key(released);
     let states = Event::Key(key) != Event::Key(locked);
-    assert!(rt; equal && kinds && states);
+    assert_holds(&rt, equal && kinds && states);
 }
 
 #[test]
@@ -77,7 +78,7 @@ fn events_of_other_kinds_compare_all_they_hold(rt: HostRuntime) {
     let sizes = Event::Resize(80, 24) != Event::Resize(24, 80);
     let same = Event::Mouse(mouse) == Event::Mouse(mouse);
     let apart = Event::Mouse(mouse) != Event::FocusLost;
-    assert!(rt; sizes && same && apart);
+    assert_holds(&rt, sizes && same && apart);
 }
 
 #[test]
@@ -117,5 +118,5 @@ fn flags_have_their_names_and_no_others_are_read(rt: HostRuntime) {
     let meta = KeyModifiers::from_name("META") == Some(KeyModifiers::META);
     let keypad = KeyEventState::from_name("KEYPAD") == Some(KeyEventState::KEYPAD);
     let none = KeyModifiers::from_bits(64).is_none() && KeyEventState::from_bits(8).is_none();
-    assert!(rt; meta && keypad && none);
+    assert_holds(&rt, meta && keypad && none);
 }

@@ -1,4 +1,5 @@
 //! The bytes of each operation, and how they reach a sink.
+use crate::facts::assert_holds;
 use crate::stubborn::{NOTHING, Refusal, Stubborn, write};
 use crate::term::sinks::draws;
 use minus_term::{DrawOp, OutputSink, draw_bytes, write_bytes, write_op};
@@ -38,14 +39,17 @@ fn writes_each_operation(rt: HostRuntime) {
 fn draws_to_a_vector(rt: HostRuntime) {
     let mut sink = Vec::new(rt.alloc());
     let drawn = draws(&mut sink, b"one") && draws(&mut sink, b"") && draws(&mut sink, b"two");
-    assert!(rt; drawn && sink.as_slice() == b"onetwo".as_slice() && !sink.is_tty());
+    assert_holds(
+        &rt,
+        drawn && sink.as_slice() == b"onetwo".as_slice() && !sink.is_tty(),
+    );
 }
 
 #[test]
 fn settles_once_after_all_bytes(rt: HostRuntime) {
     let mut sink = Stubborn::new(rt.alloc(), NOTHING);
     let drawn = draws(&mut sink, b"xyz");
-    assert!(rt; drawn && sink.has_taken(b"xyz", 3, 1));
+    assert_holds(&rt, drawn && sink.has_taken(b"xyz", 3, 1));
 }
 
 // The kind of a refusal.
@@ -60,12 +64,18 @@ fn kind_of(outcome: io::Result<()>) -> Option<ErrorKind> {
 fn hands_on_the_first_refusal(rt: HostRuntime) {
     let mut sink = Stubborn::new(rt.alloc(), write(3, Refusal::Interrupted));
     let kind = kind_of(draw_bytes(&mut sink, b"xyz!"));
-    assert!(rt; kind == Some(ErrorKind::Interrupted) && sink.has_taken(b"xy", 3, 0));
+    assert_holds(
+        &rt,
+        kind == Some(ErrorKind::Interrupted) && sink.has_taken(b"xy", 3, 0),
+    );
 }
 
 #[test]
 fn takes_nothing_for_a_refusal(rt: HostRuntime) {
     let mut sink = Stubborn::new(rt.alloc(), write(2, Refusal::NothingTaken));
     let kind = kind_of(write_bytes(&mut sink, b"xyz"));
-    assert!(rt; kind == Some(ErrorKind::WriteZero) && sink.has_taken(b"x", 2, 0));
+    assert_holds(
+        &rt,
+        kind == Some(ErrorKind::WriteZero) && sink.has_taken(b"x", 2, 0),
+    );
 }

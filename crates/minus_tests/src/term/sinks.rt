@@ -1,4 +1,5 @@
 //! Drawings to each sink, and the count of refusals.
+use crate::facts::assert_holds;
 use crate::stubborn::{NOTHING, Refusal, Stubborn, write};
 use minus_term::{OutputSink, WithTty, draw_bytes};
 use std::alloc::Global;
@@ -19,7 +20,10 @@ fn takes<S: OutputSink>(sink: &mut S, bytes: &[u8]) -> bool {
 fn draws_to_a_cursor(rt: HostRuntime) {
     let mut cursor = Cursor::new(Vec::new(rt.alloc()));
     let taken = takes(&mut cursor, b"to a cursor");
-    assert!(rt; taken && cursor.get_ref().as_slice() == b"to a cursor".as_slice());
+    assert_holds(
+        &rt,
+        taken && cursor.get_ref().as_slice() == b"to a cursor".as_slice(),
+    );
 }
 
 // Whether a box of a vector takes a drawing.
@@ -32,7 +36,7 @@ fn boxed_takes(alloc: Global, bytes: &[u8]) -> bool {
 
 #[test]
 fn draws_to_a_box(rt: HostRuntime) {
-    assert!(rt; boxed_takes(rt.alloc(), b"to a box"));
+    assert_holds(&rt, boxed_takes(rt.alloc(), b"to a box"));
 }
 
 // Whether a box settles the sink that it holds, once for a drawing.
@@ -46,12 +50,12 @@ fn boxed_settles(alloc: Global, inner: Stubborn, bytes: &[u8]) -> bool {
 #[test]
 fn a_box_settles_what_it_holds(rt: HostRuntime) {
     let inner = Stubborn::new(rt.alloc(), NOTHING);
-    assert!(rt; boxed_settles(rt.alloc(), inner, b"settled"));
+    assert_holds(&rt, boxed_settles(rt.alloc(), inner, b"settled"));
 }
 
 #[test]
 fn draws_to_nothing(rt: HostRuntime) {
-    assert!(rt; takes(&mut io::sink(), b"to nothing"));
+    assert_holds(&rt, takes(&mut io::sink(), b"to nothing"));
 }
 
 // No bytes are drawn to the standard streams, since the test's own output goes there.
@@ -60,7 +64,7 @@ fn each_standard_stream_takes_an_empty_drawing(rt: HostRuntime) {
     let (mut out, mut err) = (rt.stdout(), rt.stderr());
     let streams = takes(&mut out, b"") && takes(&mut err, b"");
     let puts = matches!(out.put(b""), Ok(0)) && matches!(err.put(b""), Ok(0));
-    assert!(rt; streams && puts);
+    assert_holds(&rt, streams && puts);
 }
 
 // Whether a new file takes a drawing.
@@ -84,7 +88,7 @@ fn file_holds(rt: &HostRuntime, path: &str, bytes: &[u8]) -> bool {
 fn draws_to_a_file(rt: HostRuntime) {
     let path = "draws_to_a_file.txt";
     let taken = file_takes(&rt, path, b"to a file");
-    assert!(rt; taken && file_holds(&rt, path, b"to a file"));
+    assert_holds(&rt, taken && file_holds(&rt, path, b"to a file"));
 }
 
 // Whether a drawing is refused, as the last of so many.
@@ -109,5 +113,8 @@ fn counts(sink: &mut WithTty<Stubborn>) -> bool {
 fn counts_each_refusal(rt: HostRuntime) {
     let stubborn = Stubborn::new(rt.alloc(), write(2, Refusal::NothingTaken));
     let mut sink = WithTty::new(stubborn, true);
-    assert!(rt; counts(&mut sink) && sink.inner.held.as_slice() == b"xyz!".as_slice());
+    assert_holds(
+        &rt,
+        counts(&mut sink) && sink.inner.held.as_slice() == b"xyz!".as_slice(),
+    );
 }

@@ -1,4 +1,5 @@
 //! What sets a terminal up and cleans it up, and which part of it a sink refused.
+use crate::facts::assert_holds;
 use crate::shown::is_shown;
 use crate::stubborn::{Refusal, Stubborn, write};
 use minus_term::{OutputSink, SetupError, WithTty, cleanup, setup};
@@ -28,21 +29,21 @@ fn is_cleaned_up<S: OutputSink>(sink: &mut S, was_set_up: bool) -> bool {
 fn sets_a_terminal_up(rt: HostRuntime) {
     let mut sink = terminal(rt.alloc(), 0);
     let is_done = is_set_up(&mut sink) && sink.refusals == 0;
-    assert!(rt; is_done && sink.inner.has_taken(SETUP, 54, 3));
+    assert_holds(&rt, is_done && sink.inner.has_taken(SETUP, 54, 3));
 }
 
 #[test]
 fn cleans_a_terminal_up(rt: HostRuntime) {
     let mut sink = terminal(rt.alloc(), 0);
     let is_done = is_cleaned_up(&mut sink, true) && sink.refusals == 0;
-    assert!(rt; is_done && sink.inner.has_taken(CLEANUP, 54, 3));
+    assert_holds(&rt, is_done && sink.inner.has_taken(CLEANUP, 54, 3));
 }
 
 #[test]
 fn cleans_nothing_up_unless_asked_to(rt: HostRuntime) {
     let mut sink = terminal(rt.alloc(), 0);
     let is_left = is_cleaned_up(&mut sink, false);
-    assert!(rt; is_left && sink.inner.has_taken(b"", 0, 0));
+    assert_holds(&rt, is_left && sink.inner.has_taken(b"", 0, 0));
 }
 
 // Whether a sink is not set up since it is no terminal.
@@ -53,7 +54,7 @@ fn is_no_terminal<S: OutputSink>(sink: &mut S) -> bool {
 #[test]
 fn a_vector_is_no_terminal(rt: HostRuntime) {
     let mut bare = Vec::new(rt.alloc());
-    assert!(rt; is_no_terminal(&mut bare) && bare.is_empty());
+    assert_holds(&rt, is_no_terminal(&mut bare) && bare.is_empty());
 }
 
 #[test]
@@ -62,7 +63,7 @@ fn sets_up_a_vector_under_the_flag(rt: HostRuntime) {
     let has_setup = is_set_up(&mut sink) && sink.inner.as_slice() == SETUP;
     let is_done = is_cleaned_up(&mut sink.inner, true);
     let has_both = sink.inner.len() == SETUP.len() + CLEANUP.len();
-    assert!(rt; has_setup && is_done && has_both);
+    assert_holds(&rt, has_setup && is_done && has_both);
 }
 
 // Whether a terminal that refuses a write is not set up for this reason.
@@ -140,5 +141,5 @@ fn is_without_mouse<S: OutputSink>(sink: &mut S) -> bool {
 fn hands_on_a_refused_flush(rt: HostRuntime) {
     let mut sink = terminal(rt.alloc(), 0);
     sink.inner.refused.flush = 2;
-    assert!(rt; is_without_mouse(&mut sink) && sink.inner.writes == 48);
+    assert_holds(&rt, is_without_mouse(&mut sink) && sink.inner.writes == 48);
 }

@@ -1,4 +1,5 @@
 //! Writes beside the drawing of a page.
+use crate::facts::assert_holds;
 use crate::stubborn::{NOTHING, Refusal, Stubborn, write};
 use minus_term::{MinusError, clear_entire_screen, move_cursor, write_raw_lines};
 use std::alloc::Global;
@@ -30,7 +31,7 @@ fn moves_the_cursor_and_settles_if_asked_to(rt: HostRuntime) {
     let is_left = moves(alloc, &mut out, 4, 9, false) && out.flushes == 0;
     let is_moved = moves(alloc, &mut out, 0, 65535, true);
     let is_taken = out.has_taken(b"\x1b[10;5H\x1b[65536;1H", 17, 1);
-    assert!(rt; is_left && is_moved && is_taken);
+    assert_holds(&rt, is_left && is_moved && is_taken);
 }
 
 // Whether the screen is cleared.
@@ -43,7 +44,10 @@ fn clears_the_screen_and_settles_if_asked_to(rt: HostRuntime) {
     let mut out = sink(rt.alloc());
     let is_left = clears(&mut out, false) && out.flushes == 0;
     let is_cleared = clears(&mut out, true);
-    assert!(rt; is_left && is_cleared && out.has_taken(b"\x1b[2J\x1b[2J", 8, 1));
+    assert_holds(
+        &rt,
+        is_left && is_cleared && out.has_taken(b"\x1b[2J\x1b[2J", 8, 1),
+    );
 }
 
 // Whether some lines are written as these bytes, and the sink is not settled.
@@ -66,16 +70,22 @@ fn is_string_written(alloc: Global, line: &str, bytes: &str) -> bool {
 fn writes_raw_lines(rt: HostRuntime) {
     let alloc = rt.alloc();
     let lines = &["one", "", "two"];
-    assert!(rt; are_written(alloc, lines, Some("\r"), "\rone\n\r\n\rtwo\n"));
-    assert!(rt; is_string_written(alloc, "three", "three\n"));
-    assert!(rt; are_written(alloc, &lines[..0], Some("\r"), ""));
+    assert_holds(
+        &rt,
+        are_written(alloc, lines, Some("\r"), "\rone\n\r\n\rtwo\n"),
+    );
+    assert_holds(&rt, is_string_written(alloc, "three", "three\n"));
+    assert_holds(&rt, are_written(alloc, &lines[..0], Some("\r"), ""));
 }
 
 #[test]
 fn hands_on_a_refused_write(rt: HostRuntime) {
     let mut out = Stubborn::new(rt.alloc(), write(4, Refusal::NothingTaken));
     let kind = kind_of(move_cursor(rt.alloc(), &mut out, 0, 0, true));
-    assert!(rt; kind == Some(ErrorKind::WriteZero) && out.has_taken(b"\x1b[1", 4, 0));
+    assert_holds(
+        &rt,
+        kind == Some(ErrorKind::WriteZero) && out.has_taken(b"\x1b[1", 4, 0),
+    );
 }
 
 #[test]
@@ -83,5 +93,5 @@ fn hands_on_a_refused_flush(rt: HostRuntime) {
     let mut out = sink(rt.alloc());
     out.refused.flush = 1;
     let kind = kind_of(clear_entire_screen(&mut out, true));
-    assert!(rt; kind == Some(ErrorKind::BrokenPipe));
+    assert_holds(&rt, kind == Some(ErrorKind::BrokenPipe));
 }

@@ -1,4 +1,5 @@
 //! What a screen, a push and a map of lines tell.
+use crate::facts::{assert_at, assert_holds};
 use crate::text::screens::{has_rows, push, push_all, stores};
 use crate::text::told::{Told, tells};
 use minus_text::{FormatResult, Layout, LineNumbers, LinesRowMap, PendingPush, Screen};
@@ -22,9 +23,10 @@ fn lines_and_the_longest_are_counted(rt: HostRuntime) {
         ("one\ntwo|", 2, 2, 3),
     ];
     for (pieces, lines, rows, longest) in cases {
-        assert!(rt;
+        assert_at(
+            &rt,
+            pieces,
             counts(rt.alloc(), pieces, *lines, *rows, *longest),
-            "at {pieces}"
         );
     }
 }
@@ -70,7 +72,7 @@ fn unfinished_rows_are_told(rt: HostRuntime) {
         ),
     ];
     for (pieces, rows) in cases {
-        assert!(rt; tells_unfinished(rt.alloc(), pieces, *rows), "at {pieces}");
+        assert_at(&rt, pieces, tells_unfinished(rt.alloc(), pieces, *rows));
     }
 }
 
@@ -115,7 +117,10 @@ fn tells_push(alloc: Global, screen: &mut Screen) -> bool {
 fn a_result_tells_of_the_text_formed(rt: HostRuntime) {
     let alloc = rt.alloc();
     let mut screen = Screen::new(alloc);
-    assert!(rt; tells_set(alloc, &mut screen) && tells_push(alloc, &mut screen));
+    assert_holds(
+        &rt,
+        tells_set(alloc, &mut screen) && tells_push(alloc, &mut screen),
+    );
 }
 
 #[test]
@@ -123,7 +128,7 @@ fn a_row_is_copied(rt: HostRuntime) {
     let alloc = rt.alloc();
     let mut screen = Screen::new(alloc);
     let is_pushed = push_all(alloc, &mut screen, "ab\r\ncd|e\nfg\n", 80);
-    assert!(rt; is_pushed && stores(alloc, &screen, 1, "cde"));
+    assert_holds(&rt, is_pushed && stores(alloc, &screen, 1, "cde"));
 }
 
 // Whether a screen keeps this text, after these pieces.
@@ -140,7 +145,7 @@ fn the_text_is_kept(rt: HostRuntime) {
         ("one\ntwo|", "one\ntwo"),
     ];
     for (pieces, text) in cases {
-        assert!(rt; keeps(rt.alloc(), pieces, text), "at {pieces}");
+        assert_at(&rt, pieces, keeps(rt.alloc(), pieces, text));
     }
 }
 
@@ -184,7 +189,7 @@ fn a_push_is_seen_before_it_is_made(rt: HostRuntime) {
     let alloc = rt.alloc();
     let mut screen = Screen::new(alloc);
     let is_pushed = push(alloc, &mut screen, "one\ntwo thr", LineNumbers::Disabled, 5);
-    assert!(rt; is_pushed && is_seen_twice(alloc, &mut screen));
+    assert_holds(&rt, is_pushed && is_seen_twice(alloc, &mut screen));
 }
 
 // Whether a map of three lines has their rows, and the one emptied into it has none.
@@ -205,5 +210,5 @@ fn maps_three(alloc: Global) -> bool {
 
 #[test]
 fn a_map_of_lines(rt: HostRuntime) {
-    assert!(rt; maps_three(rt.alloc()));
+    assert_holds(&rt, maps_three(rt.alloc()));
 }

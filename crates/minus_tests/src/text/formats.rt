@@ -1,4 +1,5 @@
 //! Texts whose rows are put into a buffer, and rows that are searched.
+use crate::facts::{assert_at, assert_holds};
 use crate::text::searches::Search;
 use crate::text::told::{Told, tells};
 use minus_term::error::MinusError;
@@ -125,7 +126,7 @@ const BEHIND: [&Case<'static>; 3] = [
 #[test]
 fn a_text_is_formatted_behind_others(rt: HostRuntime) {
     for case in &BEHIND {
-        assert!(rt; is_formatted(rt.alloc(), case), "at {}", case.text);
+        assert_at(&rt, case.text, is_formatted(rt.alloc(), case));
     }
 }
 
@@ -166,7 +167,7 @@ const ALONE: Case<'static> = Case {
 
 #[test]
 fn a_buffer_holds_the_rows_of_a_text_alone(rt: HostRuntime) {
-    assert!(rt; is_formatted_alone(rt.alloc(), &ALONE));
+    assert_holds(&rt, is_formatted_alone(rt.alloc(), &ALONE));
 }
 
 // Whether a text is written so over rows, and told.
@@ -228,7 +229,7 @@ const OVER: [&Case<'static>; 2] = [
 #[test]
 fn rows_are_written_over(rt: HostRuntime) {
     for case in &OVER {
-        assert!(rt; is_written_over(rt.alloc(), case), "at {}", case.text);
+        assert_at(&rt, case.text, is_written_over(rt.alloc(), case));
     }
 }
 
@@ -266,5 +267,5 @@ fn is_searched_for(alloc: Global, term: &str, first: &str, second: &str) -> bool
 #[test]
 fn rows_are_searched(rt: HostRuntime) {
     let first = "      \x1b[1m1.\x1b[0m a\x1b[7mb\x1b[27m";
-    assert!(rt; is_searched_for(rt.alloc(), "b", first, "         c"));
+    assert_holds(&rt, is_searched_for(rt.alloc(), "b", first, "         c"));
 }

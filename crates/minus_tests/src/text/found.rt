@@ -1,4 +1,5 @@
 //! What a term finds in the rows of a screen.
+use crate::facts::{assert_at, assert_holds};
 use crate::text::screens::{push, sees, stores};
 use crate::text::searches::Search;
 use crate::text::told::{row_of, tells_matches};
@@ -108,7 +109,7 @@ fn matches_change_when_the_unfinished_line_goes_on(rt: HostRuntime) {
         ),
     ];
     for (pieces, term, rows, told) in cases {
-        assert!(rt; finds(rt.alloc(), pieces, term, rows, told), "at {pieces}");
+        assert_at(&rt, pieces, finds(rt.alloc(), pieces, term, rows, told));
     }
 }
 
@@ -135,5 +136,5 @@ fn shows(alloc: Global, term: &str, row: &str, after: &str) -> bool {
 #[test]
 fn a_row_that_matches_is_stored_with_its_matches_in_reverse(rt: HostRuntime) {
     let row = "a \x1b[7mtest\x1b[27m\x1b[34m\x1b[0m";
-    assert!(rt; shows(rt.alloc(), "test", row, "\x1b[7mtest\x1b[27m"));
+    assert_holds(&rt, shows(rt.alloc(), "test", row, "\x1b[7mtest\x1b[27m"));
 }

@@ -1,4 +1,5 @@
 //! Lines with their matches shown in reverse.
+use crate::facts::assert_holds;
 use crate::text::searches::Search;
 use minus_text::{HighlightMatchesArgs, highlight_line_matches};
 use std::alloc::Global;
@@ -171,5 +172,5 @@ fn stays(alloc: Global, line: &str, query: &str) -> bool {
 
 #[test]
 fn a_line_without_a_match_stays(rt: HostRuntime) {
-    assert!(rt; stays(rt.alloc(), "a \x1b[1mline\x1b[0m", "test"));
+    assert_holds(&rt, stays(rt.alloc(), "a \x1b[1mline\x1b[0m", "test"));
 }

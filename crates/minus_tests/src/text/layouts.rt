@@ -1,4 +1,5 @@
 //! Rows with numbers before them, and lines that are not wrapped.
+use crate::facts::assert_holds;
 use crate::text::screens::{push, sees, set, stores};
 use minus_text::{Layout, LineNumbers, PendingPush, Screen};
 use std::alloc::Global;
@@ -40,7 +41,7 @@ fn the_first_row_of_a_line_has_its_number(rt: HostRuntime) {
     let mut screen = Screen::new(alloc);
     let is_pushed = push_numbered(alloc, &mut screen, "ab", 2, 1);
     let rows = "     \x1b[1m1.\x1b[0m a|        b";
-    assert!(rt; is_pushed && stores_all(alloc, &screen, rows));
+    assert_holds(&rt, is_pushed && stores_all(alloc, &screen, rows));
 }
 
 // Whether the first row makes room where a tenth line comes.
@@ -55,7 +56,7 @@ fn makes_room(alloc: Global, screen: &mut Screen) -> bool {
 #[test]
 fn numbers_make_room_for_one_more_digit(rt: HostRuntime) {
     let mut screen = Screen::new(rt.alloc());
-    assert!(rt; makes_room(rt.alloc(), &mut screen));
+    assert_holds(&rt, makes_room(rt.alloc(), &mut screen));
 }
 
 // Whether a push shows numbers, and tells that it formed all anew.
@@ -79,7 +80,7 @@ fn exchanges_numbers(alloc: Global, screen: &mut Screen) -> bool {
 #[test]
 fn a_push_exchanges_numbers(rt: HostRuntime) {
     let mut screen = Screen::new(rt.alloc());
-    assert!(rt; exchanges_numbers(rt.alloc(), &mut screen));
+    assert_holds(&rt, exchanges_numbers(rt.alloc(), &mut screen));
 }
 
 // Whether a line is one row, however long, until lines are wrapped again.
@@ -96,7 +97,7 @@ fn is_one_row(alloc: Global, screen: &mut Screen) -> bool {
 #[test]
 fn a_line_that_is_not_wrapped_is_one_row(rt: HostRuntime) {
     let mut screen = Screen::new(rt.alloc());
-    assert!(rt; is_one_row(rt.alloc(), &mut screen));
+    assert_holds(&rt, is_one_row(rt.alloc(), &mut screen));
 }
 
 // Whether two screens store the same row.
@@ -196,5 +197,5 @@ fn a_push_is_seen_with_its_numbers_before_it_is_made(rt: HostRuntime) {
     let alloc = rt.alloc();
     let mut all = Screen::new(alloc);
     let is_pushed = push(alloc, &mut all, LINES, LineNumbers::Enabled, 14);
-    assert!(rt; is_pushed && is_seen_everywhere(alloc, &all));
+    assert_holds(&rt, is_pushed && is_seen_everywhere(alloc, &all));
 }

@@ -1,4 +1,5 @@
 //! An unfinished line that comes in pieces has the rows of the whole.
+use crate::facts::{assert_at, assert_holds};
 use crate::text::screens::push;
 use minus_text::{LineNumbers, PendingPush, Screen};
 use std::alloc::Global;
@@ -170,24 +171,21 @@ fn a_text_cut_at_any_two_places_has_the_rows_of_the_whole(rt: HostRuntime) {
             && same_at_each_place(alloc, text, 2)
             && same_at_each_place(alloc, text, 5)
             && same_at_each_place(alloc, text, 9);
-        assert!(rt; is_same, "at {text}");
+        assert_at(&rt, text, is_same);
     }
 }
 
 #[test]
 fn a_text_character_by_character_has_the_rows_of_the_whole(rt: HostRuntime) {
     for text in &TEXTS {
-        assert!(rt;
-            same_by_characters_everywhere(rt.alloc(), text),
-            "at {text}"
-        );
+        assert_at(&rt, text, same_by_characters_everywhere(rt.alloc(), text));
     }
 }
 
 #[test]
 fn a_prepared_push_has_the_rows_of_the_whole(rt: HostRuntime) {
     for text in &TEXTS {
-        assert!(rt; same_prepared_everywhere(rt.alloc(), text), "at {text}");
+        assert_at(&rt, text, same_prepared_everywhere(rt.alloc(), text));
     }
 }
 
@@ -208,5 +206,5 @@ fn a_push_of_another_text_than_prepared_is_formed_anew(rt: HostRuntime) {
     let mut screen = Screen::new(alloc);
     let is_same = push_plain(alloc, &mut screen, "one two th", 5)
         && same_after_another_push(alloc, &mut screen);
-    assert!(rt; is_same && screen.orig_text() == "one two third one");
+    assert_holds(&rt, is_same && screen.orig_text() == "one two third one");
 }

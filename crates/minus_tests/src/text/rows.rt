@@ -1,4 +1,5 @@
 //! Worked texts and their rows.
+use crate::facts::{assert_at, assert_holds};
 use crate::text::screens::{has_rows, push_all};
 use minus_text::{Screen, digits, format_line};
 use std::alloc::Global;
@@ -52,7 +53,7 @@ fn texts_fill_rows(rt: HostRuntime) {
         ("ab|cde|f|gh|i", 2, "ab|cd|ef|gh|i"),
     ];
     for (pieces, cols, rows) in cases {
-        assert!(rt; fill(rt.alloc(), pieces, *cols, rows), "at {pieces}");
+        assert_at(&rt, pieces, fill(rt.alloc(), pieces, *cols, rows));
     }
 }
 
@@ -66,5 +67,5 @@ fn has_two_rows(alloc: Global) -> bool {
 
 #[test]
 fn a_line_is_formatted(rt: HostRuntime) {
-    assert!(rt; has_two_rows(rt.alloc()) && digits(120) == 3);
+    assert_holds(&rt, has_two_rows(rt.alloc()) && digits(120) == 3);
 }

@@ -1,4 +1,5 @@
 //! Searches: which match a jump goes to, and which sequences are no text.
+use crate::facts::assert_holds;
 use minus_text::{Patterns, next_nth_match, strip_escapes};
 use std::alloc::Global;
 use std::collections::BTreeSet;
@@ -91,5 +92,5 @@ fn escape_sequences_are_stripped(rt: HostRuntime) {
         ("\x1b[31ab", "ab"),
         ("\x1b[ m", "\x1b[ m"),
     ];
-    assert!(rt; strips_all(rt.alloc(), cases));
+    assert_holds(&rt, strips_all(rt.alloc(), cases));
 }

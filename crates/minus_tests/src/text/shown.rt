@@ -1,4 +1,5 @@
 //! What is shown of a text in some columns, and the prefixes of numbered rows.
+use crate::facts::assert_holds;
 use minus_text::{LineNumbers, crop_columns, prefix_columns, push_fitted, push_prefix};
 use std::alloc::Global;
 
@@ -68,7 +69,7 @@ fn begins_with_numbers(rows: &mut String) -> bool {
 fn rows_begin_with_numbers(rt: HostRuntime) {
     let has_columns = prefix_columns(true, 10) == 9 && prefix_columns(false, 10) == 0;
     let mut rows = String::new(rt.alloc());
-    assert!(rt; begins_with_numbers(&mut rows) && has_columns);
+    assert_holds(&rt, begins_with_numbers(&mut rows) && has_columns);
 }
 
 #[test]
@@ -77,5 +78,5 @@ fn numbers_are_exchanged(rt: HostRuntime) {
         && (!LineNumbers::Disabled).is_on();
     let stays = !LineNumbers::AlwaysOn == LineNumbers::AlwaysOn
         && !LineNumbers::AlwaysOff == LineNumbers::AlwaysOff;
-    assert!(rt; exchanged && stays);
+    assert_holds(&rt, exchanged && stays);
 }
