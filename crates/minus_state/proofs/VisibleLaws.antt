@@ -167,6 +167,7 @@ marked_formed start end first last row from to out u lt some e f a b o =
     let seen : (ltb start end && has_visible start row) ≡ true = and_from (ltb start end) (has_visible start row) (lt-ltb start end lt) (not_from_false (eqb (length behind) 0) (ne_eqb (length behind) 0 some)) in
     rw seen (o ∙ rw (one, two, three) refl)
 
--- the parts of a row with its marks between them, added one after another
-pub parts_joined : (t0 t1 t2 t3 t4 p1 p2 a b c : List ℕ) → t0 ≡ a → t1 ≡ t0 ++ reverse_on → t2 ≡ t1 ++ p1 → p1 ≡ b → t3 ≡ t2 ++ reverse_off → t4 ≡ t3 ++ p2 → p2 ≡ c → t4 ≡ (((a ++ reverse_on) ++ b) ++ reverse_off) ++ c
-parts_joined t0 t1 t2 t3 t4 p1 p2 a b c e0 e1 e2 f1 e3 e4 f2 = rw (e4, f2, e3, e2, f1, e1, e0) refl
+-- the parts of a row with its marks between them
+pub parts_joined : (out p q r a b c : List ℕ) → out ≡ p ++ (reverse_on ++ (q ++ (reverse_off ++ r))) → p ≡ a → q ≡ b → r ≡ c → out ≡ (((a ++ reverse_on) ++ b) ++ reverse_off) ++ c
+parts_joined out p q r a b c e f g h =
+    e ∙ rw (f, g, h) (sym (append_assoc a reverse_on (b ++ (reverse_off ++ c))) ∙ sym (append_assoc (a ++ reverse_on) b (reverse_off ++ c)) ∙ sym (append_assoc ((a ++ reverse_on) ++ b) reverse_off c))

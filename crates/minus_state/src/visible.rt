@@ -66,12 +66,10 @@ pub fn highlight_visible_range(
     }
     let first = row.len() - from.len();
     let last = row.len() - from_visible(from, end - start).len();
-    let mut text = String::from_str(alloc, &row[..first])?;
-    text.push_str(REVERSE_ON)?;
-    text.push_str(&row[first..last])?;
-    text.push_str(REVERSE_OFF)?;
-    text.push_str(&row[last..])?;
-    Ok(text)
+    let before = &row[..first];
+    let marked = &row[first..last];
+    let behind = &row[last..];
+    format!(in alloc; "{before}{REVERSE_ON}{marked}{REVERSE_OFF}{behind}")
 }
 
 /// A highlighted row without its two markers is the row as it stood, or it has none.

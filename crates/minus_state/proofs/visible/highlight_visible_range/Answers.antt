@@ -19,20 +19,20 @@ returns-then-start-end c =
           unmarked_none c.args.start c.args.end row (behind ∙ nil_from_length (units_left c.from_visible-from.result) (eqb-true (length (units_left c.from_visible-from.result)) 0 (sym w.is_empty.ensures ∙ w.if-is_empty.true)))
     ])) c.from_str.ensures.ok
 
-pub range-requires-clause-end_boundary : goal.range-requires-clause-end_boundary
-range-requires-clause-end_boundary c =
+pub range-before-requires-clause-end_boundary : goal.range-before-requires-clause-end_boundary
+range-before-requires-clause-end_boundary c =
     let rest = bytes_left c.from_visible-from.result in
     let split = sym c.new.ensures.bytes ∙ c.from_visible-from.ensures.bytes ∙ ap (λ us. text_of (before_visible c.args.start us) ++ rest) c.new.ensures.units in
     (cut_behind c.args.row.now rest (before_visible c.args.start (row_units c.args.row.now)) c.len.result c.utf8.row split c.len.ensures).boundary
 
-pub range-requires-2-clause-start_boundary : goal.range-requires-2-clause-start_boundary
-range-requires-2-clause-start_boundary c = λ some.
+pub range-marked-requires-clause-start_boundary : goal.range-marked-requires-clause-start_boundary
+range-marked-requires-clause-start_boundary c = λ some.
     let rest = bytes_left c.from_visible-from.result in
     let split = sym c.new.ensures.bytes ∙ c.from_visible-from.ensures.bytes ∙ ap (λ us. text_of (before_visible c.args.start us) ++ rest) c.new.ensures.units in
     (cut_behind c.args.row.now rest (before_visible c.args.start (row_units c.args.row.now)) c.len.result c.utf8.row split c.len.ensures).boundary
 
-pub range-requires-2-clause-end_boundary : goal.range-requires-2-clause-end_boundary
-range-requires-2-clause-end_boundary c =
+pub range-marked-requires-clause-end_boundary : goal.range-marked-requires-clause-end_boundary
+range-marked-requires-clause-end_boundary c =
     let rest = bytes_left c.from_visible-from.result in
     let to = bytes_left c.from_visible.result in
     let before = before_visible c.args.start (row_units c.args.row.now) in
@@ -41,8 +41,8 @@ range-requires-2-clause-end_boundary c =
     let both = split ∙ ap (λ bs. text_of before ++ bs) c.from_visible.ensures.bytes ∙ sym (append_assoc (text_of before) (text_of inner) to) ∙ ap (λ bs. bs ++ to) (sym (text_of-append before inner)) in
     (cut_behind c.args.row.now to (before ++ inner) c.len-2.result c.utf8.row both c.len-2.ensures).boundary
 
-pub range_from-requires : goal.range_from-requires
-range_from-requires c = λ some.
+pub range_from-behind-requires : goal.range_from-behind-requires
+range_from-behind-requires c = λ some.
     let rest = bytes_left c.from_visible-from.result in
     let to = bytes_left c.from_visible.result in
     let before = before_visible c.args.start (row_units c.args.row.now) in
@@ -60,8 +60,7 @@ returns c =
     let split = sym c.new.ensures.bytes ∙ c.from_visible-from.ensures.bytes ∙ ap (λ us. text_of (before_visible c.args.start us) ++ from) c.new.ensures.units in
     let inner = c.from_visible.ensures.bytes ∙ ap (λ us. text_of (before_visible (c.args.end - c.args.start) us) ++ to) behind in
     let not_empty = eqb-false (length (units_left c.from_visible-from.result)) 0 (sym c.is_empty.ensures ∙ c.if-is_empty.false) in
-    let t0 = c.in_ok-text.ensures.ok ∙ c.range.ensures.value in
-    let all = parts_joined (string_bytes c.in_ok-text.text) (string_bytes c.push_str.new.self) (string_bytes c.push_str-2.new.self) (string_bytes c.push_str-3.new.self) (string_bytes c.push_str-4.new.self) c.range-2.result.now c.range_from.result.now _ _ _
-    t0 c.in_ok-push_str.ensures.bytes c.in_ok-push_str-2.ensures.bytes c.range-2.ensures.value c.in_ok-push_str-3.ensures.bytes c.in_ok-push_str-4.ensures.bytes c.range_from.ensures.value in
-    marked_formed c.args.start c.args.end _ _ row from to (string_bytes c.push_str-4.new.self) c.utf8.row c.if-start-end.false (λ z. not_empty (ap length behind ∙ z)) split inner
-    (ap (λ (n : ℕ). length row - n) c.len.ensures) (ap (λ (n : ℕ). length row - n) c.len-2.ensures) all
+    IfOk-weaker c.format.result _ _ (λ text e.
+    let all = parts_joined (string_bytes text) c.range-before.result.now c.range-marked.result.now c.range_from-behind.result.now _ _ _ e c.range-before.ensures.value c.range-marked.ensures.value c.range_from-behind.ensures.value in
+    marked_formed c.args.start c.args.end _ _ row from to (string_bytes text) c.utf8.row c.if-start-end.false (λ z. not_empty (ap length behind ∙ z)) split inner
+    (ap (λ (n : ℕ). length row - n) c.len.ensures) (ap (λ (n : ℕ). length row - n) c.len-2.ensures) all) c.format.ensures.ok
