@@ -257,7 +257,9 @@ class Keeping(unittest.TestCase):
     def setUp(self):
         held = tempfile.TemporaryDirectory()
         self.addCleanup(held.cleanup)
-        self.crate, self.edit, self.stamp = SimpleNamespace(name="k", folder=held.name), f"{held.name}/a.edit", "as it stands"
+        below = [SimpleNamespace(rlib="low.rlib")]
+        self.crate = SimpleNamespace(name="k", folder=held.name, below=lambda: below)
+        self.edit, self.stamp, self.built = f"{held.name}/a.edit", "as it stands", "as rt ci built it"
         os.makedirs(f"{held.name}/src")
         self.write(f"{held.name}/src/m.rt", SOURCE)
         self.write(self.edit, "file: src/m.rt\nold: 1\nnew: 9\n")
@@ -267,7 +269,8 @@ class Keeping(unittest.TestCase):
             out.write(text)
 
     def read(self):
-        rt = SimpleNamespace(stamp_of=lambda crate, _: f"{crate.name} {self.stamp}")
+        rtlib = SimpleNamespace(sum_of=lambda file: f"{file} {self.built}")
+        rt = SimpleNamespace(rtlib=rtlib, stamp_of=lambda crate, _: f"{crate.name} {self.stamp}")
         kept = SimpleNamespace(of_edit=lambda file, read: repr((read, open(file, encoding="utf-8").read())))
         return bodies_of(rt, kept, self.crate, [self.edit])[0]
 
@@ -275,9 +278,11 @@ class Keeping(unittest.TestCase):
         names = [self.read().kept_as]
         self.stamp = "as it was changed"
         names.append(self.read().kept_as)
+        self.built = "as rt check built it"
+        names.append(self.read().kept_as)
         self.write(self.edit, "file: src/m.rt\nold: 1\nnew: 8\n")
         names.append(self.read().kept_as)
-        self.assertEqual(len(set(names)), 3)
+        self.assertEqual(len(set(names)), 4)
         self.assertTrue(all("def bodies_of" in it for it in names))
 
     def test_who_was_refused_in_an_earlier_run_is_not_tried(self):

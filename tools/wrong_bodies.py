@@ -25,7 +25,8 @@ it stands must be proved there first. With --proved that is taken from the calle
 rounds then stand on the libraries that rt ci built. RT_JOBS is how many checks run side by side, as it is for rt ci.
 
 That a body was refused is kept where rt ci keeps what it passed, on this machine alone, under a sum of the kit, this tool, the
-body, and all that was proved of its crate and of those below it. So a later run tries what has changed.
+body, the files of its crate and of those below it, and the libraries that were built of these. So a later run tries what has
+changed.
 
 The last line is `wrong-bodies: N passed, M failed`; where a name is unknown or there is nothing to try, it says that. Both that
 and a body that failed end with 1.
@@ -389,7 +390,9 @@ def paths_of(bodies, proofs):
 
 def bodies_of(rt, kept, crate, files):
     """Reads wrong bodies of a crate, each with its name for what is kept: one made of all that a try of it reads."""
-    bodies, read_by_each = [read_body(it, crate.folder) for it in files], (rt.stamp_of(crate, {}), read(__file__))
+    # (the libraries as they were built, too: what was tried over those of rt check counts for no gate, whose own are others)
+    libraries = [rt.rtlib.sum_of(f"{it.rlib}/format") for it in crate.below()]
+    bodies, read_by_each = [read_body(it, crate.folder) for it in files], (rt.stamp_of(crate, {}), libraries, read(__file__))
     for body, file in zip(bodies, files):
         body.kept_as = kept.of_edit(file, read_by_each)
     return bodies
