@@ -3,7 +3,7 @@ ghost use Rattle.minus_state.specs.Sizes.{IsSize};
 
 use crate::selection::SelectionEnds;
 use crate::state::help::HelpSwitch;
-use minus_text::{Layout, PendingPush, Screen};
+use minus_text::{Layout, PendingPush, Row, Screen};
 use std::alloc::{AllocError, Global};
 
 /// What a command asks to be drawn.
@@ -48,7 +48,7 @@ pub enum NextText {
 
 impl NextText {
     ghost use Rattle.std.specs.Prelude.{◌≡◌, None, length, slice_get, option_map, string_bytes, IfOk};
-    ghost use Rattle.minus_text.specs.Document.{rows_of, line_count, GrowsByRow};
+    ghost use Rattle.minus_text.specs.Document.{rows_of, line_count};
     ghost use Rattle.minus_text.specs.Searched.{stored_rows_for};
     ghost use Rattle.minus_state.specs.NextTexts.{next_document, IsNext};
 
@@ -106,26 +106,23 @@ impl NextText {
         }
     }
 
-    // Adds a row as it will be stored, counted from 0, and answers whether there will be one.
-    pub(crate) fn push_row_after(
+    // A row as it will be stored, counted from 0, if there will be one.
+    pub(crate) fn formatted_row_after(
         &self,
         alloc: Global,
         screen: &Screen,
-        out: &mut String,
         i: usize,
-    ) -> Result<bool, AllocError>
+    ) -> Result<Option<Row>, AllocError>
         requires { IsNext screen.now self.now }
-        ensures { IfOk result (λ found. GrowsByRow (slice_get (stored_rows_for None (next_document screen.now.document self.now)) i)
-            (string_bytes out.old) (string_bytes out.new) found) }
+        ensures { IfOk result (λ row. option_map string_bytes row ≡ slice_get (stored_rows_for None (next_document screen.now.document self.now)) i) }
     {
-        let found = match self {
-            NextText::Whole(next) => next.push_row(alloc, out, i)?,
-            NextText::Pushed(_, pending) => screen.push_row_after(alloc, pending, out, i)?,
+        match self {
+            NextText::Whole(next) => next.formatted_row(alloc, i),
+            NextText::Pushed(_, pending) => screen.formatted_row_after(alloc, pending, i),
             NextText::Same | NextText::SavedWhole(_) | NextText::SavedMore(_) => {
-                screen.push_row(alloc, out, i)?
+                screen.formatted_row(alloc, i)
             }
-        };
-        Ok(found)
+        }
     }
 }
 

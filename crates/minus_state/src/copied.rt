@@ -6,7 +6,7 @@ ghost use Rattle.minus_state.specs.Copied.{side_in_row, place_in_text, copied};
 
 use crate::selection::{Selection, SelectionEnds};
 use crate::visible::{place_after_visible, place_of_visible};
-use minus_text::{Screen, last_line_end, push_lines};
+use minus_text::{Screen, join_lines, last_line_end};
 use std::alloc::{AllocError, Global};
 
 // A side of a character.
@@ -64,7 +64,6 @@ pub fn extract_selection(
     }
     let from = place_in_text(screen, Side::Before, first);
     let to = place_in_text(screen, Side::Behind, last);
-    let mut text = String::new(alloc);
-    push_lines(&mut text, &screen.orig_text()[from..to.max(from)])?;
+    let text = join_lines(alloc, &screen.orig_text()[from..to.max(from)])?;
     Ok(Some(text))
 }

@@ -7,7 +7,7 @@ ghost use Rattle.minus_state.specs.ShownRow.{cropped_line, selected_range};
 ghost use Rattle.minus_state.specs.View.{prefix_in, cut_in};
 
 use crate::selection::{SelectionEnds, marked_range};
-use minus_text::{Layout, Row, Screen, crop_columns, prefix_columns, push_prefix};
+use minus_text::{FormattedRow, Layout, Row, Screen, crop_columns, prefix_columns};
 use std::alloc::{AllocError, Global};
 
 // How a text is laid out, how many lines it has, and the left mark that it is shown from.
@@ -53,12 +53,10 @@ impl Frame {
         ensures { IfOk result (λ row. (d : Document) (left : ℕ) → self ≡ frame_of d left → string_bytes row ≡ cropped_line d left i text.now) }
     {
         let numbers = self.layout.numbers.is_on();
-        let mut row = String::new(alloc);
-        push_prefix(&mut row, numbers, self.line_count, i + 1, true)?;
         let columns = self.layout.cols.saturating_sub(self.prefix());
         let shown = crop_columns(alloc, text, self.left_mark, columns)?;
-        row.push_str(shown.as_str())?;
-        Ok(row)
+        let row = FormattedRow::new(shown.as_str(), numbers, self.line_count, i + 1, true);
+        row.to_string(alloc)
     }
 
     // The visible characters of a row, counted from 0, that are selected.

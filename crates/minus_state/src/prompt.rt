@@ -1,9 +1,10 @@
 //! The prompt row.
-ghost use Rattle.std.specs.Prelude.{◌≡◌, ◌++◌, true, string_bytes, IfOk, OnOk};
-ghost use Rattle.minus_state.specs.PromptRow.{seen_prompt, said, said_style, prefix_indicator, match_indicator, follow_indicator, columns_left, styled, prompt_row, FillsItsRow, PromptFillsItsRow};
+ghost use Rattle.std.specs.Prelude.{◌≡◌, true, string_bytes, IfOk};
+ghost use Rattle.minus_state.specs.PromptRow.{seen_prompt, said, said_style, prefix_indicator, match_indicator, follow_indicator, columns_left, prompt_row, FillsItsRow, PromptFillsItsRow};
 
-use minus_text::{columns, push_fitted};
+use minus_text::{columns, fit_columns};
 use std::alloc::{AllocError, Global};
+use std::fmt;
 
 const MESSAGE_STYLE: &str = "\x1b[30;1;41m";
 
@@ -79,15 +80,26 @@ fn follow_indicator(row: &PromptRow<'_>) -> &'static str
     if row.follow { "[F]" } else { "" }
 }
 
-// Adds an indicator in its style, unless it is empty.
-fn push_styled(text: &mut String, style: &'static str, indicator: &str) -> Result<(), AllocError>
-    ensures { OnOk result (string_bytes text.new ≡ string_bytes text.old ++ styled style.now indicator.now) }
-{
-    if indicator.is_empty() {
-        return Ok(());
+// An indicator in its style. It prints nothing where it is empty.
+#[derive(Clone, Copy)]
+struct Styled<'a> {
+    style: &'static str,
+    indicator: &'a str,
+}
+
+impl fmt::Display for Styled<'_> {
+    ghost use Rattle.std.specs.Prelude.{Some};
+    ghost use Rattle.minus_state.specs.PromptRow.{styled};
+
+    ghost output = { λ s. Some (styled s.style.now s.indicator.now) };
+
+    fn fmt<W: fmt::Write>(&self, f: &mut fmt::Formatter<W>) -> fmt::Result {
+        if self.indicator.is_empty() {
+            return Ok(());
+        }
+        f.write_str(self.style)?;
+        f.write_str(self.indicator)
     }
-    text.push_str(style)?;
-    text.push_str(indicator)
 }
 
 /// The prompt row's text: the message or else the prompt, taken as one piece, cut to its longest front of
@@ -98,9 +110,8 @@ pub fn format_prompt(alloc: Global, row: &PromptRow<'_>) -> Result<String, Alloc
     ensures text { IfOk result (λ text. string_bytes text ≡ prompt_row (seen_prompt row.now)) }
     ensures fills { IfOk result (λ _. row.now.is_shown ≡ true → FillsItsRow (seen_prompt row.now)) }
 {
-    let mut text = String::new(alloc);
     if !row.is_shown {
-        return Ok(text);
+        return Ok(String::new(alloc));
     }
     let prefix = prefix_indicator(alloc, row)?;
     let matches = match_indicator(alloc, row)?;
@@ -111,13 +122,20 @@ pub fn format_prompt(alloc: Global, row: &PromptRow<'_>) -> Result<String, Alloc
         .saturating_sub(columns(matches.as_str()))
         .saturating_sub(columns(follow));
     let (style, says) = said(row);
-    text.push_str(style)?;
-    push_fitted(&mut text, says, left)?;
-    push_styled(&mut text, PREFIX_STYLE, prefix.as_str())?;
-    push_styled(&mut text, MATCH_STYLE, matches.as_str())?;
-    push_styled(&mut text, FOLLOW_STYLE, follow)?;
-    text.push_str(STYLE_END)?;
-    Ok(text)
+    let fitted = fit_columns(alloc, says, left)?;
+    let typed = Styled {
+        style: PREFIX_STYLE,
+        indicator: prefix.as_str(),
+    };
+    let found = Styled {
+        style: MATCH_STYLE,
+        indicator: matches.as_str(),
+    };
+    let followed = Styled {
+        style: FOLLOW_STYLE,
+        indicator: follow,
+    };
+    format!(in alloc; "{style}{fitted}{typed}{found}{followed}{STYLE_END}")
 }
 
 /// What the prompt row says and its indicators take all columns of the row together, and as many as the

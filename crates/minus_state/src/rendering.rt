@@ -1,8 +1,7 @@
 //! What is shown of rows.
-ghost use Rattle.std.specs.Prelude.{◌≡◌, ◌^◌, ◌<◌, Option, [], ◌++◌, map, option_map, slice_get, string_bytes, IfOk, OnOk};
+ghost use Rattle.std.specs.Prelude.{◌≡◌, ◌^◌, ◌<◌, Option, [], ◌++◌, map, option_map, string_bytes, IfOk, OnOk};
 ghost use Rattle.regex.specs.Patterns.{Re};
-ghost use Rattle.minus_text.specs.Document.{rows_of};
-ghost use Rattle.minus_text.specs.Searched.{IsFoundBy, shown_for, stored_rows_for};
+ghost use Rattle.minus_text.specs.Searched.{IsFoundBy};
 ghost use Rattle.minus_state.specs.Selection.{ends_in_order};
 ghost use Rattle.minus_state.specs.ShownRow.{cropped_row, unmarked_row, with_marks, shown_row, before_rows, shown_rows, ShownRowsFit, SelectionAddsMarkersAlone};
 
@@ -23,30 +22,6 @@ pub struct Rendering<'s> {
     pub ends: SelectionEnds,
 }
 
-// A row as it is stored, counted from 0, if there is one.
-fn stored_row(alloc: Global, screen: &Screen, i: usize) -> Result<Option<Row>, AllocError>
-    ensures { IfOk result (λ row. (term : Option Re) → IsFoundBy term screen.now
-        → option_map string_bytes row ≡ slice_get (stored_rows_for term screen.now.document) i) }
-{
-    let mut row = String::new(alloc);
-    if screen.push_row(alloc, &mut row, i)? {
-        return Ok(Some(row));
-    }
-    Ok(None)
-}
-
-// The own text of a row with its matches shown in reverse, counted from 0, if there is one.
-fn own_text(alloc: Global, screen: &Screen, i: usize) -> Result<Option<Row>, AllocError>
-    ensures { IfOk result (λ text. (term : Option Re) → IsFoundBy term screen.now
-        → option_map string_bytes text ≡ option_map (shown_for term) (slice_get (rows_of screen.now.document) i)) }
-{
-    let mut text = String::new(alloc);
-    if screen.push_row_text(alloc, &mut text, i)? {
-        return Ok(Some(text));
-    }
-    Ok(None)
-}
-
 // A line that is its one row, counted from 0, from the left mark on, if there is one.
 fn cropped_row(
     alloc: Global,
@@ -58,7 +33,7 @@ fn cropped_row(
     ensures { IfOk result (λ row. (term : Option Re) → IsFoundBy term screen.now
         → option_map string_bytes row ≡ cropped_row term screen.now.document left_mark i) }
 {
-    match own_text(alloc, screen, i)? {
+    match screen.highlighted_row(alloc, i)? {
         Some(text) => {
             let frame = Frame::of(screen, left_mark);
             Ok(Some(frame.cropped_line(alloc, i, text.as_str())?))
@@ -79,7 +54,7 @@ fn unmarked_row(
         → option_map string_bytes row ≡ unmarked_row term screen.now.document left_mark i) }
 {
     if screen.layout().wrapping {
-        return stored_row(alloc, screen, i);
+        return screen.formatted_row(alloc, i);
     }
     cropped_row(alloc, screen, left_mark, i)
 }

@@ -80,11 +80,10 @@ impl<'a> Showing<'a> {
         requires { IsShowing self.now }
         ensures { IfOk result (λ row. option_map row_text row ≡ slice_get (stored_rows_for None (document_shown self.now)) i) }
     {
-        let mut row = String::new(alloc);
-        if self.text.push_row_after(alloc, self.screen, &mut row, i)? {
-            return Ok(Some(ShownRow::Formed(row)));
+        match self.text.formatted_row_after(alloc, self.screen, i)? {
+            Some(row) => Ok(Some(ShownRow::Formed(row))),
+            None => Ok(None),
         }
-        Ok(None)
     }
 
     // The same; without numbers it is its own text.

@@ -9,12 +9,13 @@ use Rattle.regex.specs.Patterns.{Re}
 use Rattle.minus_text.specs.declared.layout.Wrap.{Wrap}
 use Rattle.minus_text.specs.Prefixes.{is_on, prefix}
 use Rattle.minus_text.specs.Layouts.{own_rows}
-use Rattle.minus_text.specs.Document.{Document, rows_of_lines, rows_of, line_count, wrap_in, stored_line, stored_lines, stored_rows}
+use Rattle.minus_text.specs.Document.{Document, rows_of_lines, rows_of, line_count, wrap_in, stored_line, stored_lines, stored_rows, pushed, IsPrefixOf}
+use Rattle.minus_text.specs.Pending.{IsPendingPrefix}
 use Rattle.minus_text.specs.Escapes.{stripped, escapes, escape_places}
 use Rattle.minus_text.specs.Highlight.{highlighted, line_matches, line_match_places}
 use Rattle.minus_text.specs.Found.{RowMatches, found_by, found_of_row, marked}
 use Rattle.minus_text.specs.Fragments.{rows_in}
-use Rattle.minus_text.specs.Searched.{Searched, SearchedPush, shown_for, stored_lines_for, stored_rows_for, GrowsByPendingText}
+use Rattle.minus_text.specs.Searched.{Searched, SearchedPush, shown_for, stored_lines_for, stored_rows_for, IsRowBehind, IsPendingRow}
 use Rattle.minus_text.proofs.PendingLaws.{get_behind, row_staying, row_forming}
 use Rattle.minus_text.proofs.StoredLaws.{row_in_line, at_front, none_alike, length-stored_line}
 use Rattle.minus_text.proofs.MarkersLaws.{no_match_no_change}
@@ -86,28 +87,35 @@ pub none_for : (term : Option Re) (d : Document) (i : ℕ) → None ≡ slice_ge
 unfolding rows_of stored_rows_for
 none_for term d i e = none_alike (rows_of_lines (wrap_in d) (lines d.text)) (stored_lines_for term (wrap_in d) (is_on d.layout.numbers) (line_count d) 1 (lines d.text)) i (length-lines_for term (wrap_in d) (is_on d.layout.numbers) (line_count d) 1 (lines d.text)) (sym e)
 
--- ---- the own text of a row that a push would leave
+-- ---- a row behind what stands before it
 
-pub kept_text : (s : Searched) (p : SearchedPush) (i : ℕ) (old new text : List ℕ) → i < p.push.kept_rows → slice_get (rows_of s.document) i ≡ Some text → new ≡ old ++ marked (found_of_row i s.found) text → GrowsByPendingText s p i old new
-kept_text s p i old new text lt e grown = λ term piece numbers cols h k is row there.
+pub stored_behind : (term : Option Re) (d : Document) (i : ℕ) (before : List ℕ) → IsPrefixOf d i before → option_map (λ text. before ++ shown_for term text) (slice_get (rows_of d) i) ≡ slice_get (stored_rows_for term d) i
+stored_behind term d i before h = go (slice_get (rows_of d) i) refl
+  where
+    go : (row : Option (List ℕ)) → slice_get (rows_of d) i ≡ row → option_map (λ text. before ++ shown_for term text) row ≡ slice_get (stored_rows_for term d) i
+    go None e = sym (none_for term d i (sym e))
+    go (Some row) e = sym (stored_for term d i row before e (h row e))
+
+-- what was found in a row that is there
+pub found_behind : (s : Searched) (i : ℕ) (text before row : List ℕ) → slice_get (rows_of s.document) i ≡ Some text → row ≡ before ++ marked (found_of_row i s.found) text → IsRowBehind before s i (Some row)
+found_behind s i text before row e r = λ term h.
     let here : i ≡ 0 + i = omega arith in
-    let some : Some text ≡ Some row = sym e ∙ sym (row_staying s.document piece numbers cols p.push i is lt) ∙ there in
-    let same : text ≡ row = cc in
-    grown ∙ ap (λ t. old ++ t) (marked_is term (rows_of s.document) 0 i i text s.found h here e ∙ ap (shown_for term) same)
+    rw (e, r) (ap (λ t. Some (before ++ t)) (marked_is term (rows_of s.document) 0 i i text s.found h here e))
 
-pub kept_none : (s : Searched) (p : SearchedPush) (i : ℕ) (old : List ℕ) → i < p.push.kept_rows → None ≡ slice_get (rows_of s.document) i → GrowsByPendingText s p i old old
-kept_none s p i old lt e = λ term piece numbers cols h k is row there.
-    let some : None ≡ Some row = e ∙ sym (row_staying s.document piece numbers cols p.push i is lt) ∙ there in
-    absurd cc
+-- a row that stays, and one that a push forms
+pub kept_pending : (s : Searched) (p : SearchedPush) (i : ℕ) (before : List ℕ) (row : Option (List ℕ)) → i < p.push.kept_rows → IsPendingPrefix s.document p.push i before → IsRowBehind before s i row → IsPendingRow s p i row
+kept_pending s p i before row lt b r = λ term piece numbers cols h k is.
+    r term h ∙ ap (option_map (λ text. before ++ shown_for term text)) (sym (row_staying s.document piece numbers cols p.push i is lt)) ∙ stored_behind term (pushed s.document piece numbers cols) i before (b piece numbers cols is)
 
-pub formed_text : (s : Searched) (p : SearchedPush) (i : ℕ) (old new text : List ℕ) → p.push.kept_rows ≤ i → slice_get (rows_in p.push.tail) (i - p.push.kept_rows) ≡ Some text → new ≡ old ++ marked (found_of_row i p.found) text → GrowsByPendingText s p i old new
-formed_text s p i old new text le e grown = λ term piece numbers cols h k is row there.
+pub formed_pending : (s : Searched) (p : SearchedPush) (i : ℕ) (before text row : List ℕ) → p.push.kept_rows ≤ i → IsPendingPrefix s.document p.push i before → slice_get (rows_in p.push.tail) (i - p.push.kept_rows) ≡ Some text
+    → row ≡ before ++ marked (found_of_row i p.found) text → IsPendingRow s p i (Some row)
+formed_pending s p i before text row le b e r = λ term piece numbers cols h k is.
     let here : i ≡ p.push.kept_rows + (i - p.push.kept_rows) = omega (arith, le) in
-    let some : Some text ≡ Some row = sym e ∙ sym (row_forming s.document piece numbers cols p.push i is le) ∙ there in
-    let same : text ≡ row = cc in
-    grown ∙ ap (λ t. old ++ t) (marked_is term (rows_in p.push.tail) p.push.kept_rows (i - p.push.kept_rows) i text p.found k here e ∙ ap (shown_for term) same)
+    let there : slice_get (rows_of (pushed s.document piece numbers cols)) i ≡ Some text = row_forming s.document piece numbers cols p.push i is le ∙ e in
+    let shown = marked_is term (rows_in p.push.tail) p.push.kept_rows (i - p.push.kept_rows) i text p.found k here e in
+    let stored = stored_behind term (pushed s.document piece numbers cols) i before (b piece numbers cols is) in
+    ap Some (r ∙ ap (λ t. before ++ t) shown) ∙ sym (ap (option_map (λ t. before ++ shown_for term t)) there) ∙ stored
 
-pub formed_none : (s : Searched) (p : SearchedPush) (i : ℕ) (old : List ℕ) → p.push.kept_rows ≤ i → None ≡ slice_get (rows_in p.push.tail) (i - p.push.kept_rows) → GrowsByPendingText s p i old old
-formed_none s p i old le e = λ term piece numbers cols h k is row there.
-    let some : None ≡ Some row = e ∙ sym (row_forming s.document piece numbers cols p.push i is le) ∙ there in
-    absurd cc
+pub none_pending : (s : Searched) (p : SearchedPush) (i : ℕ) → p.push.kept_rows ≤ i → None ≡ slice_get (rows_in p.push.tail) (i - p.push.kept_rows) → IsPendingRow s p i None
+none_pending s p i le e = λ term piece numbers cols h k is.
+    sym (none_for term (pushed s.document piece numbers cols) i (e ∙ sym (row_forming s.document piece numbers cols p.push i is le)))

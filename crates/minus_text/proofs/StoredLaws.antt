@@ -9,7 +9,7 @@ use Rattle.minus_text.specs.declared.layout.Wrap.{Wrap}
 use Rattle.minus_text.specs.Prefixes.{is_on, prefix}
 use Rattle.minus_text.specs.Layouts.{own_rows}
 use Rattle.minus_text.specs.LineMaps.{IsLineOfRow}
-use Rattle.minus_text.specs.Document.{Document, rows_of_lines, first_rows, rows_of, line_map, line_count, wrap_in, stored_line, stored_lines, stored_rows}
+use Rattle.minus_text.specs.Document.{Document, rows_of_lines, first_rows, rows_of, line_map, line_count, wrap_in, stored_line, stored_lines, stored_rows, IsPrefixOf}
 use Rattle.minus_text.proofs.FormatResultLaws.{same_part}
 use Rattle.minus_text.proofs.PendingLaws.{get_behind}
 
@@ -123,6 +123,11 @@ stored_row d entries i line first row m h f e =
     row_stored (wrap_in d) (is_on d.layout.numbers) (line_count d) 1 0 (lines d.text) i line row e is
     ∙ ap (λ l. Some (prefix (is_on d.layout.numbers) (line_count d) l (eqb (get_or (first_rows (wrap_in d) 0 (lines d.text)) line 0) (0 + i)) ++ row)) number
     ∙ ap (λ (b : Bool). Some (prefix (is_on d.layout.numbers) (line_count d) (line + 1) b ++ row)) same
+
+-- what stands before a row, from the line that it belongs to
+pub prefix_of_line : (d : Document) (entries : List ℕ) (i line : ℕ) (on : Bool) (count : ℕ) (first : Bool) → on ≡ is_on d.layout.numbers → count ≡ line_count d → entries ≡ line_map d → IsLineOfRow entries i line → first ≡ eqb (get_or entries line 0) i
+    → IsPrefixOf d i (prefix on count (line + 1) first)
+prefix_of_line d entries i line on count first o n m h f = λ row e. rw (o, n) (stored_row d entries i line first row m h f e)
 
 -- without a line there is no row
 pub no_line : (d : Document) (i : ℕ) (row : List ℕ) → line_map d ≡ [] → slice_get (rows_of d) i ≡ Some row → ⊥

@@ -1,5 +1,5 @@
 -- A document: a text and the layout of its rows, and what follows from them.
-use Rattle.std.specs.Prelude.{◌≡◌, ℕ, ◌+◌, ◌==◌, ◌&&◌, Bool, true, false, List, [], ◌∷◌, ◌++◌, length, map, max, Option, None, Some, slice_get, if◌then◌else◌}
+use Rattle.std.specs.Prelude.{◌≡◌, ℕ, ◌+◌, ◌==◌, ◌&&◌, Bool, true, false, List, [], ◌∷◌, ◌++◌, length, map, max, Some, slice_get, if◌then◌else◌}
 use Rattle.std.specs.List.{flat_map}
 use Rattle.std.specs.List.Sorted.{IsStrictlyIncreasing}
 use Rattle.std.specs.Str.Lines.{lines}
@@ -106,11 +106,6 @@ PushesJoin = (d one two whole : Document) (a b : List ℕ) (numbers : LineNumber
 abbrev pub LineMapAscends : Type 0
 LineMapAscends = (d : Document) → IsStrictlyIncreasing (line_map d)
 
--- a text that grew by what stands before the text of a row of a document
-abbrev pub GrowsByPrefix : Document → ℕ → List ℕ → List ℕ → Type 0
-GrowsByPrefix d i old new = (before : List ℕ) × (new ≡ old ++ before) × ((row : List ℕ) → slice_get (rows_of d) i ≡ Some row → slice_get (stored_rows d) i ≡ Some (before ++ row))
-
--- a text that grew by a row, if there is one
-abbrev pub GrowsByRow : Option (List ℕ) → List ℕ → List ℕ → Bool → Type 0
-GrowsByRow None old new found = (found ≡ false) × (new ≡ old)
-GrowsByRow (Some row) old new found = (found ≡ true) × (new ≡ old ++ row)
+-- this stands before the text of a row of a document, if there is one with the number
+abbrev pub IsPrefixOf : Document → ℕ → List ℕ → Type 0
+IsPrefixOf d i before = (row : List ℕ) → slice_get (rows_of d) i ≡ Some row → slice_get (stored_rows d) i ≡ Some (before ++ row)

@@ -1,9 +1,9 @@
 -- A push before it is made.
-use Rattle.std.specs.Prelude.{◌≡◌, ℕ, ◌≤◌, List, Option, Some, ◌+◌, ◌++◌, length, take, drop, slice_get}
+use Rattle.std.specs.Prelude.{◌≡◌, ℕ, ◌≤◌, List, Option, ◌+◌, ◌++◌, length, take, drop, slice_get}
 use Rattle.std.specs.Str.{IsUtf8}
 use Rattle.minus_text.specs.declared.line_numbers.LineNumbers.{LineNumbers}
 use Rattle.minus_text.specs.declared.formed.Restart.{Restart}
-use Rattle.minus_text.specs.Document.{Document, rows_of, stored_rows, line_map, wrap_in, plan_of, pushed}
+use Rattle.minus_text.specs.Document.{Document, rows_of, line_map, wrap_in, plan_of, pushed, IsPrefixOf}
 use Rattle.minus_text.specs.Fragments.{Fragment, rows_in}
 use Rattle.minus_text.specs.Kept.{IsRestartOf}
 
@@ -37,7 +37,6 @@ pub record IsPreparedFor (d : Document) (piece : List ℕ) (p : Pending) : Type 
 abbrev pub RowIsPending : Document → Pending → ℕ → Option (List ℕ) → Type 0
 RowIsPending d p i row = (piece : List ℕ) (numbers : LineNumbers) (cols : ℕ) → IsPending d piece numbers cols p → row ≡ slice_get (rows_of (pushed d piece numbers cols)) i
 
--- a text grew by what would stand before the text of a row after the push
-abbrev pub GrowsByPendingPrefix : Document → Pending → ℕ → List ℕ → List ℕ → Type 0
-GrowsByPendingPrefix d p i old new = (before : List ℕ) × (new ≡ old ++ before) × ((piece : List ℕ) (numbers : LineNumbers) (cols : ℕ) → IsPending d piece numbers cols p → (row : List ℕ)
-    → slice_get (rows_of (pushed d piece numbers cols)) i ≡ Some row → slice_get (stored_rows (pushed d piece numbers cols)) i ≡ Some (before ++ row))
+-- this would stand before the text of a row after the push of whatever piece this belongs to
+abbrev pub IsPendingPrefix : Document → Pending → ℕ → List ℕ → Type 0
+IsPendingPrefix d p i before = (piece : List ℕ) (numbers : LineNumbers) (cols : ℕ) → IsPending d piece numbers cols p → IsPrefixOf (pushed d piece numbers cols) i before

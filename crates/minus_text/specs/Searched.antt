@@ -6,7 +6,7 @@ use Rattle.minus_text.specs.declared.layout.Wrap.{Wrap}
 use Rattle.minus_text.specs.declared.line_numbers.LineNumbers.{LineNumbers}
 use Rattle.minus_text.specs.Prefixes.{is_on}
 use Rattle.minus_text.specs.Layouts.{own_rows}
-use Rattle.minus_text.specs.Document.{Document, rows_of, wrap_in, line_count, stored_line, pushed, GrowsByRow}
+use Rattle.minus_text.specs.Document.{Document, rows_of, wrap_in, line_count, stored_line, pushed}
 use Rattle.minus_text.specs.Fragments.{rows_in}
 use Rattle.minus_text.specs.Pending.{Pending, IsPending}
 use Rattle.minus_text.specs.Highlight.{highlighted}
@@ -47,20 +47,19 @@ stored_lines_for term wrap numbers count line (x ∷ xs) = stored_line numbers c
 unfoldable pub stored_rows_for : Option Re → Document → List (List ℕ)
 stored_rows_for term d = stored_lines_for term (wrap_in d) (is_on d.layout.numbers) (line_count d) 1 (lines d.text)
 
--- a text grew by a stored row, if there is one, under whatever term the rows were searched for
-abbrev pub GrowsBySearchedRow : Searched → ℕ → List ℕ → List ℕ → Bool → Type 0
-GrowsBySearchedRow s i old new found = (term : Option Re) → IsFoundBy term s → GrowsByRow (slice_get (stored_rows_for term s.document) i) old new found
+-- a row, if there is one, with its matches shown in reverse and this before it, under whatever term the rows were searched for
+abbrev pub IsRowBehind : List ℕ → Searched → ℕ → Option (List ℕ) → Type 0
+IsRowBehind before s i row = (term : Option Re) → IsFoundBy term s → row ≡ option_map (λ text. before ++ shown_for term text) (slice_get (rows_of s.document) i)
 
--- the same of the own text of a row, without what stands before it
-abbrev pub GrowsBySearchedText : Searched → ℕ → List ℕ → List ℕ → Bool → Type 0
-GrowsBySearchedText s i old new found = (term : Option Re) → IsFoundBy term s → GrowsByRow (option_map (shown_for term) (slice_get (rows_of s.document) i)) old new found
+-- the same with nothing before it
+abbrev pub IsHighlightedRow : Searched → ℕ → Option (List ℕ) → Type 0
+IsHighlightedRow s i row = (term : Option Re) → IsFoundBy term s → row ≡ option_map (shown_for term) (slice_get (rows_of s.document) i)
 
--- the same of a stored row that the push of whatever piece this belongs to would leave
-abbrev pub GrowsByPendingRow : Searched → SearchedPush → ℕ → List ℕ → List ℕ → Bool → Type 0
-GrowsByPendingRow s p i old new found = (term : Option Re) (piece : List ℕ) (numbers : LineNumbers) (cols : ℕ) → IsFoundBy term s → IsFoundInPush term p
-    → IsPending s.document piece numbers cols p.push → GrowsByRow (slice_get (stored_rows_for term (pushed s.document piece numbers cols)) i) old new found
+-- a stored row, if there is one, under whatever term the rows were searched for
+abbrev pub IsStoredRow : Searched → ℕ → Option (List ℕ) → Type 0
+IsStoredRow s i row = (term : Option Re) → IsFoundBy term s → row ≡ slice_get (stored_rows_for term s.document) i
 
--- a text grew by the own text of a row that the push would leave
-abbrev pub GrowsByPendingText : Searched → SearchedPush → ℕ → List ℕ → List ℕ → Type 0
-GrowsByPendingText s p i old new = (term : Option Re) (piece : List ℕ) (numbers : LineNumbers) (cols : ℕ) → IsFoundBy term s → IsFoundInPush term p
-    → IsPending s.document piece numbers cols p.push → (row : List ℕ) → slice_get (rows_of (pushed s.document piece numbers cols)) i ≡ Some row → new ≡ old ++ shown_for term row
+-- a stored row, if there is one, that the push of whatever piece this belongs to would leave
+abbrev pub IsPendingRow : Searched → SearchedPush → ℕ → Option (List ℕ) → Type 0
+IsPendingRow s p i row = (term : Option Re) (piece : List ℕ) (numbers : LineNumbers) (cols : ℕ) → IsFoundBy term s → IsFoundInPush term p
+    → IsPending s.document piece numbers cols p.push → row ≡ slice_get (stored_rows_for term (pushed s.document piece numbers cols)) i

@@ -154,12 +154,7 @@ impl FormattedBlock {
         let map = self.formed.first_rows();
         let row = self.formed.kept_rows() + i;
         let Some(line) = map.row_to_line(row) else {
-            return RowPrefix {
-                numbers: false,
-                line_count: 0,
-                line: 0,
-                is_first: false,
-            };
+            return RowPrefix::NONE;
         };
         RowPrefix {
             numbers: self.layout.numbers.is_on(),

@@ -112,26 +112,26 @@ pub fn crop_columns(alloc: Global, text: &str, left: usize, width: usize) -> Res
     Ok(row)
 }
 
-/// Adds a text, taken as one piece, cut to its longest front of whole units that takes at most so many
-/// columns, and filled with spaces to as many. An `Err` is for want of memory alone; it may leave a part of
-/// that behind.
-pub fn push_fitted(row: &mut String, text: &str, cols: usize) -> Result<(), AllocError>
-    ensures row { OnOk result (string_bytes row.new ≡ string_bytes row.old ++ fitted cols text.now) }
-    ensures fills { OnOk result (columns (fitted cols text.now) ≡ cols) }
+/// A text, taken as one piece, cut to its longest front of whole units that takes at most so many columns,
+/// and filled with spaces to as many. Fails for want of memory alone.
+pub fn fit_columns(alloc: Global, text: &str, cols: usize) -> Result<Row, AllocError>
+    ensures row { IfOk result (λ row. string_bytes row ≡ fitted cols text.now) }
+    ensures fills { IfOk result (λ row. columns (string_bytes row) ≡ cols) }
 {
+    let mut row = String::new(alloc);
     let mut left = cols;
     let mut rest = Units::new(text);
     while let Some((unit, more)) = rest.split_first() {
         if unit.columns > left {
-            push_spaces(row, left)?;
-            return Ok(());
+            push_spaces(&mut row, left)?;
+            return Ok(row);
         }
         row.push_str(unit.text)?;
         left -= unit.columns;
         rest = more;
     }
-    push_spaces(row, left)?;
-    Ok(())
+    push_spaces(&mut row, left)?;
+    Ok(row)
 }
 
 /// What is shown of a text, taken as one piece, takes at most the columns that there are.

@@ -27,13 +27,22 @@ impl fmt::Display for Blanks {
     }
 }
 
-// What stands before a row: as `push_prefix` adds it.
+// What stands before a row.
 #[derive(Clone, Copy)]
 pub(crate) struct RowPrefix {
     pub(crate) numbers: bool,
     pub(crate) line_count: usize,
     pub(crate) line: usize,
     pub(crate) is_first: bool,
+}
+
+impl RowPrefix {
+    pub(crate) const NONE: RowPrefix = RowPrefix {
+        numbers: false,
+        line_count: 0,
+        line: 0,
+        is_first: false,
+    };
 }
 
 impl fmt::Display for RowPrefix {

@@ -16,19 +16,19 @@ pub mod pending;
 pub mod screen;
 mod seams;
 pub mod search;
-pub mod spaces;
+mod spaces;
 mod store;
 pub mod units;
 pub mod wrap;
 
 pub use buffers::{AppendableBuffer, ReusableRows};
-pub use crop::{Window, crop_columns, cropped_texts_fit, fitted_texts_fill, push_fitted};
+pub use crop::{Window, crop_columns, cropped_texts_fit, fit_columns, fitted_texts_fill};
 pub use format::{FormatOpts, format_lines_into, format_text_block};
 pub use formatted::{FormattedRow, SearchFormattedRow, format_search_rows};
 pub use layout::Layout;
-pub use line_numbers::{LineNumbers, digits, numbers_toggle_twice, prefix_columns, push_prefix};
+pub use line_numbers::{LineNumbers, digits, numbers_toggle_twice, prefix_columns};
 pub use lines::{
-    last_line_end, lines_are_cut, parts_are_of_lines, push_lines, rows_stand_in_lines,
+    join_lines, last_line_end, lines_are_cut, parts_are_of_lines, rows_stand_in_lines,
 };
 pub use lines_row_map::LinesRowMap;
 pub use pending::PendingPush;
@@ -40,7 +40,6 @@ pub use search::{
     HighlightMatchesArgs, Patterns, Term, found_rows_go_on, highlight_line_matches,
     highlights_add_markers_alone, next_nth_match, only_matches_are_highlighted, strip_escapes,
 };
-pub use spaces::push_spaces;
 pub use units::{Unit, Units};
 pub use wrap::{
     Span, columns, format_line, pieces_join, rows_are_determined, rows_fit,

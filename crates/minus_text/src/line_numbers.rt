@@ -1,10 +1,8 @@
 //! The numbers of lines, and what stands before the rows of a text that has them.
-ghost use Rattle.std.specs.Prelude.{◌≡◌, ◌≤◌, ◌++◌, length, OnOk, string_bytes};
+ghost use Rattle.std.specs.Prelude.{◌≡◌, ◌≤◌, length};
 ghost use Rattle.std.specs.Fmt.{decimal};
-ghost use Rattle.minus_text.specs.Prefixes.{is_on, toggled, padding, number_prefix, prefix, prefix_columns, NumbersToggleTwice};
+ghost use Rattle.minus_text.specs.Prefixes.{is_on, toggled, padding, prefix_columns, NumbersToggleTwice};
 
-use crate::spaces::push_spaces;
-use std::alloc::AllocError;
 use std::ops::Not;
 
 /// Whether rows begin with the numbers of their lines. `!` exchanges `Enabled` and `Disabled`; the
@@ -65,40 +63,6 @@ fn padding(line_count: usize) -> usize
     ensures few { result ≤ 26 }
 {
     digits(line_count) + 6
-}
-
-// Adds the number of a line, counted from 1, at the right of the padding.
-fn push_number(out: &mut String, line_count: usize, line: usize) -> Result<(), AllocError>
-    ensures { OnOk result (string_bytes out.new ≡ string_bytes out.old ++ number_prefix line_count line) }
-{
-    push_spaces(out, padding(line_count).saturating_sub(digits(line) + 1))?;
-    write!(out, "\x1b[1m{line}.\x1b[0m ")?;
-    Ok(())
-}
-
-/// Adds what stands before a row: nothing where numbers are off. Where they are on, it is the number of
-/// the row's line in bold, counted from 1, before the first row of the line, and blanks before its other
-/// rows. A number stands at the right of as many columns as `line_count`, the lines of the text, has
-/// digits, and six more; behind it stands a space. An `Err` is for want of memory alone; it may leave a
-/// part of that behind.
-pub fn push_prefix(
-    out: &mut String,
-    numbers: bool,
-    line_count: usize,
-    line: usize,
-    is_first: bool,
-) -> Result<(), AllocError>
-    ensures { OnOk result (string_bytes out.new ≡ string_bytes out.old ++ prefix numbers line_count line is_first) }
-{
-    if !numbers {
-        return Ok(());
-    }
-    if is_first {
-        push_number(out, line_count, line)?;
-        return Ok(());
-    }
-    push_spaces(out, padding(line_count) + 1)?;
-    Ok(())
 }
 
 /// The columns before the text of a row, where numbers are on or not and the text has so many lines.

@@ -1,5 +1,5 @@
 //! Lines of a text, one at a time.
-ghost use Rattle.std.specs.Prelude.{◌≡◌, ◌+◌, ◌<◌, ◌≤◌, ◌^◌, ◌++◌, length, string_bytes, IfSome, MatchOption, OnOk};
+ghost use Rattle.std.specs.Prelude.{◌≡◌, ◌+◌, ◌<◌, ◌≤◌, ◌^◌, length, string_bytes, IfOk, IfSome, MatchOption};
 ghost use Rattle.std.specs.Str.{IsCharBoundary};
 ghost use Rattle.std.specs.Str.Lines.{strip_carriage_return};
 ghost use Rattle.minus_text.specs.Lines.{cut, whole, behind, LinesAreCut};
@@ -7,7 +7,7 @@ ghost use Rattle.minus_text.specs.LinePlaces.{joined_lines, last_line_end};
 ghost use Rattle.minus_text.specs.LineParts.{PartsAreOfLines};
 ghost use Rattle.minus_text.specs.RowHomes.{RowsStandInLines};
 
-use std::alloc::AllocError;
+use std::alloc::{AllocError, Global};
 
 // A line without the carriage return at its end.
 pub(crate) fn without_return(line: &str) -> &str
@@ -43,19 +43,20 @@ pub(crate) fn split_line(text: &str) -> Option<(&str, &str)>
     }
 }
 
-/// Adds the lines of a text, joined by newlines: the text without the carriage return at the end of each
-/// line that a newline ends. An `Err` is for want of memory alone; it may leave a part of that behind.
-pub fn push_lines(out: &mut String, text: &str) -> Result<(), AllocError>
-    ensures { OnOk result (string_bytes out.new ≡ string_bytes out.old ++ joined_lines text.now) }
+/// The lines of a text, joined by newlines: the text without the carriage return at the end of each line
+/// that a newline ends. Fails for want of memory alone.
+pub fn join_lines(alloc: Global, text: &str) -> Result<String, AllocError>
+    ensures { IfOk result (λ joined. string_bytes joined ≡ joined_lines text.now) }
 {
+    let mut joined = String::new(alloc);
     let mut rest = text;
     while let Some((line, more)) = split_line(rest) {
-        out.push_str(without_return(line))?;
-        out.push_str("\n")?;
+        joined.push_str(without_return(line))?;
+        joined.push_str("\n")?;
         rest = more;
     }
-    out.push_str(rest)?;
-    Ok(())
+    joined.push_str(rest)?;
+    Ok(joined)
 }
 
 /// The place in the bytes of a text where its last line ends: before the newline that ends the text, and a

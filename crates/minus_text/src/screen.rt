@@ -7,12 +7,14 @@ ghost use Rattle.minus_text.specs.Fragments.{rows_in};
 ghost use Rattle.minus_text.specs.LinePlaces.{row_places};
 ghost use Rattle.minus_text.specs.Pending.{IsPending, IsPreparedFor, RowIsPending};
 ghost use Rattle.minus_text.specs.FormatResults.{Tells, TellsPush, TellsFound};
+ghost use Rattle.minus_text.specs.Formatted.{prefix_of};
 ghost use Rattle.minus_text.specs.Found.{AreFoundIn};
 ghost use Rattle.minus_text.specs.FoundRows.{pattern_of};
 ghost use Rattle.minus_text.specs.FoundBy.{found_rows};
-ghost use Rattle.minus_text.specs.Searched.{searched, IsFoundBy, IsFoundInPush, GrowsBySearchedRow, GrowsBySearchedText, GrowsByPendingRow, GrowsByPendingText, stored_rows_for};
+ghost use Rattle.minus_text.specs.Searched.{searched, IsFoundBy, IsFoundInPush, IsRowBehind, IsStoredRow, IsHighlightedRow, IsPendingRow};
 ghost use Rattle.regex.specs.Patterns.{Re};
 
+use crate::formatted::{FormattedRow, RowPrefix};
 use crate::formed_push::FormedPush;
 use crate::layout::Layout;
 use crate::line_numbers::LineNumbers;
@@ -212,54 +214,38 @@ impl Screen {
         self.found.row(i)
     }
 
-    /// Adds a row as it is stored, counted from 0: what stands before its text, and its text, with its
-    /// matches shown in reverse. Answers whether there is such a row, and adds nothing where there is
-    /// none. An `Err` is for want of memory alone; it may leave a part of the row behind.
-    pub fn push_row(&self, alloc: Global, out: &mut String, i: usize) -> Result<bool, AllocError>
-        ensures { IfOk result (λ found. GrowsBySearchedRow self.now i (string_bytes out.old) (string_bytes out.new) found) }
-    {
-        let Some(text) = self.store.row_text(i) else {
-            return Ok(false);
-        };
-        self.store.push_row_prefix(out, i)?;
-        self.found.push_marked(alloc, out, i, text)?;
-        Ok(true)
-    }
-
-    /// Adds the own text of a row, counted from 0, with its matches shown in reverse and nothing before
-    /// it. Answers whether there is such a row, and adds nothing where there is none. An `Err` is for
-    /// want of memory alone; it may leave a part of the text behind.
-    pub fn push_row_text(
+    // A row, counted from 0, if there is one: this before its text, and its text with its matches shown in
+    // reverse.
+    fn row_behind(
         &self,
         alloc: Global,
-        out: &mut String,
+        prefix: RowPrefix,
         i: usize,
-    ) -> Result<bool, AllocError>
-        ensures { IfOk result (λ found. GrowsBySearchedText self.now i (string_bytes out.old) (string_bytes out.new) found) }
+    ) -> Result<Option<Row>, AllocError>
+        ensures { IfOk result (λ row. IsRowBehind (prefix_of prefix) self.now i (option_map string_bytes row)) }
     {
-        let Some(own) = self.store.row_text(i) else {
-            return Ok(false);
+        let Some(row) = self.store.row_text(i) else {
+            return Ok(None);
         };
-        self.found.push_marked(alloc, out, i, own)?;
-        Ok(true)
+        let row = FormattedRow { row, prefix };
+        let text = self.found.format_row(alloc, i, row)?;
+        Ok(Some(text))
     }
 
-    /// A copy of a row as it is stored, counted from 0: what stands before its text, and its text, with
-    /// its matches shown in reverse.
-    ///
-    /// # Errors
-    ///
-    /// [`MinusError::Memory`] where there is no memory for the copy.
-    pub fn formatted_row(&self, alloc: Global, i: usize) -> Result<Option<Row>, MinusError>
-        ensures ok { IfOk result (λ row. (term : Option Re) → IsFoundBy term self.now →
-            option_map string_bytes row ≡ slice_get (stored_rows_for term self.now.document) i) }
-        ensures memory { IfErr result (λ e. e ≡ MinusError.Memory) }
+    /// A row as it is stored, counted from 0, if there is one: what stands before its text, and its text
+    /// with its matches shown in reverse. Fails for want of memory alone.
+    pub fn formatted_row(&self, alloc: Global, i: usize) -> Result<Option<Row>, AllocError>
+        ensures { IfOk result (λ row. IsStoredRow self.now i (option_map string_bytes row)) }
     {
-        let mut row = String::new(alloc);
-        if self.push_row(alloc, &mut row, i)? {
-            return Ok(Some(row));
-        }
-        Ok(None)
+        self.row_behind(alloc, self.store.row_prefix(i), i)
+    }
+
+    /// The own text of a row, counted from 0, if there is one, with its matches shown in reverse and nothing
+    /// before it. Fails for want of memory alone.
+    pub fn highlighted_row(&self, alloc: Global, i: usize) -> Result<Option<Row>, AllocError>
+        ensures { IfOk result (λ row. IsHighlightedRow self.now i (option_map string_bytes row)) }
+    {
+        self.row_behind(alloc, RowPrefix::NONE, i)
     }
 
     /// Puts a text at the end, with numbers and columns for all. Where the columns differ from those
@@ -375,51 +361,27 @@ impl Screen {
         }
     }
 
-    // Adds the text of a row, if there is one, as it would be after the push, with its matches shown in
-    // reverse.
-    fn push_text_after(
+    /// A row as it would be stored after the push, counted from 0, if there would be one: what stands before
+    /// its text, and its text with its matches shown in reverse. Fails for want of memory alone.
+    pub fn formatted_row_after(
         &self,
         alloc: Global,
         pending: &PendingPush,
-        out: &mut String,
         i: usize,
-    ) -> Result<(), AllocError>
-        ensures { OnOk result (GrowsByPendingText self.now pending.now i (string_bytes out.old) (string_bytes out.new)) }
+    ) -> Result<Option<Row>, AllocError>
+        ensures { IfOk result (λ row. IsPendingRow self.now pending.now i (option_map string_bytes row)) }
     {
+        let prefix = self.store.prefix_after(&pending.push, i);
         let kept = pending.push.kept_rows();
         if i < kept {
-            let Some(text) = self.store.row_text(i) else {
-                return Ok(());
-            };
-            self.found.push_marked(alloc, out, i, text)?;
-            return Ok(());
+            return self.row_behind(alloc, prefix, i);
         }
-        let Some(text) = pending.push.row_text(i - kept) else {
-            return Ok(());
+        let Some(row) = pending.push.row_text(i - kept) else {
+            return Ok(None);
         };
-        pending.found.push_marked(alloc, out, i, text)?;
-        Ok(())
-    }
-
-    /// Adds a row as it would be stored after the push, counted from 0: what stands before its text, and
-    /// its text, with its matches shown in reverse. Answers whether there would be such a row, and adds
-    /// nothing where there would be none. An `Err` is for want of memory alone; it may leave a part of
-    /// the row behind.
-    pub fn push_row_after(
-        &self,
-        alloc: Global,
-        pending: &PendingPush,
-        out: &mut String,
-        i: usize,
-    ) -> Result<bool, AllocError>
-        ensures { IfOk result (λ found. GrowsByPendingRow self.now pending.now i (string_bytes out.old) (string_bytes out.new) found) }
-    {
-        let Some(_) = self.store.row_after(&pending.push, i) else {
-            return Ok(false);
-        };
-        self.store.push_prefix_after(&pending.push, out, i)?;
-        self.push_text_after(alloc, pending, out, i)?;
-        Ok(true)
+        let row = FormattedRow { row, prefix };
+        let text = pending.found.format_row(alloc, i, row)?;
+        Ok(Some(text))
     }
 
     /// Pushes a text for the numbers and columns of a push that was prepared, with the term that it was

@@ -7,8 +7,8 @@ use std::alloc::AllocError;
 const SPACES: &str =
     "                                                                                ";
 
-/// Adds so many spaces. An `Err` is for want of memory alone; it may leave some of them behind.
-pub fn push_spaces(out: &mut String, count: usize) -> Result<(), AllocError>
+// Adds so many spaces. An `Err` is for want of memory alone; it may leave some of them behind.
+pub(crate) fn push_spaces(out: &mut String, count: usize) -> Result<(), AllocError>
     ensures { OnOk result (string_bytes out.new ≡ string_bytes out.old ++ replicate count 32) }
 {
     let mut left = count;

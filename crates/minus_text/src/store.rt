@@ -5,17 +5,19 @@ ghost use Rattle.std.specs.Str.{IsUtf8, IsCharBoundary};
 ghost use Rattle.std.specs.Str.Lines.{lines};
 ghost use Rattle.std.specs.String.{string_len, string_capacity};
 ghost use Rattle.minus_text.specs.Layouts.{margin, plain, wrap_of};
-ghost use Rattle.minus_text.specs.Document.{rows_of, GrowsByPrefix, line_map, line_count, longest, unfinished_rows, pushed, wrap_in, plan_of};
+ghost use Rattle.minus_text.specs.Document.{rows_of, IsPrefixOf, line_map, line_count, longest, unfinished_rows, pushed, wrap_in, plan_of};
 ghost use Rattle.minus_text.specs.Fragments.{rows_in};
 ghost use Rattle.minus_text.specs.Kept.{IsFormOf, IsPrepared, IsRestartOf, GoesOnInSome, AscendsBehind, line_going_on, piece_behind};
 ghost use Rattle.minus_text.specs.LinePlaces.{row_places};
-ghost use Rattle.minus_text.specs.Pending.{IsPending, IsPreparedFor, RowIsPending, GrowsByPendingPrefix};
+ghost use Rattle.minus_text.specs.Pending.{IsPending, IsPreparedFor, RowIsPending, IsPendingPrefix};
 ghost use Rattle.minus_text.specs.FormatResults.{Tells, TellsPlan, TellsPush};
+ghost use Rattle.minus_text.specs.Formatted.{prefix_of};
 
+use crate::formatted::RowPrefix;
 use crate::formed::{Border, Finished, Formed, Plan, Restart, form};
 use crate::formed_push::FormedPush;
 use crate::layout::{Layout, Wrap};
-use crate::line_numbers::{LineNumbers, prefix_columns, push_prefix};
+use crate::line_numbers::{LineNumbers, prefix_columns};
 use crate::lines::newlines;
 use crate::lines_row_map::LinesRowMap;
 use crate::screen::FormatResult;
@@ -263,19 +265,19 @@ impl Store {
         }
     }
 
-    // Adds what stands before the text of a row, counted from 0.
-    pub(crate) fn push_row_prefix(&self, out: &mut String, i: usize) -> Result<(), AllocError>
-        ensures { OnOk result (GrowsByPrefix self.now i (string_bytes out.old) (string_bytes out.new)) }
+    // What stands before the text of a row, counted from 0.
+    pub(crate) fn row_prefix(&self, i: usize) -> RowPrefix
+        ensures { IsPrefixOf self.now i (prefix_of result) }
     {
-        if !self.layout.numbers.is_on() {
-            return Ok(());
-        }
         let Some(line) = self.first_rows.row_to_line(i) else {
-            return Ok(());
+            return RowPrefix::NONE;
         };
-        let is_first = self.first_rows.begins(line, i);
-        push_prefix(out, true, self.first_rows.len(), line + 1, is_first)?;
-        Ok(())
+        RowPrefix {
+            numbers: self.layout.numbers.is_on(),
+            line_count: self.first_rows.len(),
+            line: line + 1,
+            is_first: self.first_rows.begins(line, i),
+        }
     }
 
     // How many lines there are with a piece behind the text.
@@ -525,25 +527,21 @@ impl Store {
         }
     }
 
-    // Adds what would stand before the text of a row, counted from 0, after the push.
-    pub(crate) fn push_prefix_after(
-        &self,
-        pending: &FormedPush,
-        out: &mut String,
-        i: usize,
-    ) -> Result<(), AllocError>
-        ensures { OnOk result (GrowsByPendingPrefix self.now pending.now i (string_bytes out.old) (string_bytes out.new)) }
+    // What would stand before the text of a row, counted from 0, after the push.
+    pub(crate) fn prefix_after(&self, pending: &FormedPush, i: usize) -> RowPrefix
+        ensures { IsPendingPrefix self.now pending.now i (prefix_of result) }
     {
-        if !pending.numbers.is_on() {
-            return Ok(());
-        }
         let behind = &pending.formed.first_rows;
         let kept = pending.start.finished.lines.min(self.first_rows.len());
         let Some((line, is_first)) = self.first_rows.line_in(kept, behind, i) else {
-            return Ok(());
+            return RowPrefix::NONE;
         };
-        push_prefix(out, true, kept + behind.len(), line + 1, is_first)?;
-        Ok(())
+        RowPrefix {
+            numbers: pending.numbers.is_on(),
+            line_count: kept + behind.len(),
+            line: line + 1,
+            is_first,
+        }
     }
 
     // Whether a push of this text forms what was formed.

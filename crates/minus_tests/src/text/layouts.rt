@@ -102,9 +102,10 @@ fn a_line_that_is_not_wrapped_is_one_row(rt: HostRuntime) {
 
 // Whether two screens store the same row.
 fn store_one(alloc: Global, a: &Screen, b: &Screen, i: usize) -> bool {
-    let mut row = String::new(alloc);
-    let is_there = matches!(b.push_row(alloc, &mut row, i), Ok(true));
-    is_there && stores(alloc, a, i, row.as_str())
+    match b.formatted_row(alloc, i) {
+        Ok(Some(row)) => stores(alloc, a, i, row.as_str()),
+        _ => false,
+    }
 }
 
 // Whether two screens store the same rows.

@@ -57,7 +57,8 @@ pub(crate) fn sees(
     i: usize,
     wanted: &str,
 ) -> bool {
-    let mut row = String::new(alloc);
-    let is_there = matches!(screen.push_row_after(alloc, pending, &mut row, i), Ok(true));
-    is_there && row.as_str() == wanted
+    match screen.formatted_row_after(alloc, pending, i) {
+        Ok(Some(row)) => row.as_str() == wanted,
+        _ => false,
+    }
 }

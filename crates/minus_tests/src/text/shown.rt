@@ -1,6 +1,6 @@
 //! What is shown of a text in some columns, and the prefixes of numbered rows.
 use crate::facts::assert_holds;
-use minus_text::{LineNumbers, crop_columns, prefix_columns, push_fitted, push_prefix};
+use minus_text::{FormattedRow, LineNumbers, crop_columns, fit_columns, prefix_columns};
 use std::alloc::Global;
 
 // Whether a text shows this in so many columns from one on.
@@ -37,8 +37,10 @@ fn a_text_is_cropped_by_columns(rt: HostRuntime) {
 
 // Whether a text is cut or filled so.
 fn fits(alloc: Global, text: &str, cols: usize, fitted: &str) -> bool {
-    let mut row = String::new(alloc);
-    push_fitted(&mut row, text, cols).is_ok() && row.as_str() == fitted
+    match fit_columns(alloc, text, cols) {
+        Ok(row) => row.as_str() == fitted,
+        Err(_) => false,
+    }
 }
 
 #[test]
@@ -58,18 +60,20 @@ fn a_text_is_cut_or_filled(rt: HostRuntime) {
 }
 
 // Whether a first row has its number, one without numbers has nothing, and one that goes on has blanks.
-fn begins_with_numbers(rows: &mut String) -> bool {
-    let is_put = push_prefix(rows, true, 1, 1, true).is_ok()
-        && push_prefix(rows, false, 1, 1, true).is_ok()
-        && push_prefix(rows, true, 10, 9, false).is_ok();
-    is_put && rows.as_str() == "     \x1b[1m1.\x1b[0m          "
+fn begins_with_numbers(alloc: Global) -> bool {
+    let first = FormattedRow::new("a", true, 1, 1, true);
+    let plain = FormattedRow::new("b", false, 1, 1, true);
+    let later = FormattedRow::new("c", true, 10, 9, false);
+    match format!(in alloc; "{first}{plain}{later}") {
+        Ok(rows) => rows.as_str() == "     \x1b[1m1.\x1b[0m ab         c",
+        Err(_) => false,
+    }
 }
 
 #[test]
 fn rows_begin_with_numbers(rt: HostRuntime) {
     let has_columns = prefix_columns(true, 10) == 9 && prefix_columns(false, 10) == 0;
-    let mut rows = String::new(rt.alloc());
-    assert_holds(&rt, begins_with_numbers(&mut rows) && has_columns);
+    assert_holds(&rt, begins_with_numbers(rt.alloc()) && has_columns);
 }
 
 #[test]

@@ -1,5 +1,6 @@
 //! The rows of a text that a term matches.
 ghost use Rattle.std.specs.Prelude.{◌≡◌, ℕ, ◌+◌, ◌≤◌, List, [], ◌++◌, length, map, option_map, nat_le, slice_get, string_bytes, IfOk, IfSome, OnOk};
+ghost use Rattle.minus_text.specs.Formatted.{prefix_of};
 ghost use Rattle.std.specs.List.{position_or_len};
 ghost use Rattle.regex.specs.Strings.{regex_pattern};
 ghost use Rattle.minus_text.specs.Document.{rows_of};
@@ -8,7 +9,9 @@ ghost use Rattle.minus_text.specs.Found.{found_in_rows, found_by, found_above, f
 ghost use Rattle.minus_text.specs.FoundRows.{finder_pattern, matches_of, pattern_of};
 ghost use Rattle.minus_text.specs.FoundBy.{found_rows, found_in_some, numbers_with, HasRoomFor, FoundGoesOn};
 
+use crate::formatted::FormattedRow;
 use crate::formed_push::FormedPush;
+use crate::screen::Row;
 use crate::search::found::{Finder, FoundRow};
 use crate::search::highlight::HighlightMatchesArgs;
 use crate::search::term::Term;
@@ -237,26 +240,24 @@ impl FoundRows {
         None
     }
 
-    // Adds the text of the row with a number, with its matches shown in reverse.
-    pub(crate) fn push_marked(
+    // The row with a number as it prints: what stands before it, and its text with its matches shown in reverse.
+    pub(crate) fn format_row(
         &self,
         alloc: Global,
-        out: &mut String,
         n: usize,
-        row: &str,
-    ) -> Result<(), AllocError>
+        row: FormattedRow<'_>,
+    ) -> Result<Row, AllocError>
         requires ascend { Ascend 0 (found_rows self.now) }
-        requires placed { IfSome (found_of_row n (found_rows self.now)) (λ r. IsPlaced row.now r) }
-        ensures { OnOk result (string_bytes out.new ≡ string_bytes out.old ++ marked (found_of_row n (found_rows self.now)) row.now) }
+        requires placed { IfSome (found_of_row n (found_rows self.now)) (λ r. IsPlaced row.row.now r) }
+        ensures { IfOk result (λ text. string_bytes text ≡ prefix_of row.entry.prefix ++ marked (found_of_row n (found_rows self.now)) row.entry.row.now) }
     {
         let Some(found) = self.of_row(n) else {
-            out.push_str(row)?;
-            return Ok(());
+            return row.to_string(alloc);
         };
-        let shown = HighlightMatchesArgs::of_places(alloc, row, &found.escapes, &found.matches)?;
-        let text = shown.to_string(alloc)?;
-        out.push_str(&text)?;
-        Ok(())
+        let text = row.row;
+        let shown = HighlightMatchesArgs::of_places(alloc, text, &found.escapes, &found.matches)?;
+        let prefix = row.prefix;
+        format!(in alloc; "{prefix}{shown}")
     }
 }
 

@@ -1,15 +1,17 @@
 -- What the row says and its indicators, one after another.
-use Rattle.std.proofs.Common.{◌≡◌, ◌++◌, ◌∷◌, ℕ, true, false, List, [], codes, string_bytes, arith, refl, sym, ap, ◌∙◌}
+use Rattle.std.proofs.Common.{◌≡◌, ◌++◌, ◌∷◌, ℕ, true, false, List, codes, string_bytes, arith, refl, sym, ap, ◌∙◌, append_assoc}
+use Rattle.std.proofs.lemmas.Result.{IfOk-weaker}
 use Rattle.minus_text.specs.Units.{columns}
 use Rattle.minus_text.specs.Crop.{fitted}
 use Rattle.minus_state.specs.PromptRow.{PromptRow, seen_prompt, said, said_style, prefix_indicator, match_indicator, follow_indicator, columns_left, styled, prompt_row, FillsItsRow}
 use Rattle.minus_state.proofs.prompt.format_prompt.Goals as goal
 
-row_formed : (p : PromptRow) (left : ℕ) (t0 t1 t2 t3 t4 t5 t6 : List ℕ) → p.is_shown ≡ true → left ≡ columns_left p → t0 ≡ [] → t1 ≡ t0 ++ said_style p → t2 ≡ t1 ++ fitted left (said p)
-    → t3 ≡ t2 ++ styled (27 ∷ codes "[30;43m") (prefix_indicator p) → t4 ≡ t3 ++ styled (27 ∷ codes "[30;44m") (match_indicator p) → t5 ≡ t4 ++ styled (27 ∷ codes "[1m") (follow_indicator p) → t6 ≡ t5 ++ (27 ∷ codes "[0m")
-    → t6 ≡ prompt_row p
+row_formed : (p : PromptRow) (left : ℕ) (style said_fitted typed found followed bytes : List ℕ) → p.is_shown ≡ true → left ≡ columns_left p → style ≡ said_style p → said_fitted ≡ fitted left (said p)
+    → typed ≡ prefix_indicator p → found ≡ match_indicator p → followed ≡ follow_indicator p
+    → bytes ≡ style ++ (said_fitted ++ (styled (27 ∷ codes "[30;43m") typed ++ (styled (27 ∷ codes "[30;44m") found ++ (styled (27 ∷ codes "[1m") followed ++ (27 ∷ codes "[0m")))))
+    → bytes ≡ prompt_row p
 unfolding prompt_row
-row_formed p left t0 t1 t2 t3 t4 t5 t6 h l e0 e1 e2 e3 e4 e5 e6 = rw (h, e6, e5, e4, e3, e2, e1, e0, l) refl
+row_formed p left style said_fitted typed found followed bytes h l s f t m w e = rw (h, e, s, f, t, m, w, l) (simp append_assoc refl)
 
 row_filled : (p : PromptRow) (left : ℕ) (says : List ℕ) → left ≡ columns_left p → says ≡ said p → columns (fitted left says) ≡ left → FillsItsRow p
 row_filled p left says l s h =
@@ -18,36 +20,27 @@ row_filled p left says l s h =
 
 pub returns-then-not-row-clause-text : goal.returns-then-not-row-clause-text
 unfolding prompt_row
-returns-then-not-row-clause-text c = rw c.if-not-row.true c.new-text.ensures.bytes
+returns-then-not-row-clause-text c = rw c.if-not-row.true c.new.ensures.bytes
 
 pub returns-then-not-row-clause-fills : goal.returns-then-not-row-clause-fills
 returns-then-not-row-clause-fills c = λ shown. let both : false ≡ true = sym c.if-not-row.true ∙ shown in absurd cc
 
 pub returns-clause-fills : goal.returns-clause-fills
-returns-clause-fills c = λ shown.
+returns-clause-fills c = IfOk-weaker c.format.result _ _ (λ text e shown.
     let p = seen_prompt c.args.row.now in
     let prefix = c.as_str.ensures.value ∙ c.in_ok-prefix.ensures in
     let matches = c.as_str-2.ensures.value ∙ c.in_ok-matches.ensures in
     let left : c.saturating_sub-left.result ≡ columns_left p =
     omega (arith, c.saturating_sub.ensures, c.saturating_sub-2.ensures, c.saturating_sub-left.ensures, c.columns.ensures, ap columns prefix, c.columns-2.ensures, ap columns matches, c.columns-3.ensures, ap columns c.follow_indicator-follow.ensures) in
-    row_filled p c.saturating_sub-left.result c.said.result.1.now left c.said.ensures.text c.in_ok-push_fitted.ensures.fills
+    row_filled p c.saturating_sub-left.result c.said.result.1.now left c.said.ensures.text (ap columns (sym c.in_ok-fitted.ensures.row) ∙ c.in_ok-fitted.ensures.fills)) c.format.ensures.ok
 
 pub returns-clause-text : goal.returns-clause-text
-returns-clause-text c =
+returns-clause-text c = IfOk-weaker c.format.result _ _ (λ text e.
     let p = seen_prompt c.args.row.now in
     let prefix = c.as_str.ensures.value ∙ c.in_ok-prefix.ensures in
     let matches = c.as_str-2.ensures.value ∙ c.in_ok-matches.ensures in
     let left : c.saturating_sub-left.result ≡ columns_left p =
     omega (arith, c.saturating_sub.ensures, c.saturating_sub-2.ensures, c.saturating_sub-left.ensures, c.columns.ensures, ap columns prefix, c.columns-2.ensures, ap columns matches, c.columns-3.ensures, ap columns c.follow_indicator-follow.ensures) in
-    let t0 = string_bytes c.new-text.result in
-    let t1 = string_bytes c.push_str.new.self in
-    let t2 = string_bytes c.push_fitted.new.row in
-    let t3 = string_bytes c.push_styled.new.text in
-    let t4 = string_bytes c.push_styled-2.new.text in
-    row_formed p c.saturating_sub-left.result t0 t1 t2 t3 t4 (string_bytes c.push_styled-3.new.text) (string_bytes c.push_str-2.new.self) c.if-not-row.false left c.new-text.ensures.bytes
-    (c.in_ok-push_str.ensures.bytes ∙ ap (λ bs. t0 ++ bs) c.said.ensures.style)
-    (c.in_ok-push_fitted.ensures.row ∙ ap (λ bs. t1 ++ fitted c.saturating_sub-left.result bs) c.said.ensures.text)
-    (c.in_ok-push_styled.ensures ∙ ap (λ bs. t2 ++ styled (27 ∷ codes "[30;43m") bs) (c.as_str-3.ensures.value ∙ c.in_ok-prefix.ensures))
-    (c.in_ok-push_styled-2.ensures ∙ ap (λ bs. t3 ++ styled (27 ∷ codes "[30;44m") bs) (c.as_str-4.ensures.value ∙ c.in_ok-matches.ensures))
-    (c.in_ok-push_styled-3.ensures ∙ ap (λ bs. t4 ++ styled (27 ∷ codes "[1m") bs) c.follow_indicator-follow.ensures)
-    c.in_ok-push_str-2.ensures.bytes
+    let fitted_is = c.in_ok-fitted.ensures.row ∙ ap (fitted c.saturating_sub-left.result) c.said.ensures.text in
+    row_formed p c.saturating_sub-left.result c.said.result.0.now (string_bytes c.in_ok-fitted.fitted) c.as_str-3.result.now c.as_str-4.result.now c.follow_indicator-follow.result.now (string_bytes text) c.if-not-row.false left c.said.ensures.style fitted_is
+    (c.as_str-3.ensures.value ∙ c.in_ok-prefix.ensures) (c.as_str-4.ensures.value ∙ c.in_ok-matches.ensures) c.follow_indicator-follow.ensures e) c.format.ensures.ok

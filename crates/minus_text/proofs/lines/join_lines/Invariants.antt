@@ -3,11 +3,11 @@ use denote.Text.{Utf8}
 use denote.Shadow.{shadow}
 use Rattle.std.proofs.Common.{◌≡◌, ◌++◌, length, string_bytes}
 use Rattle.minus_text.specs.LinePlaces.{joined_lines}
-use Rattle.minus_text.proofs.lines.push_lines.Given as goal
+use Rattle.minus_text.proofs.lines.join_lines.Given as goal
 
 abbrev pub invariant-loop-line : goal.invariant-loop-line
 invariant-loop-line l = record {
-  so_far : string_bytes l.out ++ joined_lines l.rest ≡ string_bytes l.fn.out ++ joined_lines l.text;
+  so_far : string_bytes l.joined ++ joined_lines l.rest ≡ joined_lines l.text;
   utf8 : shadow (Utf8 l.rest);
 }
 
