@@ -1,5 +1,5 @@
 -- What commands leave, by how they are drawn.
-use Rattle.std.proofs.Common.{◌≡◌, ℕ, ◌+◌, ◌<◌, List, [], ◌∷◌, ◌++◌, length, get_or, map, take, ap, ◌∙◌, sym, refl, arith, min, ◌||◌, Bool, true, false, Option, Some, None}
+use Rattle.std.proofs.Common.{String, Global, ◌≡◌, ℕ, ◌+◌, ◌<◌, List, [], ◌∷◌, ◌++◌, length, get_or, map, take, ap, ◌∙◌, sym, refl, arith, min, ◌||◌, Bool, true, false, Option, Some, None}
 use Rattle.std.proofs.lemmas.List.{map_more}
 use Rattle.minus_state.specs.declared.change.Redraw.{Redraw}
 use Rattle.minus_state.specs.Control.{Control, Saved, clamp, top, cleared, IsClamped, SameSize}
@@ -7,7 +7,7 @@ use Rattle.minus_state.specs.Help.{left_help, restored}
 use Rattle.minus.specs.Seen.{Seen}
 use Rattle.minus.specs.Table.{Wanted, answered, handed, drawing_by, sets_data, appends_data, moves_mark, resizes, exits, ignores, sets_prompt, sends_message, shows_prompt, follows, types, restores_prompt, redraws_prompt, redraws_page, sets_classifier, sets_numbers, sets_wrapping, shifts, starts_selection, updates_selection, clears_selection, copies_selection, shows_help, Exit, effect, changed_by, kept_after, drawing_of, IsPossible}
 use Rattle.minus.specs.Works.{Work, WorkedOff, all, one, up_to, is_full, some_full, ResizesAreFull}
-use Rattle.minus.specs.Starts.{taken, taken_all, first_control}
+use Rattle.minus.specs.Starts.{text_taken, taken, taken_all, first_control}
 use Rattle.minus_state.specs.States.{at_start}
 use Rattle.minus_state.specs.declared.input.InputEvent.{InputEvent}
 use Rattle.minus_state.specs.declared.input.InputEvent.TheVariants as events
@@ -15,7 +15,7 @@ use Rattle.minus.specs.declared.commands.CommandOf.{CommandOf}
 use Rattle.minus.specs.declared.commands.CommandOf.TheVariants.{SetData, AppendData, SetPrompt, SendMessage, ShowPrompt, SetLineNumbers, LineWrapping, FollowOutput, UserInput, Io, SetInputClassifier}
 use Rattle.minus.specs.declared.commands.IoCommand.{IoCommand}
 use Rattle.minus.specs.declared.commands.IoCommand.TheVariants.{RedrawPrompt, RedrawDisplay, DrawAppendedText, SetUpperMark}
-use Rattle.minus.specs.Reads.{event_wanted, io_wanted, wanted_with}
+use Rattle.minus.specs.Reads.{event_wanted, io_wanted, wanted_of, wanted_with}
 
 -- what the clamp leaves
 pub clamp_still : (c : Control) → IsClamped c → clamp c ≡ c
@@ -233,6 +233,46 @@ no_drawing_hands text RedrawPrompt = refl
 no_drawing_hands text RedrawDisplay = refl
 no_drawing_hands text (DrawAppendedText unfinished rows style) = refl
 no_drawing_hands text (SetUpperMark mark) = refl
+
+-- no command but those with a text is taken before the start
+no_event_is_taken : (K : Type 0) (before : List ℕ) (event : InputEvent) → text_taken {K = K} before (event_wanted event) ≡ before
+no_event_is_taken K before (events.UpdateUpperMark mark) = refl
+no_event_is_taken K before (events.UpdateTermArea cols rows) = refl
+no_event_is_taken K before (events.UpdateLeftMark left) = refl
+no_event_is_taken K before (events.UpdateLineNumber numbers) = refl
+no_event_is_taken K before (events.StartSelection x y) = refl
+no_event_is_taken K before (events.UpdateSelection x y) = refl
+no_event_is_taken K before events.ClearSelection = refl
+no_event_is_taken K before events.CopySelection = refl
+no_event_is_taken K before (events.HorizontalScroll wrapping) = refl
+no_event_is_taken K before (events.FollowOutput follow) = refl
+no_event_is_taken K before events.RestorePrompt = refl
+no_event_is_taken K before events.ShowHelp = refl
+no_event_is_taken K before (events.Number character) = refl
+no_event_is_taken K before events.Exit = refl
+no_event_is_taken K before events.Ignore = refl
+
+no_drawing_is_taken : (K : Type 0) (before : List ℕ) (io : IoCommand) → text_taken {K = K} before (io_wanted io) ≡ before
+no_drawing_is_taken K before RedrawPrompt = refl
+no_drawing_is_taken K before RedrawDisplay = refl
+no_drawing_is_taken K before (DrawAppendedText unfinished rows style) = refl
+no_drawing_is_taken K before (SetUpperMark mark) = refl
+
+no_text_is_taken : {P K : Type 0} (before : List ℕ) (command : CommandOf P K) → ((text : String Global) → command ≡ SetData text → ⊥) → ((text : String Global) → command ≡ AppendData text → ⊥) → text_taken before (wanted_of command) ≡ before
+no_text_is_taken before (SetData text) h k = absurd (h text refl)
+no_text_is_taken before (AppendData text) h k = absurd (k text refl)
+no_text_is_taken before (SetPrompt prompt) h k = refl
+no_text_is_taken before (SendMessage message) h k = refl
+no_text_is_taken before (ShowPrompt is_shown) h k = refl
+no_text_is_taken before (SetLineNumbers numbers) h k = refl
+no_text_is_taken before (LineWrapping wrapping) h k = refl
+no_text_is_taken before (FollowOutput follow) h k = refl
+no_text_is_taken before (UserInput event) h k = no_event_is_taken _ before event
+no_text_is_taken before (Io io) h k = no_drawing_is_taken _ before io
+no_text_is_taken before (SetInputClassifier classifier) h k = refl
+
+pub no_other_is_taken : {P K : Type 0} (c : Control) (command : CommandOf P K) → ((text : String Global) → command ≡ SetData text → ⊥) → ((text : String Global) → command ≡ AppendData text → ⊥) → taken c (wanted_of command) ≡ c
+no_other_is_taken c command h k = ap (λ (text : List ℕ). let taken_of : Control = record c { text = text } in taken_of) (no_text_is_taken c.text command h k)
 
 -- a classifier is handed over by the command for it alone
 pub no_other_hands : {P K : Type 0} (text : List ℕ) (command : CommandOf P K) → ((k : K) → command ≡ SetInputClassifier k → ⊥) → handed (wanted_with text command) ≡ None

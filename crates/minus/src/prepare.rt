@@ -85,21 +85,14 @@ pub(crate) fn take_text<P: Parts>(
         CommandOf::SetData(text) => {
             let layout = state.layout();
             let _ = state.screen.set_text(alloc, text, layout, None)?;
+            Ok(())
         }
         CommandOf::AppendData(text) => {
             let _ = state.append_str(alloc, text)?;
+            Ok(())
         }
-        CommandOf::SetPrompt(_)
-        | CommandOf::SendMessage(_)
-        | CommandOf::ShowPrompt(_)
-        | CommandOf::SetLineNumbers(_)
-        | CommandOf::LineWrapping(_)
-        | CommandOf::FollowOutput(_)
-        | CommandOf::UserInput(_)
-        | CommandOf::Io(_)
-        | CommandOf::SetInputClassifier(_) => {}
+        _ => Ok(()),
     }
-    Ok(())
 }
 
 // How the program is to go on after a command that is an exit, and the code that it ends with.
