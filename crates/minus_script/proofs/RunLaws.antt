@@ -5,7 +5,7 @@ use Rattle.std.specs.Io.KnownBytes.{Appends}
 use Rattle.std.proofs.lemmas.List.{map-append}
 use Rattle.minus_term.specs.declared.error.MinusError.{MinusError}
 use Rattle.minus_term.specs.declared.error.MinusError.TheVariants.{Memory, NewlineInPrompt, BadSize, BadMode, Failed, Ended, Setup, Cleanup, Draw, HandleEvent, Cursor, FmtWriteError, Conversion, SearchExpError}
-use Rattle.minus_term.specs.Refusals.{number_of, refusal_of}
+use Rattle.minus_term.specs.Refusals.{Refusal, for_memory, for_newline, for_size, for_mode, after_failure, after_exit, at_setup, at_cleanup, at_drawing, of_no_call, refusal_of}
 use Rattle.minus.specs.declared.stand_in.StandIn.{StandIn}
 use Rattle.minus.specs.declared.session.Answer.{Answer}
 use Rattle.minus_state.specs.declared.state.RunMode.TheVariants.{Dynamic}
@@ -18,7 +18,7 @@ use Rattle.minus.specs.Classifying.{Classifies}
 use Rattle.minus_state.specs.Control.{Control}
 use Rattle.minus.specs.Reads.{Told}
 use Rattle.minus.specs.Runs.{Stops, StopsSo, StopsAfter, IsRun}
-use Rattle.minus.specs.Starts.{IsStarted}
+use Rattle.minus.specs.Starts.{IsStarted, IsStartRefused, IsSetupRefused}
 use Rattle.minus.specs.Seen.{Seen}
 use Rattle.minus.specs.Steps.{IsStep, Steps, none, more, Refuses, status_after, cleanup_after}
 use Rattle.minus.specs.Table.{Wanted, Exit}
@@ -26,7 +26,7 @@ use Rattle.minus_script.specs.declared.arguments.Mode.{Mode}
 use Rattle.minus_script.specs.declared.arguments.Mode.TheVariants.{Page, Bytes}
 use Rattle.minus_script.specs.declared.fault.ScriptFault.{ScriptFault}
 use Rattle.minus_script.specs.declared.fault.ScriptFault.TheVariants.{Io, Line, Refused}
-use Rattle.minus_script.specs.Runs.{IsTaken, exit_code, printed_after, IsShown, IsRefusal}
+use Rattle.minus_script.specs.Runs.{IsTaken, exit_code, printed_after, IsShown, IsWantOfMemory, IsRefusal}
 use Rattle.minus_script.specs.ShowFaults.{IsShowFault, IsMemory}
 
 -- a start from no text over a sink that holds nothing
@@ -123,18 +123,18 @@ still_runs says old new ts cs answers x y e rest (more {b = b} {c = c} {t = t} {
     still_runs says b c us ds (next ∷ others) v w e rest steps (step_goes_on says old b t answer u v s h.0) h.1
 
 -- a step that is refused while the session runs
-step_refused : (e : MinusError) (cols rows : ℕ) (told rest : List (Told StandIn)) (t : Told StandIn) (answers : List Answer) (reached new : Seen StandIn) (a b : Option (List ℕ)) → IsTaken cols rows told answers reached a (t ∷ rest) → reached.status ≡ status.Running → Refuses stand_in_says (refusal_of e) reached t new a b → IsRefusal (number_of e) cols rows told
-step_refused Memory cols rows told rest t answers reached new a b taken runs h = inl (inl refl)
+step_refused : (e : MinusError) (cols rows : ℕ) (told rest : List (Told StandIn)) (t : Told StandIn) (answers : List Answer) (reached new : Seen StandIn) (a b : Option (List ℕ)) → IsTaken cols rows told answers reached a (t ∷ rest) → reached.status ≡ status.Running → Refuses stand_in_says (refusal_of e) reached t new a b → IsRefusal (refusal_of e) cols rows told
+step_refused Memory cols rows told rest t answers reached new a b taken runs h = tt
 step_refused NewlineInPrompt cols rows told rest t answers reached new a b taken runs h =
-    inr (inr (refl, record { answers = answers; reached = reached; bytes = a; refused = t; rest = rest; wanted = h.0.wanted; taken = taken; asked = h.0.asked; bad = h.0.bad }))
+    record { answers = answers; reached = reached; bytes = a; refused = t; rest = rest; wanted = h.0.wanted; taken = taken; asked = h.0.asked; bad = h.0.bad }
 step_refused (BadSize c r) cols rows told rest t answers reached new a b taken runs h =
-    inr (inl (refl, inr (record { answers = answers; reached = reached; bytes = a; refused = t; rest = rest; columns = c; lines = r; taken = taken; asked = h.0.asked; bad = h.0.bad })))
+    inr (record { answers = answers; reached = reached; bytes = a; refused = t; rest = rest; taken = taken; asked = h.0.asked; bad = h.0.bad })
 step_refused BadMode cols rows told rest t answers reached new a b taken runs h = absurd h
 step_refused Failed cols rows told rest t answers reached new a b taken runs h = absurd (let both : status.Running ≡ status.Failed = sym runs ∙ h.0 in cc)
 step_refused Ended cols rows told rest t answers reached new a b taken runs h = absurd (let both : status.Running ≡ status.Ended = sym runs ∙ h.0 in cc)
 step_refused (Setup cause) cols rows told rest t answers reached new a b taken runs h = absurd h
-step_refused (Cleanup cause) cols rows told rest t answers reached new a b taken runs h = inl (inr (inr (inl refl)))
-step_refused (Draw cause) cols rows told rest t answers reached new a b taken runs h = inl (inr (inr (inr refl)))
+step_refused (Cleanup cause) cols rows told rest t answers reached new a b taken runs h = tt
+step_refused (Draw cause) cols rows told rest t answers reached new a b taken runs h = tt
 step_refused (HandleEvent cause) cols rows told rest t answers reached new a b taken runs h = absurd h
 step_refused (Cursor cause) cols rows told rest t answers reached new a b taken runs h = absurd h
 step_refused (FmtWriteError cause) cols rows told rest t answers reached new a b taken runs h = absurd h
@@ -143,7 +143,7 @@ step_refused (SearchExpError cause) cols rows told rest t answers reached new a 
 
 -- a refusal stopped the run
 refused_one : {A : Type 0} (told : A → Told StandIn) (e : MinusError) (refused rest inputs taken : List A) (old reached new : Seen StandIn) (passed : List Control) (answers : List Answer) (start a b : Option (List ℕ)) (cols rows : ℕ) → Stops stand_in_says told (Some e) refused reached new a b → inputs ≡ taken ++ (refused ++ rest) → Steps stand_in_says old (map told taken) passed answers reached start a
-    → IsStarted old (record {}) [] Dynamic cols rows true (Some []) start → reached.status ≡ status.Running → IsRefusal (number_of e) cols rows (map told inputs)
+    → IsStarted old (record {}) [] Dynamic cols rows true (Some []) start → reached.status ≡ status.Running → IsRefusal (refusal_of e) cols rows (map told inputs)
 refused_one told e [] rest inputs taken old reached new passed answers start a b cols rows h all steps s runs = absurd h
 refused_one told e (x ∷ y ∷ xs) rest inputs taken old reached new passed answers start a b cols rows h all steps s runs = absurd h
 refused_one told e (x ∷ []) rest inputs taken old reached new passed answers start a b cols rows h all steps s runs =
@@ -157,8 +157,33 @@ run_refused told old new inputs done last stopped rest a b cols rows e fault h i
     let runs = still_runs stand_in_says old h.reached (map told h.taken) h.passed h.answers a h.bytes e (map told rest) h.steps (ap (λ (x : Seen StandIn). x.status) s.begins) stops in
     rw f (refused_one told e h.refused rest inputs h.taken old h.reached new h.passed h.answers a h.bytes b cols rows stop h.all h.steps s runs)
 
+-- a start is refused
+pub start_refused : (refusal : Refusal) (cols rows : ℕ) (terminal : Bool) (told : List (Told StandIn)) → terminal ≡ true → IsStartRefused refusal Dynamic cols rows terminal → IsRefusal refusal cols rows told
+start_refused for_memory cols rows terminal told t h = tt
+start_refused for_newline cols rows terminal told t h = absurd h
+start_refused (for_size c r) cols rows terminal told t h = inl (h.1, h.2, h.3)
+start_refused for_mode cols rows terminal told t h = absurd cc
+start_refused after_failure cols rows terminal told t h = absurd h
+start_refused after_exit cols rows terminal told t h = absurd h
+start_refused (at_setup cause) cols rows terminal told t h = subst (λ (x : Bool). IsSetupRefused cause x) t h.1
+start_refused (at_cleanup cause) cols rows terminal told t h = absurd h
+start_refused at_drawing cols rows terminal told t h = tt
+start_refused of_no_call cols rows terminal told t h = absurd h
+
 -- memory ran out
+memory_refusal : (refusal : Refusal) (cols rows : ℕ) (told : List (Told StandIn)) → IsWantOfMemory refusal → IsRefusal refusal cols rows told
+memory_refusal for_memory cols rows told h = h
+memory_refusal for_newline cols rows told h = absurd h
+memory_refusal (for_size c r) cols rows told h = absurd h
+memory_refusal for_mode cols rows told h = h
+memory_refusal after_failure cols rows told h = h
+memory_refusal after_exit cols rows told h = h
+memory_refusal (at_setup cause) cols rows told h = h
+memory_refusal (at_cleanup cause) cols rows told h = h
+memory_refusal at_drawing cols rows told h = h
+memory_refusal of_no_call cols rows told h = h
+
 pub memory_fault : (cols rows : ℕ) (told : List (Told StandIn)) (fault : ScriptFault) → IsMemory fault → IsShowFault cols rows told fault
 memory_fault cols rows told (Io stream cause) e = absurd e
 memory_fault cols rows told (Line number) e = absurd e
-memory_fault cols rows told (Refused cause) e = inl e
+memory_fault cols rows told (Refused cause) e = memory_refusal (refusal_of cause) cols rows told e

@@ -4,7 +4,7 @@ use Rattle.std.specs.List.{last_or}
 use Rattle.std.specs.Option.{option_and_then, option_map}
 use Rattle.std.specs.Io.KnownBytes.{Appends, Consumes, IsAtEnd}
 use Rattle.minus_term.specs.Counts.{AppendsFront}
-use Rattle.minus_term.specs.Refusals.{number_of}
+use Rattle.minus_term.specs.Refusals.{Refusal, for_memory, for_newline, for_size, at_setup, at_cleanup, at_drawing, refusal_of}
 use Rattle.minus_term.specs.declared.error.MinusError.TheVariants.{Memory}
 use Rattle.minus.specs.declared.stand_in.StandIn.{StandIn}
 use Rattle.minus.specs.declared.session.Answer.{Answer}
@@ -15,7 +15,7 @@ use Rattle.minus_state.specs.Page.{page}
 use Rattle.minus.specs.Reads.{Told}
 use Rattle.minus.specs.Runs.{StopsAfter}
 use Rattle.minus_state.specs.Sizes.{IsSize}
-use Rattle.minus.specs.Starts.{IsStarted}
+use Rattle.minus.specs.Starts.{IsStarted, IsSetupRefused}
 use Rattle.minus.specs.Seen.{Seen}
 use Rattle.minus.specs.Steps.{Asks, Steps, cleanup_after}
 use Rattle.minus.specs.Table.{Wanted, resizes, HasNewline}
@@ -81,20 +81,22 @@ abbrev pub IsScriptRun : Mode → ℕ → ℕ → Option (List ℕ) → Option (
 IsScriptRun mode cols rows old_input new_input old_output new_output =
     (printed : List ℕ) × IsScriptShown mode cols rows old_input new_input printed × Appends old_output new_output printed
 
--- memory ran out: the program's, or that of the pager's sink, which is a vector in memory and refuses a setup, a cleanup or a
+-- memory ran out: the program's, or that of the pager's sink, which is a terminal in memory and refuses a setup, a cleanup or a
 -- drawing for nothing else
-abbrev pub IsWantOfMemory : ℕ → Type 0
-IsWantOfMemory number = (number ≡ 1) ⊎ ((number ≡ 12) ⊎ ((number ≡ 13) ⊎ (number ≡ 14)))
+abbrev pub IsWantOfMemory : Refusal → Type 0
+IsWantOfMemory for_memory = Unit {0}
+IsWantOfMemory (at_setup cause) = IsSetupRefused cause true
+IsWantOfMemory (at_cleanup cause) = Unit {0}
+IsWantOfMemory at_drawing = Unit {0}
+IsWantOfMemory refusal = ⊥
 
--- after a part of what it was told, the pager was asked for a size that is none of a terminal
-pub record IsSizeAsked (cols rows : ℕ) (told : List (Told StandIn)) : Type 0 where
+-- after a part of what it was told, the pager was asked for this size, which is none of a terminal
+pub record IsSizeAsked (columns lines cols rows : ℕ) (told : List (Told StandIn)) : Type 0 where
   pub answers : List Answer
   pub reached : Seen StandIn
   pub bytes : Option (List ℕ)
   pub refused : Told StandIn
   pub rest : List (Told StandIn)
-  pub columns : ℕ
-  pub lines : ℕ
   pub taken : IsTaken cols rows told answers reached bytes (refused ∷ rest)
   pub asked : Asks stand_in_says reached refused (resizes columns lines)
   pub bad : IsSize columns lines → ⊥
@@ -111,10 +113,12 @@ pub record IsPromptAsked (cols rows : ℕ) (told : List (Told StandIn)) : Type 0
   pub asked : Asks stand_in_says reached refused wanted
   pub bad : HasNewline wanted
 
--- memory ran out; the size of the start, or one that was asked for later, is none of a terminal; or a prompt has a newline
-abbrev pub IsRefusal : ℕ → ℕ → ℕ → List (Told StandIn) → Type 0
-IsRefusal number cols rows told =
-    IsWantOfMemory number ⊎ (((number ≡ 5) × ((IsSize cols rows → ⊥) ⊎ IsSizeAsked cols rows told)) ⊎ ((number ≡ 2) × IsPromptAsked cols rows told))
+-- why a pager that is told all of this refuses: this is the size of the start, or one that was asked for later, and none of a
+-- terminal; a prompt or a message has a newline; or memory ran out
+abbrev pub IsRefusal : Refusal → ℕ → ℕ → List (Told StandIn) → Type 0
+IsRefusal (for_size columns lines) cols rows told = ((columns ≡ cols) × (lines ≡ rows) × (IsSize cols rows → ⊥)) ⊎ IsSizeAsked columns lines cols rows told
+IsRefusal for_newline cols rows told = IsPromptAsked cols rows told
+IsRefusal refusal cols rows told = IsWantOfMemory refusal
 
 -- a script was read to its end
 abbrev pub IsRead : Option (List ℕ) → Option (List ℕ) → List ℕ → Type 0
@@ -133,7 +137,7 @@ IsRunFault mode cols rows old_input new_input old_output new_output (Io Output c
 IsRunFault mode cols rows old_input new_input old_output new_output (Line number) =
     (script : List ℕ) × IsRead old_input new_input script × (script_told (script_lines script) ≡ Err number)
 IsRunFault mode cols rows old_input new_input old_output new_output (Refused cause) =
-    (cause ≡ Memory) ⊎ ((script : List ℕ) × (told : List (Told StandIn)) × IsRead old_input new_input script × (script_told (script_lines script) ≡ Ok told) × IsRefusal (number_of cause) cols rows told)
+    (cause ≡ Memory) ⊎ ((script : List ℕ) × (told : List (Told StandIn)) × IsRead old_input new_input script × (script_told (script_lines script) ≡ Ok told) × IsRefusal (refusal_of cause) cols rows told)
 
 -- a fault that came before anything was printed
 abbrev pub IsBeforePrinting : ScriptFault → Type 0

@@ -2,7 +2,7 @@
 use Rattle.std.specs.Prelude.{ℕ, List}
 use Rattle.minus.specs.declared.stand_in.StandIn.{StandIn}
 use Rattle.minus.specs.Reads.{Told}
-use Rattle.minus_term.specs.Refusals.{number_of}
+use Rattle.minus_term.specs.Refusals.{refusal_of}
 use Rattle.minus_script.specs.Runs.{IsWantOfMemory, IsRefusal}
 use Rattle.minus_script.specs.declared.fault.ScriptFault.{ScriptFault}
 use Rattle.minus_script.specs.declared.fault.ScriptFault.TheVariants.{Io, Line, Refused}
@@ -11,10 +11,10 @@ use Rattle.minus_script.specs.declared.fault.ScriptFault.TheVariants.{Io, Line, 
 abbrev pub IsShowFault : ℕ → ℕ → List (Told StandIn) → ScriptFault → Type 0
 IsShowFault cols rows told (Io stream cause) = ⊥
 IsShowFault cols rows told (Line number) = ⊥
-IsShowFault cols rows told (Refused cause) = IsRefusal (number_of cause) cols rows told
+IsShowFault cols rows told (Refused cause) = IsRefusal (refusal_of cause) cols rows told
 
 -- memory ran out
 abbrev pub IsMemory : ScriptFault → Type 0
 IsMemory (Io stream cause) = ⊥
 IsMemory (Line number) = ⊥
-IsMemory (Refused cause) = IsWantOfMemory (number_of cause)
+IsMemory (Refused cause) = IsWantOfMemory (refusal_of cause)

@@ -108,10 +108,10 @@ fn show(
 /// # Errors
 ///
 /// [`ScriptFault::Io`] where the reader fails, [`ScriptFault::Line`] at the first faulty line, counted from 1, and
-/// [`ScriptFault::Refused`] where a size is none of a terminal, with number 5, where a prompt or a message has a
-/// newline, with number 2, or where memory runs out, with number 1, or 12, 13 or 14 where the pager's sink wanted it:
-/// nothing is written then. [`ScriptFault::Io`] where the writer fails: a beginning of what was to be printed was
-/// written.
+/// [`ScriptFault::Refused`] with the pager's refusal: [`MinusError::BadSize`] names a size that is none of a terminal,
+/// [`MinusError::NewlineInPrompt`] comes of a prompt or a message with a newline, [`MinusError::Memory`] where memory
+/// runs out, and `Setup`, `Cleanup` or `Draw` where the pager's sink wanted it. Nothing is written then.
+/// [`ScriptFault::Io`] where the writer fails: a beginning of what was to be printed was written.
 pub fn run_script<R: Read, W: Write>(
     alloc: Global,
     mode: Mode,

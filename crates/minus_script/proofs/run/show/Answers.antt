@@ -2,13 +2,17 @@
 use Rattle.std.proofs.Common.{◌≡◌, map, Some, refl, ap}
 use Rattle.std.specs.Io.KnownBytes.{Appends}
 use Rattle.std.proofs.lemmas.Result.{IfOk-weaker, IfErr-weaker}
+use Rattle.minus_term.specs.Refusals.{refusal_of}
 use Rattle.minus.specs.Core.{seen_of}
 use Rattle.minus.specs.Reads.{told_of, wanted_of}
 use Rattle.minus.specs.Steps.{cleanup_after}
 use Rattle.minus_script.specs.Runs.{exit_code, printed_after, IsShown}
 use Rattle.minus_script.specs.ShowFaults.{IsShowFault, IsMemory}
-use Rattle.minus_script.proofs.RunLaws.{started, run_came, page_shown, bytes_shown, run_refused, memory_fault}
+use Rattle.minus_script.proofs.RunLaws.{started, start_refused, run_came, page_shown, bytes_shown, run_refused, memory_fault}
 use Rattle.minus_script.proofs.run.show.Goals as goal
+
+pub returns-in-Err-clause-fault : goal.returns-in-Err-clause-fault
+returns-in-Err-clause-fault c = rw c.from.ensures (start_refused (refusal_of c.in-Err.refused.cause) c.args.cols c.args.rows _ (map told_of c.args.inputs.items) c.new-sink.ensures.tty c.in-Err.ensures.refused.refused)
 
 pub returns-in-Some-clause-fault : goal.returns-in-Some-clause-fault
 returns-in-Some-clause-fault c =
