@@ -1,7 +1,8 @@
 -- Laws of ascending maps from lines to rows.
-use Rattle.std.proofs.Common.{◌≡◌, ℕ, zero, suc, ◌+◌, ◌-◌, ◌<◌, ◌≤◌, List, length, get_or, arith}
+use Rattle.std.proofs.Common.{◌≡◌, ℕ, zero, suc, ◌+◌, ◌-◌, ◌<◌, ◌≤◌, Bool, List, ◌++◌, length, get_or, eqb, ap, sym, arith, ◌∙◌}
 use Rattle.std.specs.List.Sorted.{IsStrictlyIncreasing}
-use Rattle.minus_text.specs.LineMaps.{IsLineOfRow}
+use Rattle.std.proofs.lemmas.List.{length-append, get_or-append-add}
+use Rattle.minus_text.specs.LineMaps.{IsLineOfRow, IsLineIn}
 
 -- a later entry is no smaller
 pub ascends_far : (xs : List ℕ) → IsStrictlyIncreasing xs → (i n : ℕ) → i + n < length xs → get_or xs i 0 ≤ get_or xs (i + n) 0
@@ -35,3 +36,17 @@ line_before xs row i some le below above = record {
 }
 
 -- ---- entries behind others
+
+-- the line of a row, among entries behind others of which this one is at or before the row
+pub line_behind : (xs ys : List ℕ) (n row line : ℕ) (first : Bool) → length xs ≡ n → get_or ys line 0 ≤ row → IsLineOfRow ys row line → first ≡ eqb (get_or ys line 0) row → IsLineIn (xs ++ ys) row (n + line) first
+line_behind xs ys n row line first is le of_row e =
+    let there : get_or (xs ++ ys) (n + line) 0 ≡ get_or ys line 0 = ap (λ (m : ℕ). get_or (xs ++ ys) (m + line) 0) (sym is) ∙ get_or-append-add xs ys line 0 in
+    let next : get_or (xs ++ ys) (n + line + 1) 0 ≡ get_or ys (line + 1) 0 =
+    ap (λ (m : ℕ). get_or (xs ++ ys) m 0) (omega (arith, is)) ∙ get_or-append-add xs ys (line + 1) 0 in (
+      record {
+        within = omega (arith, is, length-append xs ys, of_row.within);
+        begins = λ _. rw there le;
+        ends = λ m. rw next (of_row.ends (omega (arith, is, length-append xs ys, m)));
+      },
+      rw there e,
+    )

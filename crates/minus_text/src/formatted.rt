@@ -72,8 +72,9 @@ pub struct FormattedRow<'a> {
 
 impl<'a> FormattedRow<'a> {
     /// A row with this text of its own. Where numbers are on it has the number of its line before it,
-    /// counted from 1, if it is the first row of the line, and blanks otherwise; both are as wide as
-    /// `line_count`, the lines of the whole text, asks for.
+    /// counted from 1, if it is the first row of the line, and as many blanks otherwise. The number, in
+    /// bold and with a stop, stands at the right of as many columns as `line_count`, the lines of the
+    /// whole text, has digits and six more, with a blank behind it.
     pub fn new(
         row: &'a str,
         numbers: bool,

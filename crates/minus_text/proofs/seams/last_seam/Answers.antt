@@ -1,7 +1,6 @@
-use Rattle.std.proofs.lemmas.Grind.{common_steps}
 -- A row that stands alone, or the line's start.
 use Rattle.std.proofs.Common.{◌≡◌, ℕ, ◌+◌, ◌-◌, ◌<◌, ◌≤◌, true, false, length, drop, get_or, arith, sym, ap, ◌∙◌}
-use Rattle.std.proofs.lemmas.List.{length-drop, get_or-drop}
+use Rattle.std.proofs.lemmas.List.{length-drop, get_or-drop, drop_all}
 use Rattle.minus_text.specs.declared.wrap.Span.{Span}
 use Rattle.minus_text.specs.Seams.{StandsAlone}
 use Rattle.minus_text.proofs.SeamLaws.{start_goes_on, stored_seam, none_from, none_further}
@@ -53,4 +52,8 @@ loop-i-preserved c =
     }
 
 pub loop-i-init : goal.loop-i-init
-loop-i-init c = grind (arith, common_steps)
+loop-i-init c = record {
+  least = c.requires.rows;
+  count = omega arith;
+  none = rw (drop_all (length c.args.rows.now) c.args.rows.now (omega arith)) (λ k d l. absurd (omega (arith, l)));
+}
