@@ -13,9 +13,10 @@ use Rattle.minus_term.proofs.ScrollLaws.{one_put}
 use Rattle.minus_term.proofs.WrittenLaws.{IsClean-append}
 use Rattle.minus_state.specs.Selection.{ends_in_order}
 use Rattle.minus_state.proofs.ShownRowsLaws.{length-shown_rows, shown_kept}
-use Rattle.minus.specs.declared.commands.Drawing.TheVariants.{Nothing, Append, Prompt}
+use Rattle.minus.specs.declared.step_drawing.Drawing.{Drawing}
+use Rattle.minus.specs.declared.step_drawing.Drawing.TheVariants.{Nothing, Append, Prompt}
 use Rattle.minus_state.specs.Control.{Control, Settings, document_of, text_rows, first_changed, keeps_rows_with}
-use Rattle.minus.specs.Drawings.{ops_of_step, changed_prompt}
+use Rattle.minus.specs.Drawings.{append_from, ops_of_step, changed_prompt}
 use Rattle.minus.specs.Drawn.{IsDrawing}
 use Rattle.minus_state.specs.Page.{all_shown, shown, page}
 use Rattle.minus_state.specs.ShownPrompt.{prompt_row}
@@ -52,9 +53,10 @@ puts_anew i (t ∷ ts) b rest s =
     omega (arith, one, more)
 
 -- the rows that an append has changed, and a prompt row that is another one than before, are its drawing
-pub append_draws : (c : Control) (text : List ℕ) (s : Settings) → keeps_rows_with c text ≡ true → 1 ≤ c.rows → (let new : Control = record c { text = c.text ++ text; settings = s } in IsDrawing (ops_of_step Append c new) c (work_drawn Append new ∷ []) new)
+pub append_draws : (c : Control) (text : List ℕ) (s : Settings) → keeps_rows_with c text ≡ true → 1 ≤ c.rows → (let new : Control = record c { text = c.text ++ text; settings = s } in (let drawing : Drawing = Append (first_changed c) (length (text_rows c)) in IsDrawing (ops_of_step drawing c new) c (work_drawn drawing new ∷ []) new))
 append_draws c text s keeps some =
     let new : Control = record c { text = c.text ++ text; settings = s } in
+    let drawing : Drawing = Append (first_changed c) (length (text_rows c)) in
     let n : ℕ = c.rows - 1 in
     let first : ℕ = min (first_changed c - c.mark) (length (shown new)) in
     let count : length (shown new) ≡ min n (length (text_rows new) - c.mark) = omega (arith, length-take n (drop c.mark (all_shown new)), length-drop c.mark (all_shown new), all_there new) in
@@ -63,7 +65,9 @@ append_draws c text s keeps some =
     let kept : min (first_changed c) (length (all_shown c)) ≡ min (first_changed c) (length (all_shown new)) = omega (arith, ap length (rows_stay c text keeps), length-take (first_changed c) (all_shown c), length-take (first_changed c) (all_shown new)) in
     let old_count : length (shown c) ≡ min n (length (text_rows c) - c.mark) = omega (arith, length-take n (drop c.mark (all_shown c)), length-drop c.mark (all_shown c), all_there c) in
     let past : length (shown new) < first_changed c - c.mark → length (shown c) ≤ length (shown new) = λ l. omega (arith, l, kept, count, old_count, all_there c, all_there new) in
-    let near : rows ≡ append_ops (first_changed c - c.mark) (length (shown c)) (shown new) = append_near (first_changed c - c.mark) (length (shown c)) (shown new) past in
+    let were : length (shown c) ≡ min (length (text_rows c) - c.mark) n = omega (arith, old_count) in
+    let near : rows ≡ append_from new (first_changed c) (length (text_rows c)) =
+    append_near (first_changed c - c.mark) (length (shown c)) (shown new) past ∙ ap (λ (k : ℕ). append_ops (first_changed c - c.mark) k (shown new)) were in
     let prompt : List Op = changed_prompt c new in
     let screen : PlayedScreen = screen_of (page c) in
     let pages : List ShownPage = page c ∷ page new ∷ [] in
@@ -72,10 +76,10 @@ append_draws c text s keeps some =
     let all : Shows (play_all prompt (play_all rows screen)) (page new) = draws_from prompt (page_of c.rows (shown new) (prompt_row c)) (page new) (play_all rows screen) then_prompt drawn in
     let none = next_prompt_puts c.rows (prompt_row c) (prompt_row new) (play_all rows screen) (length-play_all rows screen ∙ page_size c some) some in
     let few = puts_anew first (drop first (shown new)) (length (shown c) - max first (length (shown new))) prompt screen in
-    subst (λ (ops : List Op). IsDrawing (ops ++ prompt) c (work_drawn Append new ∷ []) new) near record {
+    subst (λ (ops : List Op). IsDrawing (ops ++ prompt) c (work_drawn drawing new ∷ []) new) near record {
       shows = subst (λ (s : PlayedScreen). Shows s (page new)) (sym (play_all-append rows prompt screen)) all;
       clean = IsClean-append pages rows prompt (IsClean-changed pages c.rows first (length (shown c)) (shown new) (prompt_row new) (1, omega arith, refl)) (next_prompt_clean pages c.rows (prompt_row c) (prompt_row new) (prompt_there c new));
       few = omega (arith, few, none, count, length-drop first (shown new));
-      asked = (λ e. absurd (let drawn : Append ≡ Prompt = e in cc), tt);
-      none = λ q. absurd (let drawn : Append ≡ Nothing = q.0 in cc);
+      asked = (λ e. absurd (let drawn : Append (first_changed c) (length (text_rows c)) ≡ Prompt = e in cc), tt);
+      none = λ q. absurd (let drawn : Append (first_changed c) (length (text_rows c)) ≡ Nothing = q.0 in cc);
     }

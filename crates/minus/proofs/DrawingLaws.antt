@@ -6,25 +6,9 @@ use Rattle.std.proofs.lemmas.List.{map_more, length-map, length-take-le}
 use Rattle.std.proofs.lemmas.List.Concat.{flat_map-append}
 use Rattle.minus_term.specs.Append.{rows_anew}
 use Rattle.minus_term.specs.Operations.{Op, GoTo, ClearRow, Put}
-use Rattle.minus_term.specs.Written.{written, written_all}
+use Rattle.minus_term.specs.Written.{written_all}
 use Rattle.minus_term.specs.FullRedraw.{row_ops}
-use Rattle.minus_term.proofs.WrittenLaws.{written_all-nil, written_all-one, written_all-append}
-
--- more operations
-pub ops_added : (old a b : List ℕ) (xs ys : List Op) → a ≡ old ++ written_all xs → b ≡ a ++ written_all ys → b ≡ old ++ written_all (xs ++ ys)
-ops_added old a b xs ys e f = f ∙ ap (λ bs. bs ++ written_all ys) e ∙ append_assoc old (written_all xs) (written_all ys) ∙ ap (λ bs. old ++ bs) (sym (written_all-append xs ys))
-
--- one more operation
-pub op_added : (old a b : List ℕ) (xs : List Op) (op : Op) → a ≡ old ++ written_all xs → b ≡ a ++ written op → b ≡ old ++ written_all (xs ++ op ∷ [])
-op_added old a b xs op e f = ops_added old a b xs (op ∷ []) e (f ∙ ap (λ bs. a ++ bs) (sym (written_all-one op)))
-
--- the first operation
-pub op_first : (old a : List ℕ) (op : Op) → a ≡ old ++ written op → a ≡ old ++ written_all (op ∷ [])
-op_first old a op e = e ∙ ap (λ bs. old ++ bs) (sym (written_all-one op))
-
--- no operation
-pub no_op : (old : List ℕ) → old ≡ old ++ written_all []
-no_op old = sym (ap (λ bs. old ++ bs) written_all-nil ∙ append-nil old)
+use Rattle.minus_term.proofs.WrittenLaws.{ops_added}
 
 -- one more row
 pub row_added : (old a b : List ℕ) (rows : List (List ℕ)) (row : List ℕ) → a ≡ old ++ written_all (flat_map row_ops rows) → b ≡ a ++ written_all (row_ops row) → b ≡ old ++ written_all (flat_map row_ops (rows ++ row ∷ []))

@@ -20,10 +20,10 @@ use Rattle.minus_term.proofs.FullRedrawLaws.{full_redraw_lem, IsClean-full, IsCl
 use Rattle.minus_state.specs.Control.{Control, Saved, Settings}
 use Rattle.minus_state.specs.Page.{all_shown, shown, page}
 use Rattle.minus_state.specs.ShownPrompt.{prompt_row}
-use Rattle.minus.specs.declared.commands.Drawing.{Drawing}
-use Rattle.minus.specs.declared.commands.Drawing.TheVariants.{Nothing, Full, Scroll, Prompt}
+use Rattle.minus.specs.declared.step_drawing.Drawing.{Drawing}
+use Rattle.minus.specs.declared.step_drawing.Drawing.TheVariants.{Nothing, Full, Scroll, Prompt}
 use Rattle.minus.specs.Works.{Work}
-use Rattle.minus.specs.Drawings.{whole_page, whole_prompt, changed_prompt, ops_between}
+use Rattle.minus.specs.Drawings.{whole_page, whole_prompt, changed_prompt, ops_of}
 use Rattle.minus.specs.Drawn.{IsDrawing, Drawn, IsWholeDrawing, Leaves, Begins}
 
 pub length_page : (rows : ℕ) (texts : List (List ℕ)) (prompt : List ℕ) → length texts < rows → length (page_of rows texts prompt).texts ≡ rows
@@ -117,15 +117,15 @@ prompt_draws c s some =
     }
 
 -- the way from one mark to another is the drawing of a work that moves it
-pub scroll_draws : (c : Control) (s : Settings) (mark : ℕ) → 1 ≤ c.rows → (let new : Control = record c { mark = mark; settings = s } in IsDrawing (ops_between Scroll c new) c (work_drawn Scroll new ∷ []) new)
+pub scroll_draws : (c : Control) (s : Settings) (mark : ℕ) → 1 ≤ c.rows → (let new : Control = record c { mark = mark; settings = s } in IsDrawing (ops_of (Scroll c.mark mark) new) c (work_drawn (Scroll c.mark mark) new ∷ []) new)
 scroll_draws c s mark some =
     let new : Control = record c { mark = mark; settings = s } in
     record {
       shows = scroll_shows_lem c.rows c.mark mark (all_shown c) (prompt_row c) (prompt_row new) some;
       clean = IsClean-scroll (page c ∷ page new ∷ []) c.rows c.mark mark (shown new) (prompt_row new) (1, omega arith, refl);
       few = scroll_puts_lem c.rows c.mark mark (all_shown c) (prompt_row new) (screen_of (page c)) some (page_size c some);
-      asked = (λ e. absurd (let drawn : Scroll ≡ Prompt = e in cc), tt);
-      none = λ q. absurd (let drawn : Scroll ≡ Nothing = q.0 in cc);
+      asked = (λ e. absurd (let drawn : Scroll c.mark mark ≡ Prompt = e in cc), tt);
+      none = λ q. absurd (let drawn : Scroll c.mark mark ≡ Nothing = q.0 in cc);
     }
 
 -- no operation is the drawing of no work

@@ -12,17 +12,14 @@ use Rattle.minus_term.proofs.PlayLaws.{play_all-append, draws_from, shows_below,
 use Rattle.minus_state.specs.Control.{Control}
 use Rattle.minus_state.specs.Page.{page}
 use Rattle.minus_state.specs.ShownPrompt.{prompt_row}
-use Rattle.minus.specs.Works.{Work, WorkedOff, all, one, up_to, is_full, some_full, IsQuiet, passed_in, reached}
-use Rattle.minus.specs.Seen.{Seen}
-use Rattle.minus.specs.Table.{Wanted, Exit}
-use Rattle.minus.specs.declared.commands.Drawing.TheVariants.{Nothing, Full, Scroll, Append, Prompt}
-use Rattle.minus.proofs.TableLaws.{unresized}
-use Rattle.minus.proofs.LeavesLaws.{last_passed, pages_before, pages_after}
+use Rattle.minus.specs.Works.{Work, is_full, some_full, IsQuiet, passed_in, reached}
+use Rattle.minus.specs.declared.step_drawing.Drawing.TheVariants.{Nothing, Full, Scroll, Append, Prompt}
+use Rattle.minus.proofs.LeavesLaws.{head_there, tail_there, pages_before, pages_after}
 use Rattle.minus_term.specs.Written.{IsClean}
 use Rattle.minus_term.proofs.WrittenLaws.{IsClean-append, IsClean-more}
 use Rattle.minus.specs.Drawn.{screen_before, most_of, most_puts, then_most, IsWithin, DrawsPrompts, IsDrawing, DrawingsJoin}
 use Rattle.minus.specs.Drawings.{whole_prompt}
-use Rattle.minus.specs.declared.commands.Drawing.{Drawing}
+use Rattle.minus.specs.declared.step_drawing.Drawing.{Drawing}
 
 within_sum : (m n : ℕ) (o p : Option ℕ) → IsWithin m o → IsWithin n p → IsWithin (m + 1 + n) (then_most o p)
 within_sum m n None p h k = tt
@@ -37,10 +34,10 @@ widened None p (Some b) more (Some r) m n h k = absurd (let far : b + 1 + 1 + n 
 widened (Some a) p (Some b) more (Some r) m n h k = let all : a + 1 + n ≤ b = more a n (omega arith) k in omega (arith, h, all)
 
 -- bounds of works and of those after them
-pub bounds_join : (c : Control) (w : Work) (ws : List Work) (v : Work) (vs : List Work) (m n : ℕ) → IsWithin m (most_puts c (w ∷ ws)) → IsWithin n (most_puts (reached c (w ∷ ws)) (v ∷ vs)) → IsWithin (m + 1 + n) (most_puts c ((w ∷ ws) ++ v ∷ vs))
-bounds_join c w [] v vs m n h k = within_sum m n (most_of w.drawing c w.left) (most_puts w.left (v ∷ vs)) h k
-bounds_join c w (u ∷ ws) v vs m n h k =
-    widened (most_puts w.left (u ∷ ws)) (most_puts (reached w.left (u ∷ ws)) (v ∷ vs)) (most_puts w.left ((u ∷ ws) ++ v ∷ vs)) (λ i j a b. bounds_join w.left u ws v vs i j a b) (most_of w.drawing c w.left) m n h k
+pub bounds_join : (w : Work) (ws : List Work) (v : Work) (vs : List Work) (m n : ℕ) → IsWithin m (most_puts (w ∷ ws)) → IsWithin n (most_puts (v ∷ vs)) → IsWithin (m + 1 + n) (most_puts ((w ∷ ws) ++ v ∷ vs))
+bounds_join w [] v vs m n h k = within_sum m n (most_of w.drawing w.left) (most_puts (v ∷ vs)) h k
+bounds_join w (u ∷ ws) v vs m n h k =
+    widened (most_puts (u ∷ ws)) (most_puts (v ∷ vs)) (most_puts ((u ∷ ws) ++ v ∷ vs)) (λ i j a b. bounds_join u ws v vs i j a b) (most_of w.drawing w.left) m n h k
 
 -- partial drawings, one after the other: from the first page to the last, with no more texts than their bounds allow
 pub partial_join : (a b c : Control) (xs ys : List Op) → Shows (play_all xs (screen_of (page a))) (page b) → Shows (play_all ys (screen_of (page b))) (page c) → Shows (play_all (xs ++ ys) (screen_of (page a))) (page c)
@@ -60,43 +57,41 @@ full_join c xs ys s e h =
     subst (λ (t : PlayedScreen). Shows t (page c)) (sym (play_all-append xs ys s)) (shows_below (page c) (play_all ys (unknown_screen c.rows)) (play_all ys after) below h)
 
 -- without a bound where one is drawn in full
-no_bound : (c : Control) (works : List Work) → some_full works ≡ true → most_puts c works ≡ None
-no_bound c [] e = absurd (cc)
-no_bound c (w ∷ []) e = alone w.drawing e
+no_bound : (works : List Work) → some_full works ≡ true → most_puts works ≡ None
+no_bound [] e = absurd (cc)
+no_bound (w ∷ []) e = alone w.drawing e
   where
-    alone : (d : Drawing) → (is_full d || false) ≡ true → most_of d c w.left ≡ None
+    alone : (d : Drawing) → (is_full d || false) ≡ true → most_of d w.left ≡ None
     alone Nothing f = absurd (cc)
     alone Full f = refl
-    alone Scroll f = absurd (cc)
-    alone Append f = absurd (cc)
+    alone (Scroll from to) f = absurd (cc)
+    alone (Append at count) f = absurd (cc)
     alone Prompt f = absurd (cc)
-no_bound c (w ∷ v ∷ works) e = first (no_bound w.left (v ∷ works)) w.drawing e
+no_bound (w ∷ v ∷ works) e = first (no_bound (v ∷ works)) w.drawing e
   where
-    first : (some_full (v ∷ works) ≡ true → most_puts w.left (v ∷ works) ≡ None) → (d : Drawing) → (is_full d || some_full (v ∷ works)) ≡ true → then_most (most_of d c w.left) (most_puts w.left (v ∷ works)) ≡ None
+    first : (some_full (v ∷ works) ≡ true → most_puts (v ∷ works) ≡ None) → (d : Drawing) → (is_full d || some_full (v ∷ works)) ≡ true → then_most (most_of d w.left) (most_puts (v ∷ works)) ≡ None
     first more Full f = refl
-    first more Nothing f = let none : most_puts w.left (v ∷ works) ≡ None = more f in rw none refl
-    first more Scroll f = let none : most_puts w.left (v ∷ works) ≡ None = more f in rw none refl
-    first more Append f = let none : most_puts w.left (v ∷ works) ≡ None = more f in rw none refl
-    first more Prompt f = let none : most_puts w.left (v ∷ works) ≡ None = more f in rw none refl
+    first more Nothing f = let none : most_puts (v ∷ works) ≡ None = more f in rw none refl
+    first more (Scroll from to) f = let none : most_puts (v ∷ works) ≡ None = more f in rw none refl
+    first more (Append at count) f = let none : most_puts (v ∷ works) ≡ None = more f in rw none refl
+    first more Prompt f = let none : most_puts (v ∷ works) ≡ None = more f in rw none refl
 
 -- the drawing of works, after which the drawing of others, is the drawing of them all, without one in full among them
-pub partial_drawings : (a b c : Control) (w v : Work) (ws vs : List Work) (xs ys : List Op) → some_full (w ∷ ws) ≡ false → some_full (v ∷ vs) ≡ false → b ≡ reached a (w ∷ ws)
-    → IsDrawing xs a (w ∷ ws) b → IsDrawing ys b (v ∷ vs) c
-    → Shows (play_all (xs ++ ys) (screen_before a ((w ∷ ws) ++ v ∷ vs) c)) (page c) × IsWithin (puts (xs ++ ys) (screen_before a ((w ∷ ws) ++ v ∷ vs) c)) (most_puts a ((w ∷ ws) ++ v ∷ vs))
-partial_drawings a b c w v ws vs xs ys fw fv is h k =
+pub partial_drawings : (a b c : Control) (w v : Work) (ws vs : List Work) (xs ys : List Op) → some_full (w ∷ ws) ≡ false → some_full (v ∷ vs) ≡ false → IsDrawing xs a (w ∷ ws) b → IsDrawing ys b (v ∷ vs) c
+    → Shows (play_all (xs ++ ys) (screen_before a ((w ∷ ws) ++ v ∷ vs) c)) (page c) × IsWithin (puts (xs ++ ys) (screen_before a ((w ∷ ws) ++ v ∷ vs) c)) (most_puts ((w ∷ ws) ++ v ∷ vs))
+partial_drawings a b c w v ws vs xs ys fw fv h k =
     let full : some_full ((w ∷ ws) ++ v ∷ vs) ≡ false = (let e : some_full ((w ∷ ws) ++ v ∷ vs) ≡ (some_full (w ∷ ws) || some_full (v ∷ vs)) = list_any-append (λ (x : Work). is_full x.drawing) (w ∷ ws) (v ∷ vs) in e ∙ both_false (some_full (w ∷ ws)) (some_full (v ∷ vs)) fw fv) in
     let before : screen_before a ((w ∷ ws) ++ v ∷ vs) c ≡ screen_of (page a) = partial_screen a ((w ∷ ws) ++ v ∷ vs) c full in
     let first : screen_before a (w ∷ ws) b ≡ screen_of (page a) = partial_screen a (w ∷ ws) b fw in
     let second : screen_before b (v ∷ vs) c ≡ screen_of (page b) = partial_screen b (v ∷ vs) c fv in
     let h_shows : Shows (play_all xs (screen_of (page a))) (page b) = subst (λ (s : PlayedScreen). Shows (play_all xs s) (page b)) first h.shows in
     let k_shows : Shows (play_all ys (screen_of (page b))) (page c) = subst (λ (s : PlayedScreen). Shows (play_all ys s) (page c)) second k.shows in
-    let h_few : IsWithin (puts xs (screen_of (page a))) (most_puts a (w ∷ ws)) = subst (λ (s : PlayedScreen). IsWithin (puts xs s) (most_puts a (w ∷ ws))) first h.few in
-    let k_few : IsWithin (puts ys (screen_of (page b))) (most_puts b (v ∷ vs)) = subst (λ (s : PlayedScreen). IsWithin (puts ys s) (most_puts b (v ∷ vs))) second k.few in
-    let from_reached : IsWithin (puts ys (screen_of (page b))) (most_puts (reached a (w ∷ ws)) (v ∷ vs)) = subst (λ (x : Control). IsWithin (puts ys (screen_of (page b))) (most_puts x (v ∷ vs))) is k_few in
-    let bound = bounds_join a w ws v vs (puts xs (screen_of (page a))) (puts ys (screen_of (page b))) h_few from_reached in
-    let few : IsWithin (puts (xs ++ ys) (screen_of (page a))) (most_puts a ((w ∷ ws) ++ v ∷ vs)) = within_less (puts (xs ++ ys) (screen_of (page a))) (puts xs (screen_of (page a)) + 1 + puts ys (screen_of (page b))) (most_puts a ((w ∷ ws) ++ v ∷ vs)) (partial_few a b xs ys h_shows) bound in (
+    let h_few : IsWithin (puts xs (screen_of (page a))) (most_puts (w ∷ ws)) = subst (λ (s : PlayedScreen). IsWithin (puts xs s) (most_puts (w ∷ ws))) first h.few in
+    let k_few : IsWithin (puts ys (screen_of (page b))) (most_puts (v ∷ vs)) = subst (λ (s : PlayedScreen). IsWithin (puts ys s) (most_puts (v ∷ vs))) second k.few in
+    let bound = bounds_join w ws v vs (puts xs (screen_of (page a))) (puts ys (screen_of (page b))) h_few k_few in
+    let few : IsWithin (puts (xs ++ ys) (screen_of (page a))) (most_puts ((w ∷ ws) ++ v ∷ vs)) = within_less (puts (xs ++ ys) (screen_of (page a))) (puts xs (screen_of (page a)) + 1 + puts ys (screen_of (page b))) (most_puts ((w ∷ ws) ++ v ∷ vs)) (partial_few a b xs ys h_shows) bound in (
       subst (λ (s : PlayedScreen). Shows (play_all (xs ++ ys) s) (page c)) (sym before) (partial_join a b c xs ys h_shows k_shows),
-      subst (λ (s : PlayedScreen). IsWithin (puts (xs ++ ys) s) (most_puts a ((w ∷ ws) ++ v ∷ vs))) (sym before) few,
+      subst (λ (s : PlayedScreen). IsWithin (puts (xs ++ ys) s) (most_puts ((w ∷ ws) ++ v ∷ vs))) (sym before) few,
     )
   where
     both_false : (x y : Bool) → x ≡ false → y ≡ false → (x || y) ≡ false
@@ -111,12 +106,12 @@ partial_drawings a b c w v ws vs xs ys fw fv is h k =
 
 -- a drawing in full after any drawing is a drawing in full of them all, which has no bound
 pub full_drawings : (a b c : Control) (ws vs : List Work) (xs ys : List Op) → some_full vs ≡ true → IsDrawing ys b vs c
-    → Shows (play_all (xs ++ ys) (screen_before a (ws ++ vs) c)) (page c) × (most_puts a (ws ++ vs) ≡ None)
+    → Shows (play_all (xs ++ ys) (screen_before a (ws ++ vs) c)) (page c) × (most_puts (ws ++ vs) ≡ None)
 full_drawings a b c ws vs xs ys e k =
     let full : some_full (ws ++ vs) ≡ true = (let f : some_full (ws ++ vs) ≡ (some_full ws || some_full vs) = list_any-append (λ (x : Work). is_full x.drawing) ws vs in f ∙ last_true (some_full ws) (some_full vs) e) in
     let shows : Shows (play_all ys (unknown_screen c.rows)) (page c) = (let h = k.shows in rw e at h) in
     let joined = full_join c xs ys (unknown_screen c.rows) (length-replicate {A = Option (List ℕ)} c.rows None) shows in
-    (rw full joined, no_bound a (ws ++ vs) full)
+    (rw full joined, no_bound (ws ++ vs) full)
   where
     last_true : (x y : Bool) → y ≡ true → (x || y) ≡ true
     last_true true y f = refl
@@ -124,13 +119,13 @@ full_drawings a b c ws vs xs ys e k =
 
 -- a drawing in part after one in full
 pub full_then_partial : (a b c : Control) (ws vs : List Work) (xs ys : List Op) → some_full ws ≡ true → some_full vs ≡ false → b.rows ≡ c.rows → IsDrawing xs a ws b → IsDrawing ys b vs c
-    → Shows (play_all (xs ++ ys) (screen_before a (ws ++ vs) c)) (page c) × (most_puts a (ws ++ vs) ≡ None)
+    → Shows (play_all (xs ++ ys) (screen_before a (ws ++ vs) c)) (page c) × (most_puts (ws ++ vs) ≡ None)
 full_then_partial a b c ws vs xs ys fw fv rows h k =
     let full : some_full (ws ++ vs) ≡ true = (let f : some_full (ws ++ vs) ≡ (some_full ws || some_full vs) = list_any-append (λ (x : Work). is_full x.drawing) ws vs in f ∙ first_true (some_full ws) (some_full vs) fw) in
     let h_shows : Shows (play_all xs (unknown_screen b.rows)) (page b) = (let i = h.shows in rw fw at i) in
     let k_shows : Shows (play_all ys (screen_of (page b))) (page c) = (let i = k.shows in rw fv at i) in
     let joined : Shows (play_all (xs ++ ys) (unknown_screen b.rows)) (page c) = subst (λ (s : PlayedScreen). Shows s (page c)) (sym (play_all-append xs ys (unknown_screen b.rows))) (draws_from ys (page b) (page c) (play_all xs (unknown_screen b.rows)) k_shows h_shows) in
-    (rw full (subst (λ (n : ℕ). Shows (play_all (xs ++ ys) (unknown_screen n)) (page c)) rows joined), no_bound a (ws ++ vs) full)
+    (rw full (subst (λ (n : ℕ). Shows (play_all (xs ++ ys) (unknown_screen n)) (page c)) rows joined), no_bound (ws ++ vs) full)
   where
     first_true : (x y : Bool) → x ≡ true → (x || y) ≡ true
     first_true true y f = refl
@@ -183,12 +178,12 @@ some_join a b c w v ws vs xs ys rows is there h k =
     no_limit : (n : ℕ) (o : Option ℕ) → o ≡ None → IsWithin n o
     no_limit n o e = rw e tt
 
-    by_full : Shows (play_all (xs ++ ys) (screen_before a ((w ∷ ws) ++ v ∷ vs) c)) (page c) × IsWithin (puts (xs ++ ys) (screen_before a ((w ∷ ws) ++ v ∷ vs) c)) (most_puts a ((w ∷ ws) ++ v ∷ vs))
+    by_full : Shows (play_all (xs ++ ys) (screen_before a ((w ∷ ws) ++ v ∷ vs) c)) (page c) × IsWithin (puts (xs ++ ys) (screen_before a ((w ∷ ws) ++ v ∷ vs) c)) (most_puts ((w ∷ ws) ++ v ∷ vs))
     by_full = elim (cases_Bool (some_full (v ∷ vs))) [
-      | inl e ↦ (let p = full_drawings a b c (w ∷ ws) (v ∷ vs) xs ys e k in (p.0, no_limit (puts (xs ++ ys) (screen_before a ((w ∷ ws) ++ v ∷ vs) c)) (most_puts a ((w ∷ ws) ++ v ∷ vs)) p.1))
+      | inl e ↦ (let p = full_drawings a b c (w ∷ ws) (v ∷ vs) xs ys e k in (p.0, no_limit (puts (xs ++ ys) (screen_before a ((w ∷ ws) ++ v ∷ vs) c)) (most_puts ((w ∷ ws) ++ v ∷ vs)) p.1))
       | inr e ↦ elim (cases_Bool (some_full (w ∷ ws))) [
-        | inl f ↦ (let p = full_then_partial a b c (w ∷ ws) (v ∷ vs) xs ys f e (rows e) h k in (p.0, no_limit (puts (xs ++ ys) (screen_before a ((w ∷ ws) ++ v ∷ vs) c)) (most_puts a ((w ∷ ws) ++ v ∷ vs)) p.1))
-        | inr f ↦ partial_drawings a b c w v ws vs xs ys f e is h k
+        | inl f ↦ (let p = full_then_partial a b c (w ∷ ws) (v ∷ vs) xs ys f e (rows e) h k in (p.0, no_limit (puts (xs ++ ys) (screen_before a ((w ∷ ws) ++ v ∷ vs) c)) (most_puts ((w ∷ ws) ++ v ∷ vs)) p.1))
+        | inr f ↦ partial_drawings a b c w v ws vs xs ys f e h k
       ]
     ]
 
@@ -200,22 +195,17 @@ some_join a b c w v ws vs xs ys rows is there h k =
         (IsClean-more (map page before) (map page (before ++ passed_in (v ∷ vs))) (λ p i. pages_before before (passed_in (v ∷ vs)) p i) xs h.clean)
         (IsClean-more (map page (b ∷ passed_in (v ∷ vs))) (map page (before ++ passed_in (v ∷ vs))) (λ p i. pages_after before (passed_in (v ∷ vs)) b p there i) ys k.clean))
 
--- the control that works reach is the one that they leave
-is_reached : {K : Type 0} {s t : Seen K} {ws : List (Wanted K)} {works : List Work} {exit : Option Exit} {text : Option (List ℕ)} → WorkedOff s ws works exit text t → t.control ≡ reached s.control works
-is_reached all = refl
-is_reached (one possible on more) = is_reached more
-is_reached (up_to possible is) = refl
+-- the control that works reach is among those that they pass, the one before them among these
+pub reached_there : (c : Control) (works : List Work) → Contains (c ∷ passed_in works) (reached c works)
+reached_there c [] = head_there c []
+reached_there c (w ∷ works) = tail_there c (passed_in (w ∷ works)) (reached w.left works) (reached_there w.left works)
 
-nothing_done : {K : Type 0} {s t : Seen K} {ws : List (Wanted K)} {exit : Option Exit} {text : Option (List ℕ)} → WorkedOff s ws [] exit text t → t.control ≡ s.control
-nothing_done all = refl
-
-pub drawings_join_lem : {K : Type 0} → DrawingsJoin K
-drawings_join_lem a b c ws vs [] more exit text copied xs ys h k p q =
-    let same : b.control ≡ a.control = nothing_done h in
+pub drawings_join_lem : DrawingsJoin
+drawings_join_lem a b c [] more xs ys is to rows p q =
     let none : xs ≡ [] = p.none tt in
-    rw none (subst (λ (x : Control). IsDrawing ys x more c.control) same q)
-drawings_join_lem a b c ws vs (w ∷ works) [] exit text copied xs ys h k p q =
-    let same : c.control ≡ b.control = nothing_done k in
+    rw none (subst (λ (x : Control). IsDrawing ys x more c) is q)
+drawings_join_lem a b c (w ∷ works) [] xs ys is to rows p q =
     let none : ys ≡ [] = q.none tt in
-    rw (none, append-nil xs, append-nil (w ∷ works)) (subst (λ (x : Control). IsDrawing xs a.control (w ∷ works) x) (sym same) p)
-drawings_join_lem a b c ws vs (w ∷ works) (v ∷ more) exit text copied xs ys h k p q = some_join a.control b.control c.control w v works more xs ys (unresized k) (is_reached h) (last_passed h) p q
+    rw (none, append-nil xs, append-nil (w ∷ works)) (subst (λ (x : Control). IsDrawing xs a (w ∷ works) x) (sym to) p)
+drawings_join_lem a b c (w ∷ works) (v ∷ more) xs ys is to rows p q =
+    some_join a b c w v works more xs ys (λ part. rows part ∙ ap (λ (x : Control). x.rows) (sym to)) is (subst (λ (x : Control). Contains (a ∷ passed_in (w ∷ works)) x) (sym is) (reached_there a (w ∷ works))) p q

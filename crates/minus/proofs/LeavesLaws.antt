@@ -9,32 +9,16 @@ use Rattle.minus_term.specs.PlayedScreen.{ShownPage, PlayedScreen, Shows, play_a
 use Rattle.minus_term.specs.Written.{written_all}
 use Rattle.minus_term.proofs.PlayLaws.{play_all-append, draws_from}
 use Rattle.minus_term.proofs.WrittenLaws.{written_all-append, IsClean-append, IsClean-more}
-use Rattle.minus.specs.declared.status.Status.TheVariants as status
 use Rattle.minus_state.specs.Control.{Control}
 use Rattle.minus_state.specs.Page.{page}
-use Rattle.minus.specs.Seen.{Seen}
-use Rattle.minus.specs.Table.{Wanted, Exit}
-use Rattle.minus.specs.Works.{Work, work_of, after, WorkedOff, all, one, up_to, passed_in, some_full}
+use Rattle.minus.specs.Works.{Work, passed_in, some_full}
 use Rattle.minus.specs.Drawn.{Drawn, Leaves}
-use Rattle.minus.specs.Steps.{Works, Writes, status_after}
-use Rattle.minus.proofs.TableLaws.{unresized}
 
-head_there : {X : Type 0} (x : X) (xs : List X) → Contains (x ∷ xs) x
+pub head_there : {X : Type 0} (x : X) (xs : List X) → Contains (x ∷ xs) x
 head_there x xs = (0, omega arith, refl)
 
-tail_there : {X : Type 0} (x : X) (xs : List X) (y : X) → Contains xs y → Contains (x ∷ xs) y
+pub tail_there : {X : Type 0} (x : X) (xs : List X) (y : X) → Contains xs y → Contains (x ∷ xs) y
 tail_there x xs y h = (suc h.0, omega (arith, h.1), h.2)
-
--- the control that works leave is among those that they pass, the one before them among these
-pub last_passed : {K : Type 0} {s t : Seen K} {ws : List (Wanted K)} {works : List Work} {exit : Option Exit} {text : Option (List ℕ)} → WorkedOff s ws works exit text t → Contains (s.control ∷ passed_in works) t.control
-last_passed (all {s = s}) = head_there s.control []
-last_passed (one {s = s} {t = t} {w = w} {works = works} possible on more) = tail_there s.control (passed_in (work_of s.control w ∷ works)) t.control (last_passed more)
-last_passed (up_to {s = s} {w = w} possible is) = let left : Control = (after s w).control in tail_there s.control (left ∷ []) left (head_there left [])
-
--- where there were items, it is among those that they pass
-pub last_left : {K : Type 0} {s t : Seen K} {w : Wanted K} {ws : List (Wanted K)} {works : List Work} {exit : Option Exit} {text : Option (List ℕ)} → WorkedOff s (w ∷ ws) works exit text t → Contains (passed_in works) t.control
-last_left (one possible on more) = last_passed more
-last_left (up_to {s = s} {w = w} possible is) = head_there (after s w).control []
 
 -- what is among a first one and some is among those and any that contain the first
 pub after_first : {X : Type 0} (before ps : List X) (x y : X) → Contains before x → Contains (x ∷ ps) y → Contains (before ++ ps) y
@@ -98,10 +82,3 @@ leaves_more (Some x) (Some y) old new works before rows reached d h = elim (case
   | inl e ↦ begins_anew x y old new works before e reached d h
   | inr e ↦ goes_on x y old new works before e (rows e) reached d h
 ]
-
--- what works leave of it, as long as the session goes on, once an input was taken
-pub leaves_after : {K : Type 0} (old taken new : Seen K) (w : Wanted K) (ws : List (Wanted K)) (works : List Work) (exit : Option Exit) (text : Option (List ℕ)) (a b : Option (List ℕ)) (before : List Control) → taken.control.rows ≡ old.control.rows → Works taken (w ∷ ws) works exit text (status_after exit) new → Writes exit old.control works new.control a b → Leaves a before old.control
-    → new.status ≡ status.Running → Leaves b (before ++ passed_in works) new.control
-leaves_after old taken new w ws works None text a b before same h writes k running =
-    leaves_more a b old.control new.control works before (λ partial. sym same ∙ unresized h.worked partial) (tail_there old.control (passed_in works) new.control (last_left h.worked)) writes k
-leaves_after old taken new w ws works (Some exit) text a b before same h writes k running = let both : status.Running ≡ status.Ended = sym running ∙ h.stands in cc

@@ -1,5 +1,6 @@
 pub mod DrawingLaws
 pub mod TableLaws
+pub mod OutcomeLaws
 pub mod HelpLaws
 pub mod DrawnLaws
 pub mod PromptLaws

@@ -3,11 +3,11 @@ use Rattle.std.proofs.Common.{◌≡◌, ℕ, ◌+◌, true, false, List, [], �
 use Rattle.std.specs.List.{last_or}
 use Rattle.std.proofs.lemmas.List.{append-nil, reverse-append, length_push, map_push}
 use Rattle.minus_term.specs.declared.error.MinusError.{MinusError}
-use Rattle.minus_term.specs.Refusals.{Refusal, refusal_of, for_memory, for_newline, for_size, for_mode, after_failure, after_exit, at_setup, at_cleanup, at_drawing, of_no_call}
-use Rattle.minus.specs.declared.session.Answer.{Answer}
+use Rattle.minus_term.specs.Refusals.{Refusal, refusal_of, for_memory, for_newline, for_hook_id, for_free_hook_id, for_size, for_description, for_binding, for_query, for_mode, after_failure, after_exit, at_setup, at_cleanup, at_drawing, for_pattern, of_no_call}
+use Rattle.minus.specs.declared.answer.Answer.{Answer}
 use Rattle.minus.specs.declared.status.Status.TheVariants as status
 use Rattle.minus.specs.Answers.{ends_run}
-use Rattle.minus.specs.Classifying.{Classifies}
+use Rattle.minus_state.specs.Classifying.{Classifies}
 use Rattle.minus_state.specs.Control.{Control}
 use Rattle.minus.specs.Reads.{Told}
 use Rattle.minus.specs.Works.{passed_in}
@@ -68,15 +68,21 @@ stays_running reached new e r = ap (λ (x : Seen _). x.status) (sym e) ∙ r
 
 -- what a refused step leaves of the page
 leaves_refused : {K : Type 0} (says : Classifies K) (refusal : Refusal) (a b : Option (List ℕ)) (reached new : Seen K) (told : Told K) (passed : List Control) → Refuses says refusal reached told new a b → (reached.status ≡ status.Running → Leaves a passed reached.control) → new.status ≡ status.Running → Leaves b passed new.control
-leaves_refused says for_memory a b reached new told passed h k r = let stays = h.1 in let same = h.2 in let on = stays_running reached new stays r in rw (same, stays) (k on)
-leaves_refused says for_newline a b reached new told passed h k r = let stays = h.0.stays in let same = h.1 in let on = stays_running reached new stays r in rw (same, stays) (k on)
-leaves_refused says (for_size c d) a b reached new told passed h k r = let stays = h.0.stays in let same = h.1 in let on = stays_running reached new stays r in rw (same, stays) (k on)
-leaves_refused says after_failure a b reached new told passed h k r = let stays = h.1 in let same = h.2 in let on = stays_running reached new stays r in rw (same, stays) (k on)
-leaves_refused says after_exit a b reached new told passed h k r = let stays = h.1 in let same = h.2 in let on = stays_running reached new stays r in rw (same, stays) (k on)
-leaves_refused says (at_cleanup cause) a b reached new told passed h k r = let both : status.Failed ≡ status.Running = sym h.3.worked.stands ∙ r in cc
-leaves_refused says at_drawing a b reached new told passed h k r = let both : status.Failed ≡ status.Running = sym h.1.worked.stands ∙ r in cc
+leaves_refused says for_memory a b reached new told passed h k r = let stays = h.1.0 in let same = h.1.1 in let on = stays_running reached new stays r in rw (same, stays) (k on)
+leaves_refused says for_newline a b reached new told passed h k r = let stays = h.2.0 in let same = h.2.1 in let on = stays_running reached new stays r in rw (same, stays) (k on)
+leaves_refused says (for_size c d) a b reached new told passed h k r = let stays = h.2.0 in let same = h.2.1 in let on = stays_running reached new stays r in rw (same, stays) (k on)
+leaves_refused says after_failure a b reached new told passed h k r = let stays = h.1.0 in let same = h.1.1 in let on = stays_running reached new stays r in rw (same, stays) (k on)
+leaves_refused says after_exit a b reached new told passed h k r = let stays = h.1.0 in let same = h.1.1 in let on = stays_running reached new stays r in rw (same, stays) (k on)
+leaves_refused says (at_cleanup cause) a b reached new told passed h k r = let both : status.Failed ≡ status.Running = sym (ap (λ (x : Seen _). x.status) h.1.failed) ∙ r in cc
+leaves_refused says at_drawing a b reached new told passed h k r = let both : status.Failed ≡ status.Running = sym (ap (λ (x : Seen _). x.status) h.1.failed) ∙ r in cc
 leaves_refused says for_mode a b reached new told passed h k r = absurd h
 leaves_refused says (at_setup cause) a b reached new told passed h k r = absurd h
+leaves_refused says (for_hook_id hook id) a b reached new told passed h k r = absurd h
+leaves_refused says for_free_hook_id a b reached new told passed h k r = absurd h
+leaves_refused says (for_description place cause) a b reached new told passed h k r = absurd h
+leaves_refused says (for_binding place) a b reached new told passed h k r = absurd h
+leaves_refused says for_query a b reached new told passed h k r = absurd h
+leaves_refused says for_pattern a b reached new told passed h k r = absurd h
 leaves_refused says of_no_call a b reached new told passed h k r = absurd h
 
 -- ---- a run so far
@@ -97,7 +103,7 @@ not_yet says told old left bytes = record { taken = []; passed = []; answers = [
 
 leaves_one : {A K : Type 0} (says : Classifies K) (told : A → Told K) (old now new : Seen K) (inputs left : List A) (x : A) (done : ℕ) (last : Option Answer) (answer : Answer) (first a b : Option (List ℕ)) → (h : RunSoFar says told old now inputs left done last first a) → (s : IsStep says now (told x) new answer a b) → (before : List Control) → Leaves first before old.control → new.status ≡ status.Running
     → Leaves b (before ++ (h.passed ++ passed_in s.works)) new.control
-leaves_one says told old now new inputs left x done last answer first a b h s before k running = rw (← append_assoc before h.passed (passed_in s.works)) (s.leaves (before ++ h.passed) (h.leaves before k s.worked.running) running)
+leaves_one says told old now new inputs left x done last answer first a b h s before k running = rw (← append_assoc before h.passed (passed_in s.works)) (s.leaves (before ++ h.passed) (h.leaves before k s.running) running)
 
 -- one more step, after which the run goes on
 pub one_step : {A K : Type 0} (says : Classifies K) (told : A → Told K) (old now new : Seen K) (inputs left rest : List A) (x : A) (done : ℕ) (last : Option Answer) (answer : Answer) (first a b : Option (List ℕ)) → RunSoFar says told old now inputs left done last first a → left ≡ rest ++ x ∷ [] → IsStep says now (told x) new answer a b → ends_run answer ≡ false

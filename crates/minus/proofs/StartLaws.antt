@@ -4,7 +4,7 @@ use Rattle.std.specs.Io.KnownBytes.{Appends}
 use Rattle.minus_term.specs.declared.error.CleanupError.{CleanupError}
 use Rattle.minus_term.specs.Counts.{AppendsFront, Stays, Rises}
 use Rattle.minus_term.specs.Terminal.{cleanup_bytes}
-use Rattle.minus_term.specs.Refusals.{Refusal, for_memory, for_newline, for_size, for_mode, after_failure, after_exit, at_setup, at_cleanup, at_drawing, of_no_call}
+use Rattle.minus_term.specs.Refusals.{Refusal, for_memory, for_newline, for_hook_id, for_free_hook_id, for_size, for_description, for_binding, for_query, for_mode, after_failure, after_exit, at_setup, at_cleanup, at_drawing, for_pattern, of_no_call}
 use Rattle.minus_term.specs.Written.{written_all}
 use Rattle.minus_state.specs.Control.{Control}
 use Rattle.minus_state.specs.declared.state.RunMode.{RunMode}
@@ -22,6 +22,12 @@ start_broken for_mode a b m n bytes drawing terminal c some e g r h = absurd h
 start_broken after_failure a b m n bytes drawing terminal c some e g r h = absurd h
 start_broken after_exit a b m n bytes drawing terminal c some e g r h = absurd h
 start_broken (at_cleanup cause) a b m n bytes drawing terminal c some e g r h = absurd h
+start_broken (for_hook_id hook id) a b m n bytes drawing terminal c some e g r h = absurd h
+start_broken for_free_hook_id a b m n bytes drawing terminal c some e g r h = absurd h
+start_broken (for_description place cause) a b m n bytes drawing terminal c some e g r h = absurd h
+start_broken (for_binding place) a b m n bytes drawing terminal c some e g r h = absurd h
+start_broken for_query a b m n bytes drawing terminal c some e g r h = absurd h
+start_broken for_pattern a b m n bytes drawing terminal c some e g r h = absurd h
 start_broken of_no_call a b m n bytes drawing terminal c some e g r h = absurd h
 
 -- what is refused at a terminal is refused of a start that can be, and not before the terminal was asked for anything
@@ -35,6 +41,12 @@ shown_at_start for_mode mode cols rows terminal can h = absurd h
 shown_at_start after_failure mode cols rows terminal can h = absurd h
 shown_at_start after_exit mode cols rows terminal can h = absurd h
 shown_at_start (at_cleanup cause) mode cols rows terminal can h = absurd h
+shown_at_start (for_hook_id hook id) mode cols rows terminal can h = absurd h
+shown_at_start for_free_hook_id mode cols rows terminal can h = absurd h
+shown_at_start (for_description place cause) mode cols rows terminal can h = absurd h
+shown_at_start (for_binding place) mode cols rows terminal can h = absurd h
+shown_at_start for_query mode cols rows terminal can h = absurd h
+shown_at_start for_pattern mode cols rows terminal can h = absurd h
 shown_at_start of_no_call mode cols rows terminal can h = absurd h
 
 -- the cleanup, whatever came of it

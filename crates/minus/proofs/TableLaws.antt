@@ -1,12 +1,15 @@
--- What commands leave, by how they are drawn.
-use Rattle.std.proofs.Common.{String, Global, ◌≡◌, ℕ, ◌+◌, ◌<◌, List, [], ◌∷◌, ◌++◌, length, get_or, map, take, ap, ◌∙◌, sym, refl, arith, min, ◌||◌, Bool, true, false, Option, Some, None}
+-- What requests leave, by how they are drawn.
+use Rattle.std.proofs.Common.{String, Global, ◌≡◌, ℕ, ◌+◌, ◌<◌, List, [], ◌∷◌, ◌++◌, length, get_or, map, take, ap, ◌∙◌, sym, subst, refl, arith, min, Bool, true, false, Option, Some, None}
 use Rattle.std.proofs.lemmas.List.{map_more}
-use Rattle.minus_state.specs.declared.change.Redraw.{Redraw}
 use Rattle.minus_state.specs.Control.{Control, Saved, clamp, top, cleared, IsClamped, SameSize}
+use Rattle.minus_state.specs.Appending.{added}
 use Rattle.minus_state.specs.Help.{left_help, restored}
-use Rattle.minus.specs.Seen.{Seen}
-use Rattle.minus.specs.Table.{Wanted, answered, handed, drawing_by, sets_data, appends_data, moves_mark, resizes, exits, ignores, sets_prompt, sends_message, shows_prompt, follows, types, restores_prompt, redraws_prompt, redraws_page, sets_classifier, sets_numbers, sets_wrapping, shifts, starts_selection, updates_selection, clears_selection, copies_selection, shows_help, Exit, effect, changed_by, kept_after, drawing_of, IsPossible}
-use Rattle.minus.specs.Works.{Work, WorkedOff, all, one, up_to, is_full, some_full, ResizesAreFull}
+use Rattle.minus.specs.Table.{Wanted, sets_data, appends_data, moves_mark, resizes, exits, ignores, sets_prompt}
+use Rattle.minus.specs.Table.{sends_message, shows_prompt, follows, types, restores_prompt, redraws_prompt, redraws_page}
+use Rattle.minus.specs.Table.{sets_classifier, sets_numbers, sets_wrapping, shifts, starts_selection, updates_selection}
+use Rattle.minus.specs.Table.{clears_selection, copies_selection, shows_help}
+use Rattle.minus.specs.Table.{Exit, Effect, effect, moved, moved_by, changed_by, drawing_of, types_nothing}
+use Rattle.minus.specs.Works.{is_full, ResizesAreFull}
 use Rattle.minus.specs.Starts.{text_taken, taken, taken_all, first_control}
 use Rattle.minus_state.specs.States.{at_start}
 use Rattle.minus_state.specs.declared.input.InputEvent.{InputEvent}
@@ -15,125 +18,122 @@ use Rattle.minus.specs.declared.commands.CommandOf.{CommandOf}
 use Rattle.minus.specs.declared.commands.CommandOf.TheVariants.{SetData, AppendData, SetPrompt, SendMessage, ShowPrompt, SetLineNumbers, LineWrapping, FollowOutput, UserInput, Io, SetInputClassifier}
 use Rattle.minus.specs.declared.commands.IoCommand.{IoCommand}
 use Rattle.minus.specs.declared.commands.IoCommand.TheVariants.{RedrawPrompt, RedrawDisplay, DrawAppendedText, SetUpperMark}
-use Rattle.minus.specs.Reads.{event_wanted, io_wanted, wanted_of, wanted_with}
+use Rattle.minus.specs.Reads.{event_wanted, io_wanted, wanted_of}
 
 -- what the clamp leaves
 pub clamp_still : (c : Control) → IsClamped c → clamp c ≡ c
 clamp_still c h = let m : min c.mark (top c) ≡ c.mark = omega (arith, h) in ap (λ (n : ℕ). let k : Control = record c { mark = n } in k) m
 
+-- nothing but an exit exits
+only_exits : {K : Type 0} {x : Exit} (c : Control) (w : Wanted K) → (effect c w).exits_by ≡ Some x → w ≡ exits
+only_exits c (sets_data text) e = cc
+only_exits c (appends_data text) e = cc
+only_exits c (moves_mark mark) e = cc
+only_exits c (resizes cols rows) e = cc
+only_exits c exits e = refl
+only_exits c ignores e = cc
+only_exits c (sets_prompt text) e = cc
+only_exits c (sends_message text) e = cc
+only_exits c (shows_prompt is_shown) e = cc
+only_exits c (follows follow) e = cc
+only_exits c (types character) e = cc
+only_exits c restores_prompt e = cc
+only_exits c redraws_prompt e = cc
+only_exits c redraws_page e = cc
+only_exits c (sets_classifier k) e = cc
+only_exits c (sets_numbers numbers) e = cc
+only_exits c (sets_wrapping wrapping) e = cc
+only_exits c (shifts left) e = cc
+only_exits c (starts_selection a b) e = cc
+only_exits c (updates_selection a b) e = cc
+only_exits c clears_selection e = cc
+only_exits c copies_selection e = cc
+only_exits c (shows_help text) e = cc
+
 exits_still : (K : Type 0) (c : Control) (help : Option Saved) (x : Exit) → (let k : Control = record c { help = help } in IsClamped k → (effect {K = K} k exits).exits_by ≡ Some x → changed_by (effect {K = K} k exits) ≡ k)
 exits_still K c None x h e = clamp_still (record c { help = None }) h
 exits_still K c (Some saved) x h e = cc
 
--- an exit can be done, and leaves the control as it is
-pub exit_still : {K : Type 0} (c : Control) (w : Wanted K) (x : Exit) → IsClamped c → (effect c w).exits_by ≡ Some x → IsPossible w × (changed_by (effect c w) ≡ c)
-exit_still c (sets_data text) x h e = cc
-exit_still c (appends_data text) x h e = cc
-exit_still c (moves_mark mark) x h e = cc
-exit_still c (resizes cols rows) x h e = cc
-exit_still {K = K} c exits x h e = (tt, exits_still K c c.help x h e)
-exit_still c ignores x h e = cc
-exit_still c (sets_prompt text) x h e = cc
-exit_still c (sends_message text) x h e = cc
-exit_still c (shows_prompt is_shown) x h e = cc
-exit_still c (follows follow) x h e = cc
-exit_still c (types character) x h e = cc
-exit_still c restores_prompt x h e = cc
-exit_still c redraws_prompt x h e = cc
-exit_still c redraws_page x h e = cc
-exit_still c (sets_classifier k) x h e = cc
-exit_still c (sets_numbers numbers) x h e = cc
-exit_still c (sets_wrapping wrapping) x h e = cc
-exit_still c (shifts left) x h e = cc
-exit_still c (starts_selection a b) x h e = cc
-exit_still c (updates_selection a b) x h e = cc
-exit_still c clears_selection x h e = cc
-exit_still c copies_selection x h e = cc
-exit_still c (shows_help text) x h e = cc
+-- an exit leaves the control as it is
+pub exit_still : {K : Type 0} (c : Control) (w : Wanted K) (x : Exit) → IsClamped c → (effect c w).exits_by ≡ Some x → changed_by (effect c w) ≡ c
+exit_still {K = K} c w x h e =
+    let is = only_exits c w e in
+    ap (λ (v : Wanted K). changed_by (effect c v)) is ∙ exits_still K c c.help x h (subst (λ (v : Wanted K). (effect c v).exits_by ≡ Some x) is e)
 
--- nor does it hand a classifier over
-pub none_handed : {K : Type 0} (s : Seen K) (w : Wanted K) (x : Exit) → (effect s.control w).exits_by ≡ Some x → kept_after s.classifier w ≡ s.classifier
-none_handed s (sets_data text) x e = refl
-none_handed s (appends_data text) x e = refl
-none_handed s (moves_mark mark) x e = refl
-none_handed s (resizes cols rows) x e = refl
-none_handed s exits x e = refl
-none_handed s ignores x e = refl
-none_handed s (sets_prompt text) x e = refl
-none_handed s (sends_message text) x e = refl
-none_handed s (shows_prompt is_shown) x e = refl
-none_handed s (follows follow) x e = refl
-none_handed s (types character) x e = refl
-none_handed s restores_prompt x e = refl
-none_handed s redraws_prompt x e = refl
-none_handed s redraws_page x e = refl
-none_handed s (sets_classifier k) x e = cc
-none_handed s (sets_numbers numbers) x e = refl
-none_handed s (sets_wrapping wrapping) x e = refl
-none_handed s (shifts left) x e = refl
-none_handed s (starts_selection a b) x e = refl
-none_handed s (updates_selection a b) x e = refl
-none_handed s clears_selection x e = refl
-none_handed s copies_selection x e = refl
-none_handed s (shows_help text) x e = refl
+-- what is added to a text, by whether help is open
+added_by : (K : Type 0) (c : Control) (text : List ℕ) (help : Option Saved) → (let k : Control = record c { help = help } in added k text ≡ moved_by (effect {K = K} k (appends_data text)))
+added_by K c text None = refl
+added_by K c text (Some saved) = refl
 
--- whether a command is an exit does not hang on the prefix
-same_exit : {K : Type 0} (c : Control) (clears : Bool) (w : Wanted K) → (effect (cleared clears c) w).exits_by ≡ (effect c w).exits_by
-same_exit c clears (sets_data text) = refl
-same_exit c clears (appends_data text) = refl
-same_exit c clears (moves_mark mark) = refl
-same_exit c clears (resizes cols rows) = refl
-same_exit c clears exits = refl
-same_exit c clears ignores = refl
-same_exit c clears (sets_prompt text) = refl
-same_exit c clears (sends_message text) = refl
-same_exit c clears (shows_prompt is_shown) = refl
-same_exit c clears (follows follow) = refl
-same_exit c clears (types character) = refl
-same_exit c clears restores_prompt = refl
-same_exit c clears redraws_prompt = refl
-same_exit c clears redraws_page = refl
-same_exit c clears (sets_classifier k) = refl
-same_exit c clears (sets_numbers numbers) = refl
-same_exit c clears (sets_wrapping wrapping) = refl
-same_exit c clears (shifts left) = refl
-same_exit c clears (starts_selection x y) = refl
-same_exit c clears (updates_selection x y) = refl
-same_exit c clears clears_selection = refl
-same_exit c clears copies_selection = refl
-same_exit c clears (shows_help text) = refl
+pub added_as : (K : Type 0) (c : Control) (text : List ℕ) → added c text ≡ moved_by (effect {K = K} c (appends_data text))
+added_as K c text = added_by K c text c.help
 
-pub still_on : {K : Type 0} (c : Control) (clears : Bool) (w : Wanted K) → (effect c w).exits_by ≡ None → (effect (cleared clears c) w).exits_by ≡ None
-still_on c clears w e = same_exit c clears w ∙ e
+-- ---- the typed prefix goes before a request or after it
 
-pub still_exits : {K : Type 0} (c : Control) (clears : Bool) (w : Wanted K) (x : Exit) → (effect c w).exits_by ≡ Some x → (effect (cleared clears c) w).exits_by ≡ Some x
-still_exits c clears w x e = same_exit c clears w ∙ e
+-- an effect after which the typed prefix goes, or stays
+abbrev pub cleared_by : Bool → Effect → Effect
+cleared_by clears e = record e { changed = cleared clears e.changed }
 
--- an exit copies no text
-pub exit_copies : {K : Type 0} (c : Control) (w : Wanted K) (x : Exit) → (effect c w).exits_by ≡ Some x → (effect c w).copies ≡ None
-exit_copies c (sets_data text) x e = refl
-exit_copies c (appends_data text) x e = refl
-exit_copies c (moves_mark mark) x e = refl
-exit_copies c (resizes cols rows) x e = refl
-exit_copies c exits x e = refl
-exit_copies c ignores x e = refl
-exit_copies c (sets_prompt text) x e = refl
-exit_copies c (sends_message text) x e = refl
-exit_copies c (shows_prompt is_shown) x e = refl
-exit_copies c (follows follow) x e = refl
-exit_copies c (types character) x e = refl
-exit_copies c restores_prompt x e = refl
-exit_copies c redraws_prompt x e = refl
-exit_copies c redraws_page x e = refl
-exit_copies c (sets_classifier k) x e = refl
-exit_copies c (sets_numbers numbers) x e = refl
-exit_copies c (sets_wrapping wrapping) x e = refl
-exit_copies c (shifts left) x e = refl
-exit_copies c (starts_selection a b) x e = refl
-exit_copies c (updates_selection a b) x e = refl
-exit_copies c clears_selection x e = refl
-exit_copies c copies_selection x e = cc
-exit_copies c (shows_help text) x e = refl
+cleared_exit : (K : Type 0) (c : Control) (clears : Bool) (help : Option Saved) → (let k : Control = record c { help = help } in effect {K = K} (cleared clears k) exits ≡ cleared_by clears (effect {K = K} k exits))
+cleared_exit K c clears None = refl
+cleared_exit K c clears (Some saved) = refl
+
+cleared_restored : (K : Type 0) (c : Control) (clears : Bool) (help : Option Saved) → (let k : Control = record c { help = help } in effect {K = K} (cleared clears k) restores_prompt ≡ cleared_by clears (effect {K = K} k restores_prompt))
+cleared_restored K c clears None = refl
+cleared_restored K c clears (Some saved) = refl
+
+cleared_help : (K : Type 0) (c : Control) (clears : Bool) (text : Option (List ℕ)) (help : Option Saved) → (let k : Control = record c { help = help } in effect {K = K} (cleared clears k) (shows_help text) ≡ cleared_by clears (effect {K = K} k (shows_help text)))
+cleared_help K c clears text None = refl
+cleared_help K c clears text (Some saved) = refl
+
+typed_on : (K : Type 0) (c : Control) (clears : Bool) (character : ℕ) → (clears ≡ true → types_nothing {K = K} (types character) ≡ true) → effect {K = K} (cleared clears c) (types character) ≡ cleared_by clears (effect {K = K} c (types character))
+typed_on K c false character h = refl
+typed_on K c true character h = absurd (let both : false ≡ true = h refl in cc)
+
+cleared_effect : {K : Type 0} (c : Control) (clears : Bool) (w : Wanted K) → (clears ≡ true → types_nothing w ≡ true) → effect (cleared clears c) w ≡ cleared_by clears (effect c w)
+cleared_effect c clears (sets_data text) h = refl
+cleared_effect c clears (appends_data text) h = refl
+cleared_effect c clears (moves_mark mark) h = refl
+cleared_effect c clears (resizes cols rows) h = refl
+cleared_effect {K = K} c clears exits h = cleared_exit K c clears c.help
+cleared_effect c clears ignores h = refl
+cleared_effect c clears (sets_prompt text) h = refl
+cleared_effect c clears (sends_message text) h = refl
+cleared_effect c clears (shows_prompt is_shown) h = refl
+cleared_effect c clears (follows follow) h = refl
+cleared_effect {K = K} c clears (types character) h = typed_on K c clears character h
+cleared_effect {K = K} c clears restores_prompt h = cleared_restored K c clears c.help
+cleared_effect c clears redraws_prompt h = refl
+cleared_effect c clears redraws_page h = refl
+cleared_effect c clears (sets_classifier k) h = refl
+cleared_effect c clears (sets_numbers numbers) h = refl
+cleared_effect c clears (sets_wrapping wrapping) h = refl
+cleared_effect c clears (shifts left) h = refl
+cleared_effect c clears (starts_selection x y) h = refl
+cleared_effect c clears (updates_selection x y) h = refl
+cleared_effect c clears clears_selection h = refl
+cleared_effect c clears copies_selection h = refl
+cleared_effect {K = K} c clears (shows_help text) h = cleared_help K c clears text c.help
+
+cleared_move : (c : Control) (clears : Bool) (move : Option ℕ) → moved (cleared clears c) move ≡ cleared clears (moved c move)
+cleared_move c clears None = refl
+cleared_move c clears (Some mark) = refl
+
+-- the control that a request leaves, where the typed prefix goes, or stays, at its end
+pub cleared_last : {K : Type 0} (c : Control) (clears : Bool) (w : Wanted K) → (clears ≡ true → types_nothing w ≡ true) → changed_by (effect (cleared clears c) w) ≡ cleared clears (clamp (moved_by (effect c w)))
+cleared_last c clears w h =
+    let e : Effect = effect c w in
+    ap changed_by (cleared_effect c clears w h) ∙ ap clamp (cleared_move e.changed clears e.moves_to)
+
+-- what else a request asks for does not hang on the typed prefix
+pub cleared_redraw : {K : Type 0} (c : Control) (clears : Bool) (w : Wanted K) → (clears ≡ true → types_nothing w ≡ true) → (effect c w).redraw ≡ (effect (cleared clears c) w).redraw
+cleared_redraw c clears w h = sym (ap (λ (e : Effect). e.redraw) (cleared_effect c clears w h))
+
+pub cleared_copies : {K : Type 0} (c : Control) (clears : Bool) (w : Wanted K) → (clears ≡ true → types_nothing w ≡ true) → (effect c w).copies ≡ (effect (cleared clears c) w).copies
+cleared_copies c clears w h = sym (ap (λ (e : Effect). e.copies) (cleared_effect c clears w h))
+
+pub cleared_exits : {K : Type 0} (c : Control) (clears : Bool) (w : Wanted K) → (clears ≡ true → types_nothing w ≡ true) → (effect c w).exits_by ≡ (effect (cleared clears c) w).exits_by
+cleared_exits c clears w h = sym (ap (λ (e : Effect). e.exits_by) (cleared_effect c clears w h))
 
 -- the size stays as help is left, and as a text is added
 left_size : (c : Control) (help : Option Saved) → SameSize c (left_help c help)
@@ -174,16 +174,6 @@ resizes_full_lem c clears_selection e = record { same_cols = refl; same_rows = r
 resizes_full_lem c copies_selection e = record { same_cols = refl; same_rows = refl }
 resizes_full_lem c (shows_help text) e = absurd (let both : true ≡ false = e in cc)
 
-neither : (x y : Bool) → (x || y) ≡ false → (x ≡ false) × (y ≡ false)
-neither false y e = (refl, e)
-neither true y e = absurd (cc)
-
--- nor do works change the size of which none is drawn in full
-pub unresized : {K : Type 0} {s t : Seen K} {ws : List (Wanted K)} {works : List Work} {exit : Option Exit} {text : Option (List ℕ)} → WorkedOff s ws works exit text t → some_full works ≡ false → s.control.rows ≡ t.control.rows
-unresized all e = refl
-unresized (one {s = s} {w = w} {works = works} possible on more) e = let both = neither (is_full (drawing_of s.control w)) (some_full works) e in (resizes_full_lem s.control w both.0).same_rows ∙ unresized more both.1
-unresized (up_to {s = s} {w = w} possible is) e = let both = neither (is_full (drawing_of s.control w)) false e in (resizes_full_lem s.control w both.0).same_rows
-
 -- commands that wait move no mark
 pub taken_all_mark : {K : Type 0} (c : Control) (ws : List (Wanted K)) → (taken_all c ws).mark ≡ c.mark
 taken_all_mark c [] = refl
@@ -205,34 +195,6 @@ taken_all-append c (w ∷ ws) vs = taken_all-append (taken c w) ws vs
 pub take_one : {A K : Type 0} (f : A → Wanted K) (commands : List A) (i : ℕ) (d x : A) (first now new : Control) → i < length commands → x ≡ get_or commands i d → now ≡ taken_all first (map f (take i commands)) → new ≡ taken now (f x) → new ≡ taken_all first (map f (take (i + 1) commands))
 take_one f commands i d x first now new l is so_far e =
     e ∙ ap (λ (c : Control). taken c (f x)) so_far ∙ ap (λ (y : _). taken (taken_all first (map f (take i commands))) (f y)) is ∙ sym (ap (taken_all first) (map_more f commands i d l) ∙ taken_all-append first (map f (take i commands)) (f (get_or commands i d) ∷ []))
-
--- a change is drawn as the table says of its command
-pub drawn_as : {K : Type 0} (c : Control) (w : Wanted K) (redraw : Redraw) (mark : ℕ) → redraw ≡ (effect c w).redraw → mark ≡ (changed_by (effect c w)).mark → drawing_by redraw c.mark mark ≡ drawing_of c w
-drawn_as c w redraw mark r m = ap (λ (x : Redraw). drawing_by x c.mark mark) r ∙ ap (λ (n : ℕ). drawing_by (effect c w).redraw c.mark n) m
-
--- no event of the pager hands a classifier over, and no command that asks for a drawing
-no_event_hands : {K : Type 0} (text : List ℕ) (event : InputEvent) → handed {K = K} (answered text (event_wanted event)) ≡ None
-no_event_hands text (events.UpdateUpperMark mark) = refl
-no_event_hands text (events.UpdateTermArea cols rows) = refl
-no_event_hands text (events.UpdateLeftMark left) = refl
-no_event_hands text (events.UpdateLineNumber numbers) = refl
-no_event_hands text (events.StartSelection x y) = refl
-no_event_hands text (events.UpdateSelection x y) = refl
-no_event_hands text events.ClearSelection = refl
-no_event_hands text events.CopySelection = refl
-no_event_hands text (events.HorizontalScroll wrapping) = refl
-no_event_hands text (events.FollowOutput follow) = refl
-no_event_hands text events.RestorePrompt = refl
-no_event_hands text events.ShowHelp = refl
-no_event_hands text (events.Number character) = refl
-no_event_hands text events.Exit = refl
-no_event_hands text events.Ignore = refl
-
-no_drawing_hands : {K : Type 0} (text : List ℕ) (io : IoCommand) → handed {K = K} (answered text (io_wanted io)) ≡ None
-no_drawing_hands text RedrawPrompt = refl
-no_drawing_hands text RedrawDisplay = refl
-no_drawing_hands text (DrawAppendedText unfinished rows style) = refl
-no_drawing_hands text (SetUpperMark mark) = refl
 
 -- no command but those with a text is taken before the start
 no_event_is_taken : (K : Type 0) (before : List ℕ) (event : InputEvent) → text_taken {K = K} before (event_wanted event) ≡ before
@@ -273,17 +235,3 @@ no_text_is_taken before (SetInputClassifier classifier) h k = refl
 
 pub no_other_is_taken : {P K : Type 0} (c : Control) (command : CommandOf P K) → ((text : String Global) → command ≡ SetData text → ⊥) → ((text : String Global) → command ≡ AppendData text → ⊥) → taken c (wanted_of command) ≡ c
 no_other_is_taken c command h k = ap (λ (text : List ℕ). let taken_of : Control = record c { text = text } in taken_of) (no_text_is_taken c.text command h k)
-
--- a classifier is handed over by the command for it alone
-pub no_other_hands : {P K : Type 0} (text : List ℕ) (command : CommandOf P K) → ((k : K) → command ≡ SetInputClassifier k → ⊥) → handed (wanted_with text command) ≡ None
-no_other_hands text (SetData text₁) h = refl
-no_other_hands text (AppendData text₁) h = refl
-no_other_hands text (SetPrompt prompt) h = refl
-no_other_hands text (SendMessage message) h = refl
-no_other_hands text (ShowPrompt is_shown) h = refl
-no_other_hands text (SetLineNumbers numbers) h = refl
-no_other_hands text (LineWrapping wrapping) h = refl
-no_other_hands text (FollowOutput follow) h = refl
-no_other_hands text (UserInput event) h = no_event_hands text event
-no_other_hands text (Io io) h = no_drawing_hands text io
-no_other_hands text (SetInputClassifier k) h = absurd (h k refl)

@@ -11,7 +11,7 @@ use Rattle.minus_state.specs.declared.input.InputEvent.{InputEvent}
 use Rattle.minus_state.specs.declared.input.InputEvent.TheVariants.{UpdateTermArea, Number, Ignore}
 use Rattle.minus.specs.declared.stand_in.StandIn.{StandIn}
 use Rattle.minus_state.specs.declared.state.PagerState.{PagerState}
-use Rattle.minus.specs.Classifying.{Classifies, classifies}
+use Rattle.minus_state.specs.Classifying.{Classifies}
 
 -- a digit without modifiers is typed to the prefix; any other key asks for nothing
 abbrev pub code_answer : KeyCode → KeyModifiers → InputEvent
@@ -35,4 +35,4 @@ abbrev pub stand_in_help : StandIn → Option (List ℕ) → Type 0
 stand_in_help classifier text = text ≡ None
 
 abbrev pub stand_in_says : Classifies StandIn
-stand_in_says = classifies stand_in stand_in_help
+stand_in_says = record { allows = stand_in; helps = stand_in_help }

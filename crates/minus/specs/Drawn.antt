@@ -1,5 +1,5 @@
 -- What the bytes of a sink say of the page.
-use Rattle.std.specs.Prelude.{◌≡◌, ℕ, ◌+◌, ◌-◌, ◌≤◌, min, List, [], ◌∷◌, ◌++◌, length, map, Option, None, Some, if◌then◌else◌}
+use Rattle.std.specs.Prelude.{◌≡◌, ℕ, ◌+◌, ◌-◌, ◌≤◌, min, List, [], ◌∷◌, ◌++◌, length, map, false, Option, None, Some, if◌then◌else◌}
 use Rattle.std.specs.List.{Contains}
 use Rattle.std.specs.Io.KnownBytes.{Appends}
 use Rattle.minus_term.specs.Operations.{Op}
@@ -9,27 +9,26 @@ use Rattle.minus_term.specs.Written.{written_all, IsClean}
 use Rattle.minus_term.specs.Puts.{puts}
 use Rattle.minus_term.specs.Scroll.{distance}
 use Rattle.minus_term.specs.Terminal.{setup_bytes}
-use Rattle.minus_state.specs.Control.{Control, text_rows, first_changed}
+use Rattle.minus_state.specs.Control.{Control, text_rows}
 use Rattle.minus_state.specs.Page.{page}
 use Rattle.minus.specs.Drawings.{whole_prompt}
-use Rattle.minus.specs.Seen.{Seen}
-use Rattle.minus.specs.Table.{Wanted, Exit}
-use Rattle.minus.specs.Works.{Work, WorkedOff, passed_in, some_full, IsQuiet}
-use Rattle.minus.specs.declared.commands.Drawing.{Drawing}
-use Rattle.minus.specs.declared.commands.Drawing.TheVariants.{Nothing, Full, Scroll, Append, Prompt}
+use Rattle.minus.specs.Works.{Work, passed_in, reached, some_full, IsQuiet}
+use Rattle.minus.specs.declared.step_drawing.Drawing.{Drawing}
+use Rattle.minus.specs.declared.step_drawing.Drawing.TheVariants.{Nothing, Full, Scroll, Append, Prompt}
 
 -- what is known of the terminal's screen before works are drawn: nothing where one of them is drawn in full, as each change
 -- of size is; otherwise it shows the page of the old control
 abbrev pub screen_before : Control → List Work → Control → PlayedScreen
 screen_before old works new = if some_full works then unknown_screen new.rows else screen_of (page old)
 
--- how many texts a drawing of the kind may put at most, on the way from one control to the other; without a bound, none
-abbrev pub most_of : Drawing → Control → Control → Option ℕ
-most_of Nothing old new = Some 0
-most_of Full old new = None
-most_of Scroll old new = Some (min (distance old.mark new.mark) (new.rows - 1))
-most_of Append old new = Some (length (text_rows new) - first_changed old)
-most_of Prompt old new = Some 0
+-- how many texts a drawing may put at most, where it leads to a control: a move by d rows as many as d, an append as many as there
+-- are rows from the first that it may change on; without a bound, none
+abbrev pub most_of : Drawing → Control → Option ℕ
+most_of Nothing new = Some 0
+most_of Full new = None
+most_of (Scroll from to) new = Some (min (distance from to) (new.rows - 1))
+most_of (Append first old_count) new = Some (length (text_rows new) - first)
+most_of Prompt new = Some 0
 
 -- one drawing after another: the last text of the first, which is not counted where it is the last of all, is one more
 abbrev pub then_most : Option ℕ → Option ℕ → Option ℕ
@@ -37,10 +36,10 @@ then_most (Some m) (Some n) = Some (m + 1 + n)
 then_most m n = None
 
 -- how many texts the drawings of works may put at most
-abbrev pub most_puts : Control → List Work → Option ℕ
-most_puts old [] = Some 0
-most_puts old (w ∷ []) = most_of w.drawing old w.left
-most_puts old (w ∷ v ∷ works) = then_most (most_of w.drawing old w.left) (most_puts w.left (v ∷ works))
+abbrev pub most_puts : List Work → Option ℕ
+most_puts [] = Some 0
+most_puts (w ∷ []) = most_of w.drawing w.left
+most_puts (w ∷ v ∷ works) = then_most (most_of w.drawing w.left) (most_puts (v ∷ works))
 
 -- so many are no more than a bound, if there is one
 abbrev pub IsWithin : ℕ → Option ℕ → Type 0
@@ -62,15 +61,19 @@ DrawsPrompts ops (w ∷ works) = (w.drawing ≡ Prompt → HasPiece ops (whole_p
 pub record IsDrawing (ops : List Op) (old : Control) (works : List Work) (new : Control) : Type 0 where
   pub shows : Shows (play_all ops (screen_before old works new)) (page new)
   pub clean : IsClean (map page (old ∷ passed_in works)) ops
-  pub few : IsWithin (puts ops (screen_before old works new)) (most_puts old works)
+  pub few : IsWithin (puts ops (screen_before old works new)) (most_puts works)
   pub asked : DrawsPrompts ops works
   pub none : IsQuiet old works → ops ≡ []
 
+-- works of which none is drawn in full leave the terminal's rows as many as they are
+abbrev pub KeepsRows : Control → List Work → Type 0
+KeepsRows c works = some_full works ≡ false → c.rows ≡ (reached c works).rows
+
 -- the drawings of some works, and after them those of others, are the drawings of them all
-abbrev pub DrawingsJoin : Type 0 → Type 0
-DrawingsJoin K =
-    (a b c : Seen K) (ws vs : List (Wanted K)) (works more : List Work) (exit : Option Exit) (text copied : Option (List ℕ)) (xs ys : List Op) → WorkedOff a ws works None text b → WorkedOff b vs more exit copied c
-    → IsDrawing xs a.control works b.control → IsDrawing ys b.control more c.control → IsDrawing (xs ++ ys) a.control (works ++ more) c.control
+abbrev pub DrawingsJoin : Type 0
+DrawingsJoin =
+    (a b c : Control) (works more : List Work) (xs ys : List Op) → b ≡ reached a works → c ≡ reached b more → KeepsRows b more
+    → IsDrawing xs a works b → IsDrawing ys b more c → IsDrawing (xs ++ ys) a (works ++ more) c
 
 -- the sink grew by the written form of one such list of operations
 abbrev pub Drawn : Option (List ℕ) → Option (List ℕ) → Control → List Work → Control → Type 0

@@ -1,12 +1,12 @@
 -- What the contracts cite.
 pub mod Seen
 pub mod Table
-pub mod Classifying
 pub mod Classified
+pub mod Asked
 pub mod Works
 pub mod Drawings
 pub mod Drawn
-pub mod Unformed
+pub mod Outcomes
 pub mod Reads
 pub mod Steps
 pub mod Runs

@@ -1,5 +1,6 @@
 -- What contracts read of the state, of commands and inputs.
 use Rattle.std.specs.Prelude.{ℕ, List, string_bytes, Option, None, Some}
+use Rattle.std.specs.Option.{option_map}
 use Rattle.minus_term.specs.declared.event.Event.{Event}
 use Rattle.minus.specs.declared.commands.CommandOf.{CommandOf}
 use Rattle.minus.specs.declared.commands.CommandOf.TheVariants.{SetData, AppendData, SetPrompt, SendMessage, ShowPrompt, SetLineNumbers, LineWrapping, FollowOutput, UserInput, Io, SetInputClassifier}
@@ -9,7 +10,12 @@ use Rattle.minus.specs.declared.commands.InputOf.{InputOf}
 use Rattle.minus.specs.declared.commands.InputOf.TheVariants as input
 use Rattle.minus_state.specs.declared.input.InputEvent.{InputEvent}
 use Rattle.minus_state.specs.declared.input.InputEvent.TheVariants as events
-use Rattle.minus.specs.Table.{Wanted, sets_data, appends_data, moves_mark, resizes, exits, ignores, sets_prompt, sends_message, shows_prompt, follows, types, restores_prompt, redraws_prompt, redraws_page, sets_classifier, sets_numbers, sets_wrapping, shifts, starts_selection, updates_selection, clears_selection, copies_selection, shows_help, answered}
+use Rattle.minus.specs.declared.request.Request.{Request}
+use Rattle.minus.specs.declared.request.Request.TheVariants as request
+use Rattle.minus.specs.Table.{Wanted, sets_data, appends_data, moves_mark, resizes, exits, ignores, sets_prompt}
+use Rattle.minus.specs.Table.{sends_message, shows_prompt, follows, types, restores_prompt, redraws_prompt, redraws_page}
+use Rattle.minus.specs.Table.{sets_classifier, sets_numbers, sets_wrapping, shifts, starts_selection, updates_selection}
+use Rattle.minus.specs.Table.{clears_selection, copies_selection, shows_help}
 
 -- what an event of the pager asks for
 abbrev pub event_wanted : {K : Type 0} → InputEvent → Wanted K
@@ -55,10 +61,6 @@ wanted_of (UserInput event) = event_wanted event
 wanted_of (Io command) = io_wanted command
 wanted_of (SetInputClassifier classifier) = sets_classifier classifier
 
--- the same with a text that help is opened with
-abbrev pub wanted_with : {P K : Type 0} → List ℕ → CommandOf P K → Wanted K
-wanted_with text command = answered text (wanted_of command)
-
 -- what a session is told: a command, or an event of the terminal
 pub data Told (K : Type 0) : Type 0 where
   a_command : Wanted K → Told K
@@ -67,3 +69,29 @@ pub data Told (K : Type 0) : Type 0 where
 abbrev pub told_of : {P K : Type 0} → InputOf P K → Told K
 told_of (input.Command command) = a_command (wanted_of command)
 told_of (input.Event event) = an_event event
+
+-- what a request asks for
+abbrev pub wanted_by : {P K : Type 0} → Request P K → Wanted K
+wanted_by (request.SetText text) = sets_data (string_bytes text)
+wanted_by (request.AppendText text) = appends_data (string_bytes text)
+wanted_by (request.MoveMark mark) = moves_mark mark
+wanted_by (request.Resize cols rows) = resizes cols rows
+wanted_by request.Exit = exits
+wanted_by request.Ignore = ignores
+wanted_by (request.SetPrompt text) = sets_prompt (string_bytes text)
+wanted_by (request.SendMessage text) = sends_message (string_bytes text)
+wanted_by (request.ShowPrompt is_shown) = shows_prompt is_shown
+wanted_by (request.Follow follow) = follows follow
+wanted_by (request.Type character) = types character
+wanted_by request.RestorePrompt = restores_prompt
+wanted_by request.RedrawPrompt = redraws_prompt
+wanted_by request.RedrawPage = redraws_page
+wanted_by (request.SetClassifier classifier) = sets_classifier classifier
+wanted_by (request.SetNumbers numbers) = sets_numbers numbers
+wanted_by (request.SetWrapping wrapping) = sets_wrapping wrapping
+wanted_by (request.ShiftLeft left) = shifts left
+wanted_by (request.StartSelection x y) = starts_selection x y
+wanted_by (request.UpdateSelection x y) = updates_selection x y
+wanted_by request.ClearSelection = clears_selection
+wanted_by request.CopySelection = copies_selection
+wanted_by (request.ShowHelp text) = shows_help (option_map string_bytes text)

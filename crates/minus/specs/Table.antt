@@ -1,11 +1,12 @@
 -- The table of commands and events.
-use Rattle.std.specs.Prelude.{◌≡◌, ℕ, ◌==◌, is_some, not, List, [], ◌++◌, Bool, true, false, Option, None, Some, encode_utf8, if◌then◌else◌}
+use Rattle.std.specs.Prelude.{◌≡◌, ℕ, ◌==◌, is_some, not, List, [], length, ◌++◌, Bool, true, false, Option, None, Some, encode_utf8, if◌then◌else◌}
 use Rattle.std.specs.Option.{unwrap_or}
+use Rattle.minus_term.specs.Refusals.{Refusal, for_newline, for_size}
 use Rattle.minus_text.specs.declared.line_numbers.LineNumbers.{LineNumbers}
 use Rattle.minus_state.specs.Copied.{copied}
 use Rattle.minus_state.specs.Selection.{ends_in_order}
-use Rattle.minus.specs.declared.commands.Drawing.{Drawing}
-use Rattle.minus.specs.declared.commands.Drawing.TheVariants.{Nothing, Full, Scroll, Append, Prompt}
+use Rattle.minus.specs.declared.step_drawing.Drawing.{Drawing}
+use Rattle.minus.specs.declared.step_drawing.Drawing.TheVariants.{Nothing, Full, Scroll, Append, Prompt}
 use Rattle.minus_state.specs.declared.change.Redraw.{Redraw}
 use Rattle.minus_state.specs.declared.change.Redraw.TheVariants.{Stays, Whole, Moved, Appended, PromptRow}
 use Rattle.minus_state.specs.declared.state.ExitStrategy.{ExitStrategy}
@@ -16,10 +17,11 @@ use Rattle.minus_state.specs.Redraws.{append_redraw, added_redraw, shift_redraw,
 use Rattle.minus_state.specs.Shifting.{left_after}
 use Rattle.minus_state.specs.ShownPrompt.{has_newline}
 use Rattle.minus_state.specs.Selecting.{no_ends, has_ends, end_at, ends_begun, mark_led, ends_led}
-use Rattle.minus_state.specs.Control.{Control, Settings, document_of, clamp, top}
-use Rattle.minus_state.specs.Help.{help_open, left_help, restored, turned, with_text, with_more}
+use Rattle.minus_state.specs.Control.{Control, Settings, document_of, text_rows, first_changed, with_message, with_prefix, clamp, top}
+use Rattle.minus_state.specs.Help.{help_open, left_help, restored, turned, with_prompt, with_text, with_more}
 
--- a command, as values alone; a classifier is a value of the kind that the session keeps
+-- a request, as values alone; a classifier is a value of the kind that the session keeps, and help has the text that it is opened
+-- with: none where the classifier gives none, or where help is open
 pub data Wanted (K : Type 0) : Type 0 where
   sets_data : List ℕ → Wanted K
   appends_data : List ℕ → Wanted K
@@ -44,11 +46,6 @@ pub data Wanted (K : Type 0) : Type 0 where
   clears_selection : Wanted K
   copies_selection : Wanted K
   shows_help : Option (List ℕ) → Wanted K
-
--- the same, where help is asked for with the text that it is opened with
-abbrev pub answered : {K : Type 0} → List ℕ → Wanted K → Wanted K
-answered text (shows_help asked) = shows_help (Some text)
-answered text w = w
 
 -- an exit: how the program is to go on, and the code that it ends with if it is to end
 abbrev pub Exit : Type 0
@@ -93,11 +90,11 @@ effect c (moves_mark mark) = record (changes c Moved) { moves_to = Some mark }
 effect c (resizes cols rows) = changes (record c { cols = cols; rows = rows }) Whole
 effect c exits = record (changes (left_help c c.help) (whole_where (help_open c))) { exits_by = if help_open c then None else Some (ProcessQuit, 0) }
 effect c ignores = changes c Stays
-effect c (sets_prompt text) = sets c (record c.settings { prompt = if help_open c then c.settings.prompt else text })
-effect c (sends_message text) = sets c (record c.settings { message = Some text })
+effect c (sets_prompt text) = changes (with_prompt c text) Stays
+effect c (sends_message text) = changes (with_message c text) Stays
 effect c (shows_prompt is_shown) = sets c (record c.settings { is_shown = is_shown })
 effect c (follows follow) = record (changes (record c { settings = record c.settings { follow = follow } }) Moved) { moves_to = Some (top c) }
-effect c (types character) = sets c (record c.settings { prefix = c.settings.prefix ++ encode_utf8 character })
+effect c (types character) = changes (with_prefix c (c.settings.prefix ++ encode_utf8 character)) Stays
 effect c restores_prompt = changes (restored c c.help) (whole_where (help_open c))
 effect c redraws_prompt = changes c PromptRow
 effect c redraws_page = changes c Whole
@@ -120,6 +117,11 @@ handed w = None
 abbrev pub kept_after : {K : Type 0} → K → Wanted K → K
 kept_after k w = unwrap_or (handed w) k
 
+-- whether it types no character to the prefix
+abbrev pub types_nothing : {K : Type 0} → Wanted K → Bool
+types_nothing (types character) = false
+types_nothing w = true
+
 -- it can be done: a size is one of a terminal, and a prompt or a message has no newline
 abbrev pub IsPossible : {K : Type 0} → Wanted K → Type 0
 IsPossible (resizes cols rows) = IsSize cols rows
@@ -132,6 +134,12 @@ abbrev pub HasNewline : {K : Type 0} → Wanted K → Type 0
 HasNewline (sets_prompt text) = has_newline text ≡ true
 HasNewline (sends_message text) = has_newline text ≡ true
 HasNewline w = ⊥
+
+-- why it cannot be done: for a newline, or for a size that is none of a terminal
+abbrev pub IsFault : {K : Type 0} → Refusal → Wanted K → Type 0
+IsFault for_newline w = HasNewline w
+IsFault (for_size cols rows) w = (w ≡ resizes cols rows) × (IsSize cols rows → ⊥)
+IsFault refusal w = ⊥
 
 -- the mark after a move
 abbrev pub moved : Control → Option ℕ → Control
@@ -146,15 +154,15 @@ moved_by e = moved e.changed e.moves_to
 abbrev pub changed_by : Effect → Control
 changed_by e = clamp (moved_by e)
 
--- how what is asked for is drawn, by the mark before it and the mark that the clamp leaves: a move not at all where the mark
--- stays, and an append in full where it does not
-abbrev pub drawing_by : Redraw → ℕ → ℕ → Drawing
-drawing_by Stays from to = Nothing
-drawing_by Whole from to = Full
-drawing_by Moved from to = if to == from then Nothing else Scroll
-drawing_by Appended from to = if to == from then Append else Full
-drawing_by PromptRow from to = Prompt
+-- how what is asked for is drawn over the page of a control, by the mark that the clamp leaves: a move not at all where the mark stays,
+-- and an append in full where it does not
+abbrev pub drawing_by : Redraw → Control → ℕ → Drawing
+drawing_by Stays old mark = Nothing
+drawing_by Whole old mark = Full
+drawing_by Moved old mark = if mark == old.mark then Nothing else Scroll old.mark mark
+drawing_by Appended old mark = if mark == old.mark then Append (first_changed old) (length (text_rows old)) else Full
+drawing_by PromptRow old mark = Prompt
 
--- how what comes of a command is drawn
+-- how what comes of a request is drawn
 abbrev pub drawing_of : {K : Type 0} → Control → Wanted K → Drawing
-drawing_of c w = drawing_by (effect c w).redraw c.mark (changed_by (effect c w)).mark
+drawing_of c w = drawing_by (effect c w).redraw c (changed_by (effect c w)).mark

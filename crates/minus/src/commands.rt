@@ -62,33 +62,3 @@ pub enum InputOf<P: Parts> {
 
 /// What a session is given to which no classifier was given.
 pub type Input = InputOf<StandIns>;
-
-/// How what comes of a command is drawn. What does not draw the prompt row is followed by it where it has changed.
-#[derive(Clone, Copy)]
-pub(crate) enum Drawing {
-    /// Not at all: the page stays as it is.
-    Nothing,
-    /// The whole page.
-    Full,
-    /// The rows that a move of the mark brings onto the page.
-    Scroll,
-    /// The rows of the page that an append has changed or added.
-    Append,
-    /// The prompt row.
-    Prompt,
-}
-
-impl Drawing {
-    ghost use Rattle.std.specs.Prelude.{◌≡◌};
-    ghost use Rattle.minus.specs.Drawings.{draws_prompt};
-
-    // Whether it draws the prompt row.
-    pub(crate) fn draws_prompt(self) -> bool
-        ensures { result ≡ draws_prompt self }
-    {
-        match self {
-            Drawing::Nothing | Drawing::Append => false,
-            Drawing::Full | Drawing::Scroll | Drawing::Prompt => true,
-        }
-    }
-}

@@ -1,5 +1,5 @@
 //! The start of a session.
-ghost use Rattle.std.specs.Prelude.{◌≡◌, ◌++◌, true, map, string_bytes, OnOk, IfOk, IfErr};
+ghost use Rattle.std.specs.Prelude.{◌≡◌, ◌++◌, true, map, string_bytes, OnOk, OnErr, IfOk, IfErr};
 ghost use Rattle.std.specs.Io.KnownBytes.{Appends};
 ghost use Rattle.minus_term.specs.Counts.{Stays, Rises};
 ghost use Rattle.minus_term.specs.Refusals.{refusal_of};
@@ -14,17 +14,16 @@ ghost use Rattle.minus_state.specs.States.{IsFormed, control_of, settings_of};
 ghost use Rattle.minus.specs.Reads.{wanted_of};
 ghost use Rattle.minus.specs.SessionStarts.{IsStart, IsRefusedStart};
 ghost use Rattle.minus_state.specs.Sizes.{IsSize};
-ghost use Rattle.minus.specs.Starts.{taken_all, first_control, IsShowRefused, ShowBreaksOff, IsStartFault};
+ghost use Rattle.minus.specs.Starts.{taken, taken_all, first_control, IsShowRefused, ShowBreaksOff, IsStartFault};
 
-use crate::commands::{CommandOf, Drawing};
-use crate::drawing::drawn;
+use crate::commands::CommandOf;
 use crate::pager::{Pager, PagerOf};
 use crate::parts::Parts;
-use crate::prepare::take_text;
 use crate::session::{Core, Session};
 use crate::stand_in::{StandIn, StandIns};
 use crate::state::{PagerState, RunMode};
 use crate::status::Status;
+use crate::step_drawing::{Drawing, draw_page};
 use minus_state::change::{NextText, Redraw};
 use minus_term::{MinusError, OutputSink, cleanup, draw_bytes, setup};
 use std::alloc::Global;
@@ -50,6 +49,32 @@ impl<S: Drop, P: Parts> From<StartErrorOf<S, P>> for MinusError {
 
     fn from(refused: StartErrorOf<S, P>) -> MinusError {
         refused.cause
+    }
+}
+
+// Takes over the text that a command leaves, before the start. An `Err` changes nothing.
+pub(crate) fn take_text<P: Parts>(
+    state: &mut PagerState,
+    alloc: Global,
+    command: &CommandOf<P>,
+) -> Result<(), MinusError>
+    requires { IsFormed state.old }
+    ensures control { OnOk result (control_of state.new ≡ taken (control_of state.old) (wanted_of command.now)) }
+    ensures formed { OnOk result (IsFormed state.new) }
+    ensures err { OnErr result (state.new ≡ state.old) }
+    ensures memory { IfErr result (λ e. e ≡ MinusError.Memory) }
+{
+    match command {
+        CommandOf::SetData(text) => {
+            let layout = state.layout();
+            let _ = state.screen.set_text(alloc, text, layout, None)?;
+            Ok(())
+        }
+        CommandOf::AppendData(text) => {
+            let _ = state.append_str(alloc, text)?;
+            Ok(())
+        }
+        _ => Ok(()),
     }
 }
 
@@ -106,8 +131,8 @@ fn first_page<P: Parts>(pager: &PagerOf<P>, cols: usize, rows: usize) -> Result<
     ensures refused { IfErr result (λ e. IsUnformedState (refusal_of e) cols rows) }
 {
     let state = first_state(pager, cols, rows)?;
-    let change = state.change_to(NextText::Same, Redraw::Whole, false);
-    let (prompt_row, drawing) = drawn(pager.alloc, &state, Drawing::Full, &change)?;
+    let change = state.change_to(NextText::Same, Redraw::Whole);
+    let (prompt_row, drawing) = draw_page(pager.alloc, &state, Drawing::Full, &change)?;
     Ok(First {
         state,
         prompt_row,
@@ -117,13 +142,13 @@ fn first_page<P: Parts>(pager: &PagerOf<P>, cols: usize, rows: usize) -> Result<
 
 // Sets the terminal up and draws on it. Where it is not drawn on, it is cleaned up as far as the sink takes it.
 fn show<S: OutputSink>(sink: &mut S, drawing: &[u8]) -> Result<(), MinusError>
-    ensures ok { OnOk result (Appends (S.contents sink.old) (S.contents sink.new) (setup_bytes ++ drawing.now)) }
-    ensures stays { OnOk result (Stays (S.refused sink.old) (S.refused sink.new)) }
-    ensures terminal { OnOk result (S.terminal sink.old ≡ true) }
-    ensures refused { IfErr result (λ e. IsShowRefused (refusal_of e) (S.terminal sink.old)) }
-    ensures broken { IfErr result (λ e. ShowBreaksOff (refusal_of e) (S.contents sink.old) (S.contents sink.new)
-        (S.refused sink.old) (S.refused sink.new) drawing.now) }
-    ensures rises { IfErr result (λ e. IsStartFault (refusal_of e) → Rises (S.refused sink.old) (S.refused sink.new)) }
+    ensures ok { OnOk result (Appends (S.seen sink.old).bytes (S.seen sink.new).bytes (setup_bytes ++ drawing.now)) }
+    ensures stays { OnOk result (Stays (S.seen sink.old).refusals (S.seen sink.new).refusals) }
+    ensures terminal { OnOk result ((S.seen sink.old).terminal ≡ true) }
+    ensures refused { IfErr result (λ e. IsShowRefused (refusal_of e) (S.seen sink.old).terminal) }
+    ensures broken { IfErr result (λ e. ShowBreaksOff (refusal_of e) (S.seen sink.old).bytes (S.seen sink.new).bytes
+        (S.seen sink.old).refusals (S.seen sink.new).refusals drawing.now) }
+    ensures rises { IfErr result (λ e. IsStartFault (refusal_of e) → Rises (S.seen sink.old).refusals (S.seen sink.new).refusals) }
     ensures untouched { IfErr result (λ e. (IsStartFault (refusal_of e) → ⊥) → sink.new ≡ sink.old) }
 {
     setup(sink)?;
@@ -144,8 +169,8 @@ fn begin<S: OutputSink + Drop, P: Parts>(
 ) -> Result<Core<S, P>, StartErrorOf<S, P>>
     requires runs { mode ≡ RunMode.Uninitialized → ⊥ }
     requires control { control_of first.state ≡ first_control first.state.cols first.state.rows (map wanted_of pager.queue.items) }
-    ensures started { IfOk result (λ s. IsStart S.contents S.refused S.terminal pager mode first.state.cols first.state.rows classifier sink s) }
-    ensures refused { IfErr result (λ e. IsRefusedStart S.contents S.refused S.terminal pager mode first.state.cols first.state.rows sink e) }
+    ensures started { IfOk result (λ s. IsStart S.seen pager mode first.state.cols first.state.rows classifier sink s) }
+    ensures refused { IfErr result (λ e. IsRefusedStart S.seen pager mode first.state.cols first.state.rows sink e) }
 {
     let mut sink = sink;
     if let Err(cause) = show(&mut sink, &first.drawing) {
@@ -190,8 +215,8 @@ pub fn init_core_with<S: OutputSink + Drop, P: Parts>(
     rows: usize,
     classifier: P::Classifier,
 ) -> Result<Core<S, P>, StartErrorOf<S, P>>
-    ensures started { IfOk result (λ s. IsStart S.contents S.refused S.terminal pager mode cols rows classifier sink s) }
-    ensures refused { IfErr result (λ e. IsRefusedStart S.contents S.refused S.terminal pager mode cols rows sink e) }
+    ensures started { IfOk result (λ s. IsStart S.seen pager mode cols rows classifier sink s) }
+    ensures refused { IfErr result (λ e. IsRefusedStart S.seen pager mode cols rows sink e) }
 {
     if mode.is_uninitialized() {
         return Err(StartErrorOf {
@@ -219,8 +244,8 @@ pub fn init_core<S: OutputSink + Drop>(
     cols: usize,
     rows: usize,
 ) -> Result<Session<S>, StartError<S>>
-    ensures started { IfOk result (λ s. IsStart S.contents S.refused S.terminal pager mode cols rows (record {}) sink s) }
-    ensures refused { IfErr result (λ e. IsRefusedStart S.contents S.refused S.terminal pager mode cols rows sink e) }
+    ensures started { IfOk result (λ s. IsStart S.seen pager mode cols rows (record {}) sink s) }
+    ensures refused { IfErr result (λ e. IsRefusedStart S.seen pager mode cols rows sink e) }
 {
     init_core_with(pager, mode, sink, cols, rows, StandIn)
 }
@@ -233,8 +258,8 @@ pub fn dynamic_paging<S: OutputSink + Drop>(
     cols: usize,
     rows: usize,
 ) -> Result<Session<S>, StartError<S>>
-    ensures started { IfOk result (λ s. IsStart S.contents S.refused S.terminal pager RunMode.Dynamic cols rows (record {}) sink s) }
-    ensures refused { IfErr result (λ e. IsRefusedStart S.contents S.refused S.terminal pager RunMode.Dynamic cols rows sink e) }
+    ensures started { IfOk result (λ s. IsStart S.seen pager RunMode.Dynamic cols rows (record {}) sink s) }
+    ensures refused { IfErr result (λ e. IsRefusedStart S.seen pager RunMode.Dynamic cols rows sink e) }
 {
     init_core(pager, RunMode::Dynamic, sink, cols, rows)
 }

@@ -8,8 +8,8 @@ pub fn resizes_are_full<K>()
 {}
 
 /// A law: the drawings of some works, and after them those of others, are the drawings of them all.
-pub fn drawings_join<K>()
-    ensures { DrawingsJoin K }
+pub fn drawings_join()
+    ensures { DrawingsJoin }
 {}
 
 /// A law: help that is opened and left at once leaves all as it was, but for the message, which is gone.

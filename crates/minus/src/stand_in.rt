@@ -30,11 +30,9 @@ fn answer_key(key: &KeyEvent) -> InputEvent
 }
 
 impl InputClassifier for StandIn {
-    ghost use Rattle.minus.specs.Classified.{stand_in, stand_in_help};
+    ghost use Rattle.minus.specs.Classified.{stand_in_says};
 
-    ghost allows = { stand_in };
-
-    ghost helps = { stand_in_help };
+    ghost says = { stand_in_says };
 
     fn classify_input(&self, event: Event, _state: &PagerState) -> Option<InputEvent> {
         match event {

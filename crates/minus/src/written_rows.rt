@@ -8,9 +8,9 @@ ghost use Rattle.minus_term.specs.Written.{written_all};
 ghost use Rattle.minus_text.specs.Prefixes.{is_on};
 ghost use Rattle.minus.specs.WrittenRows.{row_from, written_row, lines_ops, lines_of_page, text_ops};
 
-use crate::display::write_row;
+use crate::page_bytes::push_row;
 use minus_state::get_horizontal_scroll_bounds;
-use minus_term::{DrawOp, MinusError, OutputSink, draw_bytes, write_op};
+use minus_term::{DrawOp, MinusError, OutputSink, draw_bytes, write_ops};
 use minus_text::{LineNumbers, Row, crop_columns, prefix_columns};
 use std::alloc::{AllocError, Global};
 use std::convert::AsStr;
@@ -57,10 +57,10 @@ fn push_shown(
         ++ written_all (row_ops (written_row style.wrapping style.cols style.left_mark style.numbers style.line_count row.now))) }
 {
     if style.wrapping {
-        return write_row(alloc, bytes, row);
+        return push_row(alloc, bytes, row);
     }
     let shown = row_from(alloc, row, style)?;
-    write_row(alloc, bytes, shown.as_str())
+    push_row(alloc, bytes, shown.as_str())
 }
 
 // Adds what is shown of stored rows.
@@ -98,10 +98,10 @@ pub fn write_lines<W: OutputSink, L: AsStr>(
     numbers: bool,
     line_count: usize,
 ) -> Result<(), MinusError>
-    ensures ok { OnOk result (Appends (W.contents out.old) (W.contents out.new)
+    ensures ok { OnOk result (Appends (W.seen out.old).bytes (W.seen out.new).bytes
         (written_all (lines_ops wrapping cols left_mark numbers line_count (map L.text lines.now)))) }
-    ensures stays { OnOk result (Stays (W.refused out.old) (W.refused out.new)) }
-    ensures err { IfErr result (λ e. WriteRefuses W.contents W.refused e out.old out.new
+    ensures stays { OnOk result (Stays (W.seen out.old).refusals (W.seen out.new).refusals) }
+    ensures err { IfErr result (λ e. WriteRefuses W.seen e out.old out.new
         (written_all (lines_ops wrapping cols left_mark numbers line_count (map L.text lines.now)))) }
 {
     let style = RowStyle {
@@ -132,10 +132,10 @@ pub fn write_lines_in_horizontal_scroll<W: OutputSink, L: AsStr>(
     numbers: bool,
     line_count: usize,
 ) -> Result<(), MinusError>
-    ensures ok { OnOk result (Appends (W.contents out.old) (W.contents out.new)
+    ensures ok { OnOk result (Appends (W.seen out.old).bytes (W.seen out.new).bytes
         (written_all (lines_ops false cols left_mark numbers line_count (map L.text lines.now)))) }
-    ensures stays { OnOk result (Stays (W.refused out.old) (W.refused out.new)) }
-    ensures err { IfErr result (λ e. WriteRefuses W.contents W.refused e out.old out.new
+    ensures stays { OnOk result (Stays (W.seen out.old).refusals (W.seen out.new).refusals) }
+    ensures err { IfErr result (λ e. WriteRefuses W.seen e out.old out.new
         (written_all (lines_ops false cols left_mark numbers line_count (map L.text lines.now)))) }
 {
     write_lines(
@@ -164,8 +164,7 @@ fn push_text<L: AsStr>(
     ensures { OnOk result (bytes.new.items ≡ bytes.old.items ++ written_all
         (text_ops upper_mark rows style.wrapping style.cols style.left_mark style.numbers style.line_count (map L.text lines.now))) }
 {
-    write_op(alloc, bytes, &DrawOp::GoTo(0, 0))?;
-    write_op(alloc, bytes, &DrawOp::ClearAll)?;
+    write_ops(alloc, bytes, &[DrawOp::GoTo(0, 0), DrawOp::ClearAll])?;
     push_lines(alloc, bytes, lines_of_page(lines, upper_mark, rows), style)?;
     Ok(())
 }
@@ -190,10 +189,10 @@ pub fn write_text_checked<W: OutputSink, L: AsStr>(
     line_numbers: LineNumbers,
     line_count: usize,
 ) -> Result<(), MinusError>
-    ensures ok { OnOk result (Appends (W.contents out.old) (W.contents out.new)
+    ensures ok { OnOk result (Appends (W.seen out.old).bytes (W.seen out.new).bytes
         (written_all (text_ops upper_mark rows wrapping cols left_mark (is_on line_numbers) line_count (map L.text lines.now)))) }
-    ensures stays { OnOk result (Stays (W.refused out.old) (W.refused out.new)) }
-    ensures err { IfErr result (λ e. WriteRefuses W.contents W.refused e out.old out.new
+    ensures stays { OnOk result (Stays (W.seen out.old).refusals (W.seen out.new).refusals) }
+    ensures err { IfErr result (λ e. WriteRefuses W.seen e out.old out.new
         (written_all (text_ops upper_mark rows wrapping cols left_mark (is_on line_numbers) line_count (map L.text lines.now)))) }
 {
     let style = RowStyle {

@@ -4,17 +4,18 @@ use Rattle.std.specs.Prelude.{◌||◌, is_some, nat_lt}
 use Rattle.std.specs.Io.KnownBytes.{Appends}
 use Rattle.std.proofs.lemmas.List.{map-append}
 use Rattle.minus_term.specs.declared.error.MinusError.{MinusError}
-use Rattle.minus_term.specs.declared.error.MinusError.TheVariants.{Memory, NewlineInPrompt, BadSize, BadMode, Failed, Ended, Setup, Cleanup, Draw, HandleEvent, Cursor, FmtWriteError, Conversion, SearchExpError}
-use Rattle.minus_term.specs.Refusals.{Refusal, for_memory, for_newline, for_size, for_mode, after_failure, after_exit, at_setup, at_cleanup, at_drawing, of_no_call, refusal_of}
+use Rattle.minus_term.specs.declared.error.MinusError.TheVariants.{Memory, NewlineInPrompt, HookIdTaken, NoFreeHookId, BadSize, BadDescription, Bound, QueryFull, BadMode, Failed, Ended, Setup, Cleanup, Draw, HandleEvent, Cursor, FmtWriteError, Conversion, SearchExpError}
+use Rattle.minus_term.specs.Refusals.{Refusal, for_memory, for_newline, for_hook_id, for_free_hook_id, for_size, for_description, for_binding, for_query, for_mode, after_failure, after_exit, at_setup, at_cleanup, at_drawing, for_pattern, of_no_call, refusal_of}
 use Rattle.minus.specs.declared.stand_in.StandIn.{StandIn}
-use Rattle.minus.specs.declared.session.Answer.{Answer}
+use Rattle.minus.specs.declared.answer.Answer.{Answer}
 use Rattle.minus_state.specs.declared.state.RunMode.TheVariants.{Dynamic}
 use Rattle.minus.specs.declared.status.Status.{Status}
 use Rattle.minus.specs.declared.status.Status.TheVariants as status
 use Rattle.minus.specs.Answers.{IsAnswer, ends_run}
+use Rattle.minus.specs.Asked.{Asks}
 use Rattle.std.specs.List.{last_or}
 use Rattle.minus.specs.Classified.{stand_in_says}
-use Rattle.minus.specs.Classifying.{Classifies}
+use Rattle.minus_state.specs.Classifying.{Classifies}
 use Rattle.minus_state.specs.Control.{Control}
 use Rattle.minus.specs.Reads.{Told}
 use Rattle.minus.specs.Runs.{Stops, StopsSo, StopsAfter, IsRun}
@@ -104,12 +105,12 @@ bytes_shown told cols rows inputs rest last new bytes mode output h is e = rw is
 })
 
 -- a step that does not end a run leaves the session running
-goes_on : (exit : Option Exit) (text : Option (List ℕ)) (answer : Answer) (now : Status) → IsAnswer exit text answer → ends_run answer ≡ false → now ≡ status_after exit → now ≡ status.Running
-goes_on None text answer now is ends stands = stands
-goes_on (Some exit) text answer now is ends stands = absurd (let both : true ≡ false = subst (λ (x : Option Exit). (is_some x || is_some answer.copied || nat_lt 0 (length answer.refused.items)) ≡ false) is.exited ends in cc)
+goes_on : (exit : Option Exit) (text : Option (List ℕ)) (refused : List Refusal) (answer : Answer) (now : Status) → IsAnswer exit text refused answer → ends_run answer ≡ false → now ≡ status_after exit → now ≡ status.Running
+goes_on None text refused answer now is ends stands = stands
+goes_on (Some exit) text refused answer now is ends stands = absurd (let both : true ≡ false = subst (λ (x : Option Exit). (is_some x || is_some answer.copied || nat_lt 0 (length answer.refused.items)) ≡ false) is.exited ends in cc)
 
 step_goes_on : {K : Type 0} (says : Classifies K) (old new : Seen K) (t : Told K) (answer : Answer) (x y : Option (List ℕ)) → IsStep says old t new answer x y → ends_run answer ≡ false → new.status ≡ status.Running
-step_goes_on says old new t answer x y s ends = goes_on s.exit s.text answer new.status s.answers ends s.worked.stands
+step_goes_on says old new t answer x y s ends = goes_on s.exit s.copied s.refused answer new.status s.answers ends s.stands
 
 -- after steps before an input that is refused, the session runs
 ends_not : (ends : Bool) (e : MinusError) (rest : List (Told StandIn)) → StopsSo ends (Some e) rest → ends ≡ false
@@ -126,9 +127,11 @@ still_runs says old new ts cs answers x y e rest (more {b = b} {c = c} {t = t} {
 step_refused : (e : MinusError) (cols rows : ℕ) (told rest : List (Told StandIn)) (t : Told StandIn) (answers : List Answer) (reached new : Seen StandIn) (a b : Option (List ℕ)) → IsTaken cols rows told answers reached a (t ∷ rest) → reached.status ≡ status.Running → Refuses stand_in_says (refusal_of e) reached t new a b → IsRefusal (refusal_of e) cols rows told
 step_refused Memory cols rows told rest t answers reached new a b taken runs h = tt
 step_refused NewlineInPrompt cols rows told rest t answers reached new a b taken runs h =
-    record { answers = answers; reached = reached; bytes = a; refused = t; rest = rest; wanted = h.0.wanted; taken = taken; asked = h.0.asked; bad = h.0.bad }
+    let (wanted, asked, bad) = h.1 in
+    record { answers = answers; reached = reached; bytes = a; refused = t; rest = rest; wanted = wanted; taken = taken; asked = asked; bad = bad }
 step_refused (BadSize c r) cols rows told rest t answers reached new a b taken runs h =
-    inr (record { answers = answers; reached = reached; bytes = a; refused = t; rest = rest; taken = taken; asked = h.0.asked; bad = h.0.bad })
+    let (wanted, asked, fault) = h.1 in
+    inr (record { answers = answers; reached = reached; bytes = a; refused = t; rest = rest; taken = taken; asked = subst (λ (w : Wanted StandIn). Asks stand_in_says reached t w) fault.0 asked; bad = fault.1 })
 step_refused BadMode cols rows told rest t answers reached new a b taken runs h = absurd h
 step_refused Failed cols rows told rest t answers reached new a b taken runs h = absurd (let both : status.Running ≡ status.Failed = sym runs ∙ h.0 in cc)
 step_refused Ended cols rows told rest t answers reached new a b taken runs h = absurd (let both : status.Running ≡ status.Ended = sym runs ∙ h.0 in cc)
@@ -138,6 +141,11 @@ step_refused (Draw cause) cols rows told rest t answers reached new a b taken ru
 step_refused (HandleEvent cause) cols rows told rest t answers reached new a b taken runs h = absurd h
 step_refused (Cursor cause) cols rows told rest t answers reached new a b taken runs h = absurd h
 step_refused (FmtWriteError cause) cols rows told rest t answers reached new a b taken runs h = absurd h
+step_refused (HookIdTaken hook id) cols rows told rest t answers reached new a b taken runs h = absurd h
+step_refused NoFreeHookId cols rows told rest t answers reached new a b taken runs h = absurd h
+step_refused (BadDescription place cause) cols rows told rest t answers reached new a b taken runs h = absurd h
+step_refused (Bound place) cols rows told rest t answers reached new a b taken runs h = absurd h
+step_refused QueryFull cols rows told rest t answers reached new a b taken runs h = absurd h
 step_refused Conversion cols rows told rest t answers reached new a b taken runs h = absurd h
 step_refused (SearchExpError cause) cols rows told rest t answers reached new a b taken runs h = absurd h
 
@@ -168,6 +176,12 @@ start_refused after_exit cols rows terminal told t h = absurd h
 start_refused (at_setup cause) cols rows terminal told t h = subst (λ (x : Bool). IsSetupRefused cause x) t h.1
 start_refused (at_cleanup cause) cols rows terminal told t h = absurd h
 start_refused at_drawing cols rows terminal told t h = tt
+start_refused (for_hook_id hook id) cols rows terminal told t h = absurd h
+start_refused for_free_hook_id cols rows terminal told t h = absurd h
+start_refused (for_description place cause) cols rows terminal told t h = absurd h
+start_refused (for_binding place) cols rows terminal told t h = absurd h
+start_refused for_query cols rows terminal told t h = absurd h
+start_refused for_pattern cols rows terminal told t h = absurd h
 start_refused of_no_call cols rows terminal told t h = absurd h
 
 -- memory ran out
@@ -181,6 +195,12 @@ memory_refusal after_exit cols rows told h = h
 memory_refusal (at_setup cause) cols rows told h = h
 memory_refusal (at_cleanup cause) cols rows told h = h
 memory_refusal at_drawing cols rows told h = h
+memory_refusal (for_hook_id hook id) cols rows told h = h
+memory_refusal for_free_hook_id cols rows told h = h
+memory_refusal (for_description place cause) cols rows told h = h
+memory_refusal (for_binding place) cols rows told h = h
+memory_refusal for_query cols rows told h = h
+memory_refusal for_pattern cols rows told h = h
 memory_refusal of_no_call cols rows told h = h
 
 pub memory_fault : (cols rows : ℕ) (told : List (Told StandIn)) (fault : ScriptFault) → IsMemory fault → IsShowFault cols rows told fault

@@ -7,7 +7,7 @@ use Rattle.minus_term.specs.Counts.{AppendsFront}
 use Rattle.minus_term.specs.Refusals.{Refusal, for_memory, for_newline, for_size, at_setup, at_cleanup, at_drawing, refusal_of}
 use Rattle.minus_term.specs.declared.error.MinusError.TheVariants.{Memory}
 use Rattle.minus.specs.declared.stand_in.StandIn.{StandIn}
-use Rattle.minus.specs.declared.session.Answer.{Answer}
+use Rattle.minus.specs.declared.answer.Answer.{Answer}
 use Rattle.minus_state.specs.declared.state.RunMode.TheVariants.{Dynamic}
 use Rattle.minus.specs.Classified.{stand_in_says}
 use Rattle.minus_state.specs.Control.{Control}
@@ -17,7 +17,8 @@ use Rattle.minus.specs.Runs.{StopsAfter}
 use Rattle.minus_state.specs.Sizes.{IsSize}
 use Rattle.minus.specs.Starts.{IsStarted, IsSetupRefused}
 use Rattle.minus.specs.Seen.{Seen}
-use Rattle.minus.specs.Steps.{Asks, Steps, cleanup_after}
+use Rattle.minus.specs.Asked.{Asks}
+use Rattle.minus.specs.Steps.{Steps, cleanup_after}
 use Rattle.minus.specs.Table.{Wanted, resizes, HasNewline}
 use Rattle.minus_script.specs.Script.{script_lines, script_told}
 use Rattle.minus_script.specs.Printed.{printed_all}

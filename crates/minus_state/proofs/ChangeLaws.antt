@@ -1,5 +1,6 @@
 -- A change that was put in its place.
-use Rattle.std.proofs.Common.{◌≡◌, ℕ, ◌-◌, List, take, drop, Bool, false, Option, None, refl, sym, ap, subst, ◌∙◌}
+use Rattle.std.proofs.Common.{◌≡◌, ℕ, ◌-◌, List, take, drop, Bool, Option, None, Some, String, Global, string_bytes, refl, sym, ap, subst, ◌∙◌}
+use Rattle.std.specs.Option.{option_map, unwrap_or}
 use Rattle.minus_text.specs.declared.line_numbers.LineNumbers.{LineNumbers}
 use Rattle.minus_text.specs.Document.{Document}
 use Rattle.minus_text.specs.Searched.{Searched, searched}
@@ -11,7 +12,7 @@ use Rattle.minus_state.specs.declared.change.NextText.TheVariants.{Same, Whole}
 use Rattle.minus_state.specs.Control.{Control, Saved, Settings, document_of}
 use Rattle.minus_state.specs.Page.{shown_of, all_shown, shown}
 use Rattle.minus_state.specs.NextTexts.{next_document}
-use Rattle.minus_state.specs.Changes.{IsChange, shown_by, left_set, ends_set, help_set, help_after, settings_after}
+use Rattle.minus_state.specs.Changes.{IsChange, IsPlaced, shown_by, left_set, ends_set, help_set, help_after, settings_after}
 use Rattle.minus_state.specs.declared.change.Setting.TheVariants as setting
 use Rattle.minus_state.specs.Aside.{aside_of}
 use Rattle.minus_state.specs.States.{control_of, settings_of, ends_of, IsFormed}
@@ -30,20 +31,8 @@ same_control a b t c r n w m l e s h =
     ∙ ap (λ (x : Option Saved). let k : Control = record b { help = x } in k) h
 
 -- what was formed of the text that a change leads to
-document_next : (s : PagerState) (change : Change) (new : Control) → IsFormed s → IsChange (control_of s) change new → next_document s.screen.document change.text ≡ document_of new
+pub document_next : (s : PagerState) (change : Change) (new : Control) → IsFormed s → IsChange (control_of s) change new → next_document s.screen.document change.text ≡ document_of new
 document_next s change new f h = ap (λ (x : Searched). next_document x.document change.text) f.screen ∙ h.document
-
--- a state in which a change of another one was put in its place
-pub record IsPlaced (s : PagerState) (change : Change) (t : PagerState) : Type 0 where
-  pub screen : t.screen ≡ searched None (next_document s.screen.document change.text)
-  pub numbers : t.line_numbers ≡ (next_document s.screen.document change.text).layout.numbers
-  pub mark : t.upper_mark ≡ change.mark
-  pub left : t.left_mark ≡ left_set change.setting s.left_mark
-  pub ends : ends_of t ≡ ends_set change.setting (ends_of s)
-  pub cols : t.cols ≡ change.cols
-  pub rows : t.rows ≡ change.rows
-  pub settings : settings_of t ≡ settings_after (settings_of s) change.clears change.setting
-  pub help : aside_of t.saved ≡ help_after change.text change.setting (aside_of s.saved)
 
 -- the state holds the control that the change leads to
 pub placed : (s t : PagerState) (change : Change) (new : Control) → IsFormed s → IsChange (control_of s) change new → IsPlaced s change t → control_of t ≡ new
@@ -64,7 +53,7 @@ placed_from s d t change same p = subst (λ (x : PagerState). IsPlaced x change 
 
 -- a change to a text that was formed anew
 pub change_anew : (s : PagerState) (change : Change) (next : Searched) (d : Document) (new : Control) → change.text ≡ Whole next → next ≡ searched None d → d ≡ document_of new → change.mark ≡ new.mark → change.cols ≡ new.cols → change.rows ≡ new.rows → left_set change.setting s.left_mark ≡ new.left → ends_set change.setting (ends_of s) ≡ new.ends
-    → settings_after (settings_of s) change.clears change.setting ≡ new.settings → help_set change.setting (aside_of s.saved) ≡ new.help → IsChange (control_of s) change new
+    → settings_after (settings_of s) (option_map string_bytes change.prefix) change.setting ≡ new.settings → help_set change.setting (aside_of s.saved) ≡ new.help → IsChange (control_of s) change new
 change_anew s change next d new is formed same m c r l e q h = record {
   belongs = rw is (ap (λ (x : Searched). x.found) formed);
   document = ap (λ (n : NextText). next_document (document_of (control_of s)) n) is ∙ ap (λ (x : Searched). x.document) formed ∙ same;
@@ -87,5 +76,10 @@ shown_is s change new f h =
     ∙ ap (λ (m : ℕ). take (new.rows - 1) (drop m (all_shown new))) h.mark_is
 
 -- a change that changes nothing
-pub unchanged : (s : PagerState) (change : Change) → change.text ≡ Same → change.mark ≡ s.upper_mark → change.cols ≡ s.cols → change.rows ≡ s.rows → change.clears ≡ false → change.setting ≡ setting.Same → IsChange (control_of s) change (control_of s)
+pub unchanged : (s : PagerState) (change : Change) → change.text ≡ Same → change.mark ≡ s.upper_mark → change.cols ≡ s.cols → change.rows ≡ s.rows → change.prefix ≡ None → change.setting ≡ setting.Same → IsChange (control_of s) change (control_of s)
 unchanged s change is m c r p q = record { belongs = rw is refl; document = rw is refl; mark_is = m; cols_are = c; rows_are = r; left_is = rw q refl; ends_are = rw q refl; settings_are = rw (p, q) refl; help_is = rw (is, q) refl }
+
+-- the typed prefix after another one was typed, or it stayed
+pub typed_after : (prefix : Option (String Global)) (typed : String Global) → string_bytes (unwrap_or prefix typed) ≡ unwrap_or (option_map string_bytes prefix) (string_bytes typed)
+typed_after None typed = refl
+typed_after (Some next) typed = refl

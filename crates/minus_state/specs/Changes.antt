@@ -1,18 +1,18 @@
 -- What a command leaves, formed beside the state.
-use Rattle.std.specs.Prelude.{◌≡◌, ℕ, ◌-◌, List, [], take, drop, Bool, Option, None, string_bytes, if◌then◌else◌}
-use Rattle.std.specs.Option.{option_map}
+use Rattle.std.specs.Prelude.{◌≡◌, ℕ, ◌-◌, List, take, drop, Bool, Option, None, string_bytes}
+use Rattle.std.specs.Option.{option_map, unwrap_or}
 use Rattle.minus_text.specs.Searched.{searched}
 use Rattle.minus_state.specs.declared.selection.SelectionEnds.{SelectionEnds}
 use Rattle.minus_state.specs.declared.state.PagerState.{PagerState}
 use Rattle.minus_state.specs.declared.change.Change.{Change}
 use Rattle.minus_state.specs.declared.change.Setting.{Setting}
-use Rattle.minus_state.specs.declared.change.Setting.TheVariants.{Prompt, Message, Prefix, Shown, Follow, Left, Ends, Switch}
+use Rattle.minus_state.specs.declared.change.Setting.TheVariants.{Prompt, Message, Shown, Follow, Left, Ends, Switch}
 use Rattle.minus_state.specs.declared.change.NextText.{NextText}
 use Rattle.minus_state.specs.NextTexts.{next_document, aside_with, IsNext}
 use Rattle.minus_state.specs.Control.{Control, Settings, Saved, document_of}
 use Rattle.minus_state.specs.Page.{shown_of}
 use Rattle.minus_state.specs.Aside.{aside_of}
-use Rattle.minus_state.specs.States.{ends_of}
+use Rattle.minus_state.specs.States.{settings_of, ends_of}
 use Rattle.minus_state.specs.Sizes.{IsSize}
 use Rattle.minus_term.specs.Refusals.{Refusal, for_memory, for_size}
 
@@ -26,10 +26,6 @@ abbrev pub message_set : Setting → Option (List ℕ) → Option (List ℕ)
 message_set (Message text) message = option_map string_bytes text
 message_set (Switch next) message = None
 message_set setting message = message
-
-abbrev pub prefix_set : Setting → List ℕ → List ℕ
-prefix_set (Prefix text) prefix = string_bytes text
-prefix_set setting prefix = prefix
 
 abbrev pub shown_set : Setting → Bool → Bool
 shown_set (Shown next) is_shown = next
@@ -59,14 +55,23 @@ help_set setting help = help
 abbrev pub help_after : NextText → Setting → Option Saved → Option Saved
 help_after text setting help = help_set setting (aside_with text help)
 
--- what there will be beside the text, where the typed prefix goes first, or stays
-abbrev pub settings_after : Settings → Bool → Setting → Settings
-settings_after s clears setting = record {
+-- what there will be beside the text, where another prefix is typed, or the typed one stays
+abbrev pub settings_after : Settings → Option (List ℕ) → Setting → Settings
+settings_after s prefix setting = record {
   prompt = prompt_set setting s.prompt;
   message = message_set setting s.message;
-  prefix = prefix_set setting (if clears then [] else s.prefix);
+  prefix = unwrap_or prefix s.prefix;
   is_shown = shown_set setting s.is_shown;
   follow = follow_set setting s.follow;
+}
+
+-- one thing is set beside the text
+abbrev pub with_setting : Control → Setting → Control
+with_setting c setting = record c {
+  left = left_set setting c.left;
+  ends = ends_set setting c.ends;
+  settings = settings_after c.settings None setting;
+  help = help_set setting c.help;
 }
 
 -- the change leads from one control to the other
@@ -78,8 +83,20 @@ pub record IsChange (old : Control) (change : Change) (new : Control) : Type 0 w
   pub rows_are : change.rows ≡ new.rows
   pub left_is : left_set change.setting old.left ≡ new.left
   pub ends_are : ends_set change.setting old.ends ≡ new.ends
-  pub settings_are : settings_after old.settings change.clears change.setting ≡ new.settings
+  pub settings_are : settings_after old.settings (option_map string_bytes change.prefix) change.setting ≡ new.settings
   pub help_is : help_after change.text change.setting old.help ≡ new.help
+
+-- a state in which a change of another one was put in its place
+pub record IsPlaced (s : PagerState) (change : Change) (t : PagerState) : Type 0 where
+  pub screen : t.screen ≡ searched None (next_document s.screen.document change.text)
+  pub numbers : t.line_numbers ≡ (next_document s.screen.document change.text).layout.numbers
+  pub mark : t.upper_mark ≡ change.mark
+  pub left : t.left_mark ≡ left_set change.setting s.left_mark
+  pub ends : ends_of t ≡ ends_set change.setting (ends_of s)
+  pub cols : t.cols ≡ change.cols
+  pub rows : t.rows ≡ change.rows
+  pub settings : settings_of t ≡ settings_after (settings_of s) (option_map string_bytes change.prefix) change.setting
+  pub help : aside_of t.saved ≡ help_after change.text change.setting (aside_of s.saved)
 
 -- the rows of text on the page that a change of a state leads to
 abbrev pub shown_by : PagerState → Change → List (List ℕ)

@@ -1,5 +1,5 @@
 -- What the commands define: the text on show and how it is laid out, the size, the part of it that the page shows, and what is set beside it.
-use Rattle.std.specs.Prelude.{◌≡◌, ℕ, ◌-◌, ◌≤◌, min, List, [], length, Option, Bool, if◌then◌else◌}
+use Rattle.std.specs.Prelude.{◌≡◌, ℕ, ◌-◌, ◌≤◌, min, List, [], length, Option, Some, Bool, if◌then◌else◌}
 use Rattle.minus_text.specs.declared.line_numbers.LineNumbers.{LineNumbers}
 use Rattle.minus_text.specs.Document.{Document, rows_of, unfinished_rows, keeps_rows}
 use Rattle.minus_state.specs.declared.selection.SelectionEnds.{SelectionEnds}
@@ -66,9 +66,17 @@ clamp c = record c { mark = min c.mark (top c) }
 abbrev pub IsClamped : Control → Type 0
 IsClamped c = c.mark ≤ top c
 
+-- a message stands in the prompt's place
+abbrev pub with_message : Control → List ℕ → Control
+with_message c text = record c { settings = record c.settings { message = Some text } }
+
+-- another prefix is typed
+abbrev pub with_prefix : Control → List ℕ → Control
+with_prefix c prefix = record c { settings = record c.settings { prefix = prefix } }
+
 -- the typed prefix goes, or stays
 abbrev pub cleared : Bool → Control → Control
-cleared clears c = record c { settings = record c.settings { prefix = if clears then [] else c.settings.prefix } }
+cleared clears c = with_prefix c (if clears then [] else c.settings.prefix)
 
 -- both have the size of the same terminal
 pub record SameSize (a b : Control) : Type 0 where

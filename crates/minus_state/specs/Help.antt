@@ -72,6 +72,10 @@ text_aside text help = option_map (λ (s : Saved). let r : Saved = record s { te
 abbrev pub more_aside : List ℕ → Option Saved → Option Saved
 more_aside text help = option_map (λ (s : Saved). let r : Saved = record s { text = s.text ++ text } in r) help
 
+-- the prompt says this; while help is open, it stays that of help
+abbrev pub with_prompt : Control → List ℕ → Control
+with_prompt c text = record c { settings = record c.settings { prompt = if help_open c then c.settings.prompt else text } }
+
 -- another text is put in the place of that on show; while help is open, of the one that is put aside
 abbrev pub with_text : Control → List ℕ → Control
 with_text c text = record c { text = if help_open c then c.text else text; help = text_aside text c.help }

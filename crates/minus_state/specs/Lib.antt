@@ -22,3 +22,4 @@ pub mod Showing
 pub mod Events
 pub mod States
 pub mod Changes
+pub mod Classifying

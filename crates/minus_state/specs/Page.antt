@@ -1,5 +1,5 @@
 -- The page of a control.
-use Rattle.std.specs.Prelude.{ℕ, ◌-◌, nat_le, min, List, length, take, drop, None, if◌then◌else◌}
+use Rattle.std.specs.Prelude.{ℕ, ◌-◌, List, length, take, drop, None}
 use Rattle.minus_term.specs.PlayedScreen.{ShownPage}
 use Rattle.minus_term.specs.FullRedraw.{page_of}
 use Rattle.minus_text.specs.Document.{Document, rows_of}
@@ -28,7 +28,3 @@ page_with c texts = page_of c.rows texts (prompt_row c)
 -- the page
 abbrev pub page : Control → ShownPage
 page c = page_with c (shown c)
-
--- the rows of text that come onto a page of so many rows on the way from one mark to another, of those on show then
-abbrev pub rows_newly : ℕ → ℕ → ℕ → List (List ℕ) → List (List ℕ)
-rows_newly rows from to shown = if nat_le from to then drop (rows - 1 - min (to - from) (rows - 1)) shown else take (min (from - to) (rows - 1)) shown

@@ -1,6 +1,8 @@
 -- The prompt row of a control.
-use Rattle.std.specs.Prelude.{ℕ, ◌==◌, List, Bool}
+use Rattle.std.specs.Prelude.{◌≡◌, ℕ, ◌==◌, List, Bool, true}
 use Rattle.std.specs.List.{list_any}
+use Rattle.minus_term.specs.declared.error.MinusError.{MinusError}
+use Rattle.minus_term.specs.declared.error.MinusError.TheVariants.{NewlineInPrompt}
 use Rattle.minus_state.specs.PromptRow.{PromptRow, prompt_row as row_text}
 use Rattle.minus_state.specs.Control.{Control, Settings}
 
@@ -26,3 +28,7 @@ prompt_row c = prompt_row_of c.cols c.settings
 -- whether a text has a newline
 abbrev pub has_newline : List ℕ → Bool
 has_newline text = list_any (λ b. b == 10) text
+
+-- why a text is refused as a prompt or a message: it has a newline
+abbrev pub IsNewlineRefused : MinusError → List ℕ → Type 0
+IsNewlineRefused e text = (e ≡ NewlineInPrompt) × (has_newline text ≡ true)

@@ -135,8 +135,6 @@ pub enum Setting {
     Prompt(String),
     /// The message, one line, or none.
     Message(Option<String>),
-    /// The typed prefix.
-    Prefix(String),
     /// Whether the prompt row is shown.
     Shown(bool),
     /// Whether the page goes on with what is appended.
@@ -152,7 +150,7 @@ pub enum Setting {
 impl Setting {
     ghost use Rattle.std.specs.Prelude.{◌≡◌};
     ghost use Rattle.std.specs.Option.{option_map};
-    ghost use Rattle.minus_state.specs.Changes.{prompt_set, message_set, prefix_set, shown_set, follow_set, left_set, ends_set};
+    ghost use Rattle.minus_state.specs.Changes.{prompt_set, message_set, shown_set, follow_set, left_set, ends_set};
 
     // The prompt that there will be.
     pub(crate) fn prompt<'a>(&'a self, prompt: &'a str) -> &'a str
@@ -173,16 +171,6 @@ impl Setting {
             Setting::Message(Some(next)) => Some(next.as_str()),
             Setting::Message(None) | Setting::Switch(_) => None,
             _ => message,
-        }
-    }
-
-    // The typed prefix.
-    pub(crate) fn prefix<'a>(&'a self, prefix: &'a str) -> &'a str
-        ensures { result.now ≡ prefix_set self.now prefix.now }
-    {
-        match self {
-            Setting::Prefix(next) => next.as_str(),
-            _ => prefix,
         }
     }
 
@@ -229,8 +217,8 @@ impl Setting {
     }
 }
 
-/// What a command leaves: the text, the mark, the size and what is set beside them; whether the typed prefix went before it;
-/// and what of it is asked to be drawn.
+/// What a command leaves: the text, the mark, the size, the typed prefix and what is set beside them; and what of it is
+/// asked to be drawn.
 pub struct Change {
     /// The text that there will be.
     pub text: NextText,
@@ -240,8 +228,8 @@ pub struct Change {
     pub cols: usize,
     /// The rows of the terminal, the prompt's among them, from 1 to 65,535.
     pub rows: usize,
-    /// Whether the typed prefix goes first.
-    pub clears: bool,
+    /// Another typed prefix, empty where the typed one goes; `None` where it stays.
+    pub prefix: Option<String>,
     /// What there will be beside the text.
     pub setting: Setting,
     /// How much of it is asked to be drawn.
@@ -257,7 +245,7 @@ impl Drop for Change {
             mark: _,
             cols: _,
             rows: _,
-            clears: _,
+            prefix: _,
             setting: _,
             redraw: _,
         } = self;
@@ -265,22 +253,36 @@ impl Drop for Change {
 }
 
 impl Change {
-    ghost use Rattle.std.specs.Prelude.{◌≡◌};
+    ghost use Rattle.std.specs.Prelude.{◌≡◌, ◌-◌, min, length};
+    ghost use Rattle.minus_text.specs.Document.{rows_of};
+    ghost use Rattle.minus_state.specs.NextTexts.{next_document, IsNext};
 
-    // The text that there will be, and what is set beside it.
-    pub(crate) fn into_parts(self) -> (NextText, Setting)
+    /// Clamps the mark: it is at most the one at which the last page of the text that there will be is full.
+    pub fn clamp(&mut self, screen: &Screen)
+        requires { IsNext screen.now self.old.text }
+        ensures { self.new ≡ record self.old {
+          mark = min self.old.mark (length (rows_of (next_document screen.now.document self.old.text)) - (self.old.rows - 1));
+        } }
+    {
+        let top = self.text.rows_after(screen).saturating_sub(self.rows - 1);
+        self.mark = self.mark.min(top);
+    }
+
+    // The text that there will be, the typed prefix, if it is another one, and what is set beside them.
+    pub(crate) fn into_parts(self) -> (NextText, Option<String>, Setting)
         ensures text { result.0 ≡ self.text }
-        ensures setting { result.1 ≡ self.setting }
+        ensures prefix { result.1 ≡ self.prefix }
+        ensures setting { result.2 ≡ self.setting }
     {
         let Change {
             text,
             mark: _,
             cols: _,
             rows: _,
-            clears: _,
+            prefix,
             setting,
             redraw: _,
         } = self;
-        (text, setting)
+        (text, prefix, setting)
     }
 }

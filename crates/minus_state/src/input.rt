@@ -68,20 +68,15 @@ impl InputEvent {
 
 /// What decides about the events of a terminal.
 pub trait InputClassifier: Drop {
-    ghost use Rattle.std.specs.Prelude.{ℕ, List, Option, option_map, string_bytes, IfOk};
-    ghost use Rattle.minus_term.specs.declared.event.Event.{Event};
-    ghost use Rattle.minus_state.specs.declared.input.InputEvent.{InputEvent};
-    ghost use Rattle.minus_state.specs.declared.state.PagerState.{PagerState};
+    ghost use Rattle.std.specs.Prelude.{option_map, string_bytes, IfOk};
+    ghost use Rattle.minus_state.specs.Classifying.{Classifies};
 
-    // Which answers it may give to an event in a state.
-    ghost allows: { Self → Event → PagerState → Option InputEvent → Type 0 };
-
-    // Which texts it may give for help, or that it may give none.
-    ghost helps: { Self → Option (List ℕ) → Type 0 };
+    // What it may say: the answers that it may give to an event in a state, and the texts, or none, for help.
+    ghost says: { Classifies Self };
 
     /// What the event asks for in this state, if anything.
     fn classify_input(&self, event: Event, state: &PagerState) -> Option<InputEvent>
-        ensures { allows self.now event state.now result };
+        ensures { says.allows self.now event state.now result };
 
     /// The text that help shows, if there is one.
     ///
@@ -89,5 +84,5 @@ pub trait InputClassifier: Drop {
     ///
     /// [`AllocError`] where there is no memory for it.
     fn format_help(&self, alloc: Global) -> Result<Option<String>, AllocError>
-        ensures { IfOk result (λ text. helps self.now (option_map string_bytes text)) };
+        ensures { IfOk result (λ text. says.helps self.now (option_map string_bytes text)) };
 }

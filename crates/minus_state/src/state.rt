@@ -158,16 +158,15 @@ impl Drop for PagerState {
 }
 
 impl PagerState {
-    ghost use Rattle.std.specs.Prelude.{◌≡◌, [], None, string_bytes, false, if◌then◌else◌, OnOk, OnErr, IfOk, IfErr};
-    ghost use Rattle.std.specs.Option.{option_map};
+    ghost use Rattle.std.specs.Prelude.{◌≡◌, None, string_bytes, OnOk, OnErr, IfOk, IfErr};
+    ghost use Rattle.std.specs.Option.{option_map, unwrap_or};
     ghost use Rattle.minus_text.specs.Searched.{searched};
-    ghost use Rattle.minus_state.specs.Control.{Control, document_of, cleared};
-    ghost use Rattle.minus_state.specs.Help.{switched};
+    ghost use Rattle.minus_state.specs.Control.{Control, document_of};
     ghost use Rattle.minus_term.specs.Refusals.{refusal_of};
     ghost use Rattle.minus_state.specs.States.{control_of, settings_of, ends_of, IsFormed, at_start};
-    ghost use Rattle.minus_state.specs.NextTexts.{next_document, IsNext};
+    ghost use Rattle.minus_state.specs.NextTexts.{IsNext};
     ghost use Rattle.minus_state.specs.Aside.{aside_of};
-    ghost use Rattle.minus_state.specs.Changes.{IsChange, settings_after, left_set, ends_set, help_set, help_after, IsUnformedState};
+    ghost use Rattle.minus_state.specs.Changes.{IsChange, IsPlaced, settings_after, left_set, ends_set, help_set, IsUnformedState};
 
     /// No text yet, for a terminal of so many columns and rows.
     ///
@@ -230,16 +229,6 @@ impl PagerState {
         }
     }
 
-    // The typed prefix, after it went or stayed.
-    fn prefix_after(&self, clears: bool) -> &str
-        ensures { result.now ≡ (if clears then [] else string_bytes self.now.prefix_num) }
-    {
-        if clears {
-            return "";
-        }
-        self.prefix_num.as_str()
-    }
-
     // The message.
     fn message_text(&self) -> Option<&str>
         ensures { option_map (λ m. m.now) result ≡ option_map string_bytes self.now.message }
@@ -252,21 +241,25 @@ impl PagerState {
 
     // Sets one thing beside the text.
     fn place_setting(&mut self, setting: Setting)
-        ensures settings { settings_of self.new ≡ settings_after (settings_of self.old) false setting }
+        ensures settings { settings_of self.new ≡ settings_after (settings_of self.old) None setting }
         ensures left { self.new.left_mark ≡ left_set setting self.old.left_mark }
         ensures ends { ends_of self.new ≡ ends_set setting (ends_of self.old) }
-        ensures numbers { self.new.line_numbers ≡ self.old.line_numbers }
-        ensures screen { self.new.screen ≡ self.old.screen }
-        ensures mark { self.new.upper_mark ≡ self.old.upper_mark }
-        ensures cols { self.new.cols ≡ self.old.cols }
-        ensures rows { self.new.rows ≡ self.old.rows }
         ensures help { aside_of self.new.saved ≡ help_set setting (aside_of self.old.saved) }
+        ensures rest { self.new ≡ record self.old {
+          left_mark = self.new.left_mark;
+          selection = self.new.selection;
+          message = self.new.message;
+          anchor = self.new.anchor;
+          prompt = self.new.prompt;
+          prompt_shown = self.new.prompt_shown;
+          follow = self.new.follow;
+          saved = self.new.saved;
+        } }
     {
         match setting {
             Setting::Same => {}
             Setting::Prompt(prompt) => self.prompt = prompt,
             Setting::Message(message) => self.message = message,
-            Setting::Prefix(prefix) => self.prefix_num = prefix,
             Setting::Shown(is_shown) => self.prompt_shown = is_shown,
             Setting::Follow(follow) => self.follow = follow,
             Setting::Left(left) => self.left_mark = left,
@@ -280,15 +273,13 @@ impl PagerState {
 
     // Sets what help sets, as it is opened or left.
     fn switch_help(&mut self, switch: HelpSwitch)
-        ensures settings { settings_of self.new ≡ switched (settings_of self.old) (string_bytes switch.prompt) switch.follow }
-        ensures left { self.new.left_mark ≡ switch.left }
-        ensures help { self.new.saved ≡ switch.saved }
-        ensures ends { ends_of self.new ≡ ends_of self.old }
-        ensures numbers { self.new.line_numbers ≡ self.old.line_numbers }
-        ensures screen { self.new.screen ≡ self.old.screen }
-        ensures mark { self.new.upper_mark ≡ self.old.upper_mark }
-        ensures cols { self.new.cols ≡ self.old.cols }
-        ensures rows { self.new.rows ≡ self.old.rows }
+        ensures { self.new ≡ record self.old {
+          prompt = switch.prompt;
+          message = None;
+          follow = switch.follow;
+          left_mark = switch.left;
+          saved = switch.saved;
+        } }
     {
         let HelpSwitch {
             prompt,
@@ -303,51 +294,35 @@ impl PagerState {
         self.saved = saved;
     }
 
-    /// Lets the typed prefix go, or leaves it.
-    pub fn clear_prefix(&mut self, clears: bool)
-        ensures control { control_of self.new ≡ cleared clears (control_of self.old) }
-        ensures settings { settings_of self.new ≡ settings_after (settings_of self.old) clears Setting.Same }
-        ensures formed { IsFormed self.old → IsFormed self.new }
-        ensures left { self.new.left_mark ≡ self.old.left_mark }
-        ensures ends { ends_of self.new ≡ ends_of self.old }
-        ensures numbers { self.new.line_numbers ≡ self.old.line_numbers }
-        ensures screen { self.new.screen ≡ self.old.screen }
-        ensures mark { self.new.upper_mark ≡ self.old.upper_mark }
-        ensures cols { self.new.cols ≡ self.old.cols }
-        ensures rows { self.new.rows ≡ self.old.rows }
-        ensures saved { self.new.saved ≡ self.old.saved }
+    /// Puts another typed prefix in the place of the one that is typed, if there is one.
+    pub fn place_prefix(&mut self, prefix: Option<String>)
+        ensures { self.new ≡ record self.old { prefix_num = unwrap_or prefix self.old.prefix_num } }
     {
-        if clears {
-            self.prefix_num.clear();
+        if let Some(prefix) = prefix {
+            self.prefix_num = prefix;
         }
     }
 
     /// Puts what was formed in its place. An `Err` leaves the control and the screen as they were.
     pub fn place(&mut self, alloc: Global, change: Change) -> Result<(), MinusError>
         requires { IsNext self.old.screen change.text }
-        ensures screen { OnOk result (self.new.screen ≡ searched None (next_document self.old.screen.document change.text)) }
-        ensures numbers { OnOk result (self.new.line_numbers ≡ (next_document self.old.screen.document change.text).layout.numbers) }
-        ensures left { OnOk result (self.new.left_mark ≡ left_set change.setting self.old.left_mark) }
-        ensures ends { OnOk result (ends_of self.new ≡ ends_set change.setting (ends_of self.old)) }
-        ensures mark { OnOk result (self.new.upper_mark ≡ change.mark) }
-        ensures cols { OnOk result (self.new.cols ≡ change.cols) }
-        ensures rows { OnOk result (self.new.rows ≡ change.rows) }
-        ensures settings { OnOk result (settings_of self.new ≡ settings_after (settings_of self.old) change.clears change.setting) }
-        ensures help { OnOk result (aside_of self.new.saved ≡ help_after change.text change.setting (aside_of self.old.saved)) }
-        ensures control { OnOk result ((new : Control) → IsFormed self.old → IsChange (control_of self.old) change new → control_of self.new ≡ new) }
-        ensures formed { OnOk result ((new : Control) → IsFormed self.old → IsChange (control_of self.old) change new → IsFormed self.new) }
+        ensures placed { OnOk result (IsPlaced self.old change self.new) }
+        ensures control { OnOk result ((new : Control) → IsFormed self.old →
+            IsChange (control_of self.old) change new → control_of self.new ≡ new) }
+        ensures formed { OnOk result ((new : Control) → IsFormed self.old →
+            IsChange (control_of self.old) change new → IsFormed self.new) }
         ensures err { OnErr result (control_of self.new ≡ control_of self.old) }
         ensures kept { OnErr result (self.new.screen ≡ self.old.screen) }
         ensures memory { IfErr result (λ e. e ≡ MinusError.Memory) }
     {
-        let (mark, cols, rows, clears) = (change.mark, change.cols, change.rows, change.clears);
-        let (text, setting) = change.into_parts();
+        let (mark, cols, rows) = (change.mark, change.cols, change.rows);
+        let (text, prefix, setting) = change.into_parts();
         place_text(alloc, &mut self.screen, &mut self.saved, text)?;
         self.line_numbers = self.screen.layout().numbers;
         self.upper_mark = mark;
         self.cols = cols;
         self.rows = rows;
-        self.clear_prefix(clears);
+        self.place_prefix(prefix);
         self.place_setting(setting);
         Ok(())
     }

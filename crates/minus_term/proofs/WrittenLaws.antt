@@ -1,8 +1,8 @@
 -- The bytes of lists of operations, and clean lists.
-use Rattle.std.proofs.Common.{◌≡◌, ℕ, ◌+◌, ◌-◌, ◌==◌, Bool, false, if◌then◌else◌, List, [], ◌∷◌, ◌++◌, length, take, drop, decimal, refl, sym, ap, ◌∙◌, subst, append_assoc, inl, inr, arith}
+use Rattle.std.proofs.Common.{◌≡◌, ℕ, ◌+◌, ◌-◌, ◌<◌, ◌==◌, Bool, false, if◌then◌else◌, List, [], ◌∷◌, ◌++◌, length, get_or, map, take, drop, decimal, refl, sym, ap, ◌∙◌, subst, append_assoc, inl, inr, arith}
 use Rattle.std.specs.List.{Contains}
 use Rattle.std.proofs.lemmas.Grind.{flat_map-append}
-use Rattle.std.proofs.lemmas.List.{append-nil, take_rest}
+use Rattle.std.proofs.lemmas.List.{append-nil, map_more, take_rest}
 use Rattle.minus_term.specs.Operations.{Op, ClearAll, ClearRow, GoTo, Return, NextRow, Put, ScrollUp, ScrollDown, ShowCursor, HideCursor}
 use Rattle.minus_term.specs.PlayedScreen.{ShownPage}
 use Rattle.minus_term.specs.Written.{escape, scroll_bytes, written, written_all, IsCleanOp, IsClean}
@@ -66,3 +66,19 @@ pub scroll_bytes-some : (n m : ℕ) (letter : List ℕ) → m ≡ n → (n ≡ 0
 scroll_bytes-some n m letter is some =
     let e : (n == 0) ≡ false = grind arith in
     ap (λ (k : ℕ). escape ++ (decimal k ++ letter)) is ∙ sym (ap (λ (b : Bool). if b then [] else escape ++ decimal n ++ letter) e)
+
+-- no operation
+pub no_op : (old : List ℕ) → old ≡ old ++ written_all []
+no_op old = sym (ap (λ bs. old ++ bs) written_all-nil ∙ append-nil old)
+
+-- more operations
+pub ops_added : (old a b : List ℕ) (xs ys : List Op) → a ≡ old ++ written_all xs → b ≡ a ++ written_all ys → b ≡ old ++ written_all (xs ++ ys)
+ops_added old a b xs ys e f = f ∙ ap (λ bs. bs ++ written_all ys) e ∙ append_assoc old (written_all xs) (written_all ys) ∙ ap (λ bs. old ++ bs) (sym (written_all-append xs ys))
+
+-- one more operation
+pub op_added : (old a b : List ℕ) (xs : List Op) (op : Op) → a ≡ old ++ written_all xs → b ≡ a ++ written op → b ≡ old ++ written_all (xs ++ op ∷ [])
+op_added old a b xs op e f = ops_added old a b xs (op ∷ []) e (f ∙ ap (λ bs. a ++ bs) (sym (written_all-one op)))
+
+-- one more operation of a list
+pub op_next : {X : Type 0} (f : X → Op) (xs : List X) (i : ℕ) (d : X) (old a b : List ℕ) → i < length xs → a ≡ old ++ written_all (map f (take i xs)) → b ≡ a ++ written (f (get_or xs i d)) → b ≡ old ++ written_all (map f (take (i + 1) xs))
+op_next f xs i d old a b l e g = op_added old a b (map f (take i xs)) (f (get_or xs i d)) e g ∙ ap (λ ops. old ++ written_all ops) (sym (map_more f xs i d l))

@@ -1,6 +1,20 @@
--- What a sink tells: the bytes that it holds, and how many of its calls were refused.
+-- What a sink tells: the bytes that it holds, how many of its calls it refused, and whether it is a terminal.
 use Rattle.std.specs.Prelude.{◌≡◌, ℕ, ◌+◌, ◌-◌, ◌^◌, ◌<◌, ◌≤◌, ◌==◌, ◌++◌, Bool, true, false, if◌then◌else◌, Option, None, Some, Result, Ok, Err, List, length, take, min, ⊤}
 use Rattle.std.specs.Io.KnownBytes.{Appends}
+
+-- the bytes that a sink holds and the number of its calls that it refused, each where the sink tells it, and whether it is a terminal
+pub record SinkSeen : Type 0 where
+  pub bytes : Option (List ℕ)
+  pub refusals : Option ℕ
+  pub terminal : Bool
+
+-- nothing is told, and the sink is no terminal
+abbrev pub unseen : SinkSeen
+unseen = record { bytes = None; refusals = None; terminal = false }
+
+-- the bytes alone are told
+abbrev pub tells_bytes : List ℕ → SinkSeen
+tells_bytes bytes = record unseen { bytes = Some bytes }
 
 -- a sink's count before and after one call: one more where the call was refused; a count that is not told stays so
 abbrev pub CountsCall : Option ℕ → Option ℕ → Bool → Type 0

@@ -2,14 +2,21 @@
 use Rattle.std.specs.Prelude.{ℕ}
 use Rattle.minus_term.specs.declared.error.SetupError.{SetupError}
 use Rattle.minus_term.specs.declared.error.CleanupError.{CleanupError}
+use Rattle.minus_term.specs.declared.error.DescriptionError.{DescriptionError}
 use Rattle.minus_term.specs.declared.error.MinusError.{MinusError}
-use Rattle.minus_term.specs.declared.error.MinusError.TheVariants.{Memory, NewlineInPrompt, BadSize, BadMode, Failed, Ended, Setup, Cleanup, Draw, HandleEvent, Cursor, FmtWriteError, Conversion, SearchExpError}
+use Rattle.minus_term.specs.declared.hooks.Hook.{Hook}
+use Rattle.minus_term.specs.declared.error.MinusError.TheVariants.{Memory, NewlineInPrompt, HookIdTaken, NoFreeHookId, BadSize, BadDescription, Bound, QueryFull, BadMode, Failed, Ended, Setup, Cleanup, Draw, HandleEvent, Cursor, FmtWriteError, Conversion, SearchExpError}
 
 -- the number by which a refusal is named; 0 where it has none
 abbrev pub number_of : MinusError → ℕ
 number_of Memory = 1
 number_of NewlineInPrompt = 2
+number_of (HookIdTaken hook id) = 3
+number_of NoFreeHookId = 4
 number_of (BadSize columns rows) = 5
+number_of (BadDescription place cause) = 6
+number_of (Bound place) = 7
+number_of QueryFull = 8
 number_of BadMode = 9
 number_of Failed = 10
 number_of Ended = 11
@@ -22,28 +29,40 @@ number_of (HandleEvent cause) = 0
 number_of (Cursor cause) = 0
 number_of Conversion = 0
 
--- the kinds of refusals that contracts tell apart: for want of memory; for a newline, a size or a mode; after a failure or an exit; by
--- the sink, at the setup, the cleanup or a drawing; and those that no call of the pager answers
+-- the kinds of refusals that contracts tell apart: out of memory; for a newline, a hook's id, a size, a description, a binding, a query or a mode;
+-- after a failure or an exit; by the sink, at the setup, the cleanup or a drawing; for a pattern; and those that no call of the pager answers
 pub data Refusal : Type 0 where
   for_memory : Refusal
   for_newline : Refusal
+  for_hook_id : Hook → (id : ℕ) → Refusal
+  for_free_hook_id : Refusal
   for_size : (columns rows : ℕ) → Refusal
+  for_description : (place : ℕ) → DescriptionError → Refusal
+  for_binding : (place : ℕ) → Refusal
+  for_query : Refusal
   for_mode : Refusal
   after_failure : Refusal
   after_exit : Refusal
   at_setup : SetupError → Refusal
   at_cleanup : CleanupError → Refusal
   at_drawing : Refusal
+  for_pattern : Refusal
   of_no_call : Refusal
 
 abbrev pub refusal_of : MinusError → Refusal
 refusal_of Memory = for_memory
 refusal_of NewlineInPrompt = for_newline
+refusal_of (HookIdTaken hook id) = for_hook_id hook id
+refusal_of NoFreeHookId = for_free_hook_id
 refusal_of (BadSize columns rows) = for_size columns rows
+refusal_of (BadDescription place cause) = for_description place cause
+refusal_of (Bound place) = for_binding place
+refusal_of QueryFull = for_query
 refusal_of BadMode = for_mode
 refusal_of Failed = after_failure
 refusal_of Ended = after_exit
 refusal_of (Setup cause) = at_setup cause
 refusal_of (Cleanup cause) = at_cleanup cause
 refusal_of (Draw cause) = at_drawing
+refusal_of (SearchExpError cause) = for_pattern
 refusal_of e = of_no_call

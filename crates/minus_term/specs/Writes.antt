@@ -1,7 +1,7 @@
 -- Writes of bytes that are formed first, and what a refused one leaves.
 use Rattle.std.specs.Prelude.{◌≡◌, ℕ, List, [], ◌++◌, flat_map, codes, Option, None, Some}
 use Rattle.std.specs.Borrow.{Bor}
-use Rattle.minus_term.specs.Counts.{AppendsFront, Rises}
+use Rattle.minus_term.specs.Counts.{SinkSeen, AppendsFront, Rises}
 use Rattle.minus_term.specs.declared.error.MinusError.{MinusError}
 use Rattle.minus_term.specs.declared.error.MinusError.TheVariants.{Memory, Draw}
 
@@ -15,12 +15,12 @@ abbrev pub raw_lines : List ℕ → List (List ℕ) → List ℕ
 raw_lines initial lines = flat_map (λ line. initial ++ line ++ codes "\n") lines
 
 -- the one error of a write of these bytes by the sink, and what it leaves: a beginning of them, and a count that rose
-abbrev pub SinkRefuses : {S : Type 0} → (S → Option (List ℕ)) → (S → Option ℕ) → MinusError → S → S → List ℕ → Type 0
-SinkRefuses contents refused (Draw cause) old new bytes = AppendsFront (contents old) (contents new) bytes × Rises (refused old) (refused new)
-SinkRefuses contents refused error old new bytes = ⊥
+abbrev pub SinkRefuses : {S : Type 0} → (S → SinkSeen) → MinusError → S → S → List ℕ → Type 0
+SinkRefuses seen (Draw cause) old new bytes = AppendsFront (seen old).bytes (seen new).bytes bytes × Rises (seen old).refusals (seen new).refusals
+SinkRefuses seen error old new bytes = ⊥
 
 -- the two errors where the bytes are formed first: for want of memory the sink stays as it was
-abbrev pub WriteRefuses : {S : Type 0} → (S → Option (List ℕ)) → (S → Option ℕ) → MinusError → S → S → List ℕ → Type 0
-WriteRefuses contents refused Memory old new bytes = new ≡ old
-WriteRefuses contents refused (Draw cause) old new bytes = SinkRefuses contents refused (Draw cause) old new bytes
-WriteRefuses contents refused error old new bytes = ⊥
+abbrev pub WriteRefuses : {S : Type 0} → (S → SinkSeen) → MinusError → S → S → List ℕ → Type 0
+WriteRefuses seen Memory old new bytes = new ≡ old
+WriteRefuses seen (Draw cause) old new bytes = SinkRefuses seen (Draw cause) old new bytes
+WriteRefuses seen error old new bytes = ⊥

@@ -1,11 +1,11 @@
 //! The operations that a screen is drawn by, and their bytes.
-ghost use Rattle.std.specs.Prelude.{◌≡◌, ◌+◌, ◌-◌, ◌^◌, ◌<◌, ◌≤◌, [], ◌∷◌, ◌++◌, drop, decimal, OnOk, OnErr};
+ghost use Rattle.std.specs.Prelude.{◌≡◌, ◌+◌, ◌-◌, ◌^◌, ◌<◌, ◌≤◌, [], ◌∷◌, ◌++◌, drop, map, decimal, OnOk, OnErr};
 ghost use Rattle.minus_term.specs.FullRedraw.{FullRedrawShowsItsPage};
 ghost use Rattle.minus_term.specs.Append.{AppendShowsItsPage, AppendPutsFew};
 ghost use Rattle.minus_term.specs.Scroll.{ScrollShowsItsPage, ScrollPutsFew};
 ghost use Rattle.minus_term.specs.Operations.{op_of, GoTo};
 ghost use Rattle.minus_term.specs.PlayedScreen.{PlayIsMonotone, UnknownStandsForAll};
-ghost use Rattle.minus_term.specs.Written.{escape, written, scroll_bytes};
+ghost use Rattle.minus_term.specs.Written.{escape, written, written_all, scroll_bytes};
 
 use itoa::write_digits;
 use std::alloc::{AllocError, Global};
@@ -130,6 +130,16 @@ pub fn write_op(alloc: Global, out: &mut Vec<u8>, op: &DrawOp<'_>) -> Result<(),
         DrawOp::ShowCursor => push_bytes(out, b"\x1b[?25h"),
         DrawOp::HideCursor => push_bytes(out, b"\x1b[?25l"),
     }
+}
+
+/// Adds the bytes of operations to a buffer, in their order, or on an error those of the first of them.
+pub fn write_ops(alloc: Global, out: &mut Vec<u8>, ops: &[DrawOp<'_>]) -> Result<(), AllocError>
+    ensures { OnOk result (out.new.items ≡ out.old.items ++ written_all (map op_of ops.now)) }
+{
+    for op in ops {
+        write_op(alloc, out, op)?;
+    }
+    Ok(())
 }
 
 /// A law: what a play makes known from a screen, it makes known from each screen of which more

@@ -3,6 +3,7 @@ ghost use Rattle.std.specs.Prelude.{◌≡◌};
 ghost use Rattle.minus_term.specs.Refusals.{number_of};
 ghost use Rattle.minus_term.specs.declared.error.MinusError.TheVariants.{Memory, Setup, Cleanup, Draw, Cursor, FmtWriteError, SearchExpError};
 
+use crate::hooks::Hook;
 use std::alloc::AllocError;
 use std::{fmt, io};
 use thiserror::Error;
@@ -66,9 +67,24 @@ pub enum MinusError {
     /// A prompt or a message holds a newline.
     #[error("refused 2")]
     NewlineInPrompt,
+    /// The hook holds a callback under this id, or keeps it for the pager itself.
+    #[error("refused 3")]
+    HookIdTaken(Hook, u64),
+    /// The greatest id that is held is `u64::MAX`, so that no next one is free.
+    #[error("refused 4")]
+    NoFreeHookId,
     /// So many columns and rows are out of range.
     #[error("refused 5")]
     BadSize(usize, usize),
+    /// The description at this place of a list, counted from 0, describes nothing.
+    #[error("refused 6")]
+    BadDescription(usize, DescriptionError),
+    /// What the description or the event at this place of a list, counted from 0, stands for is bound.
+    #[error("refused 7")]
+    Bound(usize),
+    /// A query has as many characters as it may have.
+    #[error("refused 8")]
+    QueryFull,
     /// The call is not for this mode.
     #[error("refused 9")]
     BadMode,
@@ -184,7 +200,12 @@ impl MinusError {
         match self {
             MinusError::Memory => 1,
             MinusError::NewlineInPrompt => 2,
+            MinusError::HookIdTaken(_, _) => 3,
+            MinusError::NoFreeHookId => 4,
             MinusError::BadSize(_, _) => 5,
+            MinusError::BadDescription(_, _) => 6,
+            MinusError::Bound(_) => 7,
+            MinusError::QueryFull => 8,
             MinusError::BadMode => 9,
             MinusError::Failed => 10,
             MinusError::Ended => 11,

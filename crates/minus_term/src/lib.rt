@@ -16,7 +16,7 @@ pub mod writes;
 
 pub use draw::{
     DrawOp, append_puts_few, append_shows_its_page, full_redraw_shows_its_page, play_is_monotone,
-    scroll_puts_few, scroll_shows_its_page, the_unknown_screen_stands_for_all, write_op,
+    scroll_puts_few, scroll_shows_its_page, the_unknown_screen_stands_for_all, write_op, write_ops,
 };
 pub use error::{CleanupError, DescriptionError, MinusError, RegexError, SetupError, TermError};
 pub use event::equality::{

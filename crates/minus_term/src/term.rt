@@ -23,10 +23,10 @@ const CURSOR_OFF: &[u8] = b"\x1b[?25l";
 
 // Writes some bytes and settles the sink.
 fn send<S: OutputSink>(out: &mut S, bytes: &[u8]) -> Result<(), TermError>
-    ensures ok { OnOk result (Appends (S.contents out.old) (S.contents out.new) bytes.now) }
-    ensures stays { OnOk result (Stays (S.refused out.old) (S.refused out.new)) }
-    ensures err { OnErr result (AppendsFront (S.contents out.old) (S.contents out.new) bytes.now) }
-    ensures rises { OnErr result (Rises (S.refused out.old) (S.refused out.new)) }
+    ensures ok { OnOk result (Appends (S.seen out.old).bytes (S.seen out.new).bytes bytes.now) }
+    ensures stays { OnOk result (Stays (S.seen out.old).refusals (S.seen out.new).refusals) }
+    ensures err { OnErr result (AppendsFront (S.seen out.old).bytes (S.seen out.new).bytes bytes.now) }
+    ensures rises { OnErr result (Rises (S.seen out.old).refusals (S.seen out.new).refusals) }
 {
     draw_bytes(out, bytes)?;
     Ok(())
@@ -40,12 +40,12 @@ fn send<S: OutputSink>(out: &mut S, bytes: &[u8]) -> Result<(), TermError>
 /// [`SetupError::InvalidTerminal`] where the sink is no terminal, and nothing was written then. Otherwise that of the
 /// three that the sink refused a write or the flush of: those before it were written, and a beginning of it.
 pub fn setup<S: OutputSink>(out: &mut S) -> Result<(), SetupError>
-    ensures ok { OnOk result (Appends (S.contents out.old) (S.contents out.new) setup_bytes) }
-    ensures stays { OnOk result (Stays (S.refused out.old) (S.refused out.new)) }
-    ensures terminal { IsErrOf result SetupError.InvalidTerminal ↔ (S.terminal out.old ≡ false) }
+    ensures ok { OnOk result (Appends (S.seen out.old).bytes (S.seen out.new).bytes setup_bytes) }
+    ensures stays { OnOk result (Stays (S.seen out.old).refusals (S.seen out.new).refusals) }
+    ensures terminal { IsErrOf result SetupError.InvalidTerminal ↔ ((S.seen out.old).terminal ≡ false) }
     ensures untouched { IsErrOf result SetupError.InvalidTerminal → out.new ≡ out.old }
-    ensures broken { IfErr result (λ e. SetupBreaksOff e (S.contents out.old) (S.contents out.new)) }
-    ensures rises { OnErr result (S.terminal out.old ≡ true → Rises (S.refused out.old) (S.refused out.new)) }
+    ensures broken { IfErr result (λ e. SetupBreaksOff e (S.seen out.old).bytes (S.seen out.new).bytes) }
+    ensures rises { OnErr result ((S.seen out.old).terminal ≡ true → Rises (S.seen out.old).refusals (S.seen out.new).refusals) }
 {
     if !out.is_tty() {
         return Err(SetupError::InvalidTerminal);
@@ -70,13 +70,13 @@ pub fn setup<S: OutputSink>(out: &mut S) -> Result<(), SetupError>
 /// That of the three that the sink refused a write or the flush of: those before it were written, and a beginning of
 /// it.
 pub fn cleanup<S: OutputSink>(out: &mut S, cleanup_screen: bool) -> Result<(), CleanupError>
-    ensures ok { OnOk result (Appends (S.contents out.old) (S.contents out.new) (if cleanup_screen then cleanup_bytes else [])) }
-    ensures tried { AppendsFront (S.contents out.old) (S.contents out.new) cleanup_bytes }
-    ensures stays { OnOk result (Stays (S.refused out.old) (S.refused out.new)) }
+    ensures ok { OnOk result (Appends (S.seen out.old).bytes (S.seen out.new).bytes (if cleanup_screen then cleanup_bytes else [])) }
+    ensures tried { AppendsFront (S.seen out.old).bytes (S.seen out.new).bytes cleanup_bytes }
+    ensures stays { OnOk result (Stays (S.seen out.old).refusals (S.seen out.new).refusals) }
     ensures off { cleanup_screen ≡ false → IsOk result }
     ensures untouched { cleanup_screen ≡ false → out.new ≡ out.old }
-    ensures broken { IfErr result (λ e. CleanupBreaksOff e (S.contents out.old) (S.contents out.new)) }
-    ensures rises { OnErr result (Rises (S.refused out.old) (S.refused out.new)) }
+    ensures broken { IfErr result (λ e. CleanupBreaksOff e (S.seen out.old).bytes (S.seen out.new).bytes) }
+    ensures rises { OnErr result (Rises (S.seen out.old).refusals (S.seen out.new).refusals) }
 {
     if !cleanup_screen {
         return Ok(());

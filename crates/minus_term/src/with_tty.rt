@@ -67,9 +67,7 @@ impl<W: Write> Write for WithTty<W> {
 }
 
 impl<W: Write> OutputSink for WithTty<W> {
-    ghost refused = { λ s. told_count s.refusals };
-
-    ghost terminal = { λ s. s.tty };
+    ghost seen = { λ s. record { bytes = W.contents s.inner; refusals = told_count s.refusals; terminal = s.tty } };
 
     fn put(&mut self, bytes: &[u8]) -> io::Result<usize>
         ensures bound { WritesAtMost result bytes.now }

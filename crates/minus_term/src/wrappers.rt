@@ -21,9 +21,7 @@ where
 }
 
 impl<T: OutputSink> OutputSink for Box<T> {
-    ghost refused = { λ held. T.refused held.value };
-
-    ghost terminal = { λ held. T.terminal held.value };
+    ghost seen = { λ held. T.seen held.value };
 
     fn put(&mut self, bytes: &[u8]) -> io::Result<usize> {
         self.as_mut().put(bytes)

@@ -16,9 +16,9 @@ const CLEAR_ALL: &[u8] = b"\x1b[2J";
 
 // Writes some bytes, and settles the sink if asked to.
 fn write_formed<W: OutputSink>(out: &mut W, bytes: &[u8], flush: bool) -> Result<(), MinusError>
-    ensures ok { OnOk result (Appends (W.contents out.old) (W.contents out.new) bytes.now) }
-    ensures stays { OnOk result (Stays (W.refused out.old) (W.refused out.new)) }
-    ensures err { IfErr result (λ e. SinkRefuses W.contents W.refused e out.old out.new bytes.now) }
+    ensures ok { OnOk result (Appends (W.seen out.old).bytes (W.seen out.new).bytes bytes.now) }
+    ensures stays { OnOk result (Stays (W.seen out.old).refusals (W.seen out.new).refusals) }
+    ensures err { IfErr result (λ e. SinkRefuses W.seen e out.old out.new bytes.now) }
 {
     if flush {
         draw_bytes(out, bytes)?;
@@ -43,9 +43,9 @@ pub fn move_cursor<W: OutputSink>(
     y: u16,
     flush: bool,
 ) -> Result<(), MinusError>
-    ensures ok { OnOk result (Appends (W.contents out.old) (W.contents out.new) (written (GoTo x y))) }
-    ensures stays { OnOk result (Stays (W.refused out.old) (W.refused out.new)) }
-    ensures err { IfErr result (λ e. WriteRefuses W.contents W.refused e out.old out.new (written (GoTo x y))) }
+    ensures ok { OnOk result (Appends (W.seen out.old).bytes (W.seen out.new).bytes (written (GoTo x y))) }
+    ensures stays { OnOk result (Stays (W.seen out.old).refusals (W.seen out.new).refusals) }
+    ensures err { IfErr result (λ e. WriteRefuses W.seen e out.old out.new (written (GoTo x y))) }
 {
     let mut bytes = Vec::new(alloc);
     write_op(alloc, &mut bytes, &DrawOp::GoTo(x, y))?;
@@ -60,9 +60,9 @@ pub fn move_cursor<W: OutputSink>(
 /// written.
 #[tactic(auto, unfolding(crate::specs::Written::written))]
 pub fn clear_entire_screen<W: OutputSink>(out: &mut W, flush: bool) -> Result<(), MinusError>
-    ensures ok { OnOk result (Appends (W.contents out.old) (W.contents out.new) (written ClearAll)) }
-    ensures stays { OnOk result (Stays (W.refused out.old) (W.refused out.new)) }
-    ensures err { IfErr result (λ e. SinkRefuses W.contents W.refused e out.old out.new (written ClearAll)) }
+    ensures ok { OnOk result (Appends (W.seen out.old).bytes (W.seen out.new).bytes (written ClearAll)) }
+    ensures stays { OnOk result (Stays (W.seen out.old).refusals (W.seen out.new).refusals) }
+    ensures err { IfErr result (λ e. SinkRefuses W.seen e out.old out.new (written ClearAll)) }
 {
     write_formed(out, CLEAR_ALL, flush)
 }
@@ -111,9 +111,9 @@ pub fn write_raw_lines<W: OutputSink, L: AsStr>(
     lines: &[L],
     initial: Option<&str>,
 ) -> Result<(), MinusError>
-    ensures ok { OnOk result (Appends (W.contents out.old) (W.contents out.new) (raw_lines (initial_text initial.entry) (map L.text lines.now))) }
-    ensures stays { OnOk result (Stays (W.refused out.old) (W.refused out.new)) }
-    ensures err { IfErr result (λ e. WriteRefuses W.contents W.refused e out.old out.new (raw_lines (initial_text initial.entry) (map L.text lines.now))) }
+    ensures ok { OnOk result (Appends (W.seen out.old).bytes (W.seen out.new).bytes (raw_lines (initial_text initial.entry) (map L.text lines.now))) }
+    ensures stays { OnOk result (Stays (W.seen out.old).refusals (W.seen out.new).refusals) }
+    ensures err { IfErr result (λ e. WriteRefuses W.seen e out.old out.new (raw_lines (initial_text initial.entry) (map L.text lines.now))) }
 {
     let bytes = formed_raw_lines(alloc, lines, initial.unwrap_or(""))?;
     write_formed(out, bytes.as_slice(), false)

@@ -13,9 +13,10 @@ use std::alloc::{AllocError, Global};
 struct ToRow(usize);
 
 impl InputClassifier for ToRow {
-    ghost allows = { λ classifier event state answer. Unit {0} };
-
-    ghost helps = { λ classifier text. Unit {0} };
+    ghost says = { record {
+      allows = λ classifier event state answer. Unit {0};
+      helps = λ classifier text. Unit {0};
+    } };
 
     fn classify_input(&self, _event: Event, _state: &PagerState) -> Option<InputEvent> {
         Some(InputEvent::UpdateUpperMark(self.0))

@@ -82,9 +82,10 @@ fn nothing_is_drawn_over_help(rt: HostRuntime) {
 struct TwoLines;
 
 impl InputClassifier for TwoLines {
-    ghost allows = { λ classifier event state answer. Unit {0} };
-
-    ghost helps = { λ classifier text. Unit {0} };
+    ghost says = { record {
+      allows = λ classifier event state answer. Unit {0};
+      helps = λ classifier text. Unit {0};
+    } };
 
     fn classify_input(&self, _event: Event, _state: &PagerState) -> Option<InputEvent> {
         Some(InputEvent::ShowHelp)

@@ -1,5 +1,6 @@
 //! A sink that refuses writes and a flush.
 ghost use Rattle.std.specs.Prelude.{Some};
+ghost use Rattle.minus_term.specs.Counts.{tells_bytes};
 
 use minus::{OutputSink, WithTty};
 use std::alloc::{AllocError, Global};
@@ -107,6 +108,8 @@ impl Write for Stubborn {
 }
 
 impl OutputSink for Stubborn {
+    ghost seen = { λ s. tells_bytes s.held.items };
+
     fn put(&mut self, bytes: &[u8]) -> io::Result<usize> {
         self.write(bytes)
     }

@@ -25,21 +25,30 @@ impl PagerState {
     ghost use Rattle.minus_state.specs.Control.{Control, first_changed};
     ghost use Rattle.minus_state.specs.ShownPrompt.{shown_in, prompt_row, prompt_row_of};
     ghost use Rattle.minus_state.specs.PromptRow.{seen_prompt};
-    ghost use Rattle.minus_state.specs.Page.{rows_newly};
     ghost use Rattle.minus_state.specs.States.{control_of, settings_of, ends_of, IsFormed};
     ghost use Rattle.minus_state.specs.NextTexts.{IsNext};
     ghost use Rattle.minus_state.specs.Changes.{IsChange, settings_after, left_set, ends_set, shown_by};
     ghost use Rattle.minus_state.specs.Showing.{row_text};
 
+    // The typed prefix after a change.
+    fn prefix_after<'a>(&'a self, change: &'a Change) -> &'a str
+        ensures { result.now ≡ unwrap_or (option_map string_bytes change.now.prefix) (string_bytes self.now.prefix_num) }
+    {
+        match &change.prefix {
+            Some(prefix) => prefix.as_str(),
+            None => self.prefix_num.as_str(),
+        }
+    }
+
     // What the prompt row is formed of after a change.
     fn prompt_after<'a>(&'a self, change: &'a Change) -> PromptRow<'a>
-        ensures { seen_prompt result ≡ shown_in change.now.cols (settings_after (settings_of self.now) change.now.clears change.now.setting) }
+        ensures { seen_prompt result ≡ shown_in change.now.cols (settings_after (settings_of self.now) (option_map string_bytes change.now.prefix) change.now.setting) }
     {
         PromptRow {
             is_shown: change.setting.is_shown(self.prompt_shown),
             prompt: change.setting.prompt(self.prompt.as_str()),
             message: change.setting.message(self.message_text()),
-            prefix: change.setting.prefix(self.prefix_after(change.clears)),
+            prefix: self.prefix_after(change),
             search_mark: 0,
             match_count: 0,
             follow: change.setting.follow(self.follow),
@@ -60,19 +69,18 @@ impl PagerState {
     pub fn displayed_prompt(&self, alloc: Global) -> Result<String, AllocError>
         ensures { IfOk result (λ row. string_bytes row ≡ prompt_row (control_of self.now)) }
     {
-        let stays = self.change_to(NextText::Same, Redraw::Stays, false);
+        let stays = self.change_to(NextText::Same, Redraw::Stays);
         self.prompt_row_after(alloc, &stays)
     }
 
     // Whether a change leaves the prompt row as it is: the columns, the prefix and all that is set stay.
     fn keeps_prompt_row(&self, change: &Change) -> bool
-        ensures { result ≡ true → prompt_row_of change.now.cols (settings_after (settings_of self.now) change.now.clears change.now.setting)
+        ensures { result ≡ true → prompt_row_of change.now.cols (settings_after (settings_of self.now) (option_map string_bytes change.now.prefix) change.now.setting)
             ≡ prompt_row (control_of self.now) }
     {
         match change.setting {
             Setting::Same | Setting::Left(_) | Setting::Ends(_) => {
-                change.cols == self.cols
-                    && self.prefix_after(change.clears) == self.prefix_num.as_str()
+                change.cols == self.cols && self.prefix_after(change) == self.prefix_num.as_str()
             }
             _ => false,
         }
@@ -123,8 +131,9 @@ impl PagerState {
         }
     }
 
-    // The texts of the rows of text on the page that a change leads to, from one of them on and before another.
-    fn shown_between<'a>(
+    /// The texts of the rows of text on the page that a change leads to, from one of them on and before another, both
+    /// counted from 0 at the top of the page. Fails for want of memory alone.
+    pub fn shown_between<'a>(
         &'a self,
         alloc: Global,
         change: &'a Change,
@@ -156,27 +165,6 @@ impl PagerState {
         ensures { IfOk result (λ v. map row_text v.items ≡ drop first (shown_by self.now change.now)) }
     {
         self.shown_between(alloc, change, first, change.rows - 1)
-    }
-
-    /// The texts of the rows of text that come onto the page that a change leads to, where the mark was this one, a
-    /// row counted from 0. Fails for want of memory alone.
-    pub fn shown_newly<'a>(
-        &'a self,
-        alloc: Global,
-        change: &'a Change,
-        from: usize,
-    ) -> Result<Vec<ShownRow<'a>>, AllocError>
-        requires { IsNext self.now.screen change.now.text }
-        ensures { IfOk result (λ v. map row_text v.items ≡ rows_newly change.now.rows from change.now.mark (shown_by self.now change.now)) }
-    {
-        let most = change.rows - 1;
-        if from <= change.mark {
-            let k = (change.mark - from).min(most);
-            self.shown_after(alloc, change, most - k)
-        } else {
-            let k = (from - change.mark).min(most);
-            self.shown_between(alloc, change, 0, k)
-        }
     }
 
     /// The first row that an append may change, counted from 0: the first one of the line that no newline ends, or the

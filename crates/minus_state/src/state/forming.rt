@@ -2,14 +2,15 @@
 
 use crate::change::{Change, NextText, Redraw, Setting};
 use crate::frame::Frame;
-use crate::state::{PagerState, formed};
+use crate::state::{PagerState, formed, is_size};
 use minus_term::MinusError;
 use minus_text::{Layout, LineNumbers, prefix_columns};
-use std::alloc::{AllocError, Global};
+use std::alloc::Global;
 
 impl PagerState {
-    ghost use Rattle.std.specs.Prelude.{◌≡◌, ◌+◌, ◌-◌, ◌==◌, ◌++◌, nat_le, [], length, encode_utf8, string_bytes, if◌then◌else◌, IfOk, IfErr};
-    ghost use Rattle.minus_state.specs.Control.{cleared, top, moved_to};
+    ghost use Rattle.std.specs.Prelude.{◌≡◌, ◌↔◌, ◌+◌, ◌-◌, ◌==◌, ◌++◌, None, nat_le, length, encode_utf8, string_bytes, if◌then◌else◌, IfOk, IfErr, OnOk};
+    ghost use Rattle.minus_term.specs.Refusals.{refusal_of};
+    ghost use Rattle.minus_state.specs.Control.{top, moved_to, with_prefix};
     ghost use Rattle.minus_state.specs.Redraws.{append_redraw, shift_redraw};
     ghost use Rattle.minus_state.specs.Appending.{appended};
     ghost use Rattle.minus_state.specs.Shifting.{width, may_shift, left_after};
@@ -17,16 +18,16 @@ impl PagerState {
     ghost use Rattle.minus_text.specs.Document.{rows_of, margin_in};
     ghost use Rattle.minus_state.specs.View.{prefix_in};
     ghost use Rattle.minus_state.specs.NextTexts.{next_document, IsNext};
-    ghost use Rattle.minus_state.specs.Changes.{IsChange, settings_after, left_set, ends_set, help_set};
+    ghost use Rattle.minus_state.specs.Changes.{IsChange, IsUnformedState, with_setting};
     ghost use Rattle.minus_state.specs.Sizes.{IsSize};
 
-    /// The state as it is, but for the text, and without the typed prefix where that goes.
-    pub fn change_to(&self, text: NextText, redraw: Redraw, clears: bool) -> Change
+    /// The state as it is, but for the text.
+    pub fn change_to(&self, text: NextText, redraw: Redraw) -> Change
         ensures text { result.text ≡ text }
         ensures mark { result.mark ≡ self.now.upper_mark }
         ensures cols { result.cols ≡ self.now.cols }
         ensures rows { result.rows ≡ self.now.rows }
-        ensures clears { result.clears ≡ clears }
+        ensures prefix { result.prefix ≡ None }
         ensures setting { result.setting ≡ Setting.Same }
         ensures redraw { result.redraw ≡ redraw }
     {
@@ -35,28 +36,16 @@ impl PagerState {
             mark: self.upper_mark,
             cols: self.cols,
             rows: self.rows,
-            clears,
+            prefix: None,
             setting: Setting::Same,
             redraw,
         }
     }
 
     // The state at a mark, with one thing set beside its text.
-    pub(crate) fn changed(
-        &self,
-        mark: usize,
-        setting: Setting,
-        redraw: Redraw,
-        clears: bool,
-    ) -> Change
+    pub(crate) fn changed(&self, mark: usize, setting: Setting, redraw: Redraw) -> Change
         requires { IsFormed self.now }
-        ensures next { IsChange (control_of self.now) result (record (control_of self.now) {
-          mark = mark;
-          left = left_set setting self.now.left_mark;
-          ends = ends_set setting (ends_of self.now);
-          settings = settings_after (settings_of self.now) clears setting;
-          help = help_set setting (control_of self.now).help;
-        }) }
+        ensures next { IsChange (control_of self.now) result (record (with_setting (control_of self.now) setting) { mark = mark }) }
         ensures redraw { result.redraw ≡ redraw }
     {
         Change {
@@ -64,49 +53,38 @@ impl PagerState {
             mark,
             cols: self.cols,
             rows: self.rows,
-            clears,
+            prefix: None,
             setting,
             redraw,
         }
     }
 
     /// The state with one thing set beside its text.
-    pub fn set(&self, setting: Setting, redraw: Redraw, clears: bool) -> Change
+    pub fn set(&self, setting: Setting, redraw: Redraw) -> Change
         requires { IsFormed self.now }
-        ensures next { IsChange (control_of self.now) result (record (control_of self.now) {
-          left = left_set setting self.now.left_mark;
-          ends = ends_set setting (ends_of self.now);
-          settings = settings_after (settings_of self.now) clears setting;
-          help = help_set setting (control_of self.now).help;
-        }) }
+        ensures next { IsChange (control_of self.now) result (with_setting (control_of self.now) setting) }
         ensures redraw { result.redraw ≡ redraw }
     {
-        self.changed(self.upper_mark, setting, redraw, clears)
+        self.changed(self.upper_mark, setting, redraw)
     }
 
     /// The state as it is, to be drawn so.
-    pub fn redrawn(&self, redraw: Redraw, clears: bool) -> Change
+    pub fn redrawn(&self, redraw: Redraw) -> Change
         requires { IsFormed self.now }
-        ensures next { IsChange (control_of self.now) result (cleared clears (control_of self.now)) }
+        ensures next { IsChange (control_of self.now) result (control_of self.now) }
         ensures redraw { result.redraw ≡ redraw }
     {
-        self.change_to(NextText::Same, redraw, clears)
+        self.change_to(NextText::Same, redraw)
     }
 
     /// The state at another mark, a row counted from 0, with one thing set beside its text. The mark is taken as it
     /// is, past the last page too: `moved_to` clamps it.
-    pub fn moved(&self, mark: usize, setting: Setting, clears: bool) -> Change
+    pub fn moved(&self, mark: usize, setting: Setting) -> Change
         requires { IsFormed self.now }
-        ensures next { IsChange (control_of self.now) result (record (control_of self.now) {
-          mark = mark;
-          left = left_set setting self.now.left_mark;
-          ends = ends_set setting (ends_of self.now);
-          settings = settings_after (settings_of self.now) clears setting;
-          help = help_set setting (control_of self.now).help;
-        }) }
+        ensures next { IsChange (control_of self.now) result (record (with_setting (control_of self.now) setting) { mark = mark }) }
         ensures redraw { result.redraw ≡ Redraw.Moved }
     {
-        self.changed(mark, setting, Redraw::Moved, clears)
+        self.changed(mark, setting, Redraw::Moved)
     }
 
     /// The greatest mark, where the last page begins, a row counted from 0: the rows of text less those that a page
@@ -126,41 +104,30 @@ impl PagerState {
         ensures next { IsChange (control_of self.now) result (moved_to (control_of self.now) mark) }
         ensures redraw { result.redraw ≡ Redraw.Moved }
     {
-        self.moved(mark.min(self.top()), Setting::Same, false)
+        self.moved(mark.min(self.top()), Setting::Same)
     }
 
     // The state with a text in a layout, which is formed anew.
-    fn formed_anew(
-        &self,
-        alloc: Global,
-        text: &str,
-        layout: Layout,
-        clears: bool,
-    ) -> Result<Change, MinusError>
+    fn formed_anew(&self, alloc: Global, text: &str, layout: Layout) -> Result<Change, MinusError>
         requires formed { IsFormed self.now }
         requires cols { layout.cols ≡ self.now.cols }
         ensures next { IfOk result (λ c. IsChange (control_of self.now) c
-            (record (cleared clears (control_of self.now)) { text = text.now; numbers = layout.numbers; wrapping = layout.wrapping })) }
+            (record (control_of self.now) { text = text.now; numbers = layout.numbers; wrapping = layout.wrapping })) }
         ensures redraw { IfOk result (λ c. c.redraw ≡ Redraw.Whole) }
         ensures memory { IfErr result (λ e. e ≡ MinusError.Memory) }
     {
         let next = formed(alloc, text, layout)?;
-        Ok(self.change_to(NextText::Whole(next), Redraw::Whole, clears))
+        Ok(self.change_to(NextText::Whole(next), Redraw::Whole))
     }
 
     // The state with another text.
-    pub(crate) fn with_text(
-        &self,
-        alloc: Global,
-        text: &str,
-        clears: bool,
-    ) -> Result<Change, MinusError>
+    pub(crate) fn with_text(&self, alloc: Global, text: &str) -> Result<Change, MinusError>
         requires { IsFormed self.now }
-        ensures next { IfOk result (λ c. IsChange (control_of self.now) c (record (cleared clears (control_of self.now)) { text = text.now })) }
+        ensures next { IfOk result (λ c. IsChange (control_of self.now) c (record (control_of self.now) { text = text.now })) }
         ensures redraw { IfOk result (λ c. c.redraw ≡ Redraw.Whole) }
         ensures memory { IfErr result (λ e. e ≡ MinusError.Memory) }
     {
-        self.formed_anew(alloc, text, self.layout(), clears)
+        self.formed_anew(alloc, text, self.layout())
     }
 
     /// The state with numbers before its rows, or none, for which the text is formed anew.
@@ -168,14 +135,9 @@ impl PagerState {
     /// # Errors
     ///
     /// [`MinusError::Memory`] where there is no memory for it.
-    pub fn renumbered(
-        &self,
-        alloc: Global,
-        numbers: LineNumbers,
-        clears: bool,
-    ) -> Result<Change, MinusError>
+    pub fn renumbered(&self, alloc: Global, numbers: LineNumbers) -> Result<Change, MinusError>
         requires { IsFormed self.now }
-        ensures next { IfOk result (λ c. IsChange (control_of self.now) c (record (cleared clears (control_of self.now)) { numbers = numbers })) }
+        ensures next { IfOk result (λ c. IsChange (control_of self.now) c (record (control_of self.now) { numbers = numbers })) }
         ensures redraw { IfOk result (λ c. c.redraw ≡ Redraw.Whole) }
         ensures memory { IfErr result (λ e. e ≡ MinusError.Memory) }
     {
@@ -183,7 +145,7 @@ impl PagerState {
             numbers,
             ..self.layout()
         };
-        self.formed_anew(alloc, self.screen.orig_text(), layout, clears)
+        self.formed_anew(alloc, self.screen.orig_text(), layout)
     }
 
     /// The state with its lines wrapped, or not, for which the text is formed anew.
@@ -191,14 +153,9 @@ impl PagerState {
     /// # Errors
     ///
     /// [`MinusError::Memory`] where there is no memory for it.
-    pub fn rewrapped(
-        &self,
-        alloc: Global,
-        wrapping: bool,
-        clears: bool,
-    ) -> Result<Change, MinusError>
+    pub fn rewrapped(&self, alloc: Global, wrapping: bool) -> Result<Change, MinusError>
         requires { IsFormed self.now }
-        ensures next { IfOk result (λ c. IsChange (control_of self.now) c (record (cleared clears (control_of self.now)) { wrapping = wrapping })) }
+        ensures next { IfOk result (λ c. IsChange (control_of self.now) c (record (control_of self.now) { wrapping = wrapping })) }
         ensures redraw { IfOk result (λ c. c.redraw ≡ Redraw.Whole) }
         ensures memory { IfErr result (λ e. e ≡ MinusError.Memory) }
     {
@@ -206,27 +163,26 @@ impl PagerState {
             wrapping,
             ..self.layout()
         };
-        self.formed_anew(alloc, self.screen.orig_text(), layout, clears)
+        self.formed_anew(alloc, self.screen.orig_text(), layout)
     }
 
-    /// The state in another size, columns and rows each from 1 to 65,535, for which the text is formed anew.
+    /// The state in another size, columns and rows, for which the text is formed anew.
     ///
     /// # Errors
     ///
-    /// [`MinusError::Memory`] where there is no memory for it.
-    pub fn resized(
-        &self,
-        alloc: Global,
-        cols: usize,
-        rows: usize,
-        clears: bool,
-    ) -> Result<Change, MinusError>
-        requires formed { IsFormed self.now }
-        requires size { IsSize cols rows }
-        ensures next { IfOk result (λ c. IsChange (control_of self.now) c (record (cleared clears (control_of self.now)) { cols = cols; rows = rows })) }
+    /// [`MinusError::BadSize`] where the columns or the rows are not from 1 to 65,535, and [`MinusError::Memory`] where
+    /// there is no memory for it.
+    pub fn resized(&self, alloc: Global, cols: usize, rows: usize) -> Result<Change, MinusError>
+        requires { IsFormed self.now }
+        ensures next { IfOk result (λ c. IsChange (control_of self.now) c
+            (record (control_of self.now) { cols = cols; rows = rows })) }
         ensures redraw { IfOk result (λ c. c.redraw ≡ Redraw.Whole) }
-        ensures memory { IfErr result (λ e. e ≡ MinusError.Memory) }
+        ensures size { OnOk result (IsSize cols rows) }
+        ensures refused { IfErr result (λ e. IsUnformedState (refusal_of e) cols rows) }
     {
+        if !is_size(cols, rows) {
+            return Err(MinusError::BadSize(cols, rows));
+        }
         let layout = Layout {
             cols,
             ..self.layout()
@@ -236,7 +192,7 @@ impl PagerState {
             mark: self.upper_mark,
             cols,
             rows,
-            clears,
+            prefix: None,
             setting: Setting::Same,
             redraw: Redraw::Whole,
         })
@@ -270,16 +226,16 @@ impl PagerState {
     }
 
     /// The state with its left mark moved, where it moves.
-    pub fn shifted(&self, left: usize, clears: bool) -> Change
+    pub fn shifted(&self, left: usize) -> Change
         requires { IsFormed self.now }
         ensures next { IsChange (control_of self.now) result
-            (record (cleared clears (control_of self.now)) { left = left_after (control_of self.now) left }) }
+            (record (control_of self.now) { left = left_after (control_of self.now) left }) }
         ensures redraw { result.redraw ≡ shift_redraw (control_of self.now) left }
     {
         if self.may_shift(left) {
-            return self.set(Setting::Left(left), Redraw::Whole, clears);
+            return self.set(Setting::Left(left), Redraw::Whole);
         }
-        self.redrawn(Redraw::Stays, clears)
+        self.redrawn(Redraw::Stays)
     }
 
     // Where an append leaves the mark: at the last page, where the page goes on with what is appended.
@@ -309,15 +265,10 @@ impl PagerState {
     }
 
     // The state with a text added to its text.
-    pub(crate) fn appended(
-        &self,
-        alloc: Global,
-        text: String,
-        clears: bool,
-    ) -> Result<Change, MinusError>
+    pub(crate) fn appended(&self, alloc: Global, text: String) -> Result<Change, MinusError>
         requires { IsFormed self.now }
         ensures next { IfOk result (λ c. IsChange (control_of self.now) c
-            (appended (cleared clears (control_of self.now)) (string_bytes text))) }
+            (appended (control_of self.now) (string_bytes text))) }
         ensures redraw { IfOk result (λ c. c.redraw ≡ append_redraw (control_of self.now) (string_bytes text)) }
         ensures memory { IfErr result (λ e. e ≡ MinusError.Memory) }
     {
@@ -332,19 +283,28 @@ impl PagerState {
             mark,
             cols: self.cols,
             rows: self.rows,
-            clears,
+            prefix: None,
             setting: Setting::Same,
             redraw,
         })
     }
 
-    /// The typed prefix with one more character; that character alone where the prefix goes first. Fails for want of
-    /// memory alone.
-    pub fn typed(&self, alloc: Global, character: char, clears: bool) -> Result<String, AllocError>
-        ensures { IfOk result (λ text. string_bytes text ≡ (if clears then [] else string_bytes self.now.prefix_num) ++ encode_utf8 character) }
+    /// The state with one more character of the typed prefix.
+    ///
+    /// # Errors
+    ///
+    /// [`MinusError::Memory`] where there is no memory for it.
+    pub fn typed(&self, alloc: Global, character: char) -> Result<Change, MinusError>
+        requires { IsFormed self.now }
+        ensures next { IfOk result (λ c. IsChange (control_of self.now) c (with_prefix (control_of self.now)
+            (string_bytes self.now.prefix_num ++ encode_utf8 character))) }
+        ensures redraw { IfOk result (λ c. c.redraw ≡ Redraw.Stays) }
+        ensures memory { IfErr result (λ e. e ≡ MinusError.Memory) }
     {
-        let mut prefix = String::from_str(alloc, self.prefix_after(clears))?;
+        let mut prefix = String::from_str(alloc, &self.prefix_num)?;
         prefix.push(character)?;
-        Ok(prefix)
+        let mut change = self.redrawn(Redraw::Stays);
+        change.prefix = Some(prefix);
+        Ok(change)
     }
 }

@@ -66,12 +66,12 @@ pub(crate) fn add_aside(saved: &mut Option<Saved>, text: &str) -> Result<(), Min
 }
 
 impl PagerState {
-    ghost use Rattle.std.specs.Prelude.{◌≡◌, string_bytes, not, if◌then◌else◌, OnOk, OnErr, IfOk, IfErr};
+    ghost use Rattle.std.specs.Prelude.{◌≡◌, [], string_bytes, not, OnOk, OnErr, IfOk, IfErr};
+    ghost use Rattle.std.specs.Option.{option_map, unwrap_or};
     ghost use Rattle.minus_state.specs.Changes.{IsChange};
-    ghost use Rattle.minus_state.specs.Control.{cleared};
     ghost use Rattle.minus_state.specs.Help.{switched, help_open, put_aside, opened, closed, shown_help, left_help, restored, turned, with_text};
     ghost use Rattle.minus_state.specs.Aside.{aside_in, aside_of};
-    ghost use Rattle.minus_state.specs.States.{control_of, IsFormed};
+    ghost use Rattle.minus_state.specs.States.{control_of, settings_of, IsFormed};
     ghost use Rattle.minus_state.specs.Appending.{added};
     ghost use Rattle.minus_state.specs.Redraws.{whole_where, added_redraw};
 
@@ -90,7 +90,6 @@ impl PagerState {
         layout: Layout,
         mark: usize,
         switch: HelpSwitch,
-        clears: bool,
     ) -> Result<Change, MinusError>
         requires formed { IsFormed self.now }
         requires cols { layout.cols ≡ self.now.cols }
@@ -100,7 +99,7 @@ impl PagerState {
           wrapping = layout.wrapping;
           mark = mark;
           left = switch.left;
-          settings = switched (cleared clears (control_of self.now)).settings (string_bytes switch.prompt) switch.follow;
+          settings = switched (settings_of self.now) (string_bytes switch.prompt) switch.follow;
           help = aside_of switch.saved;
         })) }
         ensures redraw { IfOk result (λ c. c.redraw ≡ Redraw.Whole) }
@@ -112,7 +111,7 @@ impl PagerState {
             mark,
             cols: self.cols,
             rows: self.rows,
-            clears,
+            prefix: None,
             setting: Setting::Switch(switch),
             redraw: Redraw::Whole,
         })
@@ -135,9 +134,9 @@ impl PagerState {
     }
 
     // The state with help opened on a text.
-    fn helped(&self, alloc: Global, text: &str, clears: bool) -> Result<Change, MinusError>
+    fn helped(&self, alloc: Global, text: &str) -> Result<Change, MinusError>
         requires { IsFormed self.now }
-        ensures next { IfOk result (λ c. IsChange (control_of self.now) c (opened (cleared clears (control_of self.now)) text.now)) }
+        ensures next { IfOk result (λ c. IsChange (control_of self.now) c (opened (control_of self.now) text.now)) }
         ensures redraw { IfOk result (λ c. c.redraw ≡ Redraw.Whole) }
         ensures memory { IfErr result (λ e. e ≡ MinusError.Memory) }
     {
@@ -152,13 +151,13 @@ impl PagerState {
             left: 0,
             saved: Some(self.put_aside(alloc)?),
         };
-        self.switched(alloc, text, layout, 0, switch, clears)
+        self.switched(alloc, text, layout, 0, switch)
     }
 
     // The state with help left, of what was put aside.
-    fn unhelped(&self, alloc: Global, saved: &Saved, clears: bool) -> Result<Change, MinusError>
+    fn unhelped(&self, alloc: Global, saved: &Saved) -> Result<Change, MinusError>
         requires { IsFormed self.now }
-        ensures next { IfOk result (λ c. IsChange (control_of self.now) c (closed (cleared clears (control_of self.now)) (aside_in saved.now))) }
+        ensures next { IfOk result (λ c. IsChange (control_of self.now) c (closed (control_of self.now) (aside_in saved.now))) }
         ensures redraw { IfOk result (λ c. c.redraw ≡ Redraw.Whole) }
         ensures memory { IfErr result (λ e. e ≡ MinusError.Memory) }
     {
@@ -173,7 +172,7 @@ impl PagerState {
             left: saved.left_mark,
             saved: None,
         };
-        self.switched(alloc, &saved.text, layout, saved.upper_mark, switch, clears)
+        self.switched(alloc, &saved.text, layout, saved.upper_mark, switch)
     }
 
     /// The state with help left where it is open.
@@ -181,15 +180,15 @@ impl PagerState {
     /// # Errors
     ///
     /// [`MinusError::Memory`] where there is no memory for it.
-    pub fn left_help(&self, alloc: Global, clears: bool) -> Result<Change, MinusError>
+    pub fn left_help(&self, alloc: Global) -> Result<Change, MinusError>
         requires { IsFormed self.now }
-        ensures next { IfOk result (λ c. IsChange (control_of self.now) c (left_help (cleared clears (control_of self.now)) (control_of self.now).help)) }
+        ensures next { IfOk result (λ c. IsChange (control_of self.now) c (left_help (control_of self.now) (control_of self.now).help)) }
         ensures redraw { IfOk result (λ c. c.redraw ≡ whole_where (help_open (control_of self.now))) }
         ensures memory { IfErr result (λ e. e ≡ MinusError.Memory) }
     {
         match &self.saved {
-            Some(saved) => self.unhelped(alloc, saved, clears),
-            None => Ok(self.redrawn(Redraw::Stays, clears)),
+            Some(saved) => self.unhelped(alloc, saved),
+            None => Ok(self.redrawn(Redraw::Stays)),
         }
     }
 
@@ -198,32 +197,36 @@ impl PagerState {
     /// # Errors
     ///
     /// [`MinusError::Memory`] where there is no memory for it.
-    pub fn restored(&self, alloc: Global, clears: bool) -> Result<Change, MinusError>
+    pub fn restored(&self, alloc: Global) -> Result<Change, MinusError>
         requires { IsFormed self.now }
-        ensures next { IfOk result (λ c. IsChange (control_of self.now) c (restored (cleared clears (control_of self.now)) (control_of self.now).help)) }
+        ensures next { IfOk result (λ c. IsChange (control_of self.now) c (restored (control_of self.now) (control_of self.now).help)) }
         ensures redraw { IfOk result (λ c. c.redraw ≡ whole_where (help_open (control_of self.now))) }
         ensures memory { IfErr result (λ e. e ≡ MinusError.Memory) }
     {
         match &self.saved {
-            Some(saved) => self.unhelped(alloc, saved, clears),
-            None => Ok(self.set(Setting::Message(None), Redraw::Stays, clears)),
+            Some(saved) => self.unhelped(alloc, saved),
+            None => Ok(self.set(Setting::Message(None), Redraw::Stays)),
         }
     }
 
-    /// The state with help left where it is open, and else opened with a text.
+    /// The state with help left where it is open, and else opened with a text, an empty one where none is given.
     ///
     /// # Errors
     ///
     /// [`MinusError::Memory`] where there is no memory for it.
-    pub fn turned(&self, alloc: Global, text: &str, clears: bool) -> Result<Change, MinusError>
+    pub fn turned(&self, alloc: Global, text: Option<String>) -> Result<Change, MinusError>
         requires { IsFormed self.now }
-        ensures next { IfOk result (λ c. IsChange (control_of self.now) c (turned (cleared clears (control_of self.now)) (control_of self.now).help text.now)) }
+        ensures next { IfOk result (λ c. IsChange (control_of self.now) c
+            (turned (control_of self.now) (control_of self.now).help (unwrap_or (option_map string_bytes text) []))) }
         ensures redraw { IfOk result (λ c. c.redraw ≡ Redraw.Whole) }
         ensures memory { IfErr result (λ e. e ≡ MinusError.Memory) }
     {
-        match &self.saved {
-            Some(saved) => self.unhelped(alloc, saved, clears),
-            None => self.helped(alloc, text, clears),
+        if let Some(saved) = &self.saved {
+            return self.unhelped(alloc, saved);
+        }
+        match text {
+            Some(text) => self.helped(alloc, &text),
+            None => self.helped(alloc, ""),
         }
     }
 
@@ -232,16 +235,16 @@ impl PagerState {
     /// # Errors
     ///
     /// [`MinusError::Memory`] where there is no memory for it.
-    pub fn replaced(&self, alloc: Global, text: String, clears: bool) -> Result<Change, MinusError>
+    pub fn replaced(&self, alloc: Global, text: String) -> Result<Change, MinusError>
         requires { IsFormed self.now }
-        ensures next { IfOk result (λ c. IsChange (control_of self.now) c (with_text (cleared clears (control_of self.now)) (string_bytes text))) }
+        ensures next { IfOk result (λ c. IsChange (control_of self.now) c (with_text (control_of self.now) (string_bytes text))) }
         ensures redraw { IfOk result (λ c. c.redraw ≡ whole_where (not (help_open (control_of self.now)))) }
         ensures memory { IfErr result (λ e. e ≡ MinusError.Memory) }
     {
         if self.help_open() {
-            return Ok(self.change_to(NextText::SavedWhole(text), Redraw::Stays, clears));
+            return Ok(self.change_to(NextText::SavedWhole(text), Redraw::Stays));
         }
-        self.with_text(alloc, &text, clears)
+        self.with_text(alloc, &text)
     }
 
     /// The state with a text added to its text, and the mark at the last page where the text is followed; while help
@@ -250,30 +253,16 @@ impl PagerState {
     /// # Errors
     ///
     /// [`MinusError::Memory`] where there is no memory for it.
-    pub fn added(&self, alloc: Global, text: String, clears: bool) -> Result<Change, MinusError>
+    pub fn added(&self, alloc: Global, text: String) -> Result<Change, MinusError>
         requires { IsFormed self.now }
-        ensures next { IfOk result (λ c. IsChange (control_of self.now) c (added (cleared clears (control_of self.now)) (string_bytes text))) }
+        ensures next { IfOk result (λ c. IsChange (control_of self.now) c (added (control_of self.now) (string_bytes text))) }
         ensures redraw { IfOk result (λ c. c.redraw ≡ added_redraw (control_of self.now) (string_bytes text)) }
         ensures memory { IfErr result (λ e. e ≡ MinusError.Memory) }
     {
         if self.help_open() {
-            return Ok(self.change_to(NextText::SavedMore(text), Redraw::Stays, clears));
+            return Ok(self.change_to(NextText::SavedMore(text), Redraw::Stays));
         }
-        self.appended(alloc, text, clears)
-    }
-
-    /// The state with another prompt; while help is open, with that of help.
-    pub fn prompted(&self, prompt: String, clears: bool) -> Change
-        requires { IsFormed self.now }
-        ensures next { IsChange (control_of self.now) result (record (cleared clears (control_of self.now)) {
-          settings = record (cleared clears (control_of self.now)).settings { prompt = if help_open (control_of self.now) then (control_of self.now).settings.prompt else string_bytes prompt };
-        }) }
-        ensures redraw { result.redraw ≡ Redraw.Stays }
-    {
-        if self.help_open() {
-            return self.redrawn(Redraw::Stays, clears);
-        }
-        self.set(Setting::Prompt(prompt), Redraw::Stays, clears)
+        self.appended(alloc, text)
     }
 
     /// Opens help on a text, at its first row; what was on show is put aside. Where help is open, all stays as it is.
@@ -291,7 +280,7 @@ impl PagerState {
         if self.help_open() {
             return Ok(());
         }
-        let change = self.helped(alloc, text, false)?;
+        let change = self.helped(alloc, text)?;
         self.place(alloc, change)
     }
 
@@ -308,7 +297,7 @@ impl PagerState {
         ensures err { OnErr result (control_of self.new ≡ control_of self.old) }
         ensures memory { IfErr result (λ e. e ≡ MinusError.Memory) }
     {
-        let change = self.left_help(alloc, false)?;
+        let change = self.left_help(alloc)?;
         self.place(alloc, change)
     }
 }

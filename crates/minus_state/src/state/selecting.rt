@@ -19,7 +19,6 @@ fn whole_where(changed: bool) -> Redraw
 
 impl PagerState {
     ghost use Rattle.std.specs.Prelude.{◌≡◌, ◌-◌, ◌==◌, ◌<◌, ◌&&◌, min, is_some};
-    ghost use Rattle.minus_state.specs.Control.{cleared};
     ghost use Rattle.minus_state.specs.Selecting.{no_ends, has_ends, end_at, ends_begun, is_led, mark_led_to, mark_led, ends_led_to, ends_led, is_same_end};
     ghost use Rattle.minus_state.specs.Redraws.{whole_where, led_redraw};
     ghost use Rattle.minus_state.specs.States.{control_of, ends_of, IsFormed};
@@ -39,9 +38,9 @@ impl PagerState {
     }
 
     // The state with a selection that begins at an end, if there is one.
-    fn begun(&self, end: Option<Selection>, clears: bool) -> Change
+    fn begun(&self, end: Option<Selection>) -> Change
         requires { IsFormed self.now }
-        ensures next { IsChange (control_of self.now) result (record (cleared clears (control_of self.now)) { ends = ends_begun (ends_of self.now) end }) }
+        ensures next { IsChange (control_of self.now) result (record (control_of self.now) { ends = ends_begun (ends_of self.now) end }) }
         ensures redraw { result.redraw ≡ whole_where (is_some end) }
     {
         match end {
@@ -50,20 +49,20 @@ impl PagerState {
                     anchor: Some(end),
                     selection: Some(end),
                 };
-                self.set(Setting::Ends(ends), Redraw::Whole, clears)
+                self.set(Setting::Ends(ends), Redraw::Whole)
             }
-            None => self.redrawn(Redraw::Stays, clears),
+            None => self.redrawn(Redraw::Stays),
         }
     }
 
     /// The state with a selection that begins at a place of the page.
-    pub fn selected(&self, x: u16, y: u16, clears: bool) -> Change
+    pub fn selected(&self, x: u16, y: u16) -> Change
         requires { IsFormed self.now }
         ensures next { IsChange (control_of self.now) result
-            (record (cleared clears (control_of self.now)) { ends = ends_begun (ends_of self.now) (end_at (control_of self.now) x y) }) }
+            (record (control_of self.now) { ends = ends_begun (ends_of self.now) (end_at (control_of self.now) x y) }) }
         ensures redraw { result.redraw ≡ whole_where (is_some (end_at (control_of self.now) x y)) }
     {
-        self.begun(self.end_at(self.upper_mark, x, y), clears)
+        self.begun(self.end_at(self.upper_mark, x, y))
     }
 
     // Whether a selection is led on.
@@ -118,19 +117,19 @@ impl PagerState {
     }
 
     /// The state with its selection led to a place of the page.
-    pub fn led(&self, x: u16, y: u16, clears: bool) -> Change
+    pub fn led(&self, x: u16, y: u16) -> Change
         requires { IsFormed self.now }
         ensures next { IsChange (control_of self.now) result
-            (record (cleared clears (control_of self.now)) { mark = mark_led (control_of self.now) y; ends = ends_led (control_of self.now) x y }) }
+            (record (control_of self.now) { mark = mark_led (control_of self.now) y; ends = ends_led (control_of self.now) x y }) }
         ensures redraw { result.redraw ≡ led_redraw (control_of self.now) x y }
     {
         if !self.is_led() {
-            return self.redrawn(Redraw::Stays, clears);
+            return self.redrawn(Redraw::Stays);
         }
         let mark = self.mark_led_to(y);
         let ends = self.ends_led_to(mark, x, y);
         let stays = self.stays_at(mark, ends);
-        self.changed(mark, Setting::Ends(ends), whole_where(!stays), clears)
+        self.changed(mark, Setting::Ends(ends), whole_where(!stays))
     }
 
     // Whether an end of a selection is there.
@@ -141,15 +140,15 @@ impl PagerState {
     }
 
     /// The state with nothing selected.
-    pub fn unselected(&self, clears: bool) -> Change
+    pub fn unselected(&self) -> Change
         requires { IsFormed self.now }
-        ensures next { IsChange (control_of self.now) result (record (cleared clears (control_of self.now)) { ends = no_ends }) }
+        ensures next { IsChange (control_of self.now) result (record (control_of self.now) { ends = no_ends }) }
         ensures redraw { result.redraw ≡ whole_where (has_ends (ends_of self.now)) }
     {
         let ends = SelectionEnds {
             anchor: None,
             selection: None,
         };
-        self.set(Setting::Ends(ends), whole_where(self.has_ends()), clears)
+        self.set(Setting::Ends(ends), whole_where(self.has_ends()))
     }
 }

@@ -1,10 +1,15 @@
-//! What is set in a state, one thing by itself.
+//! What is set in a state, one thing by itself, at once or formed beside it.
+use crate::change::{Change, Redraw, Setting};
 use crate::state::{PagerState, has_newline};
 use minus_term::MinusError;
 
 impl PagerState {
-    ghost use Rattle.std.specs.Prelude.{◌≡◌, true, false, string_bytes, OnOk, OnErr, IfErr};
-    ghost use Rattle.minus_state.specs.ShownPrompt.{has_newline};
+    ghost use Rattle.std.specs.Prelude.{◌≡◌, true, false, string_bytes, OnOk, OnErr, IfOk, IfErr};
+    ghost use Rattle.minus_state.specs.Changes.{IsChange};
+    ghost use Rattle.minus_state.specs.Control.{with_message};
+    ghost use Rattle.minus_state.specs.Help.{with_prompt};
+    ghost use Rattle.minus_state.specs.States.{control_of, IsFormed};
+    ghost use Rattle.minus_state.specs.ShownPrompt.{has_newline, IsNewlineRefused};
 
     /// Lets the prompt say this.
     ///
@@ -36,5 +41,44 @@ impl PagerState {
         ensures { self.new ≡ record self.old { prompt_shown = is_shown } }
     {
         self.prompt_shown = is_shown;
+    }
+
+    /// The state with another prompt; while help is open, with that of help.
+    ///
+    /// # Errors
+    ///
+    /// [`MinusError::NewlineInPrompt`] where it has a newline.
+    pub fn prompted(&self, text: String) -> Result<Change, MinusError>
+        requires { IsFormed self.now }
+        ensures next { IfOk result (λ c. IsChange (control_of self.now) c (with_prompt (control_of self.now) (string_bytes text))) }
+        ensures redraw { IfOk result (λ c. c.redraw ≡ Redraw.Stays) }
+        ensures one_line { OnOk result (has_newline (string_bytes text) ≡ false) }
+        ensures refused { IfErr result (λ e. IsNewlineRefused e (string_bytes text)) }
+    {
+        if has_newline(&text) {
+            return Err(MinusError::NewlineInPrompt);
+        }
+        if self.help_open() {
+            return Ok(self.redrawn(Redraw::Stays));
+        }
+        Ok(self.set(Setting::Prompt(text), Redraw::Stays))
+    }
+
+    /// The state with a message in the prompt's place.
+    ///
+    /// # Errors
+    ///
+    /// [`MinusError::NewlineInPrompt`] where it has a newline.
+    pub fn messaged(&self, message: String) -> Result<Change, MinusError>
+        requires { IsFormed self.now }
+        ensures next { IfOk result (λ c. IsChange (control_of self.now) c (with_message (control_of self.now) (string_bytes message))) }
+        ensures redraw { IfOk result (λ c. c.redraw ≡ Redraw.Stays) }
+        ensures one_line { OnOk result (has_newline (string_bytes message) ≡ false) }
+        ensures refused { IfErr result (λ e. IsNewlineRefused e (string_bytes message)) }
+    {
+        if has_newline(&message) {
+            return Err(MinusError::NewlineInPrompt);
+        }
+        Ok(self.set(Setting::Message(Some(message)), Redraw::Stays))
     }
 }

@@ -7,7 +7,7 @@ pub invariant_of-result : goal.invariant_of-result
 invariant_of-result g c =
     let is = c.change_to-change.ensures in
     let state = c.in_ok-state.state in
-    let same = unchanged state c.change_to-change.result is.text is.mark is.cols is.rows is.clears is.setting in
+    let same = unchanged state c.change_to-change.result is.text is.mark is.cols is.rows is.prefix is.setting in
     record {
       formed = c.in_ok-state.ensures.formed;
       clamped = c.in_ok-state.ensures.clamped;

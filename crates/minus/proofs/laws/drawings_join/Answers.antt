@@ -3,4 +3,4 @@ use Rattle.minus.proofs.JoinLaws.{drawings_join_lem}
 use Rattle.minus.proofs.laws.drawings_join.Goals as goal
 
 pub returns : goal.returns
-returns g c = drawings_join_lem
+returns c = drawings_join_lem

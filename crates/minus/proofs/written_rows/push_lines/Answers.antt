@@ -1,6 +1,6 @@
 -- No line yet, and one more line.
 use Rattle.minus.specs.WrittenRows.{written_row}
-use Rattle.minus.proofs.DrawingLaws.{no_op}
+use Rattle.minus_term.proofs.WrittenLaws.{no_op}
 use Rattle.minus.proofs.WrittenRowsLaws.{lines_more}
 use Rattle.minus.proofs.written_rows.push_lines.Goals as goal
 

@@ -3,7 +3,7 @@ use Rattle.std.proofs.Common.{◌≡◌, ◌++◌, [], ◌∷◌, List, map, sym
 use Rattle.minus_term.specs.Operations.{Op, GoTo, ClearAll}
 use Rattle.minus_term.specs.Written.{written_all}
 use Rattle.minus.specs.WrittenRows.{lines_ops, lines_of_page}
-use Rattle.minus.proofs.DrawingLaws.{op_first, op_added, ops_added}
+use Rattle.minus_term.proofs.WrittenLaws.{ops_added}
 use Rattle.minus.proofs.WrittenRowsLaws.{page_mapped}
 use Rattle.minus.proofs.written_rows.push_text.Goals as goal
 
@@ -11,11 +11,9 @@ pub returns : goal.returns
 returns g c =
     let s = c.args.style in
     let old = c.args.bytes.now.items in
-    let a = c.write_op.new.out.items in
-    let b = c.write_op-2.new.out.items in
+    let b = c.write_ops.new.out.items in
     let start : List Op = GoTo 0 0 ∷ ClearAll ∷ [] in
-    let cleared = op_added old a b (GoTo 0 0 ∷ []) ClearAll (op_first old a (GoTo 0 0) c.in_ok-write_op.ensures.ok) c.in_ok-write_op-2.ensures.ok in
     let page = lines_of_page c.args.upper_mark c.args.rows (map g.L.AsStr.text c.args.lines.now) in
     let texts : map g.L.AsStr.text c.lines_of_page.result.now ≡ page = ap (map g.L.AsStr.text) c.lines_of_page.ensures ∙ page_mapped g.L.AsStr.text c.args.upper_mark c.args.rows c.args.lines.now in
     let put : c.push_lines.new.bytes.items ≡ b ++ written_all (lines_ops s.wrapping s.cols s.left_mark s.numbers s.line_count page) = rw (sym texts) c.in_ok-push_lines.ensures in
-    ops_added old b c.push_lines.new.bytes.items start (lines_ops s.wrapping s.cols s.left_mark s.numbers s.line_count page) cleared put
+    ops_added old b c.push_lines.new.bytes.items start (lines_ops s.wrapping s.cols s.left_mark s.numbers s.line_count page) c.in_ok-write_ops.ensures put

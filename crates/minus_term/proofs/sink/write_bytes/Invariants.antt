@@ -6,7 +6,7 @@ use Rattle.minus_term.proofs.sink.write_bytes.Given as goal
 
 abbrev pub invariant-loop-rest : goal.invariant-loop-rest
 invariant-loop-rest g l =
-    (done : List ℕ) × (l.bytes ≡ done ++ l.rest) × Appends (g.S.Write.contents l.initial.out) (g.S.Write.contents l.out) done × Stays (g.S.OutputSink.refused l.initial.out) (g.S.OutputSink.refused l.out)
+    (done : List ℕ) × (l.bytes ≡ done ++ l.rest) × Appends (g.S.OutputSink.seen l.initial.out).bytes (g.S.OutputSink.seen l.out).bytes done × Stays (g.S.OutputSink.seen l.initial.out).refusals (g.S.OutputSink.seen l.out).refusals
 
 abbrev pub decreases-loop-rest : goal.decreases-loop-rest
 decreases-loop-rest g l = length l.rest

@@ -13,4 +13,4 @@ returns-clause-ok g c =
 pub returns-clause-err : goal.returns-clause-err
 returns-clause-err g c =
     let is = c.as_slice.ensures.value ∙ c.in_ok-write_op.ensures.ok ∙ ap (λ (l : List ℕ). l ++ written (GoTo c.args.x c.args.y)) c.new-bytes.ensures.items in
-    formed_refused g.W.Write.contents g.W.OutputSink.refused _ _ _ _ _ is c.write_formed.ensures.err
+    formed_refused g.W.OutputSink.seen _ _ _ _ _ is c.write_formed.ensures.err

@@ -12,4 +12,4 @@ returns-clause-ok g c =
 pub returns-clause-err : goal.returns-clause-err
 returns-clause-err g c =
     let is = c.as_slice.ensures.value ∙ c.in_ok-bytes.ensures ∙ ap (λ (t : List ℕ). raw_lines t (map g.L.AsStr.text c.args.lines.now)) (initial_text-is c.args.initial _ _ c.unwrap_or.ensures refl) in
-    formed_refused g.W.Write.contents g.W.OutputSink.refused _ _ _ _ _ is c.write_formed.ensures.err
+    formed_refused g.W.OutputSink.seen _ _ _ _ _ is c.write_formed.ensures.err

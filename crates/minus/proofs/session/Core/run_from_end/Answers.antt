@@ -10,7 +10,7 @@ use Rattle.minus.proofs.RunLaws.{not_yet, one_step, run_over, run_ended, run_sto
 use Rattle.minus.proofs.session.Core.run_from_end.Goals as goal
 
 pub loop-input-init : goal.loop-input-init
-loop-input-init g c = (Stays-refl (g.S.OutputSink.refused c.args.self.now.sink), not_yet _ told_of (seen_of c.args.self.now) c.args.left.now.items (g.S.Write.contents c.args.self.now.sink))
+loop-input-init g c = (Stays-refl (g.S.OutputSink.seen c.args.self.now.sink).refusals, not_yet _ told_of (seen_of c.args.self.now) c.args.left.now.items (g.S.OutputSink.seen c.args.self.now.sink).bytes)
 
 pub overflow_add-done : goal.overflow_add-done
 overflow_add-done g c =
@@ -39,7 +39,7 @@ returns-in-Err g c =
     let refused = c.in-Err.ensures.refused in
     record {
       run = run_stopped _ told_of (seen_of c.args.self.now) (seen_of c.loop-input.self) (seen_of c.step.new.self) (reverse c.args.left.now.items) c.loop-input.left.items c.pop.new.self.items c.in-Some.input c.loop-input.done _ c.in-Err.refusal _ _ _ c.loop-input.invariant.1 c.in-Some.ensures.items refused.refuses;
-      stays = λ well. subst (λ (x : _). Stays (g.S.OutputSink.refused c.args.self.now.sink) (g.S.OutputSink.refused x)) (sym (refused.untouched well)) c.loop-input.invariant.0;
+      stays = λ well. subst (λ (x : _). Stays (g.S.OutputSink.seen c.args.self.now.sink).refusals (g.S.OutputSink.seen x).refusals) (sym (refused.untouched well)) c.loop-input.invariant.0;
       rises = λ fault. Stays-rises _ _ _ c.loop-input.invariant.0 (refused.rises fault);
     }
 

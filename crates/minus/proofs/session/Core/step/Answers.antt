@@ -9,11 +9,11 @@ returns-in-Ended-clause-refused g c = search rules
 pub returns-in-Ended-clause-failed : goal.returns-in-Ended-clause-failed
 returns-in-Ended-clause-failed g c = search rules
 
-pub answer-requires : goal.answer-requires
-answer-requires g c = search rules
+pub execute-requires-clause-running : goal.execute-requires-clause-running
+execute-requires-clause-running g c = search rules
 
 pub returns-clause-step : goal.returns-clause-step
-returns-clause-step g c = c.in_ok-answer.ensures.step (told_of c.args.input) c.command_of-command.ensures
+returns-clause-step g c = c.in_ok-answer.ensures.step (told_of c.args.input) c.in_ok-request.ensures.asked
 
 pub returns-in_err-answer-clause-failed : goal.returns-in_err-answer-clause-failed
 returns-in_err-answer-clause-failed g c = search rules

@@ -4,7 +4,7 @@ use Rattle.std.proofs.lemmas.Result.{IfOk-weaker}
 use Rattle.minus_state.specs.declared.change.Redraw.TheVariants.{Stays}
 use Rattle.minus_state.specs.Appending.{appended}
 use Rattle.minus_state.specs.Changes.{IsChange}
-use Rattle.minus_state.specs.Control.{Control, cleared}
+use Rattle.minus_state.specs.Control.{Control}
 use Rattle.minus_state.specs.Help.{more_aside}
 use Rattle.minus_state.specs.Redraws.{append_redraw}
 use Rattle.minus_state.specs.States.{control_of}
@@ -17,8 +17,7 @@ pub returns-clause-next : goal.returns-clause-next
 returns-clause-next c =
     let old : Control = control_of c.args.self.now in
     let bytes : List ℕ = string_bytes c.args.text in
-    let from : Control = cleared c.args.clears old in
-    IfOk-weaker c.appended.result _ _ (λ x h. subst (λ (b : Bool). IsChange old x (if b then record from { help = more_aside bytes from.help } else appended from bytes)) c.if-help_open.ensures h) c.appended.ensures.next
+    IfOk-weaker c.appended.result _ _ (λ x h. subst (λ (b : Bool). IsChange old x (if b then record old { help = more_aside bytes old.help } else appended old bytes)) c.if-help_open.ensures h) c.appended.ensures.next
 
 pub returns-clause-redraw : goal.returns-clause-redraw
 returns-clause-redraw c =

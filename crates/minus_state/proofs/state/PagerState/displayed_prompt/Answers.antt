@@ -7,4 +7,4 @@ use Rattle.minus_state.proofs.state.PagerState.displayed_prompt.Goals as goal
 pub returns : goal.returns
 returns c =
     let is = c.change_to-stays.ensures in
-    IfOk-weaker c.prompt_row_after.result _ _ (λ row h. h (control_of c.args.self.now) (unchanged c.args.self.now c.change_to-stays.result is.text is.mark is.cols is.rows is.clears is.setting)) c.prompt_row_after.ensures
+    IfOk-weaker c.prompt_row_after.result _ _ (λ row h. h (control_of c.args.self.now) (unchanged c.args.self.now c.change_to-stays.result is.text is.mark is.cols is.rows is.prefix is.setting)) c.prompt_row_after.ensures

@@ -10,4 +10,4 @@ returns-clause-next c =
     let layout = c.args.layout in
     change_anew c.args.self.now c.change_to.result _ (record { text = c.args.text.now; layout = layout }) _ is.text c.in_ok-next.ensures.ok
     (ap (λ (n : ℕ). let d : Document = record { text = c.args.text.now; layout = record { cols = n; wrapping = layout.wrapping; numbers = layout.numbers } } in d) c.requires.cols)
-    is.mark is.cols is.rows (rw is.setting refl) (rw is.setting refl) (rw (is.clears, is.setting) refl) (rw is.setting refl)
+    is.mark is.cols is.rows (rw is.setting refl) (rw is.setting refl) (rw (is.prefix, is.setting) refl) (rw is.setting refl)

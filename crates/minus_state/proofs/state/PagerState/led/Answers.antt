@@ -2,7 +2,7 @@
 use Rattle.std.proofs.Common.{◌≡◌, ℕ, ◌-◌, ◌==◌, ◌&&◌, min, Bool, true, false, sym, ap, subst, ◌∙◌}
 use Rattle.std.specs.Prelude.{not}
 use Rattle.minus_state.specs.declared.selection.SelectionEnds.{SelectionEnds}
-use Rattle.minus_state.specs.Control.{Control, cleared}
+use Rattle.minus_state.specs.Control.{Control}
 use Rattle.minus_state.specs.Changes.{IsChange}
 use Rattle.minus_state.specs.States.{control_of}
 use Rattle.minus_state.specs.Selecting.{is_led, end_at, mark_led, ends_led_to, ends_led, is_same_end}
@@ -14,8 +14,8 @@ pub returns-then-not-is_led-clause-next : goal.returns-then-not-is_led-clause-ne
 returns-then-not-is_led-clause-next c =
     let s : Control = control_of c.args.self.now in
     let off : is_led s ≡ false = sym c.is_led.ensures ∙ c.if-not-is_led.true in
-    subst (λ (m : ℕ). IsChange s c.redrawn.result (record (cleared c.args.clears s) { mark = m; ends = ends_led s c.args.x c.args.y })) (sym (unled_mark s c.args.y off))
-    (subst (λ (e : SelectionEnds). IsChange s c.redrawn.result (record (cleared c.args.clears s) { ends = e })) (sym (unled_ends s c.args.x c.args.y off)) c.redrawn.ensures.next)
+    subst (λ (m : ℕ). IsChange s c.redrawn.result (record s { mark = m; ends = ends_led s c.args.x c.args.y })) (sym (unled_mark s c.args.y off))
+    (subst (λ (e : SelectionEnds). IsChange s c.redrawn.result (record s { ends = e })) (sym (unled_ends s c.args.x c.args.y off)) c.redrawn.ensures.next)
 
 pub returns-then-not-is_led-clause-redraw : goal.returns-then-not-is_led-clause-redraw
 returns-then-not-is_led-clause-redraw c =
@@ -29,8 +29,8 @@ returns-clause-next c =
     let on : is_led s ≡ true = sym c.is_led.ensures ∙ c.if-not-is_led.false in
     let mark = c.mark_led_to-mark.ensures in
     let ends = c.ends_led_to-ends.ensures ∙ ap (λ (m : ℕ). ends_led_to s.ends (end_at (record s { mark = m }) c.args.x (min c.args.y (s.rows - 2)))) mark ∙ sym (led_ends s c.args.x c.args.y on) in
-    subst (λ (m : ℕ). IsChange s c.changed.result (record (cleared c.args.clears s) { mark = m; ends = ends_led s c.args.x c.args.y })) (mark ∙ sym (led_mark s c.args.y on))
-    (subst (λ (e : SelectionEnds). IsChange s c.changed.result (record (cleared c.args.clears s) { mark = c.mark_led_to-mark.result; ends = e })) ends c.changed.ensures.next)
+    subst (λ (m : ℕ). IsChange s c.changed.result (record s { mark = m; ends = ends_led s c.args.x c.args.y })) (mark ∙ sym (led_mark s c.args.y on))
+    (subst (λ (e : SelectionEnds). IsChange s c.changed.result (record s { mark = c.mark_led_to-mark.result; ends = e })) ends c.changed.ensures.next)
 
 pub returns-clause-redraw : goal.returns-clause-redraw
 returns-clause-redraw c =

@@ -1,5 +1,6 @@
 -- It stays, or it is the one after the change.
-use Rattle.std.proofs.Common.{ℕ, ap, sym, ◌∙◌}
+use Rattle.std.specs.Option.{option_map}
+use Rattle.std.proofs.Common.{ℕ, string_bytes, ap, sym, ◌∙◌}
 use Rattle.minus_state.specs.Control.{Settings}
 use Rattle.minus_state.specs.Changes.{settings_after}
 use Rattle.minus_state.specs.ShownPrompt.{prompt_row_of}
@@ -9,7 +10,7 @@ use Rattle.minus_state.proofs.state.PagerState.new_prompt_row.Goals as goal
 pub returns-then-keeps_prompt_row : goal.returns-then-keeps_prompt_row
 returns-then-keeps_prompt_row c new h =
     let change = c.args.change.now in
-    let settings : Settings = settings_after (settings_of c.args.self.now) change.clears change.setting in
+    let settings : Settings = settings_after (settings_of c.args.self.now) (option_map string_bytes change.prefix) change.setting in
     sym (c.keeps_prompt_row.ensures c.if-keeps_prompt_row.true)
     ∙ ap (λ (n : ℕ). prompt_row_of n settings) h.cols_are
     ∙ ap (λ (s : Settings). prompt_row_of new.cols s) h.settings_are

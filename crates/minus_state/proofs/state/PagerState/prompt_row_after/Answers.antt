@@ -1,5 +1,6 @@
 -- What it is formed of after the change.
-use Rattle.std.proofs.Common.{ℕ, ap, ◌∙◌}
+use Rattle.std.specs.Option.{option_map}
+use Rattle.std.proofs.Common.{ℕ, string_bytes, ap, ◌∙◌}
 use Rattle.minus_state.specs.Control.{Settings}
 use Rattle.minus_state.specs.Changes.{settings_after}
 use Rattle.minus_state.specs.ShownPrompt.{prompt_row_of}
@@ -10,7 +11,7 @@ use Rattle.minus_state.proofs.state.PagerState.prompt_row_after.Goals as goal
 pub returns : goal.returns
 returns c new h =
     let change = c.args.change.now in
-    let settings : Settings = settings_after (settings_of c.args.self.now) change.clears change.setting in
+    let settings : Settings = settings_after (settings_of c.args.self.now) (option_map string_bytes change.prefix) change.setting in
     c.in_ok-text.ensures.text
     ∙ ap prompt_row c.prompt_after-row.ensures
     ∙ ap (λ (n : ℕ). prompt_row_of n settings) h.cols_are

@@ -1,7 +1,7 @@
 -- It begins at the end there.
 use Rattle.std.proofs.Common.{is_some, Option, ap, subst, ◌∙◌}
 use Rattle.minus_state.specs.declared.selection.Selection.{Selection}
-use Rattle.minus_state.specs.Control.{Control, cleared}
+use Rattle.minus_state.specs.Control.{Control}
 use Rattle.minus_state.specs.Changes.{IsChange}
 use Rattle.minus_state.specs.States.{control_of}
 use Rattle.minus_state.specs.Selecting.{ends_begun}
@@ -11,7 +11,7 @@ use Rattle.minus_state.proofs.state.PagerState.selected.Goals as goal
 pub returns-clause-next : goal.returns-clause-next
 returns-clause-next c =
     let s : Control = control_of c.args.self.now in
-    subst (λ (o : Option Selection). IsChange s c.begun.result (record (cleared c.args.clears s) { ends = ends_begun s.ends o })) c.end_at.ensures c.begun.ensures.next
+    subst (λ (o : Option Selection). IsChange s c.begun.result (record s { ends = ends_begun s.ends o })) c.end_at.ensures c.begun.ensures.next
 
 pub returns-clause-redraw : goal.returns-clause-redraw
 returns-clause-redraw c = c.begun.ensures.redraw ∙ ap (λ (o : Option Selection). whole_where (is_some o)) c.end_at.ensures

@@ -1,0 +1,38 @@
+-- The change is clamped last, and then the prefix goes, or stays.
+use Rattle.std.proofs.Common.{◌≡◌, Bool, true, false, refl, sym, subst, ◌∙◌}
+use Rattle.minus_state.specs.Changes.{IsChange}
+use Rattle.minus_state.specs.Control.{Control, clamp, cleared}
+use Rattle.minus_state.specs.States.{control_of}
+use Rattle.minus.specs.Reads.{wanted_by}
+use Rattle.minus.specs.Table.{effect, moved_by}
+use Rattle.minus.proofs.OutcomeLaws.{clamped_change, cleared_settings, finished}
+use Rattle.minus.proofs.outcome.outcome_of.Goals as goal
+
+pub returns-then-not-clears_prefix-clause-ok : goal.returns-then-not-clears_prefix-clause-ok
+returns-then-not-clears_prefix-clause-ok g c =
+    let old : Control = control_of c.args.state.now in
+    let formed = c.in_ok-outcome.ensures in
+    let left : Control = clamp (moved_by (effect old (wanted_by c.args.request))) in
+    let clamped = clamped_change c.args.state.now c.in_ok-outcome.outcome.change c.clamp.new.self (moved_by (effect old (wanted_by c.args.request))) c.requires.formed formed.leads c.clamp.ensures in
+    let stays = subst (λ (b : Bool). IsChange old c.clamp.new.self (cleared b left)) (sym c.if-not-clears_prefix.true) clamped in
+    finished old c.args.clears_prefix (wanted_by c.args.request) c.in_ok-outcome.outcome _ c.requires.typed formed.possible formed.redraw formed.handed formed.copied formed.exits (rw c.clamp.ensures refl) refl refl refl stays
+
+pub returns-clause-ok : goal.returns-clause-ok
+returns-clause-ok g c =
+    let old : Control = control_of c.args.state.now in
+    let formed = c.in_ok-outcome.ensures in
+    let left : Control = clamp (moved_by (effect old (wanted_by c.args.request))) in
+    let clamped = clamped_change c.args.state.now c.in_ok-outcome.outcome.change c.clamp.new.self (moved_by (effect old (wanted_by c.args.request))) c.requires.formed formed.leads c.clamp.ensures in
+    let on : c.args.clears_prefix ≡ true = c.if-not-clears_prefix.false in
+    finished old c.args.clears_prefix (wanted_by c.args.request) c.in_ok-outcome.outcome _ c.requires.typed formed.possible formed.redraw formed.handed formed.copied formed.exits (rw c.clamp.ensures refl) refl refl refl
+    (rw on (record {
+      belongs = clamped.belongs;
+      document = clamped.document;
+      mark_is = clamped.mark_is;
+      cols_are = clamped.cols_are;
+      rows_are = clamped.rows_are;
+      left_is = clamped.left_is;
+      ends_are = clamped.ends_are;
+      settings_are = cleared_settings old.settings c.clamp.new.self left.settings c.new.result c.new.ensures.bytes clamped.settings_are;
+      help_is = clamped.help_is;
+    }))

@@ -1,0 +1,16 @@
+-- The rows that the moved mark brings onto the page.
+use Rattle.std.proofs.Common.{ap, ◌∙◌}
+use Rattle.minus_term.specs.Written.{written_all}
+use Rattle.minus_state.specs.Control.{Control, moved_to}
+use Rattle.minus_state.specs.States.{control_of}
+use Rattle.minus_state.specs.declared.change.Redraw.TheVariants.{Moved}
+use Rattle.minus.specs.Drawings.{ops_of}
+use Rattle.minus.specs.Table.{drawing_by}
+use Rattle.minus.proofs.sink_calls.drawn_scroll.Goals as goal
+
+pub returns-clause-bytes : goal.returns-clause-bytes
+returns-clause-bytes c =
+    let old : Control = control_of c.args.state.now in
+    let is = c.moved_to-change.ensures in
+    let drawing = c.of-drawing.ensures ∙ ap (λ r. drawing_by r old c.moved_to-change.result.mark) is.redraw ∙ ap (λ m. drawing_by Moved old m) is.next.mark_is in
+    c.in_ok-bytes.ensures.bytes _ is.next ∙ ap (λ d. written_all (ops_of d (moved_to old c.args.mark))) drawing

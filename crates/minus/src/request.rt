@@ -1,0 +1,91 @@
+//! What is asked for, by a command or by an event: one request for each line of the table of commands.
+use crate::commands::{CommandOf, IoCommand};
+use crate::input::InputEvent;
+use crate::parts::Parts;
+use minus_text::LineNumbers;
+
+// What is asked for: a line each of the table of commands (`Wanted` of `specs/Table`), in its order.
+#[derive(Drop)]
+pub(crate) enum Request<P: Parts> {
+    SetText(String),
+    AppendText(String),
+    MoveMark(usize),
+    Resize(usize, usize),
+    Exit,
+    Ignore,
+    SetPrompt(String),
+    SendMessage(String),
+    ShowPrompt(bool),
+    Follow(bool),
+    Type(char),
+    RestorePrompt,
+    RedrawPrompt,
+    RedrawPage,
+    SetClassifier(P::Classifier),
+    SetNumbers(LineNumbers),
+    SetWrapping(bool),
+    ShiftLeft(usize),
+    StartSelection { x: u16, y: u16 },
+    UpdateSelection { x: u16, y: u16 },
+    ClearSelection,
+    CopySelection,
+    ShowHelp(Option<String>),
+}
+
+impl<P: Parts> Request<P> {
+    ghost use Rattle.std.specs.Prelude.{◌≡◌};
+    ghost use Rattle.minus.specs.Reads.{event_wanted, io_wanted, wanted_of, wanted_by};
+
+    // What an event asks for. Help has no text yet.
+    pub(crate) fn of_event(event: InputEvent) -> Request<P>
+        ensures { wanted_by result ≡ event_wanted event }
+    {
+        match event {
+            InputEvent::UpdateUpperMark(mark) => Request::MoveMark(mark),
+            InputEvent::UpdateTermArea(cols, rows) => Request::Resize(cols, rows),
+            InputEvent::UpdateLeftMark(left) => Request::ShiftLeft(left),
+            InputEvent::UpdateLineNumber(numbers) => Request::SetNumbers(numbers),
+            InputEvent::HorizontalScroll(wrapping) => Request::SetWrapping(wrapping),
+            InputEvent::StartSelection { x, y } => Request::StartSelection { x, y },
+            InputEvent::UpdateSelection { x, y } => Request::UpdateSelection { x, y },
+            InputEvent::ClearSelection => Request::ClearSelection,
+            InputEvent::CopySelection => Request::CopySelection,
+            InputEvent::FollowOutput(follow) => Request::Follow(follow),
+            InputEvent::RestorePrompt => Request::RestorePrompt,
+            InputEvent::ShowHelp => Request::ShowHelp(None),
+            InputEvent::Number(character) => Request::Type(character),
+            InputEvent::Exit => Request::Exit,
+            InputEvent::Ignore => Request::Ignore,
+        }
+    }
+
+    // What a command that asks for a drawing asks for.
+    fn of_io(command: IoCommand) -> Request<P>
+        ensures { wanted_by result ≡ io_wanted command }
+    {
+        match command {
+            IoCommand::RedrawPrompt => Request::RedrawPrompt,
+            IoCommand::RedrawDisplay | IoCommand::DrawAppendedText(..) => Request::RedrawPage,
+            IoCommand::SetUpperMark(mark) => Request::MoveMark(mark),
+        }
+    }
+
+    // What a command asks for. Help has no text yet.
+    pub(crate) fn of_command(command: CommandOf<P>) -> Request<P>
+        ensures { wanted_by result ≡ wanted_of command }
+    {
+        match command {
+            CommandOf::SetData(text) => Request::SetText(text),
+            CommandOf::AppendData(text) => Request::AppendText(text),
+            CommandOf::SetPrompt(text) => Request::SetPrompt(text),
+            CommandOf::SendMessage(text) => Request::SendMessage(text),
+            CommandOf::ShowPrompt(is_shown) => Request::ShowPrompt(is_shown),
+            CommandOf::SetLineNumbers(numbers) => Request::SetNumbers(numbers),
+            CommandOf::LineWrapping(wrapping) => Request::SetWrapping(wrapping),
+            CommandOf::FollowOutput(follow) => Request::Follow(follow),
+            CommandOf::UserInput(event) => Request::of_event(event),
+            CommandOf::Io(command) => Request::of_io(command),
+            CommandOf::SetInputClassifier(classifier) => Request::SetClassifier(classifier),
+        }
+    }
+}

@@ -1,0 +1,91 @@
+//! Lists of inputs that are worked off.
+use crate::answer::Answer;
+use crate::commands::InputOf;
+use crate::parts::{Calls, Parts};
+use crate::session::Core;
+use crate::stand_in::StandIns;
+use minus_term::{MinusError, OutputSink};
+
+/// What came of a list of inputs, over the kinds of what the session keeps.
+#[derive(Drop)]
+#[derive_where(Debug)]
+pub struct RanOf<P: Parts> {
+    /// How many steps ended well.
+    pub done: usize,
+    /// The answer of the last of them.
+    pub last: Option<Answer>,
+    /// The refusal after them, whose input is dropped.
+    pub stopped: Option<MinusError>,
+    /// The inputs that were not taken.
+    pub rest: Vec<InputOf<P>>,
+}
+
+/// What came of a list of inputs to a session to which no classifier was given.
+pub type Ran = RanOf<StandIns>;
+
+// How far a list of inputs was worked off.
+#[derive(Drop)]
+struct Progress {
+    done: usize,
+    last: Option<Answer>,
+    stopped: Option<MinusError>,
+}
+
+impl<S: OutputSink + Drop, P: Calls> Core<S, P> {
+    ghost use Rattle.std.specs.Prelude.{reverse};
+    ghost use Rattle.minus.specs.SessionSteps.{IsRunOf};
+
+    // Works inputs off from the end of a list, until one is refused, or after a step that exits, copies a text or refuses items.
+    fn run_from_end(&mut self, left: &mut Vec<InputOf<P>>) -> Progress
+        ensures { IsRunOf S.seen P.Classifier.says self.old self.new (reverse left.old.items)
+            result.done result.last result.stopped (reverse left.new.items) }
+    {
+        let mut done = 0;
+        let mut last = None;
+        while let Some(input) = left.pop() {
+            match self.step(input) {
+                Ok(answer) => {
+                    done += 1;
+                    if answer.ends_a_run() {
+                        return Progress {
+                            done,
+                            last: Some(answer),
+                            stopped: None,
+                        };
+                    }
+                    last = Some(answer);
+                }
+                Err(refusal) => {
+                    return Progress {
+                        done,
+                        last,
+                        stopped: Some(refusal),
+                    };
+                }
+            }
+        }
+        Progress {
+            done,
+            last,
+            stopped: None,
+        }
+    }
+
+    /// Works inputs off in order, until one is refused, or after a step that exits, copies a text or refuses items; the
+    /// answer of the last step that ended well says which. An input that is refused is dropped, and those after it, or
+    /// after such a step, are handed back.
+    pub fn run(&mut self, inputs: Vec<InputOf<P>>) -> RanOf<P>
+        ensures { IsRunOf S.seen P.Classifier.says self.old self.new inputs.items result.done result.last result.stopped result.rest.items }
+    {
+        let mut left = inputs;
+        left.reverse();
+        let progress = self.run_from_end(&mut left);
+        left.reverse();
+        RanOf {
+            done: progress.done,
+            last: progress.last,
+            stopped: progress.stopped,
+            rest: left,
+        }
+    }
+}

@@ -1,0 +1,217 @@
+//! How a change of a state is drawn, and its bytes in a buffer: the drawing is chosen first, then only its rows are formed.
+ghost use Rattle.std.specs.Prelude.{◌≡◌, ◌-◌, ◌++◌, ◌^◌, ◌<◌, min, string_bytes, OnOk, IfOk};
+ghost use Rattle.minus_state.specs.Control.{Control};
+ghost use Rattle.minus_state.specs.ShownPrompt.{prompt_row};
+ghost use Rattle.minus_term.specs.Append.{append_ops};
+ghost use Rattle.minus_term.specs.Scroll.{scroll_ops};
+ghost use Rattle.minus_term.specs.Written.{written_all};
+ghost use Rattle.minus.specs.Drawings.{append_from, ops_of, ops_of_step};
+ghost use Rattle.minus_state.specs.States.{control_of, IsFormed};
+ghost use Rattle.minus_state.specs.NextTexts.{IsNext};
+ghost use Rattle.minus_state.specs.Changes.{IsChange, shown_by};
+
+use crate::page_bytes::{
+    push_changed_prompt, push_page, push_prompt, push_rows_anew, push_scroll_down, push_scroll_up,
+};
+use crate::state::PagerState;
+use minus_state::change::{Change, Redraw};
+use std::alloc::{AllocError, Global};
+
+// How a change is drawn over the page before it. What does not draw the prompt row is followed by it where it has changed.
+#[derive(Clone, Copy)]
+pub(crate) enum Drawing {
+    // Not at all: the page stays as it is.
+    Nothing,
+    // The whole page.
+    Full,
+    // The rows that come onto the page as the mark moves.
+    Scroll {
+        // The mark before, a row of the text.
+        from: usize,
+        // The mark after.
+        to: usize,
+    },
+    // The rows of the page that an append has changed or added.
+    Append {
+        // The first row of the text that may have changed.
+        first: usize,
+        // The number of rows of the text before.
+        old_count: usize,
+    },
+    // The prompt row.
+    Prompt,
+}
+
+impl Drawing {
+    ghost use Rattle.std.specs.Prelude.{◌≡◌};
+    ghost use Rattle.minus.specs.Drawings.{draws_prompt};
+    ghost use Rattle.minus.specs.Table.{drawing_by};
+    ghost use Rattle.minus_state.specs.States.{control_of, IsFormed};
+
+    // How a change of a state is drawn.
+    pub(crate) fn of(state: &PagerState, change: &Change) -> Drawing
+        requires { IsFormed state.now }
+        ensures { result ≡ drawing_by change.now.redraw (control_of state.now) change.now.mark }
+    {
+        let (from, to) = (state.upper_mark, change.mark);
+        match change.redraw {
+            Redraw::Stays => Drawing::Nothing,
+            Redraw::Whole => Drawing::Full,
+            Redraw::Moved if to == from => Drawing::Nothing,
+            Redraw::Moved => Drawing::Scroll { from, to },
+            Redraw::Appended if to == from => Drawing::Append {
+                first: state.first_changed(),
+                old_count: state.screen.formatted_lines_count(),
+            },
+            Redraw::Appended => Drawing::Full,
+            Redraw::PromptRow => Drawing::Prompt,
+        }
+    }
+
+    // Whether it draws the prompt row.
+    fn draws_prompt(self) -> bool
+        ensures { result ≡ draws_prompt self }
+    {
+        match self {
+            Drawing::Nothing | Drawing::Append { .. } => false,
+            Drawing::Full | Drawing::Scroll { .. } | Drawing::Prompt => true,
+        }
+    }
+}
+
+// Adds the rows of text that come onto the page that a change leads to as the mark moves, and the prompt row.
+fn push_scroll<'a>(
+    state: &'a PagerState,
+    alloc: Global,
+    out: &mut Vec<u8>,
+    change: &'a Change,
+    from: usize,
+    to: usize,
+    prompt: &str,
+) -> Result<(), AllocError>
+    requires { IsNext state.now.screen change.now.text }
+    ensures { OnOk result (out.new.items ≡ out.old.items ++ written_all
+        (scroll_ops change.now.rows from to (shown_by state.now change.now) prompt.now)) }
+{
+    let (rows, most) = (change.rows as u16, change.rows - 1);
+    if from <= to {
+        let k = (to - from).min(most);
+        let texts = state.shown_after(alloc, change, most - k)?;
+        return push_scroll_down(alloc, out, rows, k as u16, &texts, prompt);
+    }
+    let k = (from - to).min(most);
+    let texts = state.shown_between(alloc, change, 0, k)?;
+    push_scroll_up(alloc, out, rows, k as u16, &texts, prompt)
+}
+
+// Adds the rows of the page that a change leads to from one on, where so many rows of text were shown.
+fn push_rows_after<'a>(
+    state: &'a PagerState,
+    alloc: Global,
+    out: &mut Vec<u8>,
+    change: &'a Change,
+    first: usize,
+    were: usize,
+) -> Result<(), AllocError>
+    requires belongs { IsNext state.now.screen change.now.text }
+    requires few { were < 2 ^ 16 }
+    ensures { OnOk result (out.new.items ≡ out.old.items ++ written_all (append_ops first were (shown_by state.now change.now))) }
+{
+    let count = state.count_after(change);
+    let texts = state.shown_after(alloc, change, first)?;
+    let from = first.min(count.max(were));
+    let blanks = were.saturating_sub(count.max(first));
+    push_rows_anew(alloc, out, from, blanks, &texts)?;
+    Ok(())
+}
+
+// Adds the rows of the page that a change leads to from a row of the text on, where the text had so many rows.
+pub(crate) fn push_append<'a>(
+    state: &'a PagerState,
+    alloc: Global,
+    out: &mut Vec<u8>,
+    change: &'a Change,
+    first: usize,
+    old_count: usize,
+) -> Result<(), AllocError>
+    requires formed { IsFormed state.now }
+    requires belongs { IsNext state.now.screen change.now.text }
+    ensures { OnOk result ((new : Control) → IsChange (control_of state.now) change.now new →
+        out.new.items ≡ out.old.items ++ written_all (append_from new first old_count)) }
+{
+    let were = old_count.saturating_sub(change.mark).min(change.rows - 1);
+    let first = first.saturating_sub(change.mark);
+    push_rows_after(state, alloc, out, change, first, were)?;
+    Ok(())
+}
+
+// Adds a drawing of the page that a change leads to, whose prompt row this is.
+fn push_drawing<'a>(
+    state: &'a PagerState,
+    alloc: Global,
+    out: &mut Vec<u8>,
+    drawing: Drawing,
+    change: &'a Change,
+    prompt: &str,
+) -> Result<(), AllocError>
+    requires formed { IsFormed state.now }
+    requires belongs { IsNext state.now.screen change.now.text }
+    ensures { OnOk result ((new : Control) → IsChange (control_of state.now) change.now new → prompt.now ≡ prompt_row new →
+        out.new.items ≡ out.old.items ++ written_all (ops_of drawing new)) }
+{
+    match drawing {
+        Drawing::Nothing => Ok(()),
+        Drawing::Full => {
+            let shown = state.shown_after(alloc, change, 0)?;
+            push_page(alloc, out, change.rows as u16, &shown, prompt)
+        }
+        Drawing::Scroll { from, to } => push_scroll(state, alloc, out, change, from, to, prompt),
+        Drawing::Append { first, old_count } => push_append(
+            state, alloc, out, change, first, old_count,
+        ),
+        Drawing::Prompt => push_prompt(alloc, out, change.rows as u16, prompt),
+    }
+}
+
+// Adds the drawing of a step: after it the prompt row, if it is another one than before and was not drawn.
+pub(crate) fn push_step<'a>(
+    state: &'a PagerState,
+    alloc: Global,
+    out: &mut Vec<u8>,
+    drawing: Drawing,
+    change: &'a Change,
+    prompt: &str,
+    before: &str,
+) -> Result<(), AllocError>
+    requires formed { IsFormed state.now }
+    requires belongs { IsNext state.now.screen change.now.text }
+    requires before { before.now ≡ prompt_row (control_of state.now) }
+    ensures { OnOk result ((new : Control) → IsChange (control_of state.now) change.now new → prompt.now ≡ prompt_row new →
+        out.new.items ≡ out.old.items ++ written_all (ops_of_step drawing (control_of state.now) new)) }
+{
+    push_drawing(state, alloc, out, drawing, change, prompt)?;
+    if drawing.draws_prompt() {
+        return Ok(());
+    }
+    push_changed_prompt(alloc, out, change.rows as u16, prompt, before)?;
+    Ok(())
+}
+
+// The prompt row of the page that a change leads to, and the bytes of a drawing of that page.
+pub(crate) fn draw_page(
+    alloc: Global,
+    state: &PagerState,
+    drawing: Drawing,
+    change: &Change,
+) -> Result<(String, Vec<u8>), AllocError>
+    requires formed { IsFormed state.now }
+    requires belongs { IsNext state.now.screen change.now.text }
+    ensures prompt { IfOk result (λ d. (new : Control) → IsChange (control_of state.now) change.now new → string_bytes d.0 ≡ prompt_row new) }
+    ensures bytes { IfOk result (λ d. (new : Control) → IsChange (control_of state.now) change.now new →
+        d.1.items ≡ written_all (ops_of drawing new)) }
+{
+    let prompt = state.prompt_row_after(alloc, change)?;
+    let mut bytes = Vec::new(alloc);
+    push_drawing(state, alloc, &mut bytes, drawing, change, &prompt)?;
+    Ok((prompt, bytes))
+}
