@@ -285,6 +285,11 @@ class Keeping(unittest.TestCase):
         self.assertEqual(len(set(names)), 4)
         self.assertTrue(all("def bodies_of" in it for it in names))
 
+    def test_where_the_kit_keeps_nothing_every_body_is_tried(self):
+        bodies = bodies_of(None, None, self.crate, [self.edit])
+        self.assertEqual([it.kept_as for it in bodies], [""])
+        self.assertEqual(untried(None, self.crate, bodies), bodies)
+
     def test_who_was_refused_in_an_earlier_run_is_not_tried(self):
         earlier, other = body("a", "f"), body("b", "g")
         earlier.kept_as, other.kept_as = "1", "2"

@@ -390,6 +390,8 @@ def paths_of(bodies, proofs):
 
 def bodies_of(rt, kept, crate, files):
     """Reads wrong bodies of a crate, each with its name for what is kept: one made of all that a try of it reads."""
+    if not kept:
+        return [read_body(it, crate.folder) for it in files]
     # (the libraries as they were built, too: what was tried over those of rt check counts for no gate, whose own are others)
     libraries = [rt.rtlib.sum_of(f"{it.rlib}/format") for it in crate.below()]
     bodies, read_by_each = [read_body(it, crate.folder) for it in files], (rt.stamp_of(crate, {}), libraries, read(__file__))
@@ -400,7 +402,7 @@ def bodies_of(rt, kept, crate, files):
 
 def untried(kept, crate, bodies):
     """Tells of the bodies that an earlier run refused, and returns the others."""
-    told = [kept.tried(it.kept_as) for it in bodies]
+    told = [it.kept_as and kept.tried(it.kept_as) for it in bodies]
     for body, found in zip(bodies, told):
         if found:
             print(f"{crate.name}/{body.label}: refused, in an earlier run: {found[1]}", flush=True)
@@ -438,7 +440,7 @@ def try_crate(rt, kept, crate, bodies, is_proved):
     for body, is_refused, why in try_all(bodies, check, check_beside_unproved, twins):
         why = " ".join(why.split())[:160]
         print(f"{crate.name}/{body.label}: {'refused: ' if is_refused else 'FAILED: '}{why}", flush=True)
-        if is_refused:
+        if is_refused and body.kept_as:
             kept.keep_tried(body.kept_as, rt.REFUSED, why)
         passed += is_refused
     shutil.rmtree(f"{crate.folder}/out/incremental", ignore_errors=True)
@@ -480,7 +482,8 @@ def main(words):
     with tempfile.TemporaryDirectory(prefix="wrong-bodies-") as base:
         copy_of(top, base)
         every = rt.rtlib.crates_below(base)
-        kept = rt.Kept(every, is_anew)
+        # (an older kit keeps nothing)
+        kept = rt.Kept(every, is_anew) if hasattr(rt, "Kept") else None
         left = {it: untried(kept, it, bodies_of(rt, kept, it, given[it.name])) for it in every if it.name in given}
         passed = count - sum(map(len, left.values()))
         if passed < count and not words and not is_proved:
