@@ -126,7 +126,8 @@ fn first_state<P: Parts>(
 
 // The first state of a pager, with its page. A size that is none is refused.
 fn first_page<P: Parts>(pager: &PagerOf<P>, cols: usize, rows: usize) -> Result<First, MinusError>
-    ensures control { IfOk result (λ f. control_of f.state ≡ first_control cols rows (map wanted_of pager.now.queue.items)) }
+    ensures control { IfOk result (λ f. control_of f.state
+        ≡ first_control cols rows (map wanted_of pager.now.queue.items)) }
     ensures size { OnOk result (IsSize cols rows) }
     ensures refused { IfErr result (λ e. IsUnformedState (refusal_of e) cols rows) }
 {
@@ -148,7 +149,8 @@ fn show<S: OutputSink>(sink: &mut S, drawing: &[u8]) -> Result<(), MinusError>
     ensures refused { IfErr result (λ e. IsShowRefused (refusal_of e) (S.seen sink.old).terminal) }
     ensures broken { IfErr result (λ e. ShowBreaksOff (refusal_of e) (S.seen sink.old).bytes (S.seen sink.new).bytes
         (S.seen sink.old).refusals (S.seen sink.new).refusals drawing.now) }
-    ensures rises { IfErr result (λ e. IsStartFault (refusal_of e) → Rises (S.seen sink.old).refusals (S.seen sink.new).refusals) }
+    ensures rises { IfErr result (λ e. IsStartFault (refusal_of e) →
+        Rises (S.seen sink.old).refusals (S.seen sink.new).refusals) }
     ensures untouched { IfErr result (λ e. (IsStartFault (refusal_of e) → ⊥) → sink.new ≡ sink.old) }
 {
     setup(sink)?;
@@ -168,7 +170,8 @@ fn begin<S: OutputSink + Drop, P: Parts>(
     first: First,
 ) -> Result<Core<S, P>, StartErrorOf<S, P>>
     requires runs { mode ≡ RunMode.Uninitialized → ⊥ }
-    requires control { control_of first.state ≡ first_control first.state.cols first.state.rows (map wanted_of pager.queue.items) }
+    requires control { control_of first.state
+        ≡ first_control first.state.cols first.state.rows (map wanted_of pager.queue.items) }
     ensures started { IfOk result (λ s. IsStart S.seen pager mode first.state.cols first.state.rows classifier sink s) }
     ensures refused { IfErr result (λ e. IsRefusedStart S.seen pager mode first.state.cols first.state.rows sink e) }
 {
@@ -197,8 +200,8 @@ fn begin<S: OutputSink + Drop, P: Parts>(
     })
 }
 
-/// Starts a pager over a sink, for a terminal of so many columns and rows, with a classifier of the caller's: takes over
-/// the texts that wait in it, sets the terminal up, and draws the first page.
+/// Starts a pager over a sink, for a terminal of so many columns and rows, with a classifier of the caller's: takes
+/// over the texts that wait in it, sets the terminal up, and draws the first page.
 ///
 /// # Errors
 ///

@@ -17,8 +17,8 @@ use minus_state::extract_selection;
 use minus_term::MinusError;
 use std::alloc::Global;
 
-// What comes of a request: a change, the classifier that is kept from now on, if it is another one, the text that is copied,
-// if one is, and the exit, if it is one.
+// What comes of a request: a change, the classifier that is kept from now on, if it is another one, the text that is
+// copied, if one is, and the exit, if it is one.
 pub(crate) struct Outcome<P: Parts> {
     pub(crate) change: Change,
     pub(crate) classifier: Option<P::Classifier>,
@@ -79,10 +79,12 @@ fn form<P: Parts>(
     request: Request<P>,
 ) -> Result<Outcome<P>, MinusError>
     requires { IsFormed state.now }
-    ensures leads { IfOk result (λ o. IsChange (control_of state.now) o.change (moved_by (effect (control_of state.now) (wanted_by request)))) }
+    ensures leads { IfOk result (λ o. IsChange (control_of state.now) o.change
+        (moved_by (effect (control_of state.now) (wanted_by request)))) }
     ensures redraw { IfOk result (λ o. o.change.redraw ≡ (effect (control_of state.now) (wanted_by request)).redraw) }
     ensures handed { IfOk result (λ o. o.classifier ≡ handed (wanted_by request)) }
-    ensures copied { IfOk result (λ o. option_map string_bytes o.copied ≡ (effect (control_of state.now) (wanted_by request)).copies) }
+    ensures copied { IfOk result (λ o. option_map string_bytes o.copied
+        ≡ (effect (control_of state.now) (wanted_by request)).copies) }
     ensures exits { IfOk result (λ o. o.exit ≡ (effect (control_of state.now) (wanted_by request)).exits_by) }
     ensures possible { OnOk result (IsPossible (wanted_by request)) }
     ensures unformed { IfErr result (λ e. IsUnformed (refusal_of e) (wanted_by request)) }
@@ -153,7 +155,8 @@ pub(crate) fn outcome_of<P: Parts>(
 ) -> Result<Outcome<P>, MinusError>
     requires formed { IsFormed state.now }
     requires typed { clears_prefix ≡ true → types_nothing (wanted_by request) ≡ true }
-    ensures ok { IfOk result (IsOutcome (control_of state.now) (cleared clears_prefix (control_of state.now)) (wanted_by request)) }
+    ensures ok { IfOk result (IsOutcome (control_of state.now) (cleared clears_prefix (control_of state.now))
+        (wanted_by request)) }
     ensures unformed { IfErr result (λ e. IsUnformed (refusal_of e) (wanted_by request)) }
 {
     let mut outcome = form(state, alloc, request)?;

@@ -16,7 +16,8 @@ fn push_copies(
     rows: &mut Vec<String>,
     texts: &[ShownRow<'_>],
 ) -> Result<(), AllocError>
-    ensures { OnOk result (map string_bytes rows.new.items ≡ map string_bytes rows.old.items ++ map row_text texts.now) }
+    ensures { OnOk result (map string_bytes rows.new.items
+        ≡ map string_bytes rows.old.items ++ map row_text texts.now) }
 {
     for text in texts {
         rows.push(String::from_str(alloc, text.as_str())?)?;
@@ -41,7 +42,8 @@ fn page_rows(
     shown: &[ShownRow<'_>],
 ) -> Result<Vec<String>, AllocError>
     requires { length shown.now < state.now.rows }
-    ensures { IfOk result (λ p. map string_bytes p.items ≡ (page_with (control_of state.now) (map row_text shown.now)).texts) }
+    ensures { IfOk result (λ p. map string_bytes p.items
+        ≡ (page_with (control_of state.now) (map row_text shown.now)).texts) }
 {
     let mut page = Vec::new(alloc);
     push_copies(alloc, &mut page, shown)?;
@@ -70,8 +72,10 @@ impl Page {
     // The page of a state that has these rows of text at its top.
     fn form(alloc: Global, state: &PagerState, shown: &[ShownRow<'_>]) -> Result<Page, MinusError>
         requires { length shown.now < state.now.rows }
-        ensures rows { IfOk result (λ p. map string_bytes p.rows.items ≡ (page_with (control_of state.now) (map row_text shown.now)).texts) }
-        ensures cursor { IfOk result (λ p. p.cursor ≡ (page_with (control_of state.now) (map row_text shown.now)).cursor) }
+        ensures rows { IfOk result (λ p. map string_bytes p.rows.items
+            ≡ (page_with (control_of state.now) (map row_text shown.now)).texts) }
+        ensures cursor { IfOk result (λ p. p.cursor
+            ≡ (page_with (control_of state.now) (map row_text shown.now)).cursor) }
         ensures memory { IfErr result (λ e. e ≡ MinusError.Memory) }
     {
         Ok(Page {
@@ -90,7 +94,8 @@ impl Page {
         requires rows { change.now.rows ≡ state.now.rows }
         ensures rows { IfOk result (λ p. map string_bytes p.rows.items
             ≡ (page_with (control_of state.now) (shown_by state.now change.now)).texts) }
-        ensures cursor { IfOk result (λ p. p.cursor ≡ (page_with (control_of state.now) (shown_by state.now change.now)).cursor) }
+        ensures cursor { IfOk result (λ p. p.cursor
+            ≡ (page_with (control_of state.now) (shown_by state.now change.now)).cursor) }
         ensures memory { IfErr result (λ e. e ≡ MinusError.Memory) }
     {
         let shown = state.shown_after(alloc, change, 0)?;

@@ -1,4 +1,5 @@
-//! The bytes of pages: the operations that draw rows of a page, added to a buffer, as the lists of `minus_term` say them.
+//! The bytes of pages: the operations that draw rows of a page, added to a buffer, as the lists of `minus_term` say
+//! them.
 ghost use Rattle.std.specs.Prelude.{◌≡◌, ℕ, List, [], ◌∷◌, ◌++◌, ◌+◌, ◌-◌, ◌^◌, ◌<◌, ◌≤◌, length, take, drop, if◌then◌else◌, bytes_eq, map, OnOk};
 ghost use Rattle.std.specs.List.{flat_map};
 ghost use Rattle.minus_term.specs.Append.{rows_anew};
@@ -90,7 +91,8 @@ pub(crate) fn push_page(
     shown: &[ShownRow<'_>],
     prompt: &str,
 ) -> Result<(), AllocError>
-    ensures { OnOk result (out.new.items ≡ out.old.items ++ written_all (full_ops rows (map row_text shown.now) prompt.now)) }
+    ensures { OnOk result (out.new.items
+        ≡ out.old.items ++ written_all (full_ops rows (map row_text shown.now) prompt.now)) }
 {
     write_ops(alloc, out, &[DrawOp::GoTo(0, 0), DrawOp::ClearAll])?;
     push_rows(alloc, out, shown)?;
@@ -148,7 +150,8 @@ fn push_row_anew(
     row: u16,
     text: &ShownRow<'_>,
 ) -> Result<(), AllocError>
-    ensures { OnOk result (out.new.items ≡ out.old.items ++ written_all (GoTo 0 row ∷ ClearRow ∷ Put (row_text text.now) ∷ [])) }
+    ensures { OnOk result (out.new.items
+        ≡ out.old.items ++ written_all (GoTo 0 row ∷ ClearRow ∷ Put (row_text text.now) ∷ [])) }
 {
     write_ops(
         alloc,
@@ -189,8 +192,8 @@ fn clear_rows(alloc: Global, out: &mut Vec<u8>, first: u16, count: u16) -> Resul
     Ok(())
 }
 
-// Adds rows of a page from one on, counted from 0: each is made blank, these texts are put, and so many rows after them stay
-// blank.
+// Adds rows of a page from one on, counted from 0: each is made blank, these texts are put, and so many rows after them
+// stay blank.
 pub(crate) fn push_rows_anew(
     alloc: Global,
     out: &mut Vec<u8>,
@@ -199,7 +202,8 @@ pub(crate) fn push_rows_anew(
     texts: &[ShownRow<'_>],
 ) -> Result<(), AllocError>
     requires { first + length texts.now + blanks < 2 ^ 16 }
-    ensures { OnOk result (out.new.items ≡ out.old.items ++ written_all (rows_anew first (map row_text texts.now) blanks)) }
+    ensures { OnOk result (out.new.items
+        ≡ out.old.items ++ written_all (rows_anew first (map row_text texts.now) blanks)) }
 {
     push_texts_anew(alloc, out, first as u16, texts)?;
     clear_rows(alloc, out, (first + texts.len()) as u16, blanks as u16)?;

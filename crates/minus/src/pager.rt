@@ -50,7 +50,8 @@ impl<P: Parts> PagerOf<P> {
     ///
     /// [`MinusError::Memory`] where there is no memory, and nothing has changed.
     pub fn set_text(&mut self, text: &str) -> Result<(), MinusError>
-        ensures ok { OnOk result (map wanted_of self.new.queue.items ≡ map wanted_of self.old.queue.items ++ sets_data text.now ∷ []) }
+        ensures ok { OnOk result (map wanted_of self.new.queue.items
+            ≡ map wanted_of self.old.queue.items ++ sets_data text.now ∷ []) }
         ensures err { OnErr result (self.new.queue.items ≡ self.old.queue.items) }
         ensures memory { IfErr result (λ e. e ≡ MinusError.Memory) }
     {
@@ -64,7 +65,8 @@ impl<P: Parts> PagerOf<P> {
     ///
     /// [`MinusError::Memory`] where there is no memory, and nothing has changed.
     pub fn push_str(&mut self, text: &str) -> Result<(), MinusError>
-        ensures ok { OnOk result (map wanted_of self.new.queue.items ≡ map wanted_of self.old.queue.items ++ appends_data text.now ∷ []) }
+        ensures ok { OnOk result (map wanted_of self.new.queue.items
+            ≡ map wanted_of self.old.queue.items ++ appends_data text.now ∷ []) }
         ensures err { OnErr result (self.new.queue.items ≡ self.old.queue.items) }
         ensures memory { IfErr result (λ e. e ≡ MinusError.Memory) }
     {
@@ -79,7 +81,8 @@ impl<P: Parts> fmt::Write for PagerOf<P> {
     ghost use Rattle.minus.specs.Table.{appends_data};
 
     fn write_str(&mut self, text: &str) -> fmt::Result
-        ensures ok { OnOk result (map wanted_of self.new.queue.items ≡ map wanted_of self.old.queue.items ++ appends_data text.now ∷ []) }
+        ensures ok { OnOk result (map wanted_of self.new.queue.items
+            ≡ map wanted_of self.old.queue.items ++ appends_data text.now ∷ []) }
         ensures err { OnErr result (self.new.queue.items ≡ self.old.queue.items) }
     {
         match self.push_str(text) {

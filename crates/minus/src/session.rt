@@ -33,7 +33,8 @@ pub struct Core<S, P: Parts> {
     pub(crate) status: Status,
     ghost formed: { IsFormed state },
     ghost clamped: { IsClamped (control_of state) },
-    ghost prompted: { status ≡ stands.Running → string_bytes prompt_row ≡ prompt_row_of state.cols (settings_of state) },
+    ghost prompted: { status ≡ stands.Running → string_bytes prompt_row
+        ≡ prompt_row_of state.cols (settings_of state) },
 }
 
 // By hand: a derived drop would stand anew in the proof of each function that lets one go.
@@ -122,13 +123,15 @@ impl<S, P: Parts> Core<S, P> {
         Page::of_change(self.alloc, &self.state, &change)
     }
 
-    // Draws the page that a change leads to into the buffer of drawings: its prompt row is this one, or else the one drawn last.
+    // Draws the page that a change leads to into the buffer of drawings: its prompt row is this one, or else the one
+    // drawn last.
     fn draw(&mut self, change: &Change, row: &Option<String>) -> Result<(), MinusError>
         requires belongs { IsNext self.old.state.screen change.now.text }
         requires running { self.old.status ≡ Status.Running }
         ensures drawn { OnOk result ((new : Control) → IsChange (control_of self.old.state) change.now new →
             unwrap_or (option_map string_bytes row.now) (prompt_row (control_of self.old.state)) ≡ prompt_row new →
-            DrawsBetween self.new (drawing_by change.now.redraw (control_of self.old.state) change.now.mark) (control_of self.old.state) new) }
+            DrawsBetween self.new (drawing_by change.now.redraw (control_of self.old.state) change.now.mark)
+            (control_of self.old.state) new) }
         ensures rest { self.new ≡ record self.old { drawing = self.new.drawing } }
         ensures memory { IfErr result (λ e. e ≡ MinusError.Memory) }
     {
@@ -149,15 +152,17 @@ impl<S, P: Parts> Core<S, P> {
         Ok(())
     }
 
-    // Draws what comes of a request into the buffer, and puts it in its place. Answers the text that it copies, if it copies
-    // one. An `Err` changes nothing.
+    // Draws what comes of a request into the buffer, and puts it in its place. Answers the text that it copies, if it
+    // copies one. An `Err` changes nothing.
     fn apply(&mut self, outcome: Outcome<P>) -> Result<Option<String>, MinusError>
         requires running { self.old.status ≡ Status.Running }
         requires leads { LeadsClamped (control_of self.old.state) outcome.change }
         ensures done { OnOk result ((new : Control) → IsChange (control_of self.old.state) outcome.change new →
-            seen_of self.new ≡ record (seen_of self.old) { control = new; classifier = unwrap_or outcome.classifier self.old.classifier }) }
+            seen_of self.new ≡ record (seen_of self.old)
+            { control = new; classifier = unwrap_or outcome.classifier self.old.classifier }) }
         ensures drawn { OnOk result ((new : Control) → IsChange (control_of self.old.state) outcome.change new →
-            DrawsBetween self.new (drawing_by outcome.change.redraw (control_of self.old.state) outcome.change.mark) (control_of self.old.state) new) }
+            DrawsBetween self.new (drawing_by outcome.change.redraw (control_of self.old.state) outcome.change.mark)
+            (control_of self.old.state) new) }
         ensures copied { IfOk result (λ text. text ≡ outcome.copied) }
         ensures size { OnOk result (IsSize self.new.state.cols self.new.state.rows) }
         ensures sink { self.new.sink ≡ self.old.sink }
@@ -190,9 +195,11 @@ impl<S: OutputSink + Drop, P: Calls> Core<S, P> {
     ghost use Rattle.minus.specs.Table.{Wanted, Exit, types_nothing};
     ghost use Rattle.minus.specs.Asked.{IsRequest, IsHelpText};
 
-    // The text that help is opened with, if there is one: the classifier's; while help is open, the classifier is not asked.
+    // The text that help is opened with, if there is one: the classifier's; while help is open, the classifier is not
+    // asked.
     fn help_text(&self) -> Result<Option<String>, MinusError>
-        ensures text { IfOk result (λ text. IsHelpText P.Classifier.says self.now.classifier (control_of self.now.state).help (option_map string_bytes text)) }
+        ensures text { IfOk result (λ text. IsHelpText P.Classifier.says self.now.classifier
+            (control_of self.now.state).help (option_map string_bytes text)) }
         ensures memory { IfErr result (λ e. e ≡ MinusError.Memory) }
     {
         if self.state.help_open() {
@@ -204,7 +211,8 @@ impl<S: OutputSink + Drop, P: Calls> Core<S, P> {
 
     // A request as it is worked off: help has its text.
     fn with_help(&self, request: Request<P>) -> Result<Request<P>, MinusError>
-        ensures ok { IfOk result (λ r. IsRequest P.Classifier.says (seen_of self.now) (wanted_by request) (wanted_by r)) }
+        ensures ok { IfOk result (λ r. IsRequest P.Classifier.says (seen_of self.now) (wanted_by request)
+            (wanted_by r)) }
         ensures memory { IfErr result (λ e. e ≡ MinusError.Memory) }
     {
         match request {
@@ -233,15 +241,20 @@ impl<S: OutputSink + Drop, P: Calls> Core<S, P> {
         }
     }
 
-    // Applies what comes of a request that is no exit, and writes what was drawn. A refusal of the sink fails the session.
+    // Applies what comes of a request that is no exit, and writes what was drawn. A refusal of the sink fails the
+    // session.
     fn change(&mut self, outcome: Outcome<P>) -> Result<Answer, MinusError>
         requires running { self.old.status ≡ stands.Running }
         requires leads { LeadsClamped (control_of self.old.state) outcome.change }
-        ensures step { IfOk result (λ a. (told : Told P.Classifier) → (w : Wanted P.Classifier) → Asks P.Classifier.says (seen_of self.old) told w →
-            IsOutcome (control_of self.old.state) (taken (seen_of self.old) told w).control w outcome → outcome.exit ≡ None →
+        ensures step { IfOk result (λ a. (told : Told P.Classifier) → (w : Wanted P.Classifier) →
+            Asks P.Classifier.says (seen_of self.old) told w →
+            IsOutcome (control_of self.old.state) (taken (seen_of self.old) told w).control w outcome →
+            outcome.exit ≡ None →
             IsStepOf S.seen P.Classifier.says self.old told self.new a) }
-        ensures refused { IfErr result (λ e. (told : Told P.Classifier) → (w : Wanted P.Classifier) → Asks P.Classifier.says (seen_of self.old) told w →
-            IsOutcome (control_of self.old.state) (taken (seen_of self.old) told w).control w outcome → outcome.exit ≡ None →
+        ensures refused { IfErr result (λ e. (told : Told P.Classifier) → (w : Wanted P.Classifier) →
+            Asks P.Classifier.says (seen_of self.old) told w →
+            IsOutcome (control_of self.old.state) (taken (seen_of self.old) told w).control w outcome →
+            outcome.exit ≡ None →
             IsRefusedStepOf S.seen P.Classifier.says self.old told self.new e) }
     {
         let copied = self.apply(outcome)?;
@@ -256,17 +269,22 @@ impl<S: OutputSink + Drop, P: Calls> Core<S, P> {
         Ok(answer)
     }
 
-    // Cleans the terminal up, and ends the session by an exit; the typed prefix goes, or stays. A refusal fails the session.
+    // Cleans the terminal up, and ends the session by an exit; the typed prefix goes, or stays. A refusal fails the
+    // session.
     fn exit(
         &mut self,
         prefix: Option<String>,
         exit: (ExitStrategy, u8),
     ) -> Result<Answer, MinusError>
         requires running { self.old.status ≡ stands.Running }
-        ensures step { IfOk result (λ a. (told : Told P.Classifier) → (w : Wanted P.Classifier) → Asks P.Classifier.says (seen_of self.old) told w →
-            ExitsWith (seen_of self.old) told w exit (option_map string_bytes prefix) → IsStepOf S.seen P.Classifier.says self.old told self.new a) }
-        ensures refused { IfErr result (λ e. (told : Told P.Classifier) → (w : Wanted P.Classifier) → Asks P.Classifier.says (seen_of self.old) told w →
-            ExitsWith (seen_of self.old) told w exit (option_map string_bytes prefix) → IsRefusedStepOf S.seen P.Classifier.says self.old told self.new e) }
+        ensures step { IfOk result (λ a. (told : Told P.Classifier) → (w : Wanted P.Classifier) →
+            Asks P.Classifier.says (seen_of self.old) told w →
+            ExitsWith (seen_of self.old) told w exit (option_map string_bytes prefix) →
+            IsStepOf S.seen P.Classifier.says self.old told self.new a) }
+        ensures refused { IfErr result (λ e. (told : Told P.Classifier) → (w : Wanted P.Classifier) →
+            Asks P.Classifier.says (seen_of self.old) told w →
+            ExitsWith (seen_of self.old) told w exit (option_map string_bytes prefix) →
+            IsRefusedStepOf S.seen P.Classifier.says self.old told self.new e) }
     {
         self.state.place_prefix(prefix);
         if let Err(cause) = cleanup(&mut self.sink, true) {
@@ -281,9 +299,11 @@ impl<S: OutputSink + Drop, P: Calls> Core<S, P> {
     fn execute(&mut self, request: Request<P>, clears_prefix: bool) -> Result<Answer, MinusError>
         requires running { self.old.status ≡ stands.Running }
         requires typed { clears_prefix ≡ true → types_nothing (wanted_by request) ≡ true }
-        ensures step { IfOk result (λ a. (told : Told P.Classifier) → IsAsked P.Classifier.says self.old told (wanted_by request) clears_prefix →
+        ensures step { IfOk result (λ a. (told : Told P.Classifier) →
+            IsAsked P.Classifier.says self.old told (wanted_by request) clears_prefix →
             IsStepOf S.seen P.Classifier.says self.old told self.new a) }
-        ensures refused { IfErr result (λ e. (told : Told P.Classifier) → IsAsked P.Classifier.says self.old told (wanted_by request) clears_prefix →
+        ensures refused { IfErr result (λ e. (told : Told P.Classifier) →
+            IsAsked P.Classifier.says self.old told (wanted_by request) clears_prefix →
             IsRefusedStepOf S.seen P.Classifier.says self.old told self.new e) }
     {
         let mut outcome = outcome_of(&self.state, self.alloc, request, clears_prefix)?;
@@ -299,16 +319,17 @@ impl<S: OutputSink + Drop, P: Calls> Core<S, P> {
     /// # Errors
     ///
     /// [`MinusError::Failed`] where the sink refused before, and [`MinusError::Ended`] where the session has exited.
-    /// [`MinusError::NewlineInPrompt`] where a prompt or a message has a newline, [`MinusError::BadSize`] where a size is
-    /// asked for whose columns or rows are not from 1 to 65,535, and [`MinusError::Memory`] where there is no memory:
-    /// nothing has changed then, and nothing was written. [`MinusError::Draw`] and, at an exit, [`MinusError::Cleanup`]
-    /// where the sink refuses a write or the flush, or takes nothing: a beginning of the bytes was written, and the
-    /// session has failed.
+    /// [`MinusError::NewlineInPrompt`] where a prompt or a message has a newline, [`MinusError::BadSize`] where a size
+    /// is asked for whose columns or rows are not from 1 to 65,535, and [`MinusError::Memory`] where there is no
+    /// memory: nothing has changed then, and nothing was written. [`MinusError::Draw`] and, at an exit,
+    /// [`MinusError::Cleanup`] where the sink refuses a write or the flush, or takes nothing: a beginning of the bytes
+    /// was written, and the session has failed.
     pub fn step(&mut self, input: InputOf<P>) -> Result<Answer, MinusError>
         ensures step { IfOk result (λ a. IsStepOf S.seen P.Classifier.says self.old (told_of input) self.new a) }
 
         // A refusal: what it leaves, and when it comes.
-        ensures refused { IfErr result (λ e. IsRefusedStepOf S.seen P.Classifier.says self.old (told_of input) self.new e) }
+        ensures refused { IfErr result (λ e. IsRefusedStepOf S.seen P.Classifier.says self.old
+            (told_of input) self.new e) }
         ensures failed { IsErrOf result MinusError.Failed ↔ ((seen_of self.old).status ≡ stands.Failed) }
         ensures ended { IsErrOf result MinusError.Ended ↔ ((seen_of self.old).status ≡ stands.Ended) }
     {
@@ -330,7 +351,8 @@ impl<S: OutputSink + Drop, P: Calls> Core<S, P> {
     /// The part of the cleanup that the sink refused: a beginning of the cleanup was written.
     pub fn finish(self) -> (S, Result<(), CleanupError>)
         ensures ended { (seen_of self).status ≡ stands.Ended → (result.0 ≡ self.sink) × IsOk result.1 }
-        ensures ok { OnOk result.1 (Appends (S.seen self.sink).bytes (S.seen result.0).bytes (cleanup_after (seen_of self).status)) }
+        ensures ok { OnOk result.1 (Appends (S.seen self.sink).bytes (S.seen result.0).bytes
+            (cleanup_after (seen_of self).status)) }
         ensures stays { OnOk result.1 (Stays (S.seen self.sink).refusals (S.seen result.0).refusals) }
         ensures broken { IfErr result.1 (λ e. CleanupBreaksOff e (S.seen self.sink).bytes (S.seen result.0).bytes) }
         ensures rises { OnErr result.1 (Rises (S.seen self.sink).refusals (S.seen result.0).refusals) }

@@ -31,7 +31,8 @@ pub fn write_prompt<W: OutputSink>(
     text: &str,
     rows: u16,
 ) -> Result<(), MinusError>
-    ensures ok { OnOk result (Appends (W.seen out.old).bytes (W.seen out.new).bytes (written_all (prompt_ops rows text.now))) }
+    ensures ok { OnOk result (Appends (W.seen out.old).bytes (W.seen out.new).bytes
+        (written_all (prompt_ops rows text.now))) }
     ensures stays { OnOk result (Stays (W.seen out.old).refusals (W.seen out.new).refusals) }
     ensures err { IfErr result (λ e. WriteRefuses W.seen e out.old out.new (written_all (prompt_ops rows text.now))) }
 {
@@ -52,7 +53,8 @@ fn drawn_whole(alloc: Global, state: &PagerState) -> Result<(usize, Vec<u8>), Al
     Ok((clamped.mark, bytes))
 }
 
-// The mark of a state as it is moved, as far as the text goes, and the bytes that draw the rows that come onto its page.
+// The mark of a state as it is moved, as far as the text goes, and the bytes that draw the rows that come onto its
+// page.
 fn drawn_scroll(
     alloc: Global,
     state: &PagerState,
@@ -82,9 +84,11 @@ pub fn draw_full<W: OutputSink>(
     requires { IsFormed state.old }
     ensures control { OnOk result (control_of state.new ≡ clamp (control_of state.old)) }
     ensures formed { IsFormed state.new }
-    ensures ok { OnOk result (Appends (W.seen out.old).bytes (W.seen out.new).bytes (written_all (whole_page (clamp (control_of state.old))))) }
+    ensures ok { OnOk result (Appends (W.seen out.old).bytes (W.seen out.new).bytes
+        (written_all (whole_page (clamp (control_of state.old))))) }
     ensures stays { OnOk result (Stays (W.seen out.old).refusals (W.seen out.new).refusals) }
-    ensures err { IfErr result (λ e. WriteRefuses W.seen e out.old out.new (written_all (whole_page (clamp (control_of state.old))))) }
+    ensures err { IfErr result (λ e. WriteRefuses W.seen e out.old out.new
+        (written_all (whole_page (clamp (control_of state.old))))) }
     ensures kept { OnErr result (state.new ≡ state.old) }
 {
     let (mark, bytes) = drawn_whole(alloc, state)?;
@@ -110,9 +114,11 @@ pub fn draw_for_change<W: OutputSink>(
     ensures control { OnOk result (control_of state.new ≡ moved_to (control_of state.old) new_upper_mark.old) }
     ensures formed { IsFormed state.new }
     ensures mark { OnOk result (new_upper_mark.new ≡ state.new.upper_mark) }
-    ensures ok { OnOk result (Appends (W.seen out.old).bytes (W.seen out.new).bytes (written_all (scroll_to (control_of state.old) new_upper_mark.old))) }
+    ensures ok { OnOk result (Appends (W.seen out.old).bytes (W.seen out.new).bytes
+        (written_all (scroll_to (control_of state.old) new_upper_mark.old))) }
     ensures stays { OnOk result (Stays (W.seen out.old).refusals (W.seen out.new).refusals) }
-    ensures err { IfErr result (λ e. WriteRefuses W.seen e out.old out.new (written_all (scroll_to (control_of state.old) new_upper_mark.old))) }
+    ensures err { IfErr result (λ e. WriteRefuses W.seen e out.old out.new
+        (written_all (scroll_to (control_of state.old) new_upper_mark.old))) }
     ensures kept { OnErr result (state.new ≡ state.old) }
     ensures mark_kept { OnErr result (new_upper_mark.new ≡ new_upper_mark.old) }
 {
@@ -138,9 +144,11 @@ pub fn draw_append_text<W: OutputSink>(
     old_count: usize,
 ) -> Result<(), MinusError>
     requires { IsFormed state.now }
-    ensures ok { OnOk result (Appends (W.seen out.old).bytes (W.seen out.new).bytes (written_all (append_from (control_of state.now) first old_count))) }
+    ensures ok { OnOk result (Appends (W.seen out.old).bytes (W.seen out.new).bytes
+        (written_all (append_from (control_of state.now) first old_count))) }
     ensures stays { OnOk result (Stays (W.seen out.old).refusals (W.seen out.new).refusals) }
-    ensures err { IfErr result (λ e. WriteRefuses W.seen e out.old out.new (written_all (append_from (control_of state.now) first old_count))) }
+    ensures err { IfErr result (λ e. WriteRefuses W.seen e out.old out.new
+        (written_all (append_from (control_of state.now) first old_count))) }
 {
     let change = state.change_to(NextText::Same, Redraw::Stays);
     let mut bytes = Vec::new(alloc);
@@ -186,9 +194,11 @@ pub fn write_from_pagerstate<W: OutputSink>(
     requires { IsFormed state.old }
     ensures control { OnOk result (control_of state.new ≡ clamp (control_of state.old)) }
     ensures formed { IsFormed state.new }
-    ensures ok { OnOk result (Appends (W.seen out.old).bytes (W.seen out.new).bytes (written_all (page_rows (clamp (control_of state.old))))) }
+    ensures ok { OnOk result (Appends (W.seen out.old).bytes (W.seen out.new).bytes
+        (written_all (page_rows (clamp (control_of state.old))))) }
     ensures stays { OnOk result (Stays (W.seen out.old).refusals (W.seen out.new).refusals) }
-    ensures err { IfErr result (λ e. WriteRefuses W.seen e out.old out.new (written_all (page_rows (clamp (control_of state.old))))) }
+    ensures err { IfErr result (λ e. WriteRefuses W.seen e out.old out.new
+        (written_all (page_rows (clamp (control_of state.old))))) }
     ensures kept { OnErr result (state.new ≡ state.old) }
 {
     let (mark, bytes) = written_rows(alloc, state)?;

@@ -1,4 +1,5 @@
-//! How a change of a state is drawn, and its bytes in a buffer: the drawing is chosen first, then only its rows are formed.
+//! How a change of a state is drawn, and its bytes in a buffer: the drawing is chosen first, then only its rows are
+//! formed.
 ghost use Rattle.std.specs.Prelude.{◌≡◌, ◌-◌, ◌++◌, ◌^◌, ◌<◌, min, string_bytes, OnOk, IfOk};
 ghost use Rattle.minus_state.specs.Control.{Control};
 ghost use Rattle.minus_state.specs.ShownPrompt.{prompt_row};
@@ -17,7 +18,8 @@ use crate::state::PagerState;
 use minus_state::change::{Change, Redraw};
 use std::alloc::{AllocError, Global};
 
-// How a change is drawn over the page before it. What does not draw the prompt row is followed by it where it has changed.
+// How a change is drawn over the page before it. What does not draw the prompt row is followed by it where it has
+// changed.
 #[derive(Clone, Copy)]
 pub(crate) enum Drawing {
     // Not at all: the page stays as it is.
@@ -115,7 +117,8 @@ fn push_rows_after<'a>(
 ) -> Result<(), AllocError>
     requires belongs { IsNext state.now.screen change.now.text }
     requires few { were < 2 ^ 16 }
-    ensures { OnOk result (out.new.items ≡ out.old.items ++ written_all (append_ops first were (shown_by state.now change.now))) }
+    ensures { OnOk result (out.new.items
+        ≡ out.old.items ++ written_all (append_ops first were (shown_by state.now change.now))) }
 {
     let count = state.count_after(change);
     let texts = state.shown_after(alloc, change, first)?;
@@ -156,7 +159,8 @@ fn push_drawing<'a>(
 ) -> Result<(), AllocError>
     requires formed { IsFormed state.now }
     requires belongs { IsNext state.now.screen change.now.text }
-    ensures { OnOk result ((new : Control) → IsChange (control_of state.now) change.now new → prompt.now ≡ prompt_row new →
+    ensures { OnOk result ((new : Control) → IsChange (control_of state.now) change.now new → prompt.now
+        ≡ prompt_row new →
         out.new.items ≡ out.old.items ++ written_all (ops_of drawing new)) }
 {
     match drawing {
@@ -186,7 +190,8 @@ pub(crate) fn push_step<'a>(
     requires formed { IsFormed state.now }
     requires belongs { IsNext state.now.screen change.now.text }
     requires before { before.now ≡ prompt_row (control_of state.now) }
-    ensures { OnOk result ((new : Control) → IsChange (control_of state.now) change.now new → prompt.now ≡ prompt_row new →
+    ensures { OnOk result ((new : Control) → IsChange (control_of state.now) change.now new → prompt.now
+        ≡ prompt_row new →
         out.new.items ≡ out.old.items ++ written_all (ops_of_step drawing (control_of state.now) new)) }
 {
     push_drawing(state, alloc, out, drawing, change, prompt)?;
@@ -206,7 +211,8 @@ pub(crate) fn draw_page(
 ) -> Result<(String, Vec<u8>), AllocError>
     requires formed { IsFormed state.now }
     requires belongs { IsNext state.now.screen change.now.text }
-    ensures prompt { IfOk result (λ d. (new : Control) → IsChange (control_of state.now) change.now new → string_bytes d.0 ≡ prompt_row new) }
+    ensures prompt { IfOk result (λ d. (new : Control) → IsChange (control_of state.now) change.now new →
+        string_bytes d.0 ≡ prompt_row new) }
     ensures bytes { IfOk result (λ d. (new : Control) → IsChange (control_of state.now) change.now new →
         d.1.items ≡ written_all (ops_of drawing new)) }
 {

@@ -30,8 +30,8 @@ pub enum AppendStyle {
     FullRedraw,
 }
 
-/// The text that there will be: as it is, another one, or as a push leaves it; or as it is, where another one is put aside while
-/// help is open, or more is added to that.
+/// The text that there will be: as it is, another one, or as a push leaves it; or as it is, where another one is put
+/// aside while help is open, or more is added to that.
 #[derive(Drop)]
 pub enum NextText {
     /// The text on show stays, and what is put aside too.
@@ -114,7 +114,8 @@ impl NextText {
         i: usize,
     ) -> Result<Option<Row>, AllocError>
         requires { IsNext screen.now self.now }
-        ensures { IfOk result (λ row. option_map string_bytes row ≡ slice_get (stored_rows_for None (next_document screen.now.document self.now)) i) }
+        ensures { IfOk result (λ row. option_map string_bytes row
+            ≡ slice_get (stored_rows_for None (next_document screen.now.document self.now)) i) }
     {
         match self {
             NextText::Whole(next) => next.formatted_row(alloc, i),
@@ -261,7 +262,8 @@ impl Change {
     pub fn clamp(&mut self, screen: &Screen)
         requires { IsNext screen.now self.old.text }
         ensures { self.new ≡ record self.old {
-          mark = min self.old.mark (length (rows_of (next_document screen.now.document self.old.text)) - (self.old.rows - 1));
+          mark = min self.old.mark (length (rows_of (next_document screen.now.document self.old.text)) -
+              (self.old.rows - 1));
         } }
     {
         let top = self.text.rows_after(screen).saturating_sub(self.rows - 1);

@@ -11,7 +11,8 @@ use std::alloc::{AllocError, Global};
 
 // Puts a row at the end, if there is one.
 fn push_some<'a>(rows: &mut Vec<ShownRow<'a>>, row: Option<ShownRow<'a>>) -> Result<(), AllocError>
-    ensures { OnOk result (map row_text rows.new.items ≡ map row_text rows.old.items ++ before_rows (option_map row_text row.entry) []) }
+    ensures { OnOk result (map row_text rows.new.items
+        ≡ map row_text rows.old.items ++ before_rows (option_map row_text row.entry) []) }
 {
     match row {
         Some(row) => Ok(rows.push(row)?),
@@ -32,7 +33,8 @@ impl PagerState {
 
     // The typed prefix after a change.
     fn prefix_after<'a>(&'a self, change: &'a Change) -> &'a str
-        ensures { result.now ≡ unwrap_or (option_map string_bytes change.now.prefix) (string_bytes self.now.prefix_num) }
+        ensures { result.now ≡ unwrap_or (option_map string_bytes change.now.prefix)
+            (string_bytes self.now.prefix_num) }
     {
         match &change.prefix {
             Some(prefix) => prefix.as_str(),
@@ -42,7 +44,8 @@ impl PagerState {
 
     // What the prompt row is formed of after a change.
     fn prompt_after<'a>(&'a self, change: &'a Change) -> PromptRow<'a>
-        ensures { seen_prompt result ≡ shown_in change.now.cols (settings_after (settings_of self.now) (option_map string_bytes change.now.prefix) change.now.setting) }
+        ensures { seen_prompt result ≡ shown_in change.now.cols
+            (settings_after (settings_of self.now) (option_map string_bytes change.now.prefix) change.now.setting) }
     {
         PromptRow {
             is_shown: change.setting.is_shown(self.prompt_shown),
@@ -58,7 +61,8 @@ impl PagerState {
 
     /// The prompt row after a change; empty where it is hidden. Fails for want of memory alone.
     pub fn prompt_row_after(&self, alloc: Global, change: &Change) -> Result<String, AllocError>
-        ensures { IfOk result (λ row. (new : Control) → IsChange (control_of self.now) change.now new → string_bytes row ≡ prompt_row new) }
+        ensures { IfOk result (λ row. (new : Control) → IsChange (control_of self.now) change.now new → string_bytes row
+            ≡ prompt_row new) }
     {
         let row = self.prompt_after(change);
         let text = format_prompt(alloc, &row)?;
@@ -75,7 +79,8 @@ impl PagerState {
 
     // Whether a change leaves the prompt row as it is: the columns, the prefix and all that is set stay.
     fn keeps_prompt_row(&self, change: &Change) -> bool
-        ensures { result ≡ true → prompt_row_of change.now.cols (settings_after (settings_of self.now) (option_map string_bytes change.now.prefix) change.now.setting)
+        ensures { result ≡ true → prompt_row_of change.now.cols
+            (settings_after (settings_of self.now) (option_map string_bytes change.now.prefix) change.now.setting)
             ≡ prompt_row (control_of self.now) }
     {
         match change.setting {

@@ -45,7 +45,8 @@ impl PagerState {
     // The state at a mark, with one thing set beside its text.
     pub(crate) fn changed(&self, mark: usize, setting: Setting, redraw: Redraw) -> Change
         requires { IsFormed self.now }
-        ensures next { IsChange (control_of self.now) result (record (with_setting (control_of self.now) setting) { mark = mark }) }
+        ensures next { IsChange (control_of self.now) result
+            (record (with_setting (control_of self.now) setting) { mark = mark }) }
         ensures redraw { result.redraw ≡ redraw }
     {
         Change {
@@ -81,7 +82,8 @@ impl PagerState {
     /// is, past the last page too: `moved_to` clamps it.
     pub fn moved(&self, mark: usize, setting: Setting) -> Change
         requires { IsFormed self.now }
-        ensures next { IsChange (control_of self.now) result (record (with_setting (control_of self.now) setting) { mark = mark }) }
+        ensures next { IsChange (control_of self.now) result
+            (record (with_setting (control_of self.now) setting) { mark = mark }) }
         ensures redraw { result.redraw ≡ Redraw.Moved }
     {
         self.changed(mark, setting, Redraw::Moved)
@@ -123,7 +125,8 @@ impl PagerState {
     // The state with another text.
     pub(crate) fn with_text(&self, alloc: Global, text: &str) -> Result<Change, MinusError>
         requires { IsFormed self.now }
-        ensures next { IfOk result (λ c. IsChange (control_of self.now) c (record (control_of self.now) { text = text.now })) }
+        ensures next { IfOk result (λ c. IsChange (control_of self.now) c
+            (record (control_of self.now) { text = text.now })) }
         ensures redraw { IfOk result (λ c. c.redraw ≡ Redraw.Whole) }
         ensures memory { IfErr result (λ e. e ≡ MinusError.Memory) }
     {
@@ -137,7 +140,8 @@ impl PagerState {
     /// [`MinusError::Memory`] where there is no memory for it.
     pub fn renumbered(&self, alloc: Global, numbers: LineNumbers) -> Result<Change, MinusError>
         requires { IsFormed self.now }
-        ensures next { IfOk result (λ c. IsChange (control_of self.now) c (record (control_of self.now) { numbers = numbers })) }
+        ensures next { IfOk result (λ c. IsChange (control_of self.now) c
+            (record (control_of self.now) { numbers = numbers })) }
         ensures redraw { IfOk result (λ c. c.redraw ≡ Redraw.Whole) }
         ensures memory { IfErr result (λ e. e ≡ MinusError.Memory) }
     {
@@ -155,7 +159,8 @@ impl PagerState {
     /// [`MinusError::Memory`] where there is no memory for it.
     pub fn rewrapped(&self, alloc: Global, wrapping: bool) -> Result<Change, MinusError>
         requires { IsFormed self.now }
-        ensures next { IfOk result (λ c. IsChange (control_of self.now) c (record (control_of self.now) { wrapping = wrapping })) }
+        ensures next { IfOk result (λ c. IsChange (control_of self.now) c
+            (record (control_of self.now) { wrapping = wrapping })) }
         ensures redraw { IfOk result (λ c. c.redraw ≡ Redraw.Whole) }
         ensures memory { IfErr result (λ e. e ≡ MinusError.Memory) }
     {
@@ -242,7 +247,8 @@ impl PagerState {
     fn mark_after(&self, text: &NextText) -> usize
         requires { IsNext self.now.screen text.now }
         ensures { result ≡ (if self.now.follow
-            then length (rows_of (next_document self.now.screen.document text.now)) - (self.now.rows - 1) else self.now.upper_mark) }
+            then length (rows_of (next_document self.now.screen.document text.now)) -
+            (self.now.rows - 1) else self.now.upper_mark) }
     {
         if self.follow {
             return text.rows_after(&self.screen).saturating_sub(self.rows - 1);
@@ -253,7 +259,8 @@ impl PagerState {
     // How an append asks to be drawn: all is, where the numbers of lines take more columns after it.
     fn append_redraw(&self, next: &NextText) -> Redraw
         requires { IsNext self.now.screen next.now }
-        ensures { result ≡ (if margin_in (next_document self.now.screen.document next.now) == margin_in self.now.screen.document
+        ensures { result ≡ (if margin_in
+            (next_document self.now.screen.document next.now) == margin_in self.now.screen.document
             then Redraw.Appended else Redraw.Whole) }
     {
         let numbers = next.layout_after(&self.screen).numbers.is_on();

@@ -157,7 +157,8 @@ impl PagerState {
     // The state with help left, of what was put aside.
     fn unhelped(&self, alloc: Global, saved: &Saved) -> Result<Change, MinusError>
         requires { IsFormed self.now }
-        ensures next { IfOk result (λ c. IsChange (control_of self.now) c (closed (control_of self.now) (aside_in saved.now))) }
+        ensures next { IfOk result (λ c. IsChange (control_of self.now) c
+            (closed (control_of self.now) (aside_in saved.now))) }
         ensures redraw { IfOk result (λ c. c.redraw ≡ Redraw.Whole) }
         ensures memory { IfErr result (λ e. e ≡ MinusError.Memory) }
     {
@@ -182,7 +183,8 @@ impl PagerState {
     /// [`MinusError::Memory`] where there is no memory for it.
     pub fn left_help(&self, alloc: Global) -> Result<Change, MinusError>
         requires { IsFormed self.now }
-        ensures next { IfOk result (λ c. IsChange (control_of self.now) c (left_help (control_of self.now) (control_of self.now).help)) }
+        ensures next { IfOk result (λ c. IsChange (control_of self.now) c
+            (left_help (control_of self.now) (control_of self.now).help)) }
         ensures redraw { IfOk result (λ c. c.redraw ≡ whole_where (help_open (control_of self.now))) }
         ensures memory { IfErr result (λ e. e ≡ MinusError.Memory) }
     {
@@ -199,7 +201,8 @@ impl PagerState {
     /// [`MinusError::Memory`] where there is no memory for it.
     pub fn restored(&self, alloc: Global) -> Result<Change, MinusError>
         requires { IsFormed self.now }
-        ensures next { IfOk result (λ c. IsChange (control_of self.now) c (restored (control_of self.now) (control_of self.now).help)) }
+        ensures next { IfOk result (λ c. IsChange (control_of self.now) c
+            (restored (control_of self.now) (control_of self.now).help)) }
         ensures redraw { IfOk result (λ c. c.redraw ≡ whole_where (help_open (control_of self.now))) }
         ensures memory { IfErr result (λ e. e ≡ MinusError.Memory) }
     {
@@ -237,7 +240,8 @@ impl PagerState {
     /// [`MinusError::Memory`] where there is no memory for it.
     pub fn replaced(&self, alloc: Global, text: String) -> Result<Change, MinusError>
         requires { IsFormed self.now }
-        ensures next { IfOk result (λ c. IsChange (control_of self.now) c (with_text (control_of self.now) (string_bytes text))) }
+        ensures next { IfOk result (λ c. IsChange (control_of self.now) c
+            (with_text (control_of self.now) (string_bytes text))) }
         ensures redraw { IfOk result (λ c. c.redraw ≡ whole_where (not (help_open (control_of self.now)))) }
         ensures memory { IfErr result (λ e. e ≡ MinusError.Memory) }
     {
@@ -255,7 +259,8 @@ impl PagerState {
     /// [`MinusError::Memory`] where there is no memory for it.
     pub fn added(&self, alloc: Global, text: String) -> Result<Change, MinusError>
         requires { IsFormed self.now }
-        ensures next { IfOk result (λ c. IsChange (control_of self.now) c (added (control_of self.now) (string_bytes text))) }
+        ensures next { IfOk result (λ c. IsChange (control_of self.now) c
+            (added (control_of self.now) (string_bytes text))) }
         ensures redraw { IfOk result (λ c. c.redraw ≡ added_redraw (control_of self.now) (string_bytes text)) }
         ensures memory { IfErr result (λ e. e ≡ MinusError.Memory) }
     {
@@ -272,7 +277,8 @@ impl PagerState {
     /// [`MinusError::Memory`] where there is no memory, and nothing has changed.
     pub fn show_help(&mut self, alloc: Global, text: &str) -> Result<(), MinusError>
         requires { IsFormed self.old }
-        ensures control { OnOk result (control_of self.new ≡ shown_help (control_of self.old) (control_of self.old).help text.now) }
+        ensures control { OnOk result (control_of self.new
+            ≡ shown_help (control_of self.old) (control_of self.old).help text.now) }
         ensures formed { IsFormed self.new }
         ensures err { OnErr result (control_of self.new ≡ control_of self.old) }
         ensures memory { IfErr result (λ e. e ≡ MinusError.Memory) }
@@ -284,15 +290,16 @@ impl PagerState {
         self.place(alloc, change)
     }
 
-    /// Leaves help: what was put aside returns, the mark too, and the message goes. Where help is not open, all stays as it
-    /// is.
+    /// Leaves help: what was put aside returns, the mark too, and the message goes. Where help is not open, all stays
+    /// as it is.
     ///
     /// # Errors
     ///
     /// [`MinusError::Memory`] where there is no memory, and nothing has changed.
     pub fn exit_help(&mut self, alloc: Global) -> Result<(), MinusError>
         requires { IsFormed self.old }
-        ensures control { OnOk result (control_of self.new ≡ left_help (control_of self.old) (control_of self.old).help) }
+        ensures control { OnOk result (control_of self.new
+            ≡ left_help (control_of self.old) (control_of self.old).help) }
         ensures formed { IsFormed self.new }
         ensures err { OnErr result (control_of self.new ≡ control_of self.old) }
         ensures memory { IfErr result (λ e. e ≡ MinusError.Memory) }

@@ -40,7 +40,8 @@ impl PagerState {
     // The state with a selection that begins at an end, if there is one.
     fn begun(&self, end: Option<Selection>) -> Change
         requires { IsFormed self.now }
-        ensures next { IsChange (control_of self.now) result (record (control_of self.now) { ends = ends_begun (ends_of self.now) end }) }
+        ensures next { IsChange (control_of self.now) result
+            (record (control_of self.now) { ends = ends_begun (ends_of self.now) end }) }
         ensures redraw { result.redraw ≡ whole_where (is_some end) }
     {
         match end {
@@ -103,7 +104,8 @@ impl PagerState {
     fn ends_led_to(&self, mark: usize, x: u16, y: u16) -> SelectionEnds
         requires formed { IsFormed self.now }
         requires rows { 1 < self.now.rows }
-        ensures { result ≡ ends_led_to (ends_of self.now) (end_at (record (control_of self.now) { mark = mark }) x (min y (self.now.rows - 2))) }
+        ensures { result ≡ ends_led_to (ends_of self.now)
+            (end_at (record (control_of self.now) { mark = mark }) x (min y (self.now.rows - 2))) }
     {
         let row = usize::from(y).min(self.rows - 2) as u16;
         self.ends_with(self.end_at(mark, x, row))
@@ -120,7 +122,11 @@ impl PagerState {
     pub fn led(&self, x: u16, y: u16) -> Change
         requires { IsFormed self.now }
         ensures next { IsChange (control_of self.now) result
-            (record (control_of self.now) { mark = mark_led (control_of self.now) y; ends = ends_led (control_of self.now) x y }) }
+            (record (control_of self.now) {
+              mark = mark_led (control_of self.now) y;
+              ends = ends_led
+                  (control_of self.now) x y;
+            }) }
         ensures redraw { result.redraw ≡ led_redraw (control_of self.now) x y }
     {
         if !self.is_led() {

@@ -20,7 +20,8 @@ impl PagerState {
         ensures ok { OnOk result (self.new ≡ record self.old { prompt = prompt }) }
         ensures one_line { OnOk result (has_newline (string_bytes prompt) ≡ false) }
         ensures err { OnErr result (self.new ≡ self.old) }
-        ensures refused { IfErr result (λ e. (e ≡ MinusError.NewlineInPrompt) × (has_newline (string_bytes prompt) ≡ true)) }
+        ensures refused { IfErr result (λ e. (e ≡ MinusError.NewlineInPrompt) × (has_newline (string_bytes prompt)
+            ≡ true)) }
     {
         if has_newline(&prompt) {
             return Err(MinusError::NewlineInPrompt);
@@ -50,7 +51,8 @@ impl PagerState {
     /// [`MinusError::NewlineInPrompt`] where it has a newline.
     pub fn prompted(&self, text: String) -> Result<Change, MinusError>
         requires { IsFormed self.now }
-        ensures next { IfOk result (λ c. IsChange (control_of self.now) c (with_prompt (control_of self.now) (string_bytes text))) }
+        ensures next { IfOk result (λ c. IsChange (control_of self.now) c
+            (with_prompt (control_of self.now) (string_bytes text))) }
         ensures redraw { IfOk result (λ c. c.redraw ≡ Redraw.Stays) }
         ensures one_line { OnOk result (has_newline (string_bytes text) ≡ false) }
         ensures refused { IfErr result (λ e. IsNewlineRefused e (string_bytes text)) }
@@ -71,7 +73,8 @@ impl PagerState {
     /// [`MinusError::NewlineInPrompt`] where it has a newline.
     pub fn messaged(&self, message: String) -> Result<Change, MinusError>
         requires { IsFormed self.now }
-        ensures next { IfOk result (λ c. IsChange (control_of self.now) c (with_message (control_of self.now) (string_bytes message))) }
+        ensures next { IfOk result (λ c. IsChange (control_of self.now) c
+            (with_message (control_of self.now) (string_bytes message))) }
         ensures redraw { IfOk result (λ c. c.redraw ≡ Redraw.Stays) }
         ensures one_line { OnOk result (has_newline (string_bytes message) ≡ false) }
         ensures refused { IfErr result (λ e. IsNewlineRefused e (string_bytes message)) }

@@ -17,7 +17,8 @@ impl PagerState {
     /// [`MinusError::Memory`] where there is no memory, and nothing has changed.
     pub fn append_str(&mut self, alloc: Global, text: &str) -> Result<AppendStyle, MinusError>
         requires { IsFormed self.old }
-        ensures control { OnOk result (control_of self.new ≡ record (control_of self.old) { text = (control_of self.old).text ++ text.now }) }
+        ensures control { OnOk result (control_of self.new
+            ≡ record (control_of self.old) { text = (control_of self.old).text ++ text.now }) }
         ensures formed { OnOk result (IsFormed self.new) }
         ensures style { IfOk result (λ style. style ≡ append_style (control_of self.old) text.now) }
         ensures err { OnErr result (self.new ≡ self.old) }
