@@ -1,3 +1,4 @@
+pub mod DefaultKeysLaws
 pub mod DrawingLaws
 pub mod TableLaws
 pub mod OutcomeLaws

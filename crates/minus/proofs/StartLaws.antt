@@ -1,14 +1,22 @@
 -- A start that was broken off.
-use Rattle.std.proofs.Common.{◌≡◌, ℕ, ◌≤◌, List, Bool, Option, Some, None, arith, Result, Ok, Err, OnOk, OnErr, inl, inr, refl, subst, ◌∙◌}
+use Rattle.std.proofs.Common.{◌≡◌, ℕ, ◌≤◌, List, [], ◌∷◌, ◌++◌, map, ap, Bool, Option, Some, None, arith, Result, Ok, Err, OnOk, OnErr, IfOk, inl, inr, refl, subst, ◌∙◌}
+use Rattle.std.proofs.lemmas.List.{map-append}
 use Rattle.std.specs.Io.KnownBytes.{Appends}
 use Rattle.minus_term.specs.declared.error.CleanupError.{CleanupError}
-use Rattle.minus_term.specs.Counts.{AppendsFront, Stays, Rises}
+use Rattle.minus_term.specs.declared.error.MinusError.{MinusError}
+use Rattle.minus_term.specs.Counts.{SinkSeen, AppendsFront, Stays, Rises}
 use Rattle.minus_term.specs.Terminal.{cleanup_bytes}
-use Rattle.minus_term.specs.Refusals.{Refusal, for_memory, for_newline, for_hook_id, for_free_hook_id, for_size, for_description, for_binding, for_query, for_mode, after_failure, after_exit, at_setup, at_cleanup, at_drawing, for_pattern, of_no_call}
+use Rattle.minus_term.specs.Refusals.{Refusal, for_memory, for_newline, for_hook_id, for_free_hook_id, for_size, for_description, for_binding, for_query, for_mode, after_failure, after_exit, at_setup, at_cleanup, at_drawing, for_pattern, of_no_call, refusal_of}
 use Rattle.minus_term.specs.Written.{written_all}
 use Rattle.minus_state.specs.Control.{Control}
 use Rattle.minus_state.specs.declared.state.RunMode.{RunMode}
-use Rattle.minus.specs.Starts.{CanStart, IsStartRefused, IsEarly, IsShowRefused, CleansUp, DrawingBreaksOff, ShowBreaksOff, StartBreaksOff}
+use Rattle.minus.specs.declared.pager.PagerOf.{PagerOf}
+use Rattle.minus.specs.Reads.{wanted_of}
+use Rattle.minus.specs.SessionStarts.{IsStart, IsFirstStart, IsRefusedStart}
+use Rattle.minus.specs.declared.session.Core.{Core}
+use Rattle.minus.specs.declared.commands.CommandOf.{CommandOf}
+use Rattle.minus.specs.Table.{Wanted, kept_after}
+use Rattle.minus.specs.Starts.{first_control, classifier_taken, CanStart, IsFormRefused, IsStartFault, IsStartRefused, IsEarly, IsShowRefused, CleansUp, DrawingBreaksOff, ShowBreaksOff, StartBreaksOff}
 use Rattle.minus.specs.Drawings.{whole_page}
 use Rattle.minus.proofs.DrawnLaws.{whole_shows}
 
@@ -68,3 +76,55 @@ Stays-rises (Some k) (Some m) (Some n) p q = omega (arith, p, q)
 pub Stays-refl : (a : Option ℕ) → Stays a a
 Stays-refl None = tt
 Stays-refl (Some n) = refl
+
+-- when what a start needs is not formed, the start is refused early, and nothing was written
+form_refused : (refusal : Refusal) (mode : RunMode) (cols rows : ℕ) (terminal : Bool) (bytes : Option (List ℕ)) (count : Option ℕ) (first : Control) → IsFormRefused refusal mode cols rows →
+    IsStartRefused refusal mode cols rows terminal × IsEarly refusal × StartBreaksOff refusal bytes bytes count count first × (IsStartFault refusal → ⊥)
+form_refused for_mode mode cols rows terminal bytes count first h = (h, tt, refl, λ fault. fault)
+form_refused (for_size c r) mode cols rows terminal bytes count first h = (h, tt, refl, λ fault. fault)
+form_refused for_memory mode cols rows terminal bytes count first h = (h, tt, refl, λ fault. fault)
+form_refused for_newline mode cols rows terminal bytes count first h = absurd h
+form_refused (for_hook_id hook id) mode cols rows terminal bytes count first h = absurd h
+form_refused for_free_hook_id mode cols rows terminal bytes count first h = absurd h
+form_refused (for_description place cause) mode cols rows terminal bytes count first h = absurd h
+form_refused (for_binding place) mode cols rows terminal bytes count first h = absurd h
+form_refused for_query mode cols rows terminal bytes count first h = absurd h
+form_refused after_failure mode cols rows terminal bytes count first h = absurd h
+form_refused after_exit mode cols rows terminal bytes count first h = absurd h
+form_refused (at_setup cause) mode cols rows terminal bytes count first h = absurd h
+form_refused (at_cleanup cause) mode cols rows terminal bytes count first h = absurd h
+form_refused at_drawing mode cols rows terminal bytes count first h = absurd h
+form_refused for_pattern mode cols rows terminal bytes count first h = absurd h
+form_refused of_no_call mode cols rows terminal bytes count first h = absurd h
+
+-- a start that was refused before its sink was asked for anything: the pager and the sink come back as they were
+pub refused_early : {S P K : Type 0} (seen : S → SinkSeen) (pager : PagerOf P K) (mode : RunMode) (cols rows : ℕ) (sink : S) (cause : MinusError) → IsFormRefused (refusal_of cause) mode cols rows →
+    IsRefusedStart seen pager mode cols rows sink (record { sink = sink; pager = Some pager; cause = cause })
+refused_early seen pager mode cols rows sink cause h =
+    let at = form_refused (refusal_of cause) mode cols rows (seen sink).terminal (seen sink).bytes (seen sink).refusals (first_control cols rows (map wanted_of pager.queue.items)) h in
+    record {
+      refused = at.0;
+      returned = λ early. refl;
+      gone = λ late. absurd (late at.1);
+      broken = at.2;
+      rises = λ fault. absurd (at.3 fault);
+      untouched = λ none. refl;
+    }
+
+-- the last command that waits sets the first classifier, or those before it do
+pub classifier_taken-more : {K : Type 0} (classifier : K) (ws : List (Wanted K)) (w : Wanted K) → classifier_taken classifier (ws ++ w ∷ []) ≡ kept_after (classifier_taken classifier ws) w
+classifier_taken-more classifier [] w = refl
+classifier_taken-more classifier (v ∷ ws) w = classifier_taken-more (kept_after classifier v) ws w
+
+-- one command is taken from the end of those that wait
+pub classifier_popped : {P K : Type 0} (classifier : K) (left rest : List (CommandOf P K)) (command : CommandOf P K) → left ≡ rest ++ command ∷ [] →
+    classifier_taken classifier (map wanted_of left) ≡ kept_after (classifier_taken classifier (map wanted_of rest)) (wanted_of command)
+classifier_popped classifier left rest command is =
+    ap (λ l. classifier_taken classifier (map wanted_of l)) is ∙ ap (classifier_taken classifier) (map-append wanted_of rest (command ∷ []))
+    ∙ classifier_taken-more classifier (map wanted_of rest) (wanted_of command)
+
+-- a start with a classifier of the session's own at first
+pub first_start : {S P K E : Type 0} (IsFirst : K → Type 0) (seen : S → SinkSeen) (pager : PagerOf P K) (mode : RunMode) (cols rows : ℕ) (sink : S) (classifier : K) (r : Result (Core S P K) E) → IsFirst classifier →
+    IfOk r (λ s. IsStart seen pager mode cols rows classifier sink s) → IfOk r (λ s. IsFirstStart IsFirst seen pager mode cols rows sink s)
+first_start IsFirst seen pager mode cols rows sink classifier (Ok s) first start = record { classifier = classifier; first = first; start = start }
+first_start IsFirst seen pager mode cols rows sink classifier (Err e) first start = tt

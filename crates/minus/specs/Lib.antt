@@ -1,8 +1,8 @@
 -- What the contracts cite.
 pub mod Seen
 pub mod Table
-pub mod Classified
 pub mod Asked
+pub mod DefaultKeys
 pub mod Works
 pub mod Drawings
 pub mod Drawn

@@ -16,7 +16,7 @@ use Rattle.minus_state.specs.States.{at_start}
 use Rattle.minus_state.specs.Control.{Control}
 use Rattle.minus.specs.Drawn.{Begins, IsWholeDrawing}
 use Rattle.minus.specs.Seen.{Seen}
-use Rattle.minus.specs.Table.{Wanted, sets_data, appends_data}
+use Rattle.minus.specs.Table.{Wanted, sets_data, appends_data, kept_after}
 
 -- the text that a command which waits for the start leaves
 abbrev pub text_taken : {K : Type 0} → List ℕ → Wanted K → List ℕ
@@ -37,6 +37,11 @@ taken_all c (w ∷ ws) = taken_all (taken c w) ws
 abbrev pub first_control : {K : Type 0} → ℕ → ℕ → List (Wanted K) → Control
 first_control cols rows waiting = taken_all (at_start cols rows) waiting
 
+-- the first classifier: the last one that was set by a command that waited, or else the one of the start
+abbrev pub classifier_taken : {K : Type 0} → K → List (Wanted K) → K
+classifier_taken classifier [] = classifier
+classifier_taken classifier (w ∷ ws) = classifier_taken (kept_after classifier w) ws
+
 -- a start is asked for as it can be: in a mode in which a session runs, and for a size of a terminal
 pub record CanStart (mode : RunMode) (cols rows : ℕ) : Type 0 where
   pub runs : mode ≡ Uninitialized → ⊥
@@ -46,7 +51,7 @@ pub record CanStart (mode : RunMode) (cols rows : ℕ) : Type 0 where
 pub record IsStarted {K : Type 0} (seen : Seen K) (classifier : K) (waiting : List (Wanted K)) (mode : RunMode) (cols rows : ℕ) (terminal : Bool) (old_bytes new_bytes : Option (List ℕ)) : Type 0 where
   pub can : CanStart mode cols rows
   pub on_terminal : terminal ≡ true
-  pub begins : seen ≡ record { control = first_control cols rows waiting; classifier = classifier; mode = mode; status = status.Running }
+  pub begins : seen ≡ record { control = first_control cols rows waiting; classifier = classifier_taken classifier waiting; mode = mode; status = status.Running }
   pub drawn : Begins old_bytes new_bytes (first_control cols rows waiting)
 
 -- when a setup is refused: with the one error where the sink is no terminal
@@ -89,6 +94,13 @@ IsStartRefused for_memory mode cols rows terminal = CanStart mode cols rows
 IsStartRefused (at_setup cause) mode cols rows terminal = CanStart mode cols rows × IsSetupRefused cause terminal
 IsStartRefused at_drawing mode cols rows terminal = CanStart mode cols rows × (terminal ≡ true)
 IsStartRefused refusal mode cols rows terminal = ⊥
+
+-- when what a start needs is not formed: for its mode first, then for its size, then memory ran out
+abbrev pub IsFormRefused : Refusal → RunMode → ℕ → ℕ → Type 0
+IsFormRefused for_mode mode cols rows = mode ≡ Uninitialized
+IsFormRefused (for_size c r) mode cols rows = (mode ≡ Uninitialized → ⊥) × (c ≡ cols) × (r ≡ rows) × (IsSize cols rows → ⊥)
+IsFormRefused for_memory mode cols rows = CanStart mode cols rows
+IsFormRefused refusal mode cols rows = ⊥
 
 -- the start was refused before anything was written
 abbrev pub IsEarly : Refusal → Type 0

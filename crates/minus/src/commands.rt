@@ -1,7 +1,6 @@
 //! What a pager is told.
 use crate::input::InputEvent;
-use crate::parts::Parts;
-use crate::stand_in::StandIns;
+use crate::parts::{Boxes, Parts};
 use minus_state::change::AppendStyle;
 use minus_term::Event;
 use minus_text::LineNumbers;
@@ -47,8 +46,8 @@ pub enum CommandOf<P: Parts> {
     SetInputClassifier(#[derive_where(skip)] P::Classifier),
 }
 
-/// A command to a session to which no classifier was given.
-pub type Command = CommandOf<StandIns>;
+/// A command to a session that keeps a register of bindings, or a classifier in a box.
+pub type Command = CommandOf<Boxes>;
 
 /// What a session is given, over the kinds of what it keeps.
 #[derive(Drop)]
@@ -60,5 +59,5 @@ pub enum InputOf<P: Parts> {
     Event(Event),
 }
 
-/// What a session is given to which no classifier was given.
-pub type Input = InputOf<StandIns>;
+/// What a session is given that keeps a register of bindings, or a classifier in a box.
+pub type Input = InputOf<Boxes>;

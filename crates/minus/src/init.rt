@@ -11,20 +11,26 @@ ghost use Rattle.minus.specs.Drawings.{whole_page};
 ghost use Rattle.minus.specs.Drawn.{StartLeavesItsPage};
 ghost use Rattle.minus_state.specs.ShownPrompt.{prompt_row_of};
 ghost use Rattle.minus_state.specs.States.{IsFormed, control_of, settings_of};
+ghost use Rattle.minus_input.specs.DefaultBindings.{default_register};
+ghost use Rattle.minus_input.specs.DefaultClassifier.{IsDefault};
+ghost use Rattle.minus_input.specs.EventTables.{register_of};
 ghost use Rattle.minus.specs.Reads.{wanted_of};
-ghost use Rattle.minus.specs.SessionStarts.{IsStart, IsRefusedStart};
+ghost use Rattle.minus.specs.Table.{handed};
+ghost use Rattle.minus.specs.SessionStarts.{IsStart, IsFirstStart, IsRefusedStart};
 ghost use Rattle.minus_state.specs.Sizes.{IsSize};
-ghost use Rattle.minus.specs.Starts.{taken, taken_all, first_control, IsShowRefused, ShowBreaksOff, IsStartFault};
+ghost use Rattle.minus.specs.Starts.{taken, taken_all, first_control, classifier_taken, CanStart, IsFormRefused, IsShowRefused};
+ghost use Rattle.minus.specs.Starts.{ShowBreaksOff, IsStartFault};
 
 use crate::commands::CommandOf;
+use crate::input::{Classifier, EventTable, FixedSeed};
 use crate::pager::{Pager, PagerOf};
-use crate::parts::Parts;
+use crate::parts::{Boxes, Parts};
 use crate::session::{Core, Session};
-use crate::stand_in::{StandIn, StandIns};
 use crate::state::{PagerState, RunMode};
 use crate::status::Status;
 use crate::step_drawing::{Drawing, draw_page};
 use minus_state::change::{NextText, Redraw};
+use minus_state::is_size;
 use minus_term::{MinusError, OutputSink, cleanup, draw_bytes, setup};
 use std::alloc::Global;
 
@@ -40,8 +46,8 @@ pub struct StartErrorOf<S, P: Parts> {
     pub cause: MinusError,
 }
 
-/// A refused start of a session to which no classifier was given.
-pub type StartError<S> = StartErrorOf<S, StandIns>;
+/// A refused start of a session that keeps a register of bindings, or a classifier in a box.
+pub type StartError<S> = StartErrorOf<S, Boxes>;
 
 /// Why a start was refused; the sink and the pager are let go.
 impl<S: Drop, P: Parts> From<StartErrorOf<S, P>> for MinusError {
@@ -161,6 +167,32 @@ fn show<S: OutputSink>(sink: &mut S, drawing: &[u8]) -> Result<(), MinusError>
     Ok(())
 }
 
+// The classifier that a command sets, if it sets one.
+fn handed<P: Parts>(command: CommandOf<P>) -> Option<P::Classifier>
+    ensures { result ≡ handed (wanted_of command) }
+{
+    match command {
+        CommandOf::SetInputClassifier(classifier) => Some(classifier),
+        _ => None,
+    }
+}
+
+// The classifier that a session keeps at first: the last one among the commands that wait, or else this one.
+fn first_classifier<P: Parts>(
+    waiting: Vec<CommandOf<P>>,
+    classifier: P::Classifier,
+) -> P::Classifier
+    ensures { result ≡ classifier_taken classifier (map wanted_of waiting.items) }
+{
+    let mut waiting = waiting;
+    while let Some(command) = waiting.pop() {
+        if let Some(last) = handed(command) {
+            return last;
+        }
+    }
+    classifier
+}
+
 // The session of a pager whose first page was formed.
 fn begin<S: OutputSink + Drop, P: Parts>(
     pager: PagerOf<P>,
@@ -188,8 +220,10 @@ fn begin<S: OutputSink + Drop, P: Parts>(
         prompt_row,
         drawing,
     } = first;
+    let PagerOf { alloc, queue } = pager;
+    let classifier = first_classifier(queue, classifier);
     Ok(Core {
-        alloc: pager.alloc,
+        alloc,
         sink,
         state,
         classifier,
@@ -201,7 +235,8 @@ fn begin<S: OutputSink + Drop, P: Parts>(
 }
 
 /// Starts a pager over a sink, for a terminal of so many columns and rows, with a classifier of the caller's: takes
-/// over the texts that wait in it, sets the terminal up, and draws the first page.
+/// over the texts that wait in it, and the classifier that was set last in place of the caller's, sets the terminal up,
+/// and draws the first page.
 ///
 /// # Errors
 ///
@@ -238,8 +273,37 @@ pub fn init_core_with<S: OutputSink + Drop, P: Parts>(
     }
 }
 
-/// Starts a pager over a sink: [`init_core_with`], whose errors it has, with the classifier for which a resize asks for
-/// the terminal's new size, a digit without modifiers is typed to the prefix, and no other event asks for anything.
+// Whether a session can be started so: in a mode in which one runs, and for a size of a terminal.
+fn check_start(mode: RunMode, cols: usize, rows: usize) -> Result<(), MinusError>
+    ensures can { OnOk result (CanStart mode cols rows) }
+    ensures refused { IfErr result (λ e. IsFormRefused (refusal_of e) mode cols rows) }
+{
+    if mode.is_uninitialized() {
+        return Err(MinusError::BadMode);
+    }
+    if !is_size(cols, rows) {
+        return Err(MinusError::BadSize(cols, rows));
+    }
+    Ok(())
+}
+
+// The register of the default bindings, for a session that can be started so.
+fn first_register<C: Drop>(
+    alloc: Global,
+    mode: RunMode,
+    cols: usize,
+    rows: usize,
+) -> Result<EventTable<FixedSeed, C>, MinusError>
+    ensures default { IfOk result (λ register. register_of register ≡ default_register) }
+    ensures refused { IfErr result (λ e. IsFormRefused (refusal_of e) mode cols rows) }
+{
+    check_start(mode, cols, rows)?;
+    let register = EventTable::default_bindings(alloc)?;
+    Ok(register)
+}
+
+/// Starts a pager over a sink: [`init_core_with`], whose errors it has, with a register of the default bindings where
+/// the pager was given no classifier.
 pub fn init_core<S: OutputSink + Drop>(
     pager: Pager,
     mode: RunMode,
@@ -247,10 +311,20 @@ pub fn init_core<S: OutputSink + Drop>(
     cols: usize,
     rows: usize,
 ) -> Result<Session<S>, StartError<S>>
-    ensures started { IfOk result (λ s. IsStart S.seen pager mode cols rows (record {}) sink s) }
+    ensures started { IfOk result (λ s. IsFirstStart IsDefault S.seen pager mode cols rows sink s) }
     ensures refused { IfErr result (λ e. IsRefusedStart S.seen pager mode cols rows sink e) }
 {
-    init_core_with(pager, mode, sink, cols, rows, StandIn)
+    match first_register(pager.alloc, mode, cols, rows) {
+        Ok(register) => {
+            let classifier = Classifier::Register(register);
+            init_core_with(pager, mode, sink, cols, rows, classifier)
+        }
+        Err(cause) => Err(StartErrorOf {
+            sink,
+            pager: Some(pager),
+            cause,
+        }),
+    }
 }
 
 /// Starts a pager in the mode for a text that grows: [`init_core`] with `Dynamic`, whose errors it has but for the
@@ -261,7 +335,7 @@ pub fn dynamic_paging<S: OutputSink + Drop>(
     cols: usize,
     rows: usize,
 ) -> Result<Session<S>, StartError<S>>
-    ensures started { IfOk result (λ s. IsStart S.seen pager RunMode.Dynamic cols rows (record {}) sink s) }
+    ensures started { IfOk result (λ s. IsFirstStart IsDefault S.seen pager RunMode.Dynamic cols rows sink s) }
     ensures refused { IfErr result (λ e. IsRefusedStart S.seen pager RunMode.Dynamic cols rows sink e) }
 {
     init_core(pager, RunMode::Dynamic, sink, cols, rows)

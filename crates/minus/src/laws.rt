@@ -1,6 +1,12 @@
 //! Laws over the definitions of steps.
 ghost use Rattle.minus.specs.Drawn.{DrawingsJoin};
 ghost use Rattle.minus.specs.Works.{ResizesAreFull, HelpLeavesNoTrace};
+ghost use Rattle.minus.specs.Core.{seen_of};
+ghost use Rattle.minus.specs.DefaultKeys.{EventsAskByTheTable, JMovesByThePrefix};
+ghost use Rattle.minus_input.specs.DefaultClassifier.{IsDefault};
+
+use crate::input::{Classifier, InputClassifier, KeptAction};
+use crate::session::Session;
 
 /// A law: what changes the size of the terminal is drawn in full.
 pub fn resizes_are_full<K>()
@@ -15,4 +21,16 @@ pub fn drawings_join()
 /// A law: help that is opened and left at once leaves all as it was, but for the message, which is gone.
 pub fn help_leaves_no_trace<K>()
     ensures { HelpLeavesNoTrace K }
+{}
+
+/// A law: as long as a session's classifier is a register of the default bindings, an event asks for what their table
+/// has for it, and for nothing else.
+pub fn events_ask_by_the_table<S>(session: &Session<S>)
+    ensures { EventsAskByTheTable ⟦<Classifier<KeptAction> as InputClassifier>⟧.says IsDefault (seen_of session.now) }
+{}
+
+/// A law: as long as a session's classifier is a register of the default bindings, the key `j` moves the mark down by
+/// as many rows as the typed prefix says, by one where it says none.
+pub fn j_moves_by_the_prefix<S>(session: &Session<S>)
+    ensures { JMovesByThePrefix ⟦<Classifier<KeptAction> as InputClassifier>⟧.says IsDefault (seen_of session.now) }
 {}

@@ -1,11 +1,10 @@
 //! A pager that is not yet on show.
 ghost use Rattle.std.specs.Prelude.{◌≡◌, ◌++◌, ◌∷◌, [], map, OnOk, OnErr, IfErr, IfOk};
 ghost use Rattle.minus.specs.Reads.{wanted_of};
-ghost use Rattle.minus.specs.Table.{sets_data, appends_data};
+ghost use Rattle.minus.specs.Table.{sets_data, appends_data, sets_classifier};
 
 use crate::commands::CommandOf;
-use crate::parts::Parts;
-use crate::stand_in::StandIns;
+use crate::parts::{Boxes, Parts};
 use minus_term::MinusError;
 use std::alloc::{AllocError, Global};
 use std::fmt;
@@ -18,8 +17,8 @@ pub struct PagerOf<P: Parts> {
     pub(crate) queue: Vec<CommandOf<P>>,
 }
 
-/// A pager to which no classifier is given.
-pub type Pager = PagerOf<StandIns>;
+/// A pager whose session keeps a register of bindings, or a classifier in a box.
+pub type Pager = PagerOf<Boxes>;
 
 impl<P: Parts> PagerOf<P> {
     /// A pager that was told nothing.
@@ -71,6 +70,21 @@ impl<P: Parts> PagerOf<P> {
         ensures memory { IfErr result (λ e. e ≡ MinusError.Memory) }
     {
         self.queue(CommandOf::AppendData(String::from_str(self.alloc, text)?))?;
+        Ok(())
+    }
+
+    /// Lets this classifier decide about the events of the session.
+    ///
+    /// # Errors
+    ///
+    /// [`MinusError::Memory`] where memory ran out, nothing has changed, and the classifier is dropped.
+    pub fn set_input_classifier(&mut self, classifier: P::Classifier) -> Result<(), MinusError>
+        ensures ok { OnOk result (map wanted_of self.new.queue.items
+            ≡ map wanted_of self.old.queue.items ++ sets_classifier classifier ∷ []) }
+        ensures err { OnErr result (self.new.queue.items ≡ self.old.queue.items) }
+        ensures memory { IfErr result (λ e. e ≡ MinusError.Memory) }
+    {
+        self.queue(CommandOf::SetInputClassifier(classifier))?;
         Ok(())
     }
 }

@@ -1,7 +1,7 @@
 //! What a session keeps of its caller's.
 //!
 //! A function of your own on a session is written over the kinds: `<P: Calls>(session: &mut Core<S, P>)`.
-use crate::input::InputClassifier;
+use crate::input::{Classifier, InputClassifier, KeptAction};
 use std::marker::PhantomData;
 
 /// The kinds of what a session keeps of its caller's.
@@ -23,3 +23,6 @@ impl<K: Drop> Parts for Kinds<K> {
 }
 
 impl<K: InputClassifier> Calls for Kinds<K> {}
+
+/// The kinds of a session that keeps a register of bindings, or a classifier in a box.
+pub type Boxes = Kinds<Classifier<KeptAction>>;

@@ -1,9 +1,8 @@
 //! Lists of inputs that are worked off.
 use crate::answer::Answer;
 use crate::commands::InputOf;
-use crate::parts::{Calls, Parts};
+use crate::parts::{Boxes, Calls, Parts};
 use crate::session::Core;
-use crate::stand_in::StandIns;
 use minus_term::{MinusError, OutputSink};
 
 /// What came of a list of inputs, over the kinds of what the session keeps.
@@ -20,8 +19,8 @@ pub struct RanOf<P: Parts> {
     pub rest: Vec<InputOf<P>>,
 }
 
-/// What came of a list of inputs to a session to which no classifier was given.
-pub type Ran = RanOf<StandIns>;
+/// What came of a list of inputs to a session that keeps a register of bindings, or a classifier in a box.
+pub type Ran = RanOf<Boxes>;
 
 // How far a list of inputs was worked off.
 #[derive(Drop)]

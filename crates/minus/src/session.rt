@@ -11,9 +11,8 @@ use crate::commands::InputOf;
 use crate::input::{InputClassifier, InputEvent};
 use crate::outcome::{Outcome, outcome_of};
 use crate::page::Page;
-use crate::parts::{Calls, Parts};
+use crate::parts::{Boxes, Calls, Parts};
 use crate::request::Request;
-use crate::stand_in::StandIns;
 use crate::state::{ExitStrategy, PagerState, RunMode};
 use crate::status::Status;
 use crate::step_drawing::{Drawing, push_step};
@@ -53,8 +52,8 @@ impl<S: Drop, P: Parts> Drop for Core<S, P> {
     }
 }
 
-/// A pager over a sink, to which no classifier was given.
-pub type Session<S> = Core<S, StandIns>;
+/// A pager over a sink that keeps a register of bindings, the default one at first, or a classifier in a box.
+pub type Session<S> = Core<S, Boxes>;
 
 // The prompt row: a new one, or the one that is kept.
 fn row_of<'a>(new: &'a Option<String>, kept: &'a str) -> &'a str

@@ -4,3 +4,8 @@ pub mod FaultLaws
 pub mod ReadingLaws
 pub mod DescriptionLaws
 pub mod HelpTableLaws
+pub mod NumberLaws
+pub mod RegisterLaws
+pub mod DescribedLaws
+pub mod HelpEntriesLaws
+pub mod DefaultBindingsLaws

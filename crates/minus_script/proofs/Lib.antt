@@ -1,5 +1,4 @@
 -- Laws of the definitions.
-pub mod NumberLaws
 pub mod EscapeLaws
 pub mod ScriptLaws
 pub mod PrintedLaws

@@ -1,5 +1,4 @@
 -- What the contracts cite.
-pub mod Number
 pub mod Escapes
 pub mod Script
 pub mod ScriptLines

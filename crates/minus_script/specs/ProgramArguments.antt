@@ -1,6 +1,6 @@
 -- The program's arguments.
 use Rattle.std.specs.Prelude.{ℕ, List, [], ◌∷◌, Option, Some, None, bytes_eq, codes, if◌then◌else◌}
-use Rattle.minus_script.specs.Number.{usize_of}
+use Rattle.minus_input.specs.Number.{usize_of}
 use Rattle.minus_script.specs.declared.arguments.Mode.{Mode}
 use Rattle.minus_script.specs.declared.arguments.Mode.TheVariants.{Page, Bytes}
 use Rattle.minus_script.specs.declared.arguments.Arguments.{Arguments}

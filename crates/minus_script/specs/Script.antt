@@ -11,7 +11,7 @@ use Rattle.minus_text.specs.declared.line_numbers.LineNumbers.TheVariants.{Alway
 use Rattle.minus.specs.declared.stand_in.StandIn.{StandIn}
 use Rattle.minus.specs.Reads.{Told, a_command, an_event}
 use Rattle.minus.specs.Table.{Wanted, sets_data, appends_data, moves_mark, resizes, sets_prompt, sends_message, follows, shows_prompt, sets_numbers, sets_wrapping}
-use Rattle.minus_script.specs.Number.{usize_of}
+use Rattle.minus_input.specs.Number.{usize_of}
 use Rattle.minus_script.specs.Escapes.{unescaped}
 
 -- the parts but an empty last one

@@ -3,7 +3,6 @@
 
 mod arguments;
 mod fault;
-mod number;
 mod printed;
 mod program;
 mod reading;
@@ -12,7 +11,6 @@ mod script;
 
 pub use arguments::{Arguments, Mode, parse_arguments};
 pub use fault::{ScriptFault, Stream};
-pub use number::{parse_usize, usize_of_is_what_parse_reads};
 pub use printed::{print_row, print_rows, printed_rows_read_back, write_out};
 pub use program::{ProgramFault, run_to_end, run_words};
 pub use reading::read_script;

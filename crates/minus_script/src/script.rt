@@ -10,7 +10,7 @@ ghost use Rattle.minus.specs.Reads.{told_of, wanted_of};
 ghost use Rattle.minus.specs.Table.{sets_data, appends_data, moves_mark, sets_prompt, sends_message, follows, shows_prompt, sets_numbers, sets_wrapping};
 
 use crate::fault::ScriptFault;
-use crate::number::parse_usize;
+use minus_input::parse_usize;
 use minus::{
     Command, Event, Input, InputEvent, KeyCode, KeyEvent, KeyEventKind, KeyEventState,
     KeyModifiers, LineNumbers,

@@ -28,7 +28,7 @@ returns-clause-started g c =
       started = record {
         can = record { runs = c.requires.runs; size = first.state.sized };
         on_terminal = shown.terminal;
-        begins = rw (← c.requires.control) refl;
+        begins = rw (← c.requires.control, c.first_classifier-classifier.ensures) refl;
         drawn = rw (← c.requires.control) (first_drawn _ _ _ _ (control_of first.state) first.state.sized.some_rows c.deref.ensures.value first.drawn shown.ok);
       };
       stays = shown.stays;

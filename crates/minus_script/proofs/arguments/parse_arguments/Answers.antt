@@ -1,6 +1,6 @@
 -- The three words are all that there are.
 use Rattle.std.proofs.Common.{◌≡◌, ◌<◌, ◌≤◌, List, String, Global, [], ◌∷◌, length, get_or, refl, sym, ap, arith, ◌∙◌}
-use Rattle.minus_script.specs.Number.{usize_of}
+use Rattle.minus_input.specs.Number.{usize_of}
 use Rattle.minus_script.specs.ProgramArguments.{mode_named}
 use Rattle.minus_script.proofs.arguments.parse_arguments.Goals as goal
 
