@@ -30,7 +30,7 @@ use Rattle.minus_text.proofs.LinesLaws.{open_at}
 use Rattle.minus_text.proofs.PushedLaws.{lines_pushed, keeps_wrap}
 use Rattle.minus_text.proofs.FoundFromLaws.{from_behind}
 use Rattle.minus_text.proofs.DocumentLaws.{length-rows_of_lines, length-first_rows}
-use Rattle.minus_text.proofs.ScreenLaws.{form-unfinished}
+use Rattle.minus_text.proofs.ScreenLaws.{form-unfinished, from_start}
 
 -- the rows behind which a push forms
 pub first_is : (d : Document) (plan : Plan) (start : Restart) → (plan.keeps ≡ true → plan.wrap ≡ wrap_in d) → IsRestartOf d.text plan start → start.finished.rows ≡ first_formed d plan
@@ -86,6 +86,20 @@ tells_push text piece wrap rows firsts finished n b start f r d plan v h w k is 
       longest_told = ew ∙ is.its_longest ∙ ap (λ t. longest_of (lines t)) ej;
       clean_told = ec ∙ clean_is text wrap rows firsts finished n b plan h ∙ ap (λ t. is_clean t plan) v;
     }
+
+-- what forming a whole text tells
+pub tells_whole : (text : List ℕ) (wrap : Wrap) (f : Formed) (r : FormatResult) → IsFormOf wrap [] text from_start f → r.lines_formatted ≡ length f.first_rows → r.rows_formatted ≡ length f.rows.items → r.num_unterminated ≡ length f.rows.items - f.finished.rows
+    → r.append_search_idx.keys ≡ [] → r.lines_to_row_map ≡ f.first_rows → r.max_line_length ≡ f.longest → r.clean_append ≡ true → Tells r None (record { text = text; wrap = wrap }) 0 true
+unfolding rows_in
+tells_whole text wrap f r is el er eu es em ew ec = record {
+  lines_told = el ∙ ap length is.its_map ∙ length-first_rows wrap 0 (lines text);
+  rows_told = omega (arith, er, is.its_count);
+  unfinished_told = omega (arith, eu, (form-unfinished wrap [] text from_start f is).1);
+  matches_told = es;
+  map_told = em ∙ is.its_map;
+  longest_told = ew ∙ is.its_longest;
+  clean_told = ec;
+}
 
 -- ---- the rows that match
 

@@ -21,7 +21,7 @@ use Rattle.minus_text.specs.declared.formed.Plan.{Plan}
 use Rattle.minus_text.specs.Layouts.{own_places, wrap_of}
 use Rattle.minus_text.specs.Lines.{Cut, cut, whole, finished_lines, unfinished_line}
 use Rattle.minus_text.specs.Document.{Document, rows_of_lines, first_rows, longest_of, rows_of, line_map, line_count, longest, unfinished_rows, open_rows}
-use Rattle.minus_text.specs.Kept.{moved, bytes_of, line_stored, closed_stored, open_stored, stored_from, Reaches, GoesOn, IsRestart, IsFormOf, IsFormed, IsRestartOf, kept_lines, line_going_on, piece_behind, at_start}
+use Rattle.minus_text.specs.Kept.{moved, bytes_of, line_stored, closed_stored, open_stored, stored_from, Reaches, GoesOn, IsRestart, IsFormOf, IsFormed, IsPrepared, IsRestartOf, kept_lines, line_going_on, piece_behind, at_start}
 use Rattle.minus_text.proofs.LinesLaws.{cut-append, lines-cut, open_at, lines-le-bytes}
 use Rattle.minus_text.proofs.DocumentLaws.{length-rows_of_lines-append, length-rows_of_lines, first_rows-append, length-first_rows, first_rows-ascend, longest_of-append}
 use Rattle.minus_text.proofs.FormLaws.{length-places, Reaches-trans}
@@ -286,3 +286,21 @@ pub form-unfinished : (wrap : Wrap) (line piece : List ℕ) (start : Restart) (f
 form-unfinished wrap line piece start f h =
     let all = length-rows_of_lines (line ++ piece) wrap in
     (omega (arith, all, h.its_count, h.its_finish.by_rows), omega (arith, all, h.its_count, h.its_finish.by_rows))
+
+-- ---- a text formed whole
+
+-- before its first line
+abbrev pub from_start : Restart
+from_start = record { finished = at_start; rows = 0; bytes = 0; border = record { bytes = 0; columns = 0 } }
+
+pub start_restarts : (wrap : Wrap) → IsRestart wrap [] from_start
+start_restarts wrap = record { text = IsUtf8-nil; one_line = refl; goes_on = start_goes_on wrap [] IsUtf8-nil; measured = no_border [] IsUtf8-nil; behind = omega arith }
+
+pub whole_form : (text : List ℕ) (wrap : Wrap) (f : Formed) → IsUtf8 text → IsPrepared wrap text from_start f → IsFormOf wrap [] text from_start f
+whole_form text wrap f u p = p.its_form [] text (start_restarts wrap) u refl
+
+-- what is formed of a whole text is what is kept beside it
+pub whole_formed : (text : List ℕ) (wrap : Wrap) (rows : List Span) (firsts : List ℕ) (f : Formed) → IsFormOf wrap [] text from_start f → rows ≡ f.rows.items → firsts ≡ f.first_rows → IsFormed text wrap rows firsts f.finished f.longest f.border
+whole_formed text wrap rows firsts f k er em =
+    let reach : Reaches wrap at_start [] at_start = record { by_lines = refl; by_rows = refl; by_bytes = refl; longest_line = refl } in
+    push_formed [] text text wrap [] rows [] firsts from_start [] [] text f f.longest (front_anew [] text wrap [] [] from_start reach (start_restarts wrap)) refl k er em (omega arith)

@@ -104,21 +104,19 @@ impl Model for Screen {
     ghost invariant = { λ s. AreFoundIn 0 (rows_of s.store) (found_rows s.found) };
 }
 
-// A text in a layout, with what a term finds in it.
+// A copy of a text in a layout, with what a term finds in it.
 fn formed(
     alloc: Global,
     text: &str,
     layout: Layout,
     term: Option<Term<'_>>,
 ) -> Result<(Screen, FormatResult), AllocError>
-    ensures ok { IfOk result (λ r. r.0 ≡ searched (pattern_of term.entry) (record { text = text.now; layout = layout })) }
-    ensures told { IfOk result (λ r. Tells r.1 (pattern_of term.entry) (record { text = text.now; wrap = wrap_of layout (length (lines text.now)) }) 0 true) }
+    ensures ok { IfOk result (λ r. r.0
+        ≡ searched (pattern_of term.entry) (record { text = text.now; layout = layout })) }
+    ensures told { IfOk result (λ r. Tells r.1 (pattern_of term.entry)
+        (record { text = text.now; wrap = wrap_of layout (length (lines text.now)) }) 0 true) }
 {
-    let mut store = Store::new(alloc);
-    let told = store.set_text(alloc, text, layout)?;
-    let found = FoundRows::of_store(alloc, term, &store)?;
-    let matches = found.numbers(alloc)?;
-    Ok((Screen { store, found }, told.with_matches(matches)))
+    Screen::of_text(alloc, String::from_str(alloc, text)?, layout, term)
 }
 
 impl Screen {
@@ -130,6 +128,41 @@ impl Screen {
             store: Store::new(alloc),
             found: FoundRows::new(alloc),
         }
+    }
+
+    /// A text in a layout, searched for a term, and what forming it tells. The text is taken as it is, and not
+    /// copied.
+    ///
+    /// # Errors
+    ///
+    /// [`AllocError`] where there is no memory for its rows or for what is found in them.
+    pub fn of_text(
+        alloc: Global,
+        text: OwnedTextBlock,
+        layout: Layout,
+        term: Option<Term<'_>>,
+    ) -> Result<(Screen, FormatResult), AllocError>
+        ensures ok { IfOk result (λ r. r.0
+            ≡ searched (pattern_of term.entry) (record { text = string_bytes text; layout = layout })) }
+        ensures told { IfOk result (λ r. Tells r.1 (pattern_of term.entry)
+            (record { text = string_bytes text; wrap = wrap_of layout (length (lines (string_bytes text))) }) 0 true) }
+    {
+        let (store, told) = Store::of_text(alloc, text, layout)?;
+        let found = FoundRows::of_store(alloc, term, &store)?;
+        let matches = found.numbers(alloc)?;
+        Ok((Screen { store, found }, told.with_matches(matches)))
+    }
+
+    /// Makes room for this number of bytes of text more, so that pushes of that number of bytes take no more memory for
+    /// the text itself; their rows take their own. Nothing on show changes, whether there is room or not.
+    ///
+    /// # Errors
+    ///
+    /// [`AllocError`] where there is no memory for it.
+    pub fn reserve(&mut self, bytes: usize) -> Result<(), AllocError>
+        ensures { self.new ≡ self.old }
+    {
+        self.store.reserve(bytes)
     }
 
     /// How many rows there are.

@@ -178,6 +178,13 @@ fn told(alloc: Global, start: Restart, formed: Formed, clean: bool) -> FormatRes
     }
 }
 
+// How the lines of a text fill rows in a layout.
+fn wrap_for(alloc: Global, text: &str, layout: Layout) -> Wrap
+    ensures { result ≡ wrap_of layout (length (lines text.now)) }
+{
+    Store::new(alloc).plan_anew(text, layout).wrap
+}
+
 impl Store {
     // A store of no text, for no columns, with wrapping on and numbers off.
     pub(crate) fn new(alloc: Global) -> Self
@@ -192,6 +199,46 @@ impl Store {
             longest: 0,
             border: Border::START,
         }
+    }
+
+    // A text in a layout, and what forming it tells. The text is taken as it is, and not copied.
+    pub(crate) fn of_text(
+        alloc: Global,
+        text: String,
+        layout: Layout,
+    ) -> Result<(Store, FormatResult), AllocError>
+        ensures ok { IfOk result (λ r. r.0 ≡ record { text = string_bytes text; layout = layout }) }
+        ensures told { IfOk result (λ r. Tells r.1 None
+            (record { text = string_bytes text; wrap = wrap_of layout (length (lines (string_bytes text))) }) 0 true) }
+    {
+        let wrap = wrap_for(alloc, &text, layout);
+        let mut rows = Vec::new(alloc);
+        let mut first_rows = LinesRowMap::new(alloc);
+        let formed = form_end(
+            alloc,
+            &text,
+            &mut rows,
+            &mut first_rows,
+            Restart::START,
+            wrap,
+        )?;
+        let store = Store {
+            text,
+            layout,
+            rows,
+            first_rows,
+            finished: formed.finished,
+            longest: formed.longest,
+            border: formed.border,
+        };
+        Ok((store, told(alloc, Restart::START, formed, true)))
+    }
+
+    // Makes room for this number of bytes of text more.
+    pub(crate) fn reserve(&mut self, bytes: usize) -> Result<(), AllocError>
+        ensures { self.new ≡ self.old }
+    {
+        self.text.reserve(bytes)
     }
 
     // How many rows there are.
@@ -591,23 +638,5 @@ impl Store {
     {
         let plan = self.plan_anew("", layout);
         Ok(self.push_by(alloc, "", layout, plan)?)
-    }
-
-    // Puts a text in the place of all that there is, in a layout. An `Err` changes nothing.
-    pub(crate) fn set_text(
-        &mut self,
-        alloc: Global,
-        text: &str,
-        layout: Layout,
-    ) -> Result<FormatResult, AllocError>
-        ensures ok { OnOk result (self.new ≡ record { text = text.now; layout = layout }) }
-        ensures told { IfOk result (λ r. Tells r None (record { text = text.now; wrap = wrap_of layout (length (lines text.now)) }) 0 true) }
-        ensures err { OnErr result (self.new ≡ self.old) }
-    {
-        let mut fresh = Store::new(alloc);
-        let plan = fresh.plan_anew(text, layout);
-        let told = fresh.push_by(alloc, text, layout, plan)?;
-        *self = fresh;
-        Ok(told)
     }
 }
