@@ -1,5 +1,5 @@
 //! What is on show, and how.
-ghost use Rattle.std.specs.Prelude.{◌≡◌, ◌↔◌, IsTrue, None, OnOk, OnErr, IfOk, IfErr};
+ghost use Rattle.std.specs.Prelude.{◌≡◌, ◌↔◌, IsTrue, None, string_bytes, OnOk, OnErr, IfOk, IfErr};
 ghost use Rattle.minus_state.specs.Aside.{aside_of};
 ghost use Rattle.minus_state.specs.NextTexts.{next_document, aside_with, IsNext};
 ghost use Rattle.minus_state.specs.ShownPrompt.{has_newline};
@@ -32,15 +32,12 @@ pub fn is_size(cols: usize, rows: usize) -> bool
 const PROMPT: &str = "minus";
 
 // A text with its rows in a layout, searched for no term.
-fn formed(alloc: Global, text: &str, layout: Layout) -> Result<Screen, MinusError>
-    ensures ok { IfOk result (λ s. s ≡ searched None (record { text = text.now; layout = layout })) }
+fn formed(alloc: Global, text: String, layout: Layout) -> Result<Screen, MinusError>
+    ensures ok { IfOk result (λ s. s ≡ searched None (record { text = string_bytes text; layout = layout })) }
     ensures memory { IfErr result (λ e. e ≡ MinusError.Memory) }
 {
-    let mut screen = Screen::new(alloc);
-    match screen.set_text(alloc, text, layout, None) {
-        Ok(_) => Ok(screen),
-        Err(cause) => Err(cause),
-    }
+    let (screen, _) = Screen::of_text(alloc, text, layout, None)?;
+    Ok(screen)
 }
 
 // Puts a text that was formed in its place, or where one is put aside. An `Err` changes nothing.
@@ -184,7 +181,7 @@ impl PagerState {
             return Err(MinusError::BadSize(cols, rows));
         }
         Ok(PagerState {
-            screen: formed(alloc, "", Layout::plain(cols))?,
+            screen: formed(alloc, String::new(alloc), Layout::plain(cols))?,
             line_numbers: LineNumbers::Disabled,
             upper_mark: 0,
             left_mark: 0,

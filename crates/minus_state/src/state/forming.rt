@@ -5,7 +5,7 @@ use crate::frame::Frame;
 use crate::state::{PagerState, formed, is_size};
 use minus_term::MinusError;
 use minus_text::{Layout, LineNumbers, prefix_columns};
-use std::alloc::Global;
+use std::alloc::{AllocError, Global};
 
 impl PagerState {
     ghost use Rattle.std.specs.Prelude.{◌≡◌, ◌↔◌, ◌+◌, ◌-◌, ◌==◌, ◌++◌, None, nat_le, length, encode_utf8, string_bytes, if◌then◌else◌, IfOk, IfErr, OnOk};
@@ -109,12 +109,21 @@ impl PagerState {
         self.moved(mark.min(self.top()), Setting::Same)
     }
 
+    // A copy of the text on show.
+    pub(crate) fn copied_text(&self, alloc: Global) -> Result<String, AllocError>
+        requires { IsFormed self.now }
+        ensures { IfOk result (λ t. string_bytes t ≡ (control_of self.now).text) }
+    {
+        String::from_str(alloc, self.screen.orig_text())
+    }
+
     // The state with a text in a layout, which is formed anew.
-    fn formed_anew(&self, alloc: Global, text: &str, layout: Layout) -> Result<Change, MinusError>
+    fn formed_anew(&self, alloc: Global, text: String, layout: Layout) -> Result<Change, MinusError>
         requires formed { IsFormed self.now }
         requires cols { layout.cols ≡ self.now.cols }
         ensures next { IfOk result (λ c. IsChange (control_of self.now) c
-            (record (control_of self.now) { text = text.now; numbers = layout.numbers; wrapping = layout.wrapping })) }
+            (record (control_of self.now)
+            { text = string_bytes text; numbers = layout.numbers; wrapping = layout.wrapping })) }
         ensures redraw { IfOk result (λ c. c.redraw ≡ Redraw.Whole) }
         ensures memory { IfErr result (λ e. e ≡ MinusError.Memory) }
     {
@@ -123,10 +132,10 @@ impl PagerState {
     }
 
     // The state with another text.
-    pub(crate) fn with_text(&self, alloc: Global, text: &str) -> Result<Change, MinusError>
+    pub(crate) fn with_text(&self, alloc: Global, text: String) -> Result<Change, MinusError>
         requires { IsFormed self.now }
         ensures next { IfOk result (λ c. IsChange (control_of self.now) c
-            (record (control_of self.now) { text = text.now })) }
+            (record (control_of self.now) { text = string_bytes text })) }
         ensures redraw { IfOk result (λ c. c.redraw ≡ Redraw.Whole) }
         ensures memory { IfErr result (λ e. e ≡ MinusError.Memory) }
     {
@@ -149,7 +158,7 @@ impl PagerState {
             numbers,
             ..self.layout()
         };
-        self.formed_anew(alloc, self.screen.orig_text(), layout)
+        self.formed_anew(alloc, self.copied_text(alloc)?, layout)
     }
 
     /// The state with its lines wrapped, or not, for which the text is formed anew.
@@ -168,7 +177,7 @@ impl PagerState {
             wrapping,
             ..self.layout()
         };
-        self.formed_anew(alloc, self.screen.orig_text(), layout)
+        self.formed_anew(alloc, self.copied_text(alloc)?, layout)
     }
 
     /// The state in another size, columns and rows, for which the text is formed anew.
@@ -188,12 +197,13 @@ impl PagerState {
         if !is_size(cols, rows) {
             return Err(MinusError::BadSize(cols, rows));
         }
+        let text = self.copied_text(alloc)?;
         let layout = Layout {
             cols,
             ..self.layout()
         };
         Ok(Change {
-            text: NextText::Whole(formed(alloc, self.screen.orig_text(), layout)?),
+            text: NextText::Whole(formed(alloc, text, layout)?),
             mark: self.upper_mark,
             cols,
             rows,

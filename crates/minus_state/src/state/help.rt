@@ -86,7 +86,7 @@ impl PagerState {
     fn switched(
         &self,
         alloc: Global,
-        text: &str,
+        text: String,
         layout: Layout,
         mark: usize,
         switch: HelpSwitch,
@@ -94,7 +94,7 @@ impl PagerState {
         requires formed { IsFormed self.now }
         requires cols { layout.cols ≡ self.now.cols }
         ensures next { IfOk result (λ c. IsChange (control_of self.now) c (record (control_of self.now) {
-          text = text.now;
+          text = string_bytes text;
           numbers = layout.numbers;
           wrapping = layout.wrapping;
           mark = mark;
@@ -123,7 +123,7 @@ impl PagerState {
         ensures { IfOk result (λ s. aside_in s ≡ put_aside (control_of self.now)) }
     {
         Ok(Saved {
-            text: String::from_str(alloc, self.screen.orig_text())?,
+            text: self.copied_text(alloc)?,
             wrapping: self.line_wrapping(),
             numbers: self.line_numbers,
             upper_mark: self.upper_mark,
@@ -134,9 +134,10 @@ impl PagerState {
     }
 
     // The state with help opened on a text.
-    fn helped(&self, alloc: Global, text: &str) -> Result<Change, MinusError>
+    fn helped(&self, alloc: Global, text: String) -> Result<Change, MinusError>
         requires { IsFormed self.now }
-        ensures next { IfOk result (λ c. IsChange (control_of self.now) c (opened (control_of self.now) text.now)) }
+        ensures next { IfOk result (λ c. IsChange (control_of self.now) c
+            (opened (control_of self.now) (string_bytes text))) }
         ensures redraw { IfOk result (λ c. c.redraw ≡ Redraw.Whole) }
         ensures memory { IfErr result (λ e. e ≡ MinusError.Memory) }
     {
@@ -167,13 +168,14 @@ impl PagerState {
             wrapping: saved.wrapping,
             numbers: saved.numbers,
         };
+        let text = String::from_str(alloc, &saved.text)?;
         let switch = HelpSwitch {
             prompt: String::from_str(alloc, &saved.prompt)?,
             follow: saved.follow,
             left: saved.left_mark,
             saved: None,
         };
-        self.switched(alloc, &saved.text, layout, saved.upper_mark, switch)
+        self.switched(alloc, text, layout, saved.upper_mark, switch)
     }
 
     /// The state with help left where it is open.
@@ -227,10 +229,7 @@ impl PagerState {
         if let Some(saved) = &self.saved {
             return self.unhelped(alloc, saved);
         }
-        match text {
-            Some(text) => self.helped(alloc, &text),
-            None => self.helped(alloc, ""),
-        }
+        self.helped(alloc, text.unwrap_or(String::new(alloc)))
     }
 
     /// The state with another text; while help is open, with another one put aside.
@@ -248,7 +247,7 @@ impl PagerState {
         if self.help_open() {
             return Ok(self.change_to(NextText::SavedWhole(text), Redraw::Stays));
         }
-        self.with_text(alloc, &text)
+        self.with_text(alloc, text)
     }
 
     /// The state with a text added to its text, and the mark at the last page where the text is followed; while help
@@ -286,7 +285,7 @@ impl PagerState {
         if self.help_open() {
             return Ok(());
         }
-        let change = self.helped(alloc, text)?;
+        let change = self.helped(alloc, String::from_str(alloc, text)?)?;
         self.place(alloc, change)
     }
 

@@ -8,7 +8,27 @@ use std::alloc::Global;
 impl PagerState {
     ghost use Rattle.std.specs.Prelude.{◌≡◌, ◌++◌, OnOk, OnErr, IfOk, IfErr};
     ghost use Rattle.minus_state.specs.Appending.{append_style};
+    ghost use Rattle.minus_state.specs.Aside.{aside_of};
     ghost use Rattle.minus_state.specs.States.{control_of, IsFormed};
+
+    /// Makes room for this number of bytes of text more: in the text on show, or, while help is open, in the one that
+    /// is saved. All that a caller reads stays as it is, whether there is room or not. The room is used by appends; it
+    /// goes where the text is formed again, as at another size.
+    ///
+    /// # Errors
+    ///
+    /// [`MinusError::Memory`] where there is no memory for it.
+    pub fn reserve(&mut self, bytes: usize) -> Result<(), MinusError>
+        ensures saved { aside_of self.new.saved ≡ aside_of self.old.saved }
+        ensures rest { self.new ≡ record self.old { saved = self.new.saved } }
+        ensures memory { IfErr result (λ e. e ≡ MinusError.Memory) }
+    {
+        match &mut self.saved {
+            Some(saved) => saved.text.reserve(bytes)?,
+            None => self.screen.reserve(bytes)?,
+        }
+        Ok(())
+    }
 
     /// Adds this text at the end of the text on show, and answers how. The mark stays where it is.
     ///
