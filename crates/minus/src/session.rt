@@ -122,6 +122,22 @@ impl<S, P: Parts> Core<S, P> {
         Page::of_change(self.alloc, &self.state, &change)
     }
 
+    /// Makes room for this number of bytes of text more, so that a program that knows how much it appends takes the
+    /// memory for it once. The session stays as it is, in each status, whether there is room or not; nothing is
+    /// written. The room goes where the text is formed again: at another text, another size, numbers or wrapping, and
+    /// as help is opened or left.
+    ///
+    /// # Errors
+    ///
+    /// [`MinusError::Memory`] where there is no memory for it.
+    pub fn reserve(&mut self, bytes: usize) -> Result<(), MinusError>
+        ensures seen { seen_of self.new ≡ seen_of self.old }
+        ensures sink { self.new.sink ≡ self.old.sink }
+        ensures memory { IfErr result (λ e. e ≡ MinusError.Memory) }
+    {
+        self.state.reserve(bytes)
+    }
+
     // Draws the page that a change leads to into the buffer of drawings: its prompt row is this one, or else the one
     // drawn last.
     fn draw(&mut self, change: &Change, row: &Option<String>) -> Result<(), MinusError>
