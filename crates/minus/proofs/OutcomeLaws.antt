@@ -1,5 +1,5 @@
 -- What comes of a request, once its change is finished.
-use Rattle.std.proofs.Common.{◌≡◌, ℕ, ◌-◌, min, length, List, [], Bool, true, false, Option, None, Some, String, Global, string_bytes, refl, sym, ap, subst, ◌∙◌}
+use Rattle.std.proofs.Common.{◌≡◌, ℕ, ◌-◌, min, length, List, [], Bool, true, Some, String, Global, string_bytes, sym, ap, subst, ◌∙◌}
 use Rattle.std.specs.Option.{option_map}
 use Rattle.minus_text.specs.Document.{Document, rows_of}
 use Rattle.minus_state.specs.declared.change.Change.{Change}
@@ -11,7 +11,7 @@ use Rattle.minus_state.specs.States.{control_of, IsFormed}
 use Rattle.minus_state.proofs.ChangeLaws.{document_next}
 use Rattle.minus.specs.declared.outcome.Outcome.{Outcome}
 use Rattle.minus.specs.Outcomes.{IsOutcome}
-use Rattle.minus.specs.Table.{Wanted, effect, handed, moved_by, changed_by, types_nothing, IsPossible}
+use Rattle.minus.specs.Table.{Wanted, effect, handed, moved_by, types_nothing, IsPossible}
 use Rattle.minus.proofs.TableLaws.{cleared_last, cleared_redraw, cleared_copies, cleared_exits}
 
 -- the mark after a change, at most the one at which its last page is full

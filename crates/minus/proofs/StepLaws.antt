@@ -1,5 +1,5 @@
 -- A step, from what its parts ensure.
-use Rattle.std.proofs.Common.{◌≡◌, ℕ, ◌≤◌, Bool, true, false, List, [], ◌∷◌, ◌||◌, length, map, Option, None, Some, String, Global, string_bytes, refl, sym, ap, subst, ◌∙◌, ◌<◌, arith}
+use Rattle.std.proofs.Common.{◌≡◌, ℕ, ◌≤◌, Bool, true, false, List, [], ◌∷◌, ◌||◌, length, Option, None, Some, String, Global, string_bytes, refl, sym, ap, subst, ◌∙◌, ◌<◌}
 use Rattle.std.specs.Io.KnownBytes.{Appends}
 use Rattle.std.specs.List.{Contains}
 use Rattle.std.proofs.KnownBytes.{Appends-nil}
@@ -22,12 +22,12 @@ use Rattle.minus.specs.declared.step_drawing.Drawing.{Drawing}
 use Rattle.minus.specs.Answers.{IsAnswer}
 use Rattle.minus.specs.Asked.{Asks, taken}
 use Rattle.minus.specs.Drawings.{ops_of_step}
-use Rattle.minus.specs.Drawn.{Drawn, BrokenOff, Leaves}
+use Rattle.minus.specs.Drawn.{Drawn, BrokenOff}
 use Rattle.minus.specs.Outcomes.{IsOutcome, ExitsWith}
 use Rattle.minus.specs.Reads.{Told}
 use Rattle.minus.specs.Seen.{Seen}
 use Rattle.minus.specs.Table.{Wanted, Exit, effect, changed_by, drawing_by, drawing_of, IsPossible}
-use Rattle.minus.specs.Works.{Work, work_of, after, worked, Exits, Worked, first, at_once, passed_in, some_full, is_full}
+use Rattle.minus.specs.Works.{Work, work_of, after, worked, Worked, first, at_once, passed_in, some_full, is_full}
 use Rattle.minus.specs.Steps.{IsStep, IsBrokenStep, IsBrokenExit}
 use Rattle.minus.proofs.TableLaws.{exit_still, resizes_full_lem}
 use Rattle.minus.proofs.CommandLaws.{drawn_on, step_drawn, step_broken}

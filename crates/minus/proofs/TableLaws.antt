@@ -8,8 +8,8 @@ use Rattle.minus.specs.Table.{Wanted, sets_data, appends_data, moves_mark, resiz
 use Rattle.minus.specs.Table.{sends_message, shows_prompt, follows, types, restores_prompt, redraws_prompt, redraws_page}
 use Rattle.minus.specs.Table.{sets_classifier, sets_numbers, sets_wrapping, shifts, starts_selection, updates_selection}
 use Rattle.minus.specs.Table.{clears_selection, copies_selection, shows_help}
-use Rattle.minus.specs.Table.{Exit, Effect, effect, moved, moved_by, changed_by, drawing_of, types_nothing}
-use Rattle.minus.specs.Works.{is_full, ResizesAreFull}
+use Rattle.minus.specs.Table.{Exit, Effect, effect, moved, moved_by, changed_by, types_nothing}
+use Rattle.minus.specs.Works.{ResizesAreFull}
 use Rattle.minus.specs.Starts.{text_taken, taken, taken_all, first_control}
 use Rattle.minus_state.specs.States.{at_start}
 use Rattle.minus_state.specs.declared.input.InputEvent.{InputEvent}

@@ -3,7 +3,7 @@ use Rattle.std.specs.Prelude.{◌≡◌, ℕ, List, Bool, false, Option, None, S
 use Rattle.minus_state.specs.declared.input.InputEvent.{InputEvent}
 use Rattle.minus_state.specs.declared.state.PagerState.{PagerState}
 use Rattle.minus_state.specs.Classifying.{Classifies}
-use Rattle.minus_state.specs.Control.{Control, Saved, cleared}
+use Rattle.minus_state.specs.Control.{Saved, cleared}
 use Rattle.minus_state.specs.States.{control_of, IsFormed}
 use Rattle.minus.specs.Reads.{answer_wanted, Told, a_command, an_event}
 use Rattle.minus.specs.Seen.{Seen}

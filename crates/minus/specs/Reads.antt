@@ -1,5 +1,5 @@
 -- What contracts read of the state, of commands and inputs.
-use Rattle.std.specs.Prelude.{ℕ, List, string_bytes, Option, None, Some}
+use Rattle.std.specs.Prelude.{string_bytes, Option, None, Some}
 use Rattle.std.specs.Option.{option_map}
 use Rattle.minus_term.specs.declared.event.Event.{Event}
 use Rattle.minus.specs.declared.commands.CommandOf.{CommandOf}

@@ -1,5 +1,5 @@
 -- Starts of sessions on their sinks.
-use Rattle.std.specs.Prelude.{◌≡◌, ℕ, List, map, Option, None, Some}
+use Rattle.std.specs.Prelude.{◌≡◌, ℕ, map, None, Some}
 use Rattle.minus_term.specs.Counts.{SinkSeen, Stays, Rises}
 use Rattle.minus_term.specs.Refusals.{refusal_of}
 use Rattle.minus.specs.declared.init.StartErrorOf.{StartErrorOf}

@@ -1,5 +1,5 @@
 -- The change is clamped last, and then the prefix goes, or stays.
-use Rattle.std.proofs.Common.{◌≡◌, Bool, true, false, refl, sym, subst, ◌∙◌}
+use Rattle.std.proofs.Common.{◌≡◌, Bool, true, refl, sym, subst}
 use Rattle.minus_state.specs.Changes.{IsChange}
 use Rattle.minus_state.specs.Control.{Control, clamp, cleared}
 use Rattle.minus_state.specs.States.{control_of}
