@@ -137,3 +137,24 @@ fn is_left_by_an_exit(alloc: Global) -> bool {
 fn an_exit_leaves_the_help_that_the_classifier_gives(rt: HostRuntime) {
     assert_holds(&rt, is_left_by_an_exit(rt.alloc()));
 }
+
+// Whether a session makes room for more text, and shows this page then.
+fn stays_with_room(session: &mut Offering, page: &[&str]) -> bool {
+    session.reserve(1_000).is_ok() && has_page(session, page)
+}
+
+// Whether a page stays as room is made for more of its text, and so does help, as room is made for more of the saved one.
+fn pages_stay_with_room(alloc: Global) -> bool {
+    let Some(mut session) = offering(alloc) else {
+        return false;
+    };
+    let open = InputOf::Event(Event::FocusGained);
+    let stays = stays_with_room(&mut session, &["a", "", PROMPT_ROW]);
+    let opens = leads_to(&mut session, open, true, &["one", "two", HELP_ROW]);
+    stays && opens && stays_with_room(&mut session, &["one", "two", HELP_ROW])
+}
+
+#[test]
+fn a_page_stays_as_room_is_made(rt: HostRuntime) {
+    assert_holds(&rt, pages_stay_with_room(rt.alloc()));
+}

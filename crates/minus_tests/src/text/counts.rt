@@ -212,3 +212,21 @@ fn maps_three(alloc: Global) -> bool {
 fn a_map_of_lines(rt: HostRuntime) {
     assert_holds(&rt, maps_three(rt.alloc()));
 }
+
+// Whether a screen that takes this text in, for 4 columns, has these rows, with room for more text too.
+fn takes_in(alloc: Global, text: &str, rows: &str) -> bool {
+    let Ok(text) = String::from_str(alloc, text) else {
+        return false;
+    };
+    match Screen::of_text(alloc, text, Layout::plain(4), None) {
+        Ok((mut screen, told)) => {
+            screen.reserve(1_000).is_ok() && told.rows_formatted == 3 && has_rows(&screen, rows)
+        }
+        Err(_) => false,
+    }
+}
+
+#[test]
+fn a_text_is_taken_in(rt: HostRuntime) {
+    assert_holds(&rt, takes_in(rt.alloc(), "abcdef\ng", "abcd|ef|g"));
+}
