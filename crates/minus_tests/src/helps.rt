@@ -143,7 +143,7 @@ fn stays_with_room(session: &mut Offering, page: &[&str]) -> bool {
     session.reserve(1_000).is_ok() && has_page(session, page)
 }
 
-// Whether a page stays as room is made for more of its text, and so does help, as room is made for more of the saved one.
+// Whether a page stays as room is made for more of its text, and help as room is made for more of the saved text.
 fn pages_stay_with_room(alloc: Global) -> bool {
     let Some(mut session) = offering(alloc) else {
         return false;
