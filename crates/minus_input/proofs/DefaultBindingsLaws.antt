@@ -33,7 +33,7 @@ module _ {C : Type 0} (kept : List (KeptCallback C)) where
   read_defaults (k ∷ ks) = ap (λ l. (k.0, default_binding k.1) ∷ l) (read_defaults ks)
 
   module _ (old mid new : List (EventWrapper × Bound)) (ks : List (EventWrapper × DefaultAction)) (room : mid ≡ old) (bound : new ≡ bind_each same_event mid (default_bounds ks))
-    (is : ks ≡ default_keys) (h : EachIsRead (binding_at kept) old) where
+      (is : ks ≡ default_keys) (h : EachIsRead (binding_at kept) old) where
     abbrev all_bound : new ≡ bind_each same_event old (default_bounds default_keys)
     all_bound = bound ∙ ap (λ l. bind_each same_event l (default_bounds ks)) room ∙ ap (λ l. bind_each same_event old (default_bounds l)) is
 

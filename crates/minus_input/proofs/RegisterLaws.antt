@@ -212,7 +212,7 @@ module _ {C : Type 0} (xs : List (KeptCallback C)) (x : KeptCallback C) where
   kept_agrees (Callback n) b is = number_agrees (slice_get xs n) n b refl is
 
   module _ {K : Type 0} (same : K → K → Bool) (ys : List (KeptCallback C)) (old mid new : List (K × Bound)) (ks : List K) (n : ℕ) (kept : ys ≡ xs ++ x ∷ [])
-    (room : mid ≡ old) (bound : new ≡ bind_all same mid ks (Callback n)) (last : n ≡ length xs) (h : EachIsRead (binding_at xs) old) where
+      (room : mid ≡ old) (bound : new ≡ bind_all same mid ks (Callback n)) (last : n ≡ length xs) (h : EachIsRead (binding_at xs) old) where
     newest : binding_at (xs ++ x ∷ []) (Callback (length xs)) ≡ Some (kept_binding x)
     newest = ap (option_map kept_binding) (last_at xs x)
 

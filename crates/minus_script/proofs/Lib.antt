@@ -1,4 +1,5 @@
 -- Laws of the definitions.
+pub mod DescribedEventsLaws
 pub mod EscapeLaws
 pub mod ScriptLaws
 pub mod PrintedLaws

@@ -6,7 +6,7 @@ use Rattle.std.proofs.lemmas.List.{map-append}
 use Rattle.minus_term.specs.declared.error.MinusError.{MinusError}
 use Rattle.minus_term.specs.declared.error.MinusError.TheVariants.{Memory, NewlineInPrompt, HookIdTaken, NoFreeHookId, BadSize, BadDescription, Bound, QueryFull, BadMode, Failed, Ended, Setup, Cleanup, Draw, HandleEvent, Cursor, FmtWriteError, Conversion, SearchExpError}
 use Rattle.minus_term.specs.Refusals.{Refusal, for_memory, for_newline, for_hook_id, for_free_hook_id, for_size, for_description, for_binding, for_query, for_mode, after_failure, after_exit, at_setup, at_cleanup, at_drawing, for_pattern, of_no_call, refusal_of}
-use Rattle.minus.specs.declared.stand_in.StandIn.{StandIn}
+use Rattle.minus_script.specs.declared.keys.DefaultKeys.{DefaultKeys}
 use Rattle.minus.specs.declared.answer.Answer.{Answer}
 use Rattle.minus_state.specs.declared.state.RunMode.TheVariants.{Dynamic}
 use Rattle.minus.specs.declared.status.Status.{Status}
@@ -14,7 +14,7 @@ use Rattle.minus.specs.declared.status.Status.TheVariants as status
 use Rattle.minus.specs.Answers.{IsAnswer, ends_run}
 use Rattle.minus.specs.Asked.{Asks}
 use Rattle.std.specs.List.{last_or}
-use Rattle.minus.specs.Classified.{stand_in_says}
+use Rattle.minus_script.specs.Keys.{default_keys_say}
 use Rattle.minus_state.specs.Classifying.{Classifies}
 use Rattle.minus_state.specs.Control.{Control}
 use Rattle.minus.specs.Reads.{Told}
@@ -31,12 +31,12 @@ use Rattle.minus_script.specs.Runs.{IsTaken, exit_code, printed_after, IsShown, 
 use Rattle.minus_script.specs.ShowFaults.{IsShowFault, IsMemory}
 
 -- a start from no text over a sink that holds nothing
-pub started : (seen : Seen StandIn) (waiting : List (Wanted StandIn)) (cols rows : ℕ) (terminal : Bool) (a b : Option (List ℕ)) → waiting ≡ [] → terminal ≡ true → a ≡ Some [] → IsStarted seen (record {}) waiting Dynamic cols rows terminal a b → IsStarted seen (record {}) [] Dynamic cols rows true (Some []) b
-started seen waiting cols rows terminal a b e f g h =
-    subst (λ (x : Option (List ℕ)). IsStarted seen (record {}) [] Dynamic cols rows true x b) g (subst (λ (x : Bool). IsStarted seen (record {}) [] Dynamic cols rows x a b) f (subst (λ (x : List (Wanted StandIn)). IsStarted seen (record {}) x Dynamic cols rows terminal a b) e h))
+pub started : (keys : DefaultKeys) (seen : Seen DefaultKeys) (waiting : List (Wanted DefaultKeys)) (cols rows : ℕ) (terminal : Bool) (a b : Option (List ℕ)) → waiting ≡ [] → terminal ≡ true → a ≡ Some [] → IsStarted seen keys waiting Dynamic cols rows terminal a b → IsStarted seen keys [] Dynamic cols rows true (Some []) b
+started keys seen waiting cols rows terminal a b e f g h =
+    subst (λ (x : Option (List ℕ)). IsStarted seen keys [] Dynamic cols rows true x b) g (subst (λ (x : Bool). IsStarted seen keys [] Dynamic cols rows x a b) f (subst (λ (x : List (Wanted DefaultKeys)). IsStarted seen keys x Dynamic cols rows terminal a b) e h))
 
 -- what a run comes to that no refusal stopped
-pub record Came {A : Type 0} (told : A → Told StandIn) (cols rows : ℕ) (inputs rest : List A) (last : Option Answer) (new : Seen StandIn) (bytes : Option (List ℕ)) : Type 0 where
+pub record Came {A : Type 0} (told : A → Told DefaultKeys) (cols rows : ℕ) (inputs rest : List A) (last : Option Answer) (new : Seen DefaultKeys) (bytes : Option (List ℕ)) : Type 0 where
   pub answers : List Answer
   pub taken : IsTaken cols rows (map told inputs) answers new bytes (map told rest)
   pub whole : StopsAfter answers None (map told rest)
@@ -46,33 +46,34 @@ stopped_well : {A K : Type 0} (says : Classifies K) (told : A → Told K) (refus
 stopped_well says told [] reached new a b h = (refl, h.0, h.1)
 stopped_well says told (x ∷ xs) reached new a b h = absurd h
 
-stops_told : {A : Type 0} (told : A → Told StandIn) (ends : Bool) (stopped : Option MinusError) (rest : List A) → StopsSo ends stopped rest → StopsSo ends stopped (map told rest)
+stops_told : {A : Type 0} (told : A → Told DefaultKeys) (ends : Bool) (stopped : Option MinusError) (rest : List A) → StopsSo ends stopped rest → StopsSo ends stopped (map told rest)
 stops_told told true stopped rest h = h
 stops_told told false stopped rest h = λ well. ap (map told) (h well)
 
-told_stops : {A : Type 0} (told : A → Told StandIn) (answers : List Answer) (stopped : Option MinusError) (rest : List A) → StopsAfter answers stopped rest → StopsAfter answers stopped (map told rest)
+told_stops : {A : Type 0} (told : A → Told DefaultKeys) (answers : List Answer) (stopped : Option MinusError) (rest : List A) → StopsAfter answers stopped rest → StopsAfter answers stopped (map told rest)
 told_stops told [] stopped rest h = stops_told told false stopped rest h
 told_stops told (answer ∷ []) stopped rest h = stops_told told (ends_run answer) stopped rest h
 told_stops told (answer ∷ next ∷ answers) stopped rest h = (h.0, told_stops told (next ∷ answers) stopped rest h.1)
 
-pub run_came : {A : Type 0} (told : A → Told StandIn) (old new : Seen StandIn) (inputs : List A) (done : ℕ) (last : Option Answer) (stopped : Option MinusError) (rest : List A) (a b : Option (List ℕ)) (cols rows : ℕ) → IsRun stand_in_says told old new inputs done last stopped rest a b → stopped ≡ None → IsStarted old (record {}) [] Dynamic cols rows true (Some []) a
+pub run_came : {A : Type 0} (keys : DefaultKeys) (told : A → Told DefaultKeys) (old new : Seen DefaultKeys) (inputs : List A) (done : ℕ) (last : Option Answer) (stopped : Option MinusError) (rest : List A) (a b : Option (List ℕ)) (cols rows : ℕ) → IsRun default_keys_say told old new inputs done last stopped rest a b → stopped ≡ None → IsStarted old keys [] Dynamic cols rows true (Some []) a
     → Came told cols rows inputs rest last new b
-run_came told old new inputs done last stopped rest a b cols rows h is s =
-    let stop = stopped_well stand_in_says told h.refused h.reached new h.bytes b (subst (λ (x : Option MinusError). Stops stand_in_says told x h.refused h.reached new h.bytes b) is h.stop) in
+run_came keys told old new inputs done last stopped rest a b cols rows h is s =
+    let stop = stopped_well default_keys_say told h.refused h.reached new h.bytes b (subst (λ (x : Option MinusError). Stops default_keys_say told x h.refused h.reached new h.bytes b) is h.stop) in
     let none_refused : h.refused ≡ [] = stop.0 in
     let same : new ≡ h.reached = stop.1 in
     let bytes : b ≡ h.bytes = stop.2 in
     let all : inputs ≡ h.taken ++ rest = h.all ∙ ap (λ x. h.taken ++ (x ++ rest)) none_refused in
-    let to_new = subst (λ (x : Seen StandIn). Steps stand_in_says old (map told h.taken) h.passed h.answers x a h.bytes) (sym same) h.steps in
+    let to_new = subst (λ (x : Seen DefaultKeys). Steps default_keys_say old (map told h.taken) h.passed h.answers x a h.bytes) (sym same) h.steps in
     record {
       answers = h.answers;
       taken = record {
+        keys = keys;
         first = old;
         begun = a;
         taken = map told h.taken;
         passed = h.passed;
         started = s;
-        steps = subst (λ (x : Option (List ℕ)). Steps stand_in_says old (map told h.taken) h.passed h.answers new a x) (sym bytes) to_new;
+        steps = subst (λ (x : Option (List ℕ)). Steps default_keys_say old (map told h.taken) h.passed h.answers new a x) (sym bytes) to_new;
         all = ap (map told) all ∙ map-append told h.taken rest;
       };
       whole = told_stops told h.answers None rest (subst (λ (x : Option MinusError). StopsAfter h.answers x rest) is h.stops);
@@ -80,7 +81,7 @@ run_came told old new inputs done last stopped rest a b cols rows h is s =
     }
 
 -- the page is shown
-pub page_shown : {A : Type 0} (told : A → Told StandIn) (cols rows : ℕ) (inputs rest : List A) (last : Option Answer) (new : Seen StandIn) (bytes : Option (List ℕ)) (mode : Mode) (output : List ℕ) → Came told cols rows inputs rest last new bytes → mode ≡ Page → output ≡ printed_after (exit_code last) new.control → IsShown mode cols rows (map told inputs) output
+pub page_shown : {A : Type 0} (told : A → Told DefaultKeys) (cols rows : ℕ) (inputs rest : List A) (last : Option Answer) (new : Seen DefaultKeys) (bytes : Option (List ℕ)) (mode : Mode) (output : List ℕ) → Came told cols rows inputs rest last new bytes → mode ≡ Page → output ≡ printed_after (exit_code last) new.control → IsShown mode cols rows (map told inputs) output
 page_shown told cols rows inputs rest last new bytes mode output h is e = rw is (record {
   answers = h.answers;
   reached = new;
@@ -92,7 +93,7 @@ page_shown told cols rows inputs rest last new bytes mode output h is e = rw is 
 })
 
 -- all bytes are shown
-pub bytes_shown : {A : Type 0} (told : A → Told StandIn) (cols rows : ℕ) (inputs rest : List A) (last : Option Answer) (new : Seen StandIn) (bytes : Option (List ℕ)) (mode : Mode) (output : List ℕ) → Came told cols rows inputs rest last new bytes → mode ≡ Bytes → Appends bytes (Some output) (cleanup_after new.status)
+pub bytes_shown : {A : Type 0} (told : A → Told DefaultKeys) (cols rows : ℕ) (inputs rest : List A) (last : Option Answer) (new : Seen DefaultKeys) (bytes : Option (List ℕ)) (mode : Mode) (output : List ℕ) → Came told cols rows inputs rest last new bytes → mode ≡ Bytes → Appends bytes (Some output) (cleanup_after new.status)
     → IsShown mode cols rows (map told inputs) output
 bytes_shown told cols rows inputs rest last new bytes mode output h is e = rw is (record {
   answers = h.answers;
@@ -113,25 +114,25 @@ step_goes_on : {K : Type 0} (says : Classifies K) (old new : Seen K) (t : Told K
 step_goes_on says old new t answer x y s ends = goes_on s.exit s.copied s.refused answer new.status s.answers ends s.stands
 
 -- after steps before an input that is refused, the session runs
-ends_not : (ends : Bool) (e : MinusError) (rest : List (Told StandIn)) → StopsSo ends (Some e) rest → ends ≡ false
+ends_not : (ends : Bool) (e : MinusError) (rest : List (Told DefaultKeys)) → StopsSo ends (Some e) rest → ends ≡ false
 ends_not true e rest h = absurd (let both : Some e ≡ None = h in cc)
 ends_not false e rest h = refl
 
-pub still_runs : {K : Type 0} (says : Classifies K) (old new : Seen K) (ts : List (Told K)) (cs : List Control) (answers : List Answer) (x y : Option (List ℕ)) (e : MinusError) (rest : List (Told StandIn)) → Steps says old ts cs answers new x y → old.status ≡ status.Running → StopsAfter answers (Some e) rest → new.status ≡ status.Running
+pub still_runs : {K : Type 0} (says : Classifies K) (old new : Seen K) (ts : List (Told K)) (cs : List Control) (answers : List Answer) (x y : Option (List ℕ)) (e : MinusError) (rest : List (Told DefaultKeys)) → Steps says old ts cs answers new x y → old.status ≡ status.Running → StopsAfter answers (Some e) rest → new.status ≡ status.Running
 still_runs says old new ts cs answers x y e rest (none {a = a}) runs h = runs
 still_runs says old new ts cs answers x y e rest (more {b = b} {t = t} {answer = answer} {answers = []} {x = u} {y = v} s none) runs h = step_goes_on says old b t answer u v s (ends_not (ends_run answer) e rest h)
 still_runs says old new ts cs answers x y e rest (more {b = b} {c = c} {t = t} {ts = us} {cs = ds} {answer = answer} {answers = next ∷ others} {x = u} {y = v} {z = w} s steps) runs h =
     still_runs says b c us ds (next ∷ others) v w e rest steps (step_goes_on says old b t answer u v s h.0) h.1
 
 -- a step that is refused while the session runs
-step_refused : (e : MinusError) (cols rows : ℕ) (told rest : List (Told StandIn)) (t : Told StandIn) (answers : List Answer) (reached new : Seen StandIn) (a b : Option (List ℕ)) → IsTaken cols rows told answers reached a (t ∷ rest) → reached.status ≡ status.Running → Refuses stand_in_says (refusal_of e) reached t new a b → IsRefusal (refusal_of e) cols rows told
+step_refused : (e : MinusError) (cols rows : ℕ) (told rest : List (Told DefaultKeys)) (t : Told DefaultKeys) (answers : List Answer) (reached new : Seen DefaultKeys) (a b : Option (List ℕ)) → IsTaken cols rows told answers reached a (t ∷ rest) → reached.status ≡ status.Running → Refuses default_keys_say (refusal_of e) reached t new a b → IsRefusal (refusal_of e) cols rows told
 step_refused Memory cols rows told rest t answers reached new a b taken runs h = tt
 step_refused NewlineInPrompt cols rows told rest t answers reached new a b taken runs h =
     let (wanted, asked, bad) = h.1 in
     record { answers = answers; reached = reached; bytes = a; refused = t; rest = rest; wanted = wanted; taken = taken; asked = asked; bad = bad }
 step_refused (BadSize c r) cols rows told rest t answers reached new a b taken runs h =
     let (wanted, asked, fault) = h.1 in
-    inr (record { answers = answers; reached = reached; bytes = a; refused = t; rest = rest; taken = taken; asked = subst (λ (w : Wanted StandIn). Asks stand_in_says reached t w) fault.0 asked; bad = fault.1 })
+    inr (record { answers = answers; reached = reached; bytes = a; refused = t; rest = rest; taken = taken; asked = subst (λ (w : Wanted DefaultKeys). Asks default_keys_say reached t w) fault.0 asked; bad = fault.1 })
 step_refused BadMode cols rows told rest t answers reached new a b taken runs h = absurd h
 step_refused Failed cols rows told rest t answers reached new a b taken runs h = absurd (let both : status.Running ≡ status.Failed = sym runs ∙ h.0 in cc)
 step_refused Ended cols rows told rest t answers reached new a b taken runs h = absurd (let both : status.Running ≡ status.Ended = sym runs ∙ h.0 in cc)
@@ -150,23 +151,23 @@ step_refused Conversion cols rows told rest t answers reached new a b taken runs
 step_refused (SearchExpError cause) cols rows told rest t answers reached new a b taken runs h = absurd h
 
 -- a refusal stopped the run
-refused_one : {A : Type 0} (told : A → Told StandIn) (e : MinusError) (refused rest inputs taken : List A) (old reached new : Seen StandIn) (passed : List Control) (answers : List Answer) (start a b : Option (List ℕ)) (cols rows : ℕ) → Stops stand_in_says told (Some e) refused reached new a b → inputs ≡ taken ++ (refused ++ rest) → Steps stand_in_says old (map told taken) passed answers reached start a
-    → IsStarted old (record {}) [] Dynamic cols rows true (Some []) start → reached.status ≡ status.Running → IsRefusal (refusal_of e) cols rows (map told inputs)
-refused_one told e [] rest inputs taken old reached new passed answers start a b cols rows h all steps s runs = absurd h
-refused_one told e (x ∷ y ∷ xs) rest inputs taken old reached new passed answers start a b cols rows h all steps s runs = absurd h
-refused_one told e (x ∷ []) rest inputs taken old reached new passed answers start a b cols rows h all steps s runs =
-    step_refused e cols rows (map told inputs) (map told rest) (told x) answers reached new a b (record { first = old; begun = start; taken = map told taken; passed = passed; started = s; steps = steps; all = ap (map told) all ∙ map-append told taken (x ∷ rest) }) runs h
+refused_one : {A : Type 0} (keys : DefaultKeys) (told : A → Told DefaultKeys) (e : MinusError) (refused rest inputs taken : List A) (old reached new : Seen DefaultKeys) (passed : List Control) (answers : List Answer) (start a b : Option (List ℕ)) (cols rows : ℕ) → Stops default_keys_say told (Some e) refused reached new a b → inputs ≡ taken ++ (refused ++ rest) → Steps default_keys_say old (map told taken) passed answers reached start a
+    → IsStarted old keys [] Dynamic cols rows true (Some []) start → reached.status ≡ status.Running → IsRefusal (refusal_of e) cols rows (map told inputs)
+refused_one keys told e [] rest inputs taken old reached new passed answers start a b cols rows h all steps s runs = absurd h
+refused_one keys told e (x ∷ y ∷ xs) rest inputs taken old reached new passed answers start a b cols rows h all steps s runs = absurd h
+refused_one keys told e (x ∷ []) rest inputs taken old reached new passed answers start a b cols rows h all steps s runs =
+    step_refused e cols rows (map told inputs) (map told rest) (told x) answers reached new a b (record { keys = keys; first = old; begun = start; taken = map told taken; passed = passed; started = s; steps = steps; all = ap (map told) all ∙ map-append told taken (x ∷ rest) }) runs h
 
-pub run_refused : {A : Type 0} (told : A → Told StandIn) (old new : Seen StandIn) (inputs : List A) (done : ℕ) (last : Option Answer) (stopped : Option MinusError) (rest : List A) (a b : Option (List ℕ)) (cols rows : ℕ) (e : MinusError) (fault : ScriptFault) → IsRun stand_in_says told old new inputs done last stopped rest a b → stopped ≡ Some e
-    → IsStarted old (record {}) [] Dynamic cols rows true (Some []) a → fault ≡ Refused e → IsShowFault cols rows (map told inputs) fault
-run_refused told old new inputs done last stopped rest a b cols rows e fault h is s f =
-    let stop = subst (λ (x : Option MinusError). Stops stand_in_says told x h.refused h.reached new h.bytes b) is h.stop in
+pub run_refused : {A : Type 0} (keys : DefaultKeys) (told : A → Told DefaultKeys) (old new : Seen DefaultKeys) (inputs : List A) (done : ℕ) (last : Option Answer) (stopped : Option MinusError) (rest : List A) (a b : Option (List ℕ)) (cols rows : ℕ) (e : MinusError) (fault : ScriptFault) → IsRun default_keys_say told old new inputs done last stopped rest a b → stopped ≡ Some e
+    → IsStarted old keys [] Dynamic cols rows true (Some []) a → fault ≡ Refused e → IsShowFault cols rows (map told inputs) fault
+run_refused keys told old new inputs done last stopped rest a b cols rows e fault h is s f =
+    let stop = subst (λ (x : Option MinusError). Stops default_keys_say told x h.refused h.reached new h.bytes b) is h.stop in
     let stops = told_stops told h.answers (Some e) rest (subst (λ (x : Option MinusError). StopsAfter h.answers x rest) is h.stops) in
-    let runs = still_runs stand_in_says old h.reached (map told h.taken) h.passed h.answers a h.bytes e (map told rest) h.steps (ap (λ (x : Seen StandIn). x.status) s.begins) stops in
-    rw f (refused_one told e h.refused rest inputs h.taken old h.reached new h.passed h.answers a h.bytes b cols rows stop h.all h.steps s runs)
+    let runs = still_runs default_keys_say old h.reached (map told h.taken) h.passed h.answers a h.bytes e (map told rest) h.steps (ap (λ (x : Seen DefaultKeys). x.status) s.begins) stops in
+    rw f (refused_one keys told e h.refused rest inputs h.taken old h.reached new h.passed h.answers a h.bytes b cols rows stop h.all h.steps s runs)
 
 -- a start is refused
-pub start_refused : (refusal : Refusal) (cols rows : ℕ) (terminal : Bool) (told : List (Told StandIn)) → terminal ≡ true → IsStartRefused refusal Dynamic cols rows terminal → IsRefusal refusal cols rows told
+pub start_refused : (refusal : Refusal) (cols rows : ℕ) (terminal : Bool) (told : List (Told DefaultKeys)) → terminal ≡ true → IsStartRefused refusal Dynamic cols rows terminal → IsRefusal refusal cols rows told
 start_refused for_memory cols rows terminal told t h = tt
 start_refused for_newline cols rows terminal told t h = absurd h
 start_refused (for_size c r) cols rows terminal told t h = inl (h.1, h.2, h.3)
@@ -185,7 +186,7 @@ start_refused for_pattern cols rows terminal told t h = absurd h
 start_refused of_no_call cols rows terminal told t h = absurd h
 
 -- memory ran out
-memory_refusal : (refusal : Refusal) (cols rows : ℕ) (told : List (Told StandIn)) → IsWantOfMemory refusal → IsRefusal refusal cols rows told
+memory_refusal : (refusal : Refusal) (cols rows : ℕ) (told : List (Told DefaultKeys)) → IsWantOfMemory refusal → IsRefusal refusal cols rows told
 memory_refusal for_memory cols rows told h = h
 memory_refusal for_newline cols rows told h = absurd h
 memory_refusal (for_size c r) cols rows told h = absurd h
@@ -203,7 +204,7 @@ memory_refusal for_query cols rows told h = h
 memory_refusal for_pattern cols rows told h = h
 memory_refusal of_no_call cols rows told h = h
 
-pub memory_fault : (cols rows : ℕ) (told : List (Told StandIn)) (fault : ScriptFault) → IsMemory fault → IsShowFault cols rows told fault
+pub memory_fault : (cols rows : ℕ) (told : List (Told DefaultKeys)) (fault : ScriptFault) → IsMemory fault → IsShowFault cols rows told fault
 memory_fault cols rows told (Io stream cause) e = absurd e
 memory_fault cols rows told (Line number) e = absurd e
 memory_fault cols rows told (Refused cause) e = memory_refusal (refusal_of cause) cols rows told e

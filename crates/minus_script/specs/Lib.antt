@@ -1,4 +1,6 @@
 -- What the contracts cite.
+pub mod Keys
+pub mod DescribedEvents
 pub mod Escapes
 pub mod Script
 pub mod ScriptLines

@@ -6,10 +6,10 @@ use Rattle.std.specs.Io.KnownBytes.{Appends, Consumes, IsAtEnd}
 use Rattle.minus_term.specs.Counts.{AppendsFront}
 use Rattle.minus_term.specs.Refusals.{Refusal, for_memory, for_newline, for_size, at_setup, at_cleanup, at_drawing, refusal_of}
 use Rattle.minus_term.specs.declared.error.MinusError.TheVariants.{Memory}
-use Rattle.minus.specs.declared.stand_in.StandIn.{StandIn}
+use Rattle.minus_script.specs.declared.keys.DefaultKeys.{DefaultKeys}
 use Rattle.minus.specs.declared.answer.Answer.{Answer}
 use Rattle.minus_state.specs.declared.state.RunMode.TheVariants.{Dynamic}
-use Rattle.minus.specs.Classified.{stand_in_says}
+use Rattle.minus_script.specs.Keys.{default_keys_say}
 use Rattle.minus_state.specs.Control.{Control}
 use Rattle.minus_state.specs.Page.{page}
 use Rattle.minus.specs.Reads.{Told}
@@ -29,15 +29,16 @@ use Rattle.minus_script.specs.declared.fault.Stream.TheVariants.{Input, Output}
 use Rattle.minus_script.specs.declared.fault.ScriptFault.{ScriptFault}
 use Rattle.minus_script.specs.declared.fault.ScriptFault.TheVariants.{Io, Line, Refused}
 
--- a pager was started without a text over a sink that held nothing, and took what it was told in order, with these answers,
+-- a pager was started with the default keys and without a text over a sink that held nothing, and took what it was told in order, with these answers,
 -- up to a rest
-pub record IsTaken (cols rows : ℕ) (told : List (Told StandIn)) (answers : List Answer) (reached : Seen StandIn) (bytes : Option (List ℕ)) (rest : List (Told StandIn)) : Type 0 where
-  pub first : Seen StandIn
+pub record IsTaken (cols rows : ℕ) (told : List (Told DefaultKeys)) (answers : List Answer) (reached : Seen DefaultKeys) (bytes : Option (List ℕ)) (rest : List (Told DefaultKeys)) : Type 0 where
+  pub keys : DefaultKeys
+  pub first : Seen DefaultKeys
   pub begun : Option (List ℕ)
-  pub taken : List (Told StandIn)
+  pub taken : List (Told DefaultKeys)
   pub passed : List Control
-  pub started : IsStarted first (record {}) [] Dynamic cols rows true (Some []) begun
-  pub steps : Steps stand_in_says first taken passed answers reached begun bytes
+  pub started : IsStarted first keys [] Dynamic cols rows true (Some []) begun
+  pub steps : Steps default_keys_say first taken passed answers reached begun bytes
   pub all : told ≡ taken ++ rest
 
 -- what is printed after an exit: the code that the program would end with
@@ -54,16 +55,16 @@ printed_after None control = printed_all (page control).texts
 printed_after (Some code) control = printed_exit code
 
 -- what the modes print: the page, or all bytes of the sink, with those that clean the terminal up
-abbrev pub Prints : Mode → List Answer → Seen StandIn → Option (List ℕ) → List ℕ → Type 0
+abbrev pub Prints : Mode → List Answer → Seen DefaultKeys → Option (List ℕ) → List ℕ → Type 0
 Prints Page answers reached bytes output = output ≡ printed_after (exit_code (last_or None answers)) reached.control
 Prints Bytes answers reached bytes output = Appends bytes (Some output) (cleanup_after reached.status)
 
 -- the pager took all that it was told, or all up to an exit, and what it came to was printed
-pub record IsShown (mode : Mode) (cols rows : ℕ) (told : List (Told StandIn)) (output : List ℕ) : Type 0 where
+pub record IsShown (mode : Mode) (cols rows : ℕ) (told : List (Told DefaultKeys)) (output : List ℕ) : Type 0 where
   pub answers : List Answer
-  pub reached : Seen StandIn
+  pub reached : Seen DefaultKeys
   pub bytes : Option (List ℕ)
-  pub rest : List (Told StandIn)
+  pub rest : List (Told DefaultKeys)
   pub taken : IsTaken cols rows told answers reached bytes rest
   pub whole : StopsAfter answers None rest
   pub prints : Prints mode answers reached bytes output
@@ -71,7 +72,7 @@ pub record IsShown (mode : Mode) (cols rows : ℕ) (told : List (Told StandIn)) 
 -- a script was read to its end, each of its lines is well formed, and this is what they lead to
 pub record IsScriptShown (mode : Mode) (cols rows : ℕ) (old_input new_input : Option (List ℕ)) (printed : List ℕ) : Type 0 where
   pub script : List ℕ
-  pub told : List (Told StandIn)
+  pub told : List (Told DefaultKeys)
   pub read : Consumes old_input new_input script
   pub end : IsAtEnd new_input
   pub lines : script_told (script_lines script) ≡ Ok told
@@ -92,31 +93,31 @@ IsWantOfMemory at_drawing = Unit {0}
 IsWantOfMemory refusal = ⊥
 
 -- after a part of what it was told, the pager was asked for this size, which is none of a terminal
-pub record IsSizeAsked (columns lines cols rows : ℕ) (told : List (Told StandIn)) : Type 0 where
+pub record IsSizeAsked (columns lines cols rows : ℕ) (told : List (Told DefaultKeys)) : Type 0 where
   pub answers : List Answer
-  pub reached : Seen StandIn
+  pub reached : Seen DefaultKeys
   pub bytes : Option (List ℕ)
-  pub refused : Told StandIn
-  pub rest : List (Told StandIn)
+  pub refused : Told DefaultKeys
+  pub rest : List (Told DefaultKeys)
   pub taken : IsTaken cols rows told answers reached bytes (refused ∷ rest)
-  pub asked : Asks stand_in_says reached refused (resizes columns lines)
+  pub asked : Asks default_keys_say reached refused (resizes columns lines)
   pub bad : IsSize columns lines → ⊥
 
 -- after a part of what it was told, the pager was asked for a prompt or a message with a newline
-pub record IsPromptAsked (cols rows : ℕ) (told : List (Told StandIn)) : Type 0 where
+pub record IsPromptAsked (cols rows : ℕ) (told : List (Told DefaultKeys)) : Type 0 where
   pub answers : List Answer
-  pub reached : Seen StandIn
+  pub reached : Seen DefaultKeys
   pub bytes : Option (List ℕ)
-  pub refused : Told StandIn
-  pub rest : List (Told StandIn)
-  pub wanted : Wanted StandIn
+  pub refused : Told DefaultKeys
+  pub rest : List (Told DefaultKeys)
+  pub wanted : Wanted DefaultKeys
   pub taken : IsTaken cols rows told answers reached bytes (refused ∷ rest)
-  pub asked : Asks stand_in_says reached refused wanted
+  pub asked : Asks default_keys_say reached refused wanted
   pub bad : HasNewline wanted
 
 -- why a pager that is told all of this refuses: this is the size of the start, or one that was asked for later, and none of a
 -- terminal; a prompt or a message has a newline; or memory ran out
-abbrev pub IsRefusal : Refusal → ℕ → ℕ → List (Told StandIn) → Type 0
+abbrev pub IsRefusal : Refusal → ℕ → ℕ → List (Told DefaultKeys) → Type 0
 IsRefusal (for_size columns lines) cols rows told = ((columns ≡ cols) × (lines ≡ rows) × (IsSize cols rows → ⊥)) ⊎ IsSizeAsked columns lines cols rows told
 IsRefusal for_newline cols rows told = IsPromptAsked cols rows told
 IsRefusal refusal cols rows told = IsWantOfMemory refusal
@@ -138,7 +139,7 @@ IsRunFault mode cols rows old_input new_input old_output new_output (Io Output c
 IsRunFault mode cols rows old_input new_input old_output new_output (Line number) =
     (script : List ℕ) × IsRead old_input new_input script × (script_told (script_lines script) ≡ Err number)
 IsRunFault mode cols rows old_input new_input old_output new_output (Refused cause) =
-    (cause ≡ Memory) ⊎ ((script : List ℕ) × (told : List (Told StandIn)) × IsRead old_input new_input script × (script_told (script_lines script) ≡ Ok told) × IsRefusal (refusal_of cause) cols rows told)
+    (cause ≡ Memory) ⊎ ((script : List ℕ) × (told : List (Told DefaultKeys)) × IsRead old_input new_input script × (script_told (script_lines script) ≡ Ok told) × IsRefusal (refusal_of cause) cols rows told)
 
 -- a fault that came before anything was printed
 abbrev pub IsBeforePrinting : ScriptFault → Type 0

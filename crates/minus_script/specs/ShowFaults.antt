@@ -1,6 +1,6 @@
 -- Why nothing is shown.
 use Rattle.std.specs.Prelude.{ℕ, List}
-use Rattle.minus.specs.declared.stand_in.StandIn.{StandIn}
+use Rattle.minus_script.specs.declared.keys.DefaultKeys.{DefaultKeys}
 use Rattle.minus.specs.Reads.{Told}
 use Rattle.minus_term.specs.Refusals.{refusal_of}
 use Rattle.minus_script.specs.Runs.{IsWantOfMemory, IsRefusal}
@@ -8,7 +8,7 @@ use Rattle.minus_script.specs.declared.fault.ScriptFault.{ScriptFault}
 use Rattle.minus_script.specs.declared.fault.ScriptFault.TheVariants.{Io, Line, Refused}
 
 -- memory ran out, or the pager refuses a size
-abbrev pub IsShowFault : ℕ → ℕ → List (Told StandIn) → ScriptFault → Type 0
+abbrev pub IsShowFault : ℕ → ℕ → List (Told DefaultKeys) → ScriptFault → Type 0
 IsShowFault cols rows told (Io stream cause) = ⊥
 IsShowFault cols rows told (Line number) = ⊥
 IsShowFault cols rows told (Refused cause) = IsRefusal (refusal_of cause) cols rows told

@@ -9,15 +9,19 @@ ghost use Rattle.minus_script.specs.ShowFaults.{IsShowFault, IsMemory};
 
 use crate::arguments::Mode;
 use crate::fault::ScriptFault;
+use crate::keys::{DefaultKeys, ScriptKinds};
 use crate::printed::{print_rows, write_out};
 use crate::reading::read_script;
-use crate::script::parse_script;
-use minus::{Answer, Input, MinusError, Pager, Ran, Session, WithTty, dynamic_paging};
+use crate::script::{ScriptInput, parse_script};
+use minus::{Answer, Core, MinusError, PagerOf, RanOf, RunMode, WithTty, init_core_with};
 use std::alloc::{AllocError, Global};
 use std::io::{Read, Write};
 
 // The sink of the program's sessions, which keeps all that is written to it.
 type Held = WithTty<Vec<u8>>;
+
+// A session that runs a script.
+type Session = Core<Held, ScriptKinds>;
 
 // The code of an exit that the last step answered.
 fn exit_code(last: &Option<Answer>) -> Option<u8>
@@ -47,7 +51,7 @@ fn print_exit(alloc: Global, code: u8) -> Result<Vec<u8>, AllocError>
 // The rows of the page, or, after an exit, its code.
 fn print_page(
     alloc: Global,
-    session: &Session<Held>,
+    session: &Session,
     last: &Option<Answer>,
 ) -> Result<Vec<u8>, ScriptFault>
     ensures page { IfOk result (λ printed. printed.items ≡ printed_after (exit_code last.now) (seen_of session.now).control) }
@@ -64,7 +68,7 @@ fn print_page(
 }
 
 // All bytes of a session's sink, with those that clean the terminal up.
-fn all_written(session: Session<Held>) -> Result<Vec<u8>, ScriptFault>
+fn all_written(session: Session) -> Result<Vec<u8>, ScriptFault>
     ensures bytes { IfOk result (λ written. Appends (Some session.sink.inner.items) (Some written.items) (cleanup_after (seen_of session).status)) }
     ensures memory { IfErr result IsMemory }
 {
@@ -81,17 +85,19 @@ fn show(
     mode: Mode,
     cols: usize,
     rows: usize,
-    inputs: Vec<Input>,
+    inputs: Vec<ScriptInput>,
 ) -> Result<Vec<u8>, ScriptFault>
     ensures shown { IfOk result (λ printed. IsShown mode cols rows (map told_of inputs.items) printed.items) }
     ensures fault { IfErr result (IsShowFault cols rows (map told_of inputs.items)) }
 {
     let sink = WithTty::new(Vec::new(alloc), true);
-    let mut session = match dynamic_paging(Pager::new(alloc), sink, cols, rows) {
+    let keys = DefaultKeys::new(alloc)?;
+    let pager = PagerOf::new(alloc);
+    let mut session = match init_core_with(pager, RunMode::Dynamic, sink, cols, rows, keys) {
         Ok(session) => session,
         Err(refused) => return Err(ScriptFault::from(refused.cause)),
     };
-    let Ran { last, stopped, .. } = session.run(inputs);
+    let RanOf { last, stopped, .. } = session.run(inputs);
     if let Some(refusal) = stopped {
         return Err(ScriptFault::from(refusal));
     }

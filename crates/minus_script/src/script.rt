@@ -3,19 +3,28 @@ ghost use Rattle.std.specs.Prelude.{◌≡◌, ◌+◌, ◌<◌, ◌++◌, ◌�
 ghost use Rattle.std.specs.Option.{option_map};
 ghost use Rattle.std.specs.List.{position};
 ghost use Rattle.minus_script.specs.Script.{is_newline, script_lines, script_told, line_told, word_told, command_asked, setting_asked, resize_asked, switch_of, numbers_of, typed, all_typed};
+ghost use Rattle.minus_script.specs.Script.{key_told, mouse_told};
 ghost use Rattle.minus_script.specs.Escapes.{unescaped, escape_byte, split_escape_of};
 ghost use Rattle.minus_script.specs.ScriptLines.{told_by};
 ghost use Rattle.minus_script.specs.ScriptFaults.{IsScriptFault};
 ghost use Rattle.minus.specs.Reads.{told_of, wanted_of};
 ghost use Rattle.minus.specs.Table.{sets_data, appends_data, moves_mark, sets_prompt, sends_message, follows, shows_prompt, sets_numbers, sets_wrapping};
 
+use crate::described_events::{parse_key, parse_mouse};
 use crate::fault::ScriptFault;
-use minus_input::parse_usize;
+use crate::keys::ScriptKinds;
 use minus::{
-    Command, Event, Input, InputEvent, KeyCode, KeyEvent, KeyEventKind, KeyEventState,
-    KeyModifiers, LineNumbers,
+    CommandOf, Event, InputEvent, InputOf, KeyCode, KeyEvent, KeyEventKind, KeyEventState,
+    KeyModifiers, LineNumbers, MouseEvent,
 };
+use minus_input::parse_usize;
 use std::alloc::{AllocError, Global};
+
+// A command of a script.
+type Command = CommandOf<ScriptKinds>;
+
+/// What a script asks of its session.
+pub type ScriptInput = InputOf<ScriptKinds>;
 
 /// The place of the first newline.
 fn find_newline(script: &[u8]) -> Option<usize>
@@ -218,6 +227,22 @@ pub(crate) enum Line {
     Command(Command),
     /// A text whose characters are typed.
     Typed(String),
+    /// An event of the terminal.
+    Event(Event),
+}
+
+/// The line of a key.
+fn key_line(key: KeyEvent) -> Line
+    ensures { told_by result ≡ key_told key }
+{
+    Line::Event(Event::Key(key))
+}
+
+/// The line of an event of the mouse.
+fn mouse_line(mouse: MouseEvent) -> Line
+    ensures { told_by result ≡ mouse_told mouse }
+{
+    Line::Event(Event::Mouse(mouse))
 }
 
 /// What a word and the argument after it stand for, if they are well formed.
@@ -226,6 +251,8 @@ fn parse_word(alloc: Global, word: &str, argument: &str) -> Result<Option<Line>,
 {
     let line = match word {
         "type" => unescape(alloc, argument)?.map(Line::Typed),
+        "key" => parse_key(argument).map(key_line),
+        "mouse" => parse_mouse(argument).map(mouse_line),
         _ => parse_command(alloc, word, argument)?.map(Line::Command),
     };
     Ok(line)
@@ -245,10 +272,10 @@ fn parse_line(alloc: Global, line: &[u8]) -> Result<Option<Line>, AllocError>
 }
 
 /// The press of a character's key.
-fn press(character: char) -> Input
+fn press(character: char) -> ScriptInput
     ensures { told_of result ≡ typed character }
 {
-    Input::Event(Event::Key(KeyEvent {
+    ScriptInput::Event(Event::Key(KeyEvent {
         code: KeyCode::Char(character),
         modifiers: KeyModifiers::NONE,
         kind: KeyEventKind::Press,
@@ -257,7 +284,7 @@ fn press(character: char) -> Input
 }
 
 /// Adds the press of each character's key.
-fn push_presses(inputs: &mut Vec<Input>, text: &str) -> Result<(), AllocError>
+fn push_presses(inputs: &mut Vec<ScriptInput>, text: &str) -> Result<(), AllocError>
     ensures { OnOk result (map told_of inputs.new.items ≡ map told_of inputs.old.items ++ all_typed text.now) }
 {
     for character in text.chars() {
@@ -267,18 +294,19 @@ fn push_presses(inputs: &mut Vec<Input>, text: &str) -> Result<(), AllocError>
 }
 
 /// Adds the inputs that a line stands for.
-fn push_line(inputs: &mut Vec<Input>, line: Line) -> Result<(), AllocError>
+fn push_line(inputs: &mut Vec<ScriptInput>, line: Line) -> Result<(), AllocError>
     ensures { OnOk result (map told_of inputs.new.items ≡ map told_of inputs.old.items ++ told_by line) }
 {
     match line {
-        Line::Command(command) => inputs.push(Input::Command(command))?,
+        Line::Command(command) => inputs.push(ScriptInput::Command(command))?,
         Line::Typed(text) => push_presses(inputs, &text)?,
+        Line::Event(event) => inputs.push(ScriptInput::Event(event))?,
     }
     Ok(())
 }
 
 /// The inputs that the lines of a script stand for, or the fault of the first faulty one.
-pub fn parse_script(alloc: Global, script: &[u8]) -> Result<Vec<Input>, ScriptFault>
+pub fn parse_script(alloc: Global, script: &[u8]) -> Result<Vec<ScriptInput>, ScriptFault>
     ensures ok { IfOk result (λ inputs. script_told (script_lines script.now) ≡ Ok (map told_of inputs.items)) }
     ensures fault { IfErr result (IsScriptFault (script_told (script_lines script.now))) }
 {

@@ -21,7 +21,7 @@ returns g c =
     let is = EachIsRead-at (binding_at c.args.self.now.callbacks.items) c.args.self.now.bindings.entries c.args.place (c.in_ok-key.key.now, c.in_ok-key.bound.now) c.args.self.now.kept (sym c.in_ok-key.ensures.entry) in
     let read = some_of (binding_at c.args.self.now.callbacks.items c.in_ok-key.bound.now) is in
     let says : c.description_of.result.now ≡ read.0.description =
-        some_is _ _ (c.description_of.ensures ∙ ap (λ l. option_map (λ b. b.description) (binding_at l c.in_ok-key.bound.now)) c.deref.ensures.value ∙ ap (option_map (λ b. b.description)) read.1) in
+    some_is _ _ (c.description_of.ensures ∙ ap (λ l. option_map (λ b. b.description) (binding_at l c.in_ok-key.bound.now)) c.deref.ensures.value ∙ ap (option_map (λ b. b.description)) read.1) in
     c.key_entry.ensures ∙ ap (key_entry c.in_ok-key.key.now) says
     ∙ sym (ap (option_and_then binding_entry) (read_at (binding_at c.args.self.now.callbacks.items) c.args.self.now.bindings.entries c.args.place (c.in_ok-key.key.now, c.in_ok-key.bound.now) read.0
     c.args.self.now.kept (sym c.in_ok-key.ensures.entry) read.1))
