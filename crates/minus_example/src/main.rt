@@ -1,31 +1,27 @@
-//! Pages a fixed text on standard output, as a program on this library does: it starts a session over its sink, tells it
-//! what happens, one thing at a time, and hands the terminal back at the end.
+//! Pages a fixed text on standard output, as a program on this library does: it starts a session over its sink, hands in
+//! what the reader does, one event at a time, and gives the terminal back at the end.
 #![tactic(auto)]
 
 use minus::{
-    Command, Event, Input, InputEvent, MinusError, OutputSink, Pager, WithTty, dynamic_paging,
+    Event, Input, MinusError, OutputSink, Pager, WithTty, dynamic_paging, parse_key_event,
 };
 use std::alloc::Global;
 use std::process::ExitCode;
 
-const REPORT: &str = "one\ntwo\nthree\nfour\nfive\n";
+const REPORT: &str = "one\ntwo\nthree\nfour\nfive\nsix\nseven\neight\n";
 
-// What happens: a line is added, the reader moves on by two rows, and the terminal is made narrower.
-fn events(alloc: Global) -> Result<[Input; 3], MinusError> {
-    Ok([
-        Input::Command(Command::AppendData(String::from_str(alloc, "the end")?)),
-        Input::Command(Command::UserInput(InputEvent::UpdateUpperMark(2))),
-        Input::Event(Event::Resize(6, 4)),
-    ])
-}
+// What the reader presses: a row down, to the third line, help and back, and the key that ends the session.
+const KEYS: [&str; 6] = ["j", "3", "G", "s-m", "q", "q"];
 
-// Pages the report on a sink, from its start to its end.
+// Pages the report on a sink, from its start to the key that ends the session.
 fn page<S: OutputSink + Drop>(alloc: Global, sink: S) -> Result<(), MinusError> {
     let mut pager = Pager::new(alloc);
     pager.push_str(REPORT)?;
-    let mut session = dynamic_paging(pager, sink, 20, 4)?;
-    for event in events(alloc)? {
-        let _ = session.step(event)?;
+    let mut session = dynamic_paging(pager, sink, 20, 5)?;
+    for key in KEYS {
+        if let Ok(key) = parse_key_event(key) {
+            let _ = session.step(Input::Event(Event::Key(key)))?;
+        }
     }
     let (_, cleaned) = session.finish();
     Ok(cleaned?)
