@@ -78,6 +78,11 @@ def pieces_of(text, size):
     return [text[i : i + size] for i in range(0, len(text), size)]
 
 
+def numbered(count):
+    """A push of lines, so many and a page more."""
+    return push("".join(line + "\n" for line in lines(count + 24)))
+
+
 # Each work: what its number counts, the numbers, and a function from a number to two scripts: what makes the document,
 # and what is measured.
 WORKS = {
@@ -109,6 +114,12 @@ WORKS = {
         [5000, 10_000],
         lambda n: (push("".join(line + "\n" for line in lines(n))), b"resize 100 24\nresize 80 24\n"),
     ),
+    "scroll": (
+        "scrolls by a row, by a command",
+        [1000, 2000],
+        lambda n: (numbered(n), b"".join(f"mark {row + 1}\n".encode() for row in range(n))),
+    ),
+    "keys": ("scrolls by a row, by the key j", [1000, 2000], lambda n: (numbered(n), b"key j\n" * n)),
     "wide": ("bytes in one push, wide characters", [150_000, 300_000], lambda n: (b"", push(text_of(wide, n)))),
     "accents": ("bytes in one push, accents", [150_000, 300_000], lambda n: (b"", push(text_of(accented, n)))),
     "coloured": ("bytes in one push, coloured words", [150_000, 300_000], lambda n: (b"", push(text_of(coloured, n)))),
