@@ -1,0 +1,21 @@
+-- The units of some bytes, one after another, and their events.
+use Rattle.std.specs.Prelude.{ℕ, ◌≡◌, List, [], ◌∷◌, ◌++◌, length, Some, filter_map, bytes_eq, if◌then◌else◌}
+use Rattle.minus_term.specs.declared.event.Event.{Event}
+use Rattle.minus_term.specs.declared.event.KeyCode.TheVariants.{Esc}
+use Rattle.minus_view.specs.Keys.{press}
+use Rattle.minus_view.specs.Units.{unit_len}
+use Rattle.minus_view.specs.Meaning.{meaning}
+
+-- bytes are these units, each whole, and then a rest: no byte is lost and none is read twice
+abbrev pub Reads : List (List ℕ) → List ℕ → List ℕ → Type 0
+Reads [] bytes rest = bytes ≡ rest
+Reads (unit ∷ units) bytes rest =
+    (unit_len bytes ≡ Some (length unit)) × ((more : List ℕ) × (bytes ≡ unit ++ more) × Reads units more rest)
+
+-- what each unit means, in order; one that is not understood has no event
+abbrev pub events_of : List (List ℕ) → List Event
+events_of units = filter_map meaning units
+
+-- the events of a rest that nothing has followed for a while: one `ESC` is the Esc key, and any other rest waits
+abbrev pub late_events : List ℕ → List Event
+late_events rest = if bytes_eq rest (27 ∷ []) then press Esc 0 ∷ [] else []

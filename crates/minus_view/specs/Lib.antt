@@ -1,0 +1,7 @@
+pub mod Events
+pub mod Keys
+pub mod Meaning
+pub mod Mouse
+pub mod Numbers
+pub mod Shown
+pub mod Units

@@ -1,0 +1,40 @@
+-- What a shown text is: characters that are no control characters, newlines, and sequences `ESC [ digits and ; m`;
+-- no newline stands where a style is open. A text is here the list of its characters.
+use Rattle.std.specs.Prelude.{ℕ, ◌≡◌, chars, ◌==◌, ◌&&◌, ◌||◌, Bool, true, false, not, List, [], ◌∷◌, Option, Some, None, if◌then◌else◌, option_and_then}
+use Rattle.std.specs.Int.{is_in_range}
+use Rattle.minus_view.specs.declared.shown.Spot.{Spot}
+use Rattle.minus_view.specs.declared.shown.Spot.TheVariants.{Line, Escape, Numbers}
+
+-- below 0x20, 0x7F, and U+0080 to U+009F
+abbrev pub is_control : ℕ → Bool
+is_control c = is_in_range 0 0x1F c || is_in_range 0x7F 0x9F c
+
+-- in a line: `ESC` begins a sequence, and a newline stands only where no style is open
+abbrev pub in_line : Bool → ℕ → Option Spot
+in_line styled c =
+    if c == 27 then Some Escape
+    else (if c == 10 then (if styled then None else Some (Line false))
+    else (if is_control c then None else Some (Line styled)))
+
+-- in the numbers of a sequence: `m` ends it, and it resets all styles where it had zeros alone, or nothing
+abbrev pub in_numbers : Bool → ℕ → Option Spot
+in_numbers resets c =
+    if c == 109 then Some (Line (not resets))
+    else (if is_in_range 48 57 c || (c == 59) then Some (Numbers (resets && (c == 48))) else None)
+
+-- behind one character more
+abbrev pub step : Spot → ℕ → Option Spot
+step (Line styled) c = in_line styled c
+step Escape c = if c == 91 then Some (Numbers true) else None
+step (Numbers resets) c = in_numbers resets c
+
+-- behind a whole text
+abbrev pub read : List ℕ → Option Spot → Option Spot
+read [] at = at
+read (c ∷ cs) at = read cs (option_and_then (λ spot. step spot c) at)
+
+-- a text went on: it has only grown, and wherever it was a shown text that ends in a line, it is one still.
+-- `was` and `is` say whether a style is open at its end, before and behind what was added
+abbrev pub GoesOn : Bool → List ℕ → List ℕ → Bool → Type 0
+GoesOn was old new is =
+    (begun : Bool) → read (chars old) (Some (Line begun)) ≡ Some (Line was) → read (chars new) (Some (Line begun)) ≡ Some (Line is)
