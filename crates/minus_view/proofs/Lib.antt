@@ -1,3 +1,4 @@
 pub mod EventLaws
 pub mod MeaningLaws
+pub mod PlainLaws
 pub mod ShownLaws

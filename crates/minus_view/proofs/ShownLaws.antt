@@ -30,11 +30,12 @@ pub put_or_not : (b : Bool) (bs ds es : List ℕ) (begun styled : Bool) → IsUt
 put_or_not true bs ds es begun styled u h g e = put_behind bs ds es begun styled (Some (Line styled)) u h g e
 put_or_not false bs ds es begun styled u h g e = ap (λ xs. read (chars xs) (Some (Line begun))) e ∙ h
 
--- a line's end, where a style is open or not
-pub read_reset_newline : (styled : Bool) → read (chars (27 ∷ 91 ∷ 48 ∷ 109 ∷ 10 ∷ [])) (Some (Line styled)) ≡ Some (Line false)
+-- a reset, where a style is open or not
+pub read_reset : (styled : Bool) → read (chars (27 ∷ 91 ∷ 48 ∷ 109 ∷ [])) (Some (Line styled)) ≡ Some (Line false)
 unfolding chars
-read_reset_newline styled = refl
+read_reset styled = refl
 
+-- a line's end
 pub read_newline : read (chars (10 ∷ [])) (Some (Line false)) ≡ Some (Line false)
 unfolding chars
 read_newline = refl

@@ -1,5 +1,5 @@
--- What a shown text is: characters that are no control characters, newlines, and sequences `ESC [ digits and ; m`;
--- no newline stands where a style is open. A text is here the list of its characters.
+-- What a shown text is: characters that are no control characters, newlines, and sequences `ESC [ digits and ; m`, each
+-- whole. No line ends, and neither does the text, where a style is open. A text is here the list of its characters.
 use Rattle.std.specs.Prelude.{ℕ, ◌≡◌, chars, ◌==◌, ◌&&◌, ◌||◌, Bool, true, false, not, List, [], ◌∷◌, Option, Some, None, if◌then◌else◌, option_and_then}
 use Rattle.std.specs.Int.{is_in_range}
 use Rattle.minus_view.specs.declared.shown.Spot.{Spot}
@@ -33,8 +33,10 @@ abbrev pub read : List ℕ → Option Spot → Option Spot
 read [] at = at
 read (c ∷ cs) at = read cs (option_and_then (λ spot. step spot c) at)
 
--- a text went on: it has only grown, and wherever it was a shown text that ends in a line, it is one still.
--- `was` and `is` say whether a style is open at its end, before and behind what was added
-abbrev pub GoesOn : Bool → List ℕ → List ℕ → Bool → Type 0
-GoesOn was old new is =
-    (begun : Bool) → read (chars old) (Some (Line begun)) ≡ Some (Line was) → read (chars new) (Some (Line begun)) ≡ Some (Line is)
+-- these bytes spell a shown text
+abbrev pub IsShown : List ℕ → Type 0
+IsShown bytes = read (chars bytes) (Some (Line false)) ≡ Some (Line false)
+
+-- a printed ASCII character; or a newline, where these are allowed
+abbrev pub is_plain : Bool → ℕ → Bool
+is_plain newlines b = is_in_range 0x20 0x7E b || (newlines && (b == 10))

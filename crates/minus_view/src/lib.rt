@@ -1,13 +1,17 @@
-//! What a pager program needs beside a pager: the events of a terminal, from the bytes that it sends, and a file's bytes
-//! as a text that a pager can show.
+//! What a program needs around a pager: the events of a terminal, from the bytes that it sends, and the bytes of a file as
+//! a text that a pager can show.
 #![tactic(auto)]
 
 pub mod events;
 mod keys;
+mod look;
 pub mod meaning;
 mod mouse;
 mod numbers;
 pub mod prepare;
-pub mod sheet;
-pub mod shown;
+mod sheet;
+mod shown;
 pub mod units;
+
+pub use events::{read_events, read_late_events};
+pub use prepare::Preparation;

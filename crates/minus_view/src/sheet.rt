@@ -1,21 +1,22 @@
-//! A text that is shown: what is put on it keeps the grammar.
-ghost use Rattle.std.specs.Prelude.{encode_utf8, ◌≡◌, ◌++◌, ◌==◌, ◌^◌, ◌<◌, ◌∷◌, [], Bool, true, false, chars, string_bytes, IfOk, IfErr, Some};
+//! A shown text that is put together: whatever is put on it, it stays one.
+ghost use Rattle.std.specs.Prelude.{encode_utf8, ◌≡◌, ◌++◌, ◌∷◌, [], true, false, chars, string_bytes, IfOk, IfErr, Some, Bool};
 ghost use Rattle.std.specs.Char.{IsScalar};
-ghost use Rattle.minus_view.specs.Shown.{read, is_control};
+ghost use Rattle.std.specs.List.{list_all};
+ghost use Rattle.minus_view.specs.Shown.{read, is_control, is_plain, IsShown};
 ghost use Rattle.minus_view.specs.declared.shown.Spot.TheVariants.{Line};
 
 use crate::shown::{Spot, is_control, read};
 use std::alloc::{AllocError, Global};
 
-/// A shown text that goes on where another one ended.
+/// The sequence that resets all styles.
+pub(crate) const RESET: &str = "\x1b[0m";
+
+/// A shown text, but that a style may be open at its end.
 #[derive(Debug, Drop)]
-pub struct Sheet {
+pub(crate) struct Sheet {
     text: String,
-    // Whether a style is open where the text begins.
-    begun: bool,
-    // Whether a style is open where it ends.
     styled: bool,
-    ghost shown: { read (chars (string_bytes text)) (Some (Line begun)) ≡ Some (Line styled) },
+    ghost shown: { read (chars (string_bytes text)) (Some (Line false)) ≡ Some (Line styled) },
 }
 
 // The character, or U+FFFD for a control character.
@@ -32,45 +33,45 @@ fn shown_char(c: char) -> char
 }
 
 impl Sheet {
-    /// Nothing, and no style is open.
-    pub fn new(alloc: Global) -> Sheet
-        ensures begun { result.begun ≡ false }
+    /// No text.
+    pub(crate) fn new(alloc: Global) -> Sheet
+        ensures text { string_bytes result.text ≡ [] }
+        ensures styled { result.styled ≡ false }
     {
         Sheet {
             text: String::new(alloc),
-            begun: false,
             styled: false,
         }
     }
 
-    /// What stands on it.
-    pub fn text(&self) -> &str
+    /// The text.
+    pub(crate) fn text(&self) -> &str
         ensures text { result.now ≡ string_bytes self.now.text }
-        ensures shown { read (chars result.now) (Some (Line self.now.begun)) ≡ Some (Line self.now.styled) }
+        ensures shown { self.now.styled ≡ false → IsShown result.now }
     {
         self.text.as_str()
     }
 
-    /// Whether a style is open where it ends.
-    pub fn is_styled(&self) -> bool
+    /// Whether a style is open at its end.
+    pub(crate) fn is_styled(&self) -> bool
         ensures { result ≡ self.now.styled }
     {
         self.styled
     }
 
-    /// Goes over to an empty sheet, which goes on where this one ends.
-    pub fn clear(&mut self)
-        ensures begun { self.new.begun ≡ self.old.styled }
-        ensures styled { self.new.styled ≡ self.old.styled }
+    /// Takes all text away.
+    pub(crate) fn clear(&mut self)
+        ensures text { string_bytes self.new.text ≡ [] }
+        ensures styled { self.new.styled ≡ false }
     {
-        self.begun = self.styled;
+        self.styled = false;
         self.text.clear();
     }
 
-    /// Puts a text on it that is shown from there to a place in a line; any other text is left out.
-    pub fn put(&mut self, text: &str) -> Result<(), AllocError>
-        ensures begun { self.new.begun ≡ self.old.begun }
-        ensures put { IfOk result (λ _. (s : Bool) → read (chars text.now) (Some (Line self.old.styled)) ≡ Some (Line s) → (string_bytes self.new.text ≡ string_bytes self.old.text ++ text.now) × (self.new.styled ≡ s)) }
+    /// Puts a text on it that leads from the text's end to a place in a line; any other text is left out.
+    pub(crate) fn put(&mut self, text: &str) -> Result<(), AllocError>
+        ensures put { IfOk result (λ _. (s : Bool) → read (chars text.now) (Some (Line self.old.styled)) ≡ Some (Line s)
+            → (string_bytes self.new.text ≡ string_bytes self.old.text ++ text.now) × (self.new.styled ≡ s)) }
     {
         if let Some(Spot::Line(styled)) = read(Spot::Line(self.styled), text) {
             self.text.push_str(text)?;
@@ -79,9 +80,19 @@ impl Sheet {
         Ok(())
     }
 
-    /// Puts a character on it that is no control character; U+FFFD stands for one that is.
-    pub fn put_char(&mut self, c: char) -> Result<(), AllocError>
-        ensures begun { self.new.begun ≡ self.old.begun }
+    /// Puts printed ASCII characters on it; newlines too, where no style is open.
+    pub(crate) fn put_plain(&mut self, newlines: bool, text: &str) -> Result<(), AllocError>
+        requires plain { list_all (is_plain newlines) text.now ≡ true }
+        requires reset { newlines ≡ true → self.old.styled ≡ false }
+        ensures styled { self.new.styled ≡ self.old.styled }
+        ensures put { IfOk result (λ _. string_bytes self.new.text ≡ string_bytes self.old.text ++ text.now) }
+    {
+        self.text.push_str(text)?;
+        Ok(())
+    }
+
+    /// Puts a character on it; U+FFFD stands for a control character.
+    pub(crate) fn put_char(&mut self, c: char) -> Result<(), AllocError>
         ensures styled { self.new.styled ≡ self.old.styled }
         ensures put { IfOk result (λ _. is_control c ≡ false → string_bytes self.new.text ≡ string_bytes self.old.text ++ encode_utf8 c) }
     {
@@ -90,15 +101,22 @@ impl Sheet {
         Ok(())
     }
 
-    /// Ends its line; a style that is open is reset.
-    pub fn put_newline(&mut self) -> Result<(), AllocError>
-        ensures begun { self.new.begun ≡ self.old.begun }
+    /// Resets a style that is open.
+    pub(crate) fn close(&mut self) -> Result<(), AllocError>
         ensures styled { IfOk result (λ _. self.new.styled ≡ false) }
+        ensures kept { self.old.styled ≡ false → string_bytes self.new.text ≡ string_bytes self.old.text }
     {
         if self.styled {
-            self.put("\x1b[0m\n")
-        } else {
-            self.put("\n")
+            self.put(RESET)?;
         }
+        Ok(())
+    }
+
+    /// Ends its line; a style that is open is reset.
+    pub(crate) fn put_newline(&mut self) -> Result<(), AllocError>
+        ensures styled { IfOk result (λ _. self.new.styled ≡ false) }
+    {
+        self.close()?;
+        self.put("\n")
     }
 }

@@ -1,10 +1,10 @@
-//! Where a shown text stands, read from the left: the grammar that every prepared text meets.
+//! The grammar that every prepared text meets, read from the left.
 ghost use Rattle.std.specs.Prelude.{◌≡◌, ◌==◌, ◌||◌, chars};
 ghost use Rattle.minus_view.specs.Shown.{step, read, is_control};
 
 /// Where a shown text stands, behind some of its characters.
 #[derive(Clone, Copy, Debug)]
-pub enum Spot {
+pub(crate) enum Spot {
     /// In a line, and whether a style is open there.
     Line(bool),
     /// Behind the `ESC` of a sequence.
@@ -14,7 +14,7 @@ pub enum Spot {
 }
 
 /// Whether a character is a control character.
-pub fn is_control(c: char) -> bool
+pub(crate) fn is_control(c: char) -> bool
     ensures { result ≡ is_control c }
 {
     c < ' ' || ('\u{7F}'..='\u{9F}').contains(&c)
@@ -60,7 +60,7 @@ fn step(spot: Spot, c: char) -> Option<Spot>
 }
 
 /// Behind a text; nothing where it is no shown text from there.
-pub fn read(spot: Spot, text: &str) -> Option<Spot>
+pub(crate) fn read(spot: Spot, text: &str) -> Option<Spot>
     ensures { result ≡ read (chars text.now) (Some spot) }
 {
     let mut at = Some(spot);
