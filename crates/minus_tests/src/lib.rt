@@ -49,4 +49,6 @@ mod term;
 #[cfg(test)]
 mod text;
 #[cfg(test)]
+mod view;
+#[cfg(test)]
 mod written_rows;

@@ -57,6 +57,7 @@ impl Preparation {
 
     // Opens what holds for a character of this look.
     fn open(&mut self, look: Look) -> Result<(), AllocError>
+        ensures held { self.new.held ≡ self.old.held }
         ensures kept { string_bytes self.old.colours ≡ [] → self.old.look ≡ look → self.new ≡ self.old }
     {
         if !self.is_open && !self.colours.is_empty() {
@@ -108,27 +109,38 @@ impl Preparation {
         Ok(())
     }
 
-    // Printed ASCII characters, and newlines where nothing is begun, all at once. A character at their end is held.
+    // Puts printed ASCII characters on the sheet, and newlines where nothing is begun.
+    fn put_plain(&mut self, newlines: bool, bytes: &[u8]) -> Result<(), AllocError>
+        requires printed { list_all (is_plain newlines) bytes.now ≡ true }
+        requires begun { newlines ≡ true → IsPlain self.old }
+        ensures held { self.new.held ≡ self.old.held }
+        ensures plain { IfOk result (λ _. newlines ≡ true → IsPlain self.new
+            × (string_bytes self.new.sheet.text ≡ string_bytes self.old.sheet.text ++ bytes.now)) }
+    {
+        if !bytes.is_empty() {
+            self.open(Look::Plain)?;
+            self.sheet.put_plain(newlines, as_text(newlines, bytes))?;
+            self.column = column_after(self.column, bytes);
+        }
+        Ok(())
+    }
+
+    // Printed ASCII characters, and newlines where nothing is begun, all at once: a character at their end is held.
     pub(super) fn run(&mut self, newlines: bool, bytes: &[u8]) -> Result<(), AllocError>
         requires printed { list_all (is_plain newlines) bytes.now ≡ true }
         requires begun { newlines ≡ true → IsPlain self.old }
         ensures plain { IfOk result (λ _. newlines ≡ true → IsPlain self.new × (held self.new ≡ held self.old ++ bytes.now)) }
     {
         self.release()?;
-        self.open(Look::Plain)?;
         match bytes.split_last() {
             Some((last, front)) if *last != b'\n' => {
-                self.sheet.put_plain(newlines, as_text(newlines, front))?;
-                self.column = column_after(self.column, front);
+                self.put_plain(newlines, front)?;
                 self.held = Some(Glyph {
                     c: char::from(*last),
                     look: Look::Plain,
                 });
             }
-            _ => {
-                self.sheet.put_plain(newlines, as_text(newlines, bytes))?;
-                self.column = column_after(self.column, bytes);
-            }
+            _ => self.put_plain(newlines, bytes)?,
         }
         Ok(())
     }
