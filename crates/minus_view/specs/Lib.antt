@@ -1,3 +1,4 @@
+pub mod Arguments
 pub mod Events
 pub mod Keys
 pub mod Meaning

@@ -2,6 +2,7 @@
 //! a text that a pager can show.
 #![tactic(auto)]
 
+pub mod arguments;
 pub mod events;
 mod keys;
 mod look;
@@ -13,5 +14,6 @@ mod sheet;
 mod shown;
 pub mod units;
 
+pub use arguments::{ArgumentFault, Arguments, Paging, Source, parse_arguments};
 pub use events::{read_events, read_late_events};
 pub use prepare::Preparation;

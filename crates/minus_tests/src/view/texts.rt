@@ -75,9 +75,9 @@ const STYLED: [(&[u8], &str, &str); 12] = [
         "\x1b[1ma\x1b[0m\x1b[4mb\x1b[0m\n",
     ),
     (
-        b"a\x08ab\x08b",
-        "\x1b[1mab\x1b[0m",
-        "\x1b[1ma\x1b[0m\x1b[1mb\x1b[0m",
+        b"a\x08ab\x08b\n",
+        "\x1b[1mab\x1b[0m\n",
+        "\x1b[1ma\x1b[0m\x1b[1mb\x1b[0m\n",
     ),
     (
         b"\x1b[31mred\nmore\x1b[0m.\n",
@@ -95,9 +95,9 @@ const STYLED: [(&[u8], &str, &str); 12] = [
         "\x1b[1;31mx\x1b[0m       y",
     ),
     (
-        b"\x1b[1mx\x1b[0;32my",
-        "\x1b[1mx\x1b[0;32my\x1b[0m",
-        "\x1b[1mx\x1b[0;32m\x1b[0m\x1b[0;32my\x1b[0m",
+        b"\x1b[1mx\x1b[0;32my\n",
+        "\x1b[1mx\x1b[0;32my\x1b[0m\n",
+        "\x1b[1mx\x1b[0;32m\x1b[0m\x1b[0;32my\x1b[0m\n",
     ),
     (
         b"\x1b[31mx\x08xy\n",
