@@ -4,6 +4,7 @@ pub mod Keys
 pub mod Meaning
 pub mod Mouse
 pub mod Numbers
+pub mod Place
 pub mod Prepared
 pub mod Shown
 pub mod Units

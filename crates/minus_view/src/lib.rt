@@ -9,6 +9,7 @@ mod look;
 pub mod meaning;
 mod mouse;
 mod numbers;
+pub mod place;
 pub mod prepare;
 mod sheet;
 mod shown;
@@ -16,4 +17,5 @@ pub mod units;
 
 pub use arguments::{ArgumentFault, Arguments, Paging, Source, parse_arguments};
 pub use events::{read_events, read_late_events};
+pub use place::{clean_name, place_text};
 pub use prepare::Preparation;
