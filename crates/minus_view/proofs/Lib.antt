@@ -1,4 +1,5 @@
 pub mod EventLaws
 pub mod MeaningLaws
 pub mod PlainLaws
+pub mod PreparedLaws
 pub mod ShownLaws

@@ -146,6 +146,7 @@ impl Preparation {
         ensures shown { IsShown (string_bytes out.old) → IsShown (string_bytes out.new) }
         ensures kept { IfErr result (λ _. string_bytes out.new ≡ string_bytes out.old) }
         ensures glyph { IfOk result (λ _. held self.new ≡ glyph_bytes self.old.held) }
+        ensures waits { IfOk result (λ _. length (held self.new) ≤ 4) }
         ensures plain { IfOk result (λ _. IsPlain self.old
             → IsPlain self.new × (string_bytes out.new ++ held self.new ≡ string_bytes out.old ++ held self.old)) }
     {
@@ -161,11 +162,12 @@ impl Preparation {
     ///
     /// # Errors
     ///
-    /// [`AllocError`] where there is no memory: the text stays as it was. What was read of the bytes is handed out by the
-    /// next call.
+    /// [`AllocError`] where there is no memory: the text stays as it was. What was prepared of the bytes by then is handed
+    /// out by the next call, and the rest of them is lost.
     pub fn add(&mut self, out: &mut String, bytes: &[u8]) -> Result<(), AllocError>
         ensures shown { IsShown (string_bytes out.old) → IsShown (string_bytes out.new) }
         ensures kept { IfErr result (λ _. string_bytes out.new ≡ string_bytes out.old) }
+        ensures waits { IfOk result (λ _. length (held self.new) ≤ 4) }
         ensures plain { IfOk result (λ _. IsPlain self.old → IsPlainText bytes.now → IsPlain self.new
             × (string_bytes out.new ++ held self.new ≡ string_bytes out.old ++ (held self.old ++ bytes.now))) }
     {
@@ -181,8 +183,9 @@ impl Preparation {
     pub fn pause(&mut self, out: &mut String) -> Result<(), AllocError>
         ensures shown { IsShown (string_bytes out.old) → IsShown (string_bytes out.new) }
         ensures kept { IfErr result (λ _. string_bytes out.new ≡ string_bytes out.old) }
-        ensures plain { IfOk result (λ _. IsPlain self.old → IsPlain self.new × (held self.new ≡ [])
-            × (string_bytes out.new ≡ string_bytes out.old ++ held self.old)) }
+        ensures empty { IfOk result (λ _. held self.new ≡ []) }
+        ensures plain { IfOk result (λ _. IsPlain self.old
+            → IsPlain self.new × (string_bytes out.new ≡ string_bytes out.old ++ held self.old)) }
     {
         self.release()?;
         self.hand_out(out)?;
@@ -198,8 +201,9 @@ impl Preparation {
     pub fn finish(&mut self, out: &mut String) -> Result<(), AllocError>
         ensures shown { IsShown (string_bytes out.old) → IsShown (string_bytes out.new) }
         ensures kept { IfErr result (λ _. string_bytes out.new ≡ string_bytes out.old) }
-        ensures plain { IfOk result (λ _. IsPlain self.old → IsPlain self.new × (held self.new ≡ [])
-            × (string_bytes out.new ≡ string_bytes out.old ++ held self.old)) }
+        ensures empty { IfOk result (λ _. held self.new ≡ []) }
+        ensures plain { IfOk result (λ _. IsPlain self.old
+            → IsPlain self.new × (string_bytes out.new ≡ string_bytes out.old ++ held self.old)) }
     {
         self.end()?;
         self.pause(out)
