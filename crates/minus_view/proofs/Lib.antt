@@ -3,3 +3,4 @@ pub mod MeaningLaws
 pub mod PlainLaws
 pub mod PreparedLaws
 pub mod ShownLaws
+pub mod UnitLaws

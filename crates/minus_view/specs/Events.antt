@@ -1,5 +1,5 @@
 -- The units of some bytes, one after another, and their events.
-use Rattle.std.specs.Prelude.{ℕ, ◌≡◌, List, [], ◌∷◌, ◌++◌, length, Some, filter_map, bytes_eq, if◌then◌else◌}
+use Rattle.std.specs.Prelude.{ℕ, ◌≡◌, List, [], ◌∷◌, ◌++◌, length, Some, None, filter_map, bytes_eq, if◌then◌else◌}
 use Rattle.minus_term.specs.declared.event.Event.{Event}
 use Rattle.minus_term.specs.declared.event.KeyCode.TheVariants.{Esc}
 use Rattle.minus_view.specs.Keys.{press}
@@ -19,3 +19,15 @@ events_of units = filter_map meaning units
 -- the events of a rest that nothing has followed for a while: one `ESC` is the Esc key, and any other rest waits
 abbrev pub late_events : List ℕ → List Event
 late_events rest = if bytes_eq rest (27 ∷ []) then press Esc 0 ∷ [] else []
+
+-- bytes that come in pieces have the units of the whole: those of the first piece, and those of its rest with the second one
+abbrev pub PiecesJoin : Type 0
+PiecesJoin =
+    (first second : List (List ℕ)) (bytes more waiting rest : List ℕ)
+    → Reads first bytes waiting → Reads second (waiting ++ more) rest → Reads (first ++ second) (bytes ++ more) rest
+
+-- bytes have one list of units up to a rest whose first unit is cut
+abbrev pub UnitsAreDetermined : Type 0
+UnitsAreDetermined =
+    (units others : List (List ℕ)) (bytes rest left : List ℕ)
+    → Reads units bytes rest → unit_len rest ≡ None → Reads others bytes left → unit_len left ≡ None → units ≡ others

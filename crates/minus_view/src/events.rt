@@ -1,7 +1,7 @@
 //! All events that some bytes make, and how many of the bytes they are.
 ghost use Rattle.std.specs.Prelude.{◌≡◌, ◌+◌, ◌++◌, ◌∷◌, [], ◌≤◌, drop, take, length, IfOk, IfErr, None, List, ℕ};
 ghost use Rattle.minus_view.specs.Units.{unit_len};
-ghost use Rattle.minus_view.specs.Events.{Reads, events_of, late_events};
+ghost use Rattle.minus_view.specs.Events.{Reads, events_of, late_events, PiecesJoin, UnitsAreDetermined};
 
 use crate::keys::press;
 use crate::meaning::meaning;
@@ -26,6 +26,7 @@ fn push_events(events: &mut Vec<Event>, bytes: &[u8]) -> Result<usize, AllocErro
     ensures read { IfOk result (λ taken. (units : List (List ℕ)) × Reads units bytes.now (drop taken bytes.now)
         × (events.new.items ≡ events.old.items ++ events_of units)) }
     ensures cut { IfOk result (λ taken. unit_len (drop taken bytes.now) ≡ None) }
+    ensures short { IfOk result (λ taken. length bytes.now ≤ taken + 65) }
     ensures front { IfErr result (λ _. take (length events.old.items) events.new.items ≡ events.old.items) }
 {
     let mut taken = 0;
@@ -47,6 +48,7 @@ pub fn read_events(events: &mut Vec<Event>, bytes: &[u8]) -> Result<usize, Alloc
     ensures read { IfOk result (λ taken. (units : List (List ℕ)) × Reads units bytes.now (drop taken bytes.now)
         × (events.new.items ≡ events.old.items ++ events_of units)) }
     ensures cut { IfOk result (λ taken. unit_len (drop taken bytes.now) ≡ None) }
+    ensures short { IfOk result (λ taken. length bytes.now ≤ taken + 65) }
     ensures kept { IfErr result (λ _. events.new.items ≡ events.old.items) }
 {
     let count = events.len();
@@ -76,3 +78,13 @@ pub fn read_late_events(events: &mut Vec<Event>, rest: &[u8]) -> Result<usize, A
         _ => Ok(0),
     }
 }
+
+/// A law: the units of bytes that come in pieces are those of the whole, wherever these are cut.
+pub fn pieces_join()
+    ensures { PiecesJoin }
+{}
+
+/// A law: bytes have one list of units, so `read_events` can add no other events.
+pub fn units_are_determined()
+    ensures { UnitsAreDetermined }
+{}

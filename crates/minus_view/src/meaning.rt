@@ -105,7 +105,7 @@ fn escaped(bytes: &[u8]) -> Option<Event>
 }
 
 /// What a whole unit means; nothing where it is not understood.
-pub fn meaning(unit: &[u8]) -> Option<Event>
+pub(crate) fn meaning(unit: &[u8]) -> Option<Event>
     ensures { result ≡ meaning unit.now }
 {
     match unit {

@@ -81,13 +81,13 @@ impl Sheet {
     }
 
     /// Puts printed ASCII characters on it; newlines too, where no style is open.
-    pub(crate) fn put_plain(&mut self, newlines: bool, text: &str) -> Result<(), AllocError>
-        requires plain { list_all (is_plain newlines) text.now ≡ true }
+    pub(crate) fn put_plain(&mut self, newlines: bool, plain: &str) -> Result<(), AllocError>
+        requires plain { list_all (is_plain newlines) plain.now ≡ true }
         requires reset { newlines ≡ true → self.old.styled ≡ false }
         ensures styled { self.new.styled ≡ self.old.styled }
-        ensures put { IfOk result (λ _. string_bytes self.new.text ≡ string_bytes self.old.text ++ text.now) }
+        ensures put { IfOk result (λ _. string_bytes self.new.text ≡ string_bytes self.old.text ++ plain.now) }
     {
-        self.text.push_str(text)?;
+        self.text.push_str(plain)?;
         Ok(())
     }
 

@@ -118,7 +118,7 @@ fn escaped_len(bytes: &[u8]) -> Option<usize>
 }
 
 /// How many bytes the first unit has; nothing where the bytes end before it does.
-pub fn unit_len(bytes: &[u8]) -> Option<usize>
+pub(crate) fn unit_len(bytes: &[u8]) -> Option<usize>
     ensures is { result ≡ unit_len bytes.now }
     ensures within { IfSome result (λ n. n ≤ length bytes.now) }
     ensures some { IfSome result (λ n. 0 < n) }
