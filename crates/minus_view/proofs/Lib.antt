@@ -1,4 +1,6 @@
+pub mod CleanLaws
 pub mod EventLaws
+pub mod ExpandedLaws
 pub mod MeaningLaws
 pub mod PlainLaws
 pub mod PreparedLaws

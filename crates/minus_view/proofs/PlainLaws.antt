@@ -1,15 +1,13 @@
 -- Laws of printed ASCII characters and newlines.
-use Rattle.std.proofs.Common.{ℕ, ◌≡◌, ◌<◌, ◌≤◌, ◌+◌, ◌++◌, List, [], ◌∷◌, Bool, true, false, Option, Some, refl, ap, sym, ◌∙◌, arith, length, take, cond, ◌&&◌, suc, subst}
+use Rattle.std.proofs.Common.{ℕ, ◌≡◌, ◌<◌, ◌+◌, List, [], ◌∷◌, Bool, true, false, Some, refl, ap, ◌∙◌, arith, length, take, cond, ◌&&◌, suc, subst}
 use Rattle.std.specs.List.{list_all, prefix_len}
 use Rattle.std.specs.Str.{IsAscii, chars}
-use Rattle.std.specs.Option.{option_and_then}
 use Rattle.std.proofs.lemmas.Bool.{and_parts}
 use Rattle.std.proofs.lemmas.Bool.Decides.{nat_tests}
 use Rattle.std.proofs.lemmas.Str.{chars-IsAscii}
 use Rattle.std.proofs.lemmas.Str.Ascii.{IsAscii-nil, IsAscii-cons}
-use Rattle.minus_view.specs.declared.shown.Spot.{Spot}
 use Rattle.minus_view.specs.declared.shown.Spot.TheVariants.{Line}
-use Rattle.minus_view.specs.Shown.{is_plain, in_line, step, read}
+use Rattle.minus_view.specs.Shown.{is_plain, in_line, read}
 
 plain_small : (n : Bool) (b : ℕ) → is_plain n b ≡ true → b < 128
 plain_small n b h = grind (arith, nat_tests)

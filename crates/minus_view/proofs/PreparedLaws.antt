@@ -1,5 +1,5 @@
 -- Laws of what is held.
-use Rattle.std.proofs.Common.{◌≤◌, List, ℕ, Option, Some, None, length, arith}
+use Rattle.std.proofs.Common.{◌≤◌, Option, Some, None, length, arith}
 use Rattle.std.proofs.lemmas.Str.{length-encode, len_utf8_bounds}
 use Rattle.minus_view.specs.declared.look.Glyph.{Glyph}
 use Rattle.minus_view.specs.Prepared.{glyph_bytes}

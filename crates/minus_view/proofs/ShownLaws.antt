@@ -7,7 +7,7 @@ use Rattle.std.specs.Str.{IsUtf8, chars}
 use Rattle.std.specs.Option.{option_and_then}
 use Rattle.std.proofs.lemmas.Str.{chars-append, chars-nil, chars_past_char, IsUtf8-encode}
 use Rattle.minus_view.specs.declared.shown.Spot.{Spot}
-use Rattle.minus_view.specs.Shown.{read, step, is_control, in_line}
+use Rattle.minus_view.specs.Shown.{read, step, is_control, in_line, IsShown}
 
 -- a text after another one is read from where that one ends
 pub read-append : (xs ys : List ℕ) (at : Option Spot) → read (xs ++ ys) at ≡ read ys (read xs at)
@@ -49,3 +49,10 @@ pub read_encode : (c : ℕ) (styled : Bool) → IsScalar c → is_control c ≡ 
 read_encode c styled s h =
     ap (λ cs. read cs (Some (Line styled))) (chars_past_char (encode_utf8 c) [] c (IsUtf8-encode c s) (sym (append-nil (encode_utf8 c))) ∙ ap (λ cs. c ∷ cs) chars-nil)
     ∙ stays c styled h
+
+-- no text, and a text behind another one
+pub shown-nil : IsShown []
+shown-nil = ap (λ cs. read cs (Some (Line false))) chars-nil
+
+pub shown-append : (first second : List ℕ) → IsUtf8 first → IsShown first → IsShown second → IsShown (first ++ second)
+shown-append first second u one two = put_behind first second (first ++ second) false false (Some (Line false)) u one two refl

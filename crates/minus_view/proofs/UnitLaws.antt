@@ -1,7 +1,6 @@
 -- Laws of units: a rest is short, and a whole unit stays one whatever follows.
-use Rattle.std.proofs.Common.{ℕ, ◌≡◌, ◌<◌, ◌≤◌, ◌+◌, ◌==◌, ◌&&◌, ◌++◌, List, [], ◌∷◌, Bool, true, false, Option, Some, None, option_map, refl, ap, sym, ◌∙◌, arith, length, drop, min, cond, if◌then◌else◌, length-append, subst, ◌⊎◌, inl, inr, nat_lt}
+use Rattle.std.proofs.Common.{ℕ, ◌≡◌, ◌<◌, ◌≤◌, ◌+◌, ◌==◌, ◌++◌, List, [], ◌∷◌, Bool, true, false, Option, Some, None, option_map, refl, ap, sym, ◌∙◌, arith, length, drop, if◌then◌else◌, length-append, ◌⊎◌, inl, inr}
 use Rattle.std.proofs.lemmas.List.{length-drop, drop-append-le}
-use Rattle.std.specs.List.{prefix_len}
 use Rattle.std.specs.Int.{is_in_range}
 use Rattle.std.proofs.lemmas.Bool.Decides.{nat_tests}
 use Rattle.std.proofs.lemmas.List.Sums.{prefix_len-le-length}

@@ -1,6 +1,7 @@
 -- What of a text was read and is not handed out yet, and when a text is handed out as it is.
-use Rattle.std.specs.Prelude.{ℕ, ◌≡◌, Bool, true, false, List, [], ◌++◌, Option, Some, None, string_bytes, encode_utf8}
+use Rattle.std.specs.Prelude.{ℕ, ◌≡◌, ◌+◌, ◌-◌, ◌%◌, ◌==◌, ◌||◌, Bool, true, false, List, [], ◌∷◌, ◌++◌, Option, Some, None, string_bytes, encode_utf8, replicate, unwrap_or, if◌then◌else◌}
 use Rattle.std.specs.List.{list_all}
+use Rattle.unicode_width.specs.Width.{char_width}
 use Rattle.minus_view.specs.declared.look.Glyph.{Glyph}
 use Rattle.minus_view.specs.declared.look.Look.TheVariants.{Plain}
 use Rattle.minus_view.specs.declared.prepare.Place.TheVariants.{Text}
@@ -30,6 +31,56 @@ pub record IsPlain (p : Preparation) : Type 0 where
   pub styled : p.sheet.styled ≡ false
   pub glyph : IsPlainGlyph p.held
 
--- printed ASCII characters and newlines alone
-abbrev pub IsPlainText : List ℕ → Type 0
-IsPlainText bytes = list_all (is_plain true) bytes ≡ true
+-- printed ASCII characters, newlines and tabs alone
+abbrev pub is_text : ℕ → Bool
+is_text b = is_plain true b || (b == 9)
+
+abbrev pub IsText : List ℕ → Type 0
+IsText bytes = list_all is_text bytes ≡ true
+
+-- how many spaces stand for a tab: as many as lead to the next column that 8 divides
+abbrev pub tab_len : ℕ → ℕ
+tab_len col = 8 - col % 8
+
+-- the column behind a byte, and behind bytes; columns are counted from 0
+abbrev pub next_column : ℕ → ℕ → ℕ
+next_column col b = if b == 9 then col + tab_len col else (if b == 10 then 0 else col + 1)
+
+abbrev pub column_after : ℕ → List ℕ → ℕ
+column_after col [] = col
+column_after col (b ∷ bytes) = column_after (next_column col b) bytes
+
+-- what bytes become that begin in a column: spaces stand for tabs, and all others stay
+abbrev pub expanded : ℕ → List ℕ → List ℕ
+expanded col [] = []
+expanded col (b ∷ bytes) =
+    if b == 9 then replicate (tab_len col) 32 ++ expanded (next_column col b) bytes else b ∷ expanded (next_column col b) bytes
+
+-- the columns of a character, and of the held one
+abbrev pub char_columns : ℕ → ℕ
+char_columns c = unwrap_or (char_width false c) 0
+
+abbrev pub glyph_columns : Option Glyph → ℕ
+glyph_columns (Some glyph) = char_columns glyph.c
+glyph_columns None = 0
+
+-- what was read ends in a column, as far as tabs can tell
+abbrev pub IsAt : ℕ → Preparation → Type 0
+IsAt col p = (p.column + glyph_columns p.held) % 8 ≡ col % 8
+
+-- nothing is begun, and what was read ends in a column
+abbrev pub IsPlainAt : ℕ → Preparation → Type 0
+IsPlainAt col p = IsPlain p × IsAt col p
+
+-- some of the bytes were read, and `rest` is left: what they become is held
+pub record Takes (col : ℕ) (old new : Preparation) (bytes rest : List ℕ) : Type 0 where
+  pub next : ℕ
+  pub plain : IsPlain new
+  pub is_at : IsAt next new
+  pub left : IsText rest
+  pub text : held new ++ expanded next rest ≡ held old ++ expanded col bytes
+  pub ends : column_after next rest ≡ column_after col bytes
+
+-- printed ASCII characters and newlines stay as they are
+abbrev pub PlainTextStays : Type 0
+PlainTextStays = (col : ℕ) (bytes : List ℕ) → list_all (is_plain true) bytes ≡ true → expanded col bytes ≡ bytes

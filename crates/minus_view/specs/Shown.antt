@@ -1,6 +1,7 @@
 -- What a shown text is: characters that are no control characters, newlines, and sequences `ESC [ digits and ; m`, each
 -- whole. No line ends, and neither does the text, where a style is open. A text is here the list of its characters.
-use Rattle.std.specs.Prelude.{ℕ, ◌≡◌, chars, ◌==◌, ◌&&◌, ◌||◌, Bool, true, false, not, List, [], ◌∷◌, Option, Some, None, if◌then◌else◌, option_and_then}
+use Rattle.std.specs.Prelude.{ℕ, ◌≡◌, chars, ◌==◌, ◌&&◌, ◌||◌, Bool, true, false, not, List, [], ◌∷◌, ◌++◌, Option, Some, None, if◌then◌else◌, option_and_then}
+use Rattle.std.specs.Str.{IsUtf8}
 use Rattle.std.specs.Int.{is_in_range}
 use Rattle.minus_view.specs.declared.shown.Spot.{Spot}
 use Rattle.minus_view.specs.declared.shown.Spot.TheVariants.{Line, Escape, Numbers}
@@ -36,6 +37,21 @@ read (c ∷ cs) at = read cs (option_and_then (λ spot. step spot c) at)
 -- these bytes spell a shown text
 abbrev pub IsShown : List ℕ → Type 0
 IsShown bytes = read (chars bytes) (Some (Line false)) ≡ Some (Line false)
+
+-- no text is one, and one behind another is one
+abbrev pub ShownTextsJoin : Type 0
+ShownTextsJoin = IsShown [] × ((first second : List ℕ) → IsUtf8 first → IsShown first → IsShown second → IsShown (first ++ second))
+
+-- the only control characters of a shown text are the newline and `ESC`, and behind each `ESC` stands `[`
+abbrev pub follows : ℕ → Bool → Bool
+follows c escaped = if escaped then c == 91 else (not (is_control c) || (c == 10) || (c == 27))
+
+abbrev pub is_clean : Bool → List ℕ → Bool
+is_clean escaped [] = not escaped
+is_clean escaped (c ∷ cs) = follows c escaped && is_clean (c == 27) cs
+
+abbrev pub ShownTextsAreClean : Type 0
+ShownTextsAreClean = (bytes : List ℕ) → IsShown bytes → is_clean false (chars bytes) ≡ true
 
 -- a printed ASCII character; or a newline, where these are allowed
 abbrev pub is_plain : Bool → ℕ → Bool

@@ -18,4 +18,5 @@ mod units;
 pub use arguments::{ArgumentFault, Arguments, Paging, Source, parse_arguments};
 pub use events::{pieces_join, read_events, read_late_events, units_are_determined};
 pub use place::{clean_name, place_text};
-pub use prepare::Preparation;
+pub use prepare::{Preparation, plain_text_stays};
+pub use shown::{shown_texts_are_clean, shown_texts_join};

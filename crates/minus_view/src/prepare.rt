@@ -8,10 +8,10 @@
 //! [`Preparation::add`] takes the bytes in pieces that are cut anywhere, and each text that it hands out is reset at its
 //! end. It holds back the last character, since a backspace may follow, and what was begun; [`Preparation::pause`] hands
 //! out the character, and [`Preparation::finish`] all of it.
-ghost use Rattle.std.specs.Prelude.{◌≡◌, ◌++◌, ◌≤◌, ◌<◌, [], Bool, true, false, length, string_bytes, IfOk, IfErr};
+ghost use Rattle.std.specs.Prelude.{ℕ, ◌≡◌, ◌++◌, ◌≤◌, ◌<◌, [], Bool, true, false, drop, length, string_bytes, IfOk, IfErr};
 ghost use Rattle.std.specs.List.{list_all, prefix_len};
 ghost use Rattle.minus_view.specs.Shown.{is_plain, IsShown};
-ghost use Rattle.minus_view.specs.Prepared.{glyph_bytes, held, IsPlain, IsPlainText};
+ghost use Rattle.minus_view.specs.Prepared.{column_after, expanded, glyph_bytes, held, IsAt, IsPlain, IsPlainAt, IsText, PlainTextStays, Takes};
 
 mod bytes;
 mod characters;
@@ -80,7 +80,7 @@ fn plain_len(newlines: bool, bytes: &[u8]) -> usize
 impl Preparation {
     /// A preparation that has read nothing.
     pub fn new(alloc: Global) -> Preparation
-        ensures plain { IsPlain result }
+        ensures plain { IsPlainAt 0 result }
         ensures held { held result ≡ [] }
     {
         Preparation {
@@ -113,10 +113,14 @@ impl Preparation {
         requires { 0 < length bytes.now }
         ensures within { IfOk result (λ n. n ≤ length bytes.now) }
         ensures some { IfOk result (λ n. 0 < n) }
-        ensures plain { IfOk result (λ n. IsPlain self.old → IsPlainText bytes.now
-            → (n ≡ length bytes.now) × (IsPlain self.new × (held self.new ≡ held self.old ++ bytes.now))) }
+        ensures text { IfOk result (λ n. (col : ℕ) → IsPlain self.old → IsAt col self.old → IsText bytes.now
+            → Takes col self.old self.new bytes.now (drop n bytes.now)) }
     {
         if self.is_text() {
+            if bytes[0] == b'\t' {
+                self.tab()?;
+                return Ok(1);
+            }
             let newlines = self.is_plain();
             let run = plain_len(newlines, bytes);
             if 0 < run {
@@ -130,8 +134,8 @@ impl Preparation {
 
     // Takes the bytes.
     fn take(&mut self, bytes: &[u8]) -> Result<(), AllocError>
-        ensures plain { IfOk result (λ _. IsPlain self.old → IsPlainText bytes.now
-            → IsPlain self.new × (held self.new ≡ held self.old ++ bytes.now)) }
+        ensures text { IfOk result (λ _. (col : ℕ) → IsPlain self.old → IsAt col self.old → IsText bytes.now
+            → Takes col self.old self.new bytes.now []) }
     {
         let mut rest = bytes;
         while !rest.is_empty() {
@@ -147,6 +151,7 @@ impl Preparation {
         ensures kept { IfErr result (λ _. string_bytes out.new ≡ string_bytes out.old) }
         ensures glyph { IfOk result (λ _. held self.new ≡ glyph_bytes self.old.held) }
         ensures waits { IfOk result (λ _. length (held self.new) ≤ 4) }
+        ensures column { (col : ℕ) → IsAt col self.old → IsAt col self.new }
         ensures plain { IfOk result (λ _. IsPlain self.old
             → IsPlain self.new × (string_bytes out.new ++ held self.new ≡ string_bytes out.old ++ held self.old)) }
     {
@@ -168,8 +173,9 @@ impl Preparation {
         ensures shown { IsShown (string_bytes out.old) → IsShown (string_bytes out.new) }
         ensures kept { IfErr result (λ _. string_bytes out.new ≡ string_bytes out.old) }
         ensures waits { IfOk result (λ _. length (held self.new) ≤ 4) }
-        ensures plain { IfOk result (λ _. IsPlain self.old → IsPlainText bytes.now → IsPlain self.new
-            × (string_bytes out.new ++ held self.new ≡ string_bytes out.old ++ (held self.old ++ bytes.now))) }
+        ensures plain { IfOk result (λ _. (col : ℕ) → IsPlainAt col self.old → IsText bytes.now
+            → IsPlainAt (column_after col bytes.now) self.new
+            × (string_bytes out.new ++ held self.new ≡ string_bytes out.old ++ (held self.old ++ expanded col bytes.now))) }
     {
         self.take(bytes)?;
         self.hand_out(out)
@@ -184,8 +190,8 @@ impl Preparation {
         ensures shown { IsShown (string_bytes out.old) → IsShown (string_bytes out.new) }
         ensures kept { IfErr result (λ _. string_bytes out.new ≡ string_bytes out.old) }
         ensures empty { IfOk result (λ _. held self.new ≡ []) }
-        ensures plain { IfOk result (λ _. IsPlain self.old
-            → IsPlain self.new × (string_bytes out.new ≡ string_bytes out.old ++ held self.old)) }
+        ensures plain { IfOk result (λ _. (col : ℕ) → IsPlainAt col self.old
+            → IsPlainAt col self.new × (string_bytes out.new ≡ string_bytes out.old ++ held self.old)) }
     {
         self.release()?;
         self.hand_out(out)?;
@@ -202,10 +208,15 @@ impl Preparation {
         ensures shown { IsShown (string_bytes out.old) → IsShown (string_bytes out.new) }
         ensures kept { IfErr result (λ _. string_bytes out.new ≡ string_bytes out.old) }
         ensures empty { IfOk result (λ _. held self.new ≡ []) }
-        ensures plain { IfOk result (λ _. IsPlain self.old
-            → IsPlain self.new × (string_bytes out.new ≡ string_bytes out.old ++ held self.old)) }
+        ensures plain { IfOk result (λ _. (col : ℕ) → IsPlainAt col self.old
+            → IsPlainAt col self.new × (string_bytes out.new ≡ string_bytes out.old ++ held self.old)) }
     {
         self.end()?;
         self.pause(out)
     }
 }
+
+/// A law: printed ASCII characters and newlines stay as they are.
+pub fn plain_text_stays()
+    ensures { PlainTextStays }
+{}

@@ -1,6 +1,6 @@
 //! The grammar that every prepared text meets, read from the left.
 ghost use Rattle.std.specs.Prelude.{◌≡◌, ◌==◌, ◌||◌, chars};
-ghost use Rattle.minus_view.specs.Shown.{step, read, is_control};
+ghost use Rattle.minus_view.specs.Shown.{step, read, is_control, ShownTextsJoin, ShownTextsAreClean};
 
 /// Where a shown text stands, behind some of its characters.
 #[derive(Clone, Copy, Debug)]
@@ -72,3 +72,13 @@ pub(crate) fn read(spot: Spot, text: &str) -> Option<Spot>
     }
     at
 }
+
+/// A law: no text is a shown text, and one behind another is one.
+pub fn shown_texts_join()
+    ensures { ShownTextsJoin }
+{}
+
+/// A law: a shown text has no control character but newlines and `ESC`, and behind each `ESC` stands `[`.
+pub fn shown_texts_are_clean()
+    ensures { ShownTextsAreClean }
+{}

@@ -1,8 +1,8 @@
 //! Characters on their way to the sheet.
-ghost use Rattle.std.specs.Prelude.{◌≡◌, ◌++◌, [], true, false, string_bytes, IfOk, None};
+ghost use Rattle.std.specs.Prelude.{ℕ, ◌≡◌, ◌+◌, ◌%◌, ◌≤◌, ◌++◌, [], true, false, string_bytes, replicate, IfOk, None};
 ghost use Rattle.std.specs.List.{list_all};
 ghost use Rattle.minus_view.specs.Shown.{is_plain};
-ghost use Rattle.minus_view.specs.Prepared.{held, IsPlain, IsPlainGlyph};
+ghost use Rattle.minus_view.specs.Prepared.{char_columns, column_after, tab_len, held, IsAt, IsPlain, IsPlainGlyph};
 ghost use Rattle.minus_view.specs.declared.look.Look.TheVariants.{Plain};
 ghost use Rattle.minus_view.specs.declared.prepare.Place.TheVariants.{Text};
 
@@ -16,11 +16,31 @@ use unicode_width::UnicodeWidthChar;
 /// How far tabs stand apart, in columns.
 const TAB: usize = 8;
 
-// The columns of a line with these characters more, all of them printed ASCII or newlines.
-fn column_after(column: usize, plain: &[u8]) -> usize {
-    match plain.iter().rposition(|byte| *byte == b'\n') {
-        Some(at) => plain.len().saturating_sub(at).saturating_sub(1),
-        None => column.saturating_add(plain.len()),
+// The columns of a character.
+fn columns(c: char) -> usize
+    ensures is { result ≡ char_columns c }
+    ensures few { result ≤ 3 }
+{
+    match c.width() {
+        Some(columns) => columns,
+        None => 0,
+    }
+}
+
+// The column behind these characters, as far as tabs can tell.
+fn column_after(column: usize, plain: &[u8]) -> usize
+    requires { list_all (is_plain true) plain.now ≡ true }
+    ensures { result % 8 ≡ column_after column plain.now % 8 }
+{
+    let mut start = plain.len();
+    while 0 < start && plain[start - 1] != b'\n' {
+        start -= 1;
+    }
+    let line = (plain.len() - start) % TAB;
+    if start == 0 {
+        column % TAB + line
+    } else {
+        line
     }
 }
 
@@ -58,6 +78,7 @@ impl Preparation {
     // Opens what holds for a character of this look.
     fn open(&mut self, look: Look) -> Result<(), AllocError>
         ensures held { self.new.held ≡ self.old.held }
+        ensures column { self.new.column ≡ self.old.column }
         ensures kept { string_bytes self.old.colours ≡ [] → self.old.look ≡ look → self.new ≡ self.old }
     {
         if !self.is_open && !self.colours.is_empty() {
@@ -80,13 +101,14 @@ impl Preparation {
     pub(super) fn release(&mut self) -> Result<(), AllocError>
         ensures none { IfOk result (λ _. self.new.held ≡ None) }
         ensures plain { IfOk result (λ _. IsPlain self.old → IsPlain self.new × (held self.new ≡ held self.old)) }
+        ensures column { IfOk result (λ _. (col : ℕ) → IsAt col self.old → IsAt col self.new) }
     {
         self.is_back = false;
-        if let Some(Glyph { c, look }) = self.held {
-            self.open(look)?;
-            self.sheet.put_char(c)?;
+        if let Some(glyph) = self.held {
+            self.open(glyph.look)?;
+            self.sheet.put_char(glyph.c)?;
             self.held = None;
-            self.column = self.column.saturating_add(c.width().unwrap_or(0));
+            self.column = self.column % TAB + columns(glyph.c);
         }
         Ok(())
     }
@@ -116,6 +138,7 @@ impl Preparation {
         ensures held { self.new.held ≡ self.old.held }
         ensures plain { IfOk result (λ _. newlines ≡ true → IsPlain self.new
             × (string_bytes self.new.sheet.text ≡ string_bytes self.old.sheet.text ++ bytes.now)) }
+        ensures column { IfOk result (λ _. self.new.column % 8 ≡ column_after self.old.column bytes.now % 8) }
     {
         if !bytes.is_empty() {
             self.open(Look::Plain)?;
@@ -130,6 +153,7 @@ impl Preparation {
         requires printed { list_all (is_plain newlines) bytes.now ≡ true }
         requires begun { newlines ≡ true → IsPlain self.old }
         ensures plain { IfOk result (λ _. newlines ≡ true → IsPlain self.new × (held self.new ≡ held self.old ++ bytes.now)) }
+        ensures column { IfOk result (λ _. (col : ℕ) → IsAt col self.old → IsAt (column_after col bytes.now) self.new) }
     {
         self.release()?;
         match bytes.split_last() {
@@ -146,12 +170,16 @@ impl Preparation {
     }
 
     // A tab.
-    pub(super) fn tab(&mut self) -> Result<(), AllocError> {
+    pub(super) fn tab(&mut self) -> Result<(), AllocError>
+        ensures plain { IfOk result (λ _. (col : ℕ) → IsPlain self.old → IsAt col self.old → IsPlain self.new
+            × (held self.new ≡ held self.old ++ replicate (tab_len col) 32)) }
+        ensures column { IfOk result (λ _. (col : ℕ) → IsAt col self.old → IsAt (col + tab_len col) self.new) }
+    {
         self.release()?;
         self.open(Look::Plain)?;
         let spaces = TAB - self.column % TAB;
-        self.sheet.put(&"        "[..spaces])?;
-        self.column = self.column.saturating_add(spaces);
+        self.sheet.put_plain(false, &"        "[..spaces])?;
+        self.column = 0;
         Ok(())
     }
 
