@@ -20,7 +20,8 @@ events_of units = filter_map meaning units
 abbrev pub late_events : List ℕ → List Event
 late_events rest = if bytes_eq rest (27 ∷ []) then press Esc 0 ∷ [] else []
 
--- bytes that come in pieces have the units of the whole: those of the first piece, and those of its rest with the second one
+-- bytes that come in pieces have the units of the whole: those of the first piece, and those of its rest with the
+-- second one
 abbrev pub PiecesJoin : Type 0
 PiecesJoin =
     (first second : List (List ℕ)) (bytes more waiting rest : List ℕ)

@@ -21,10 +21,11 @@ named bytes = or_else (table_key bytes) (reported bytes)
 abbrev pub character_key : ℕ → ℕ → Event
 character_key c bits = if is_in_range 65 90 c then press (Char c) (bits + 1) else press (Char c) bits
 
--- the key of a byte below 128: a control character is the key of its letter or sign with CONTROL, but for those of keys
+-- the key of a byte below 128: a control character is its letter or sign with CONTROL, if no key has it
 abbrev pub ascii_key : ℕ → ℕ → Event
 ascii_key b bits =
-    if b == 13 then press Enter bits else (if b == 9 then press Tab bits else (if (b == 8) || (b == 127) then press Backspace bits
+    if b == 13 then press Enter bits else (if b == 9 then press Tab bits
+    else (if (b == 8) || (b == 127) then press Backspace bits
     else (if b == 27 then press Esc bits else (if b == 0 then press (Char 32) (bits + 2)
     else (if is_in_range 1 26 b then press (Char (b + 96)) (bits + 2)
     else (if is_in_range 28 31 b then press (Char (b + 64)) (bits + 2) else character_key b bits))))))
@@ -39,7 +40,8 @@ character bytes = if is_utf8 bytes then one_of (chars bytes) else None
 
 -- the key that some bytes type: one byte below 128, or a character's bytes
 abbrev pub typed : List ℕ → ℕ → Option Event
-typed bytes bits = option_map (λ c. if is_in_range 0 127 c then ascii_key c bits else character_key c bits) (character bytes)
+typed bytes bits =
+    option_map (λ c. if is_in_range 0 127 c then ascii_key c bits else character_key c bits) (character bytes)
 
 -- what follows `ESC` in a whole unit: a named sequence, or a key with ALT
 abbrev pub escaped : List ℕ → Option Event

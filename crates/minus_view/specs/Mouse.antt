@@ -1,4 +1,4 @@
--- A report of the mouse: what follows `ESC[<` is three numbers with `;` between them, and `M`, or `m` for a button let go.
+-- A report of the mouse: behind `ESC[<` stand three numbers with `;` between them, and `M`, or `m` for a button let go.
 use Rattle.std.specs.Prelude.{ℕ, ◌+◌, ◌-◌, ◌==◌, Bool, true, false, List, [], ◌∷◌, Option, Some, None, if◌then◌else◌, option_map, option_and_then, bit_and}
 use Rattle.minus_view.specs.Numbers.{number, past_number, past_semicolon}
 use Rattle.minus_term.specs.declared.event.Event.{Event}
@@ -10,13 +10,16 @@ use Rattle.minus_term.specs.declared.event.MouseEventKind.TheVariants.{Down, Up,
 
 -- the modifiers of a report: its bits 4, 8 and 16 are SHIFT, ALT and CONTROL
 abbrev pub modifier_bits : ℕ → ℕ
-modifier_bits bits = (if bit_and bits 4 == 0 then 0 else 1) + (if bit_and bits 8 == 0 then 0 else 4) + (if bit_and bits 16 == 0 then 0 else 2)
+modifier_bits bits =
+    (if bit_and bits 4 == 0 then 0 else 1) + (if bit_and bits 8 == 0 then 0 else 4)
+    + (if bit_and bits 16 == 0 then 0 else 2)
 
 abbrev pub button : ℕ → Option MouseButton
 button two = if two == 0 then Some Left else (if two == 1 then Some Middle else (if two == 2 then Some Right else None))
 
 abbrev pub scroll : ℕ → MouseEventKind
-scroll two = if two == 0 then ScrollUp else (if two == 1 then ScrollDown else (if two == 2 then ScrollLeft else ScrollRight))
+scroll two =
+    if two == 0 then ScrollUp else (if two == 1 then ScrollDown else (if two == 2 then ScrollLeft else ScrollRight))
 
 -- with a button or with none; bit 32 says that the mouse was moved
 abbrev pub pressed : Option MouseButton → Bool → Bool → Option MouseEventKind
@@ -34,13 +37,21 @@ mouse_kind bits up =
 -- columns and rows are counted from 1 in a report
 abbrev pub mouse_event : ℕ → ℕ → ℕ → Bool → Option Event
 mouse_event bits column row up =
-    option_map (λ kind. Mouse (record { kind = kind; column = column - 1; row = row - 1; modifiers = record { 0 = modifier_bits bits } })) (mouse_kind bits up)
+    option_map (λ kind. Mouse (record {
+      kind = kind;
+      column = column - 1;
+      row = row - 1;
+      modifiers = record { 0 = modifier_bits bits };
+    })) (mouse_kind bits up)
 
 abbrev pub mouse_end : ℕ → ℕ → ℕ → List ℕ → Option Event
-mouse_end bits column row (b ∷ []) = if b == 77 then mouse_event bits column row false else (if b == 109 then mouse_event bits column row true else None)
+mouse_end bits column row (b ∷ []) =
+    if b == 77 then mouse_event bits column row false
+    else (if b == 109 then mouse_event bits column row true else None)
 mouse_end bits column row other = None
 
 abbrev pub mouse : List ℕ → Option Event
 mouse bytes =
-    option_and_then (λ columns. option_and_then (λ rows. mouse_end (number 0 bytes) (number 0 columns) (number 0 rows) (past_number rows)) (past_semicolon (past_number columns)))
-    (past_semicolon (past_number bytes))
+    option_and_then (λ columns. option_and_then (λ rows.
+    mouse_end (number 0 bytes) (number 0 columns) (number 0 rows) (past_number rows))
+    (past_semicolon (past_number columns))) (past_semicolon (past_number bytes))

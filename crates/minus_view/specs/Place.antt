@@ -1,13 +1,13 @@
--- The text of the prompt row: the name of the text, the rows on show and how many there are, and the part of the text that
--- ends with them.
+-- The text of the prompt row: the name of the text, the rows on show and how many there are, and the part of the text
+-- that ends with them.
 use Rattle.std.specs.Prelude.{ℕ, ◌+◌, ◌*◌, ◌/◌, ◌==◌, List, [], ◌∷◌, ◌++◌, chars, codes, min, if◌then◌else◌}
 use Rattle.std.specs.Int.{is_in_range}
 use Rattle.std.specs.List.{flat_map}
 use Rattle.std.specs.Str.{encode_utf8_all}
 use Rattle.std.specs.Fmt.{decimal}
 
--- the characters that a character of a name is shown as: a control character is `^` and its letter or sign, and one from
--- U+0080 to U+009F is `?`
+-- the characters that a character of a name is shown as: a control character is `^` and its letter or sign, and one
+-- from U+0080 to U+009F is `?`
 abbrev pub shown_as : ℕ → List ℕ
 shown_as c =
     if is_in_range 0 0x1F c then 94 ∷ (c + 64) ∷ []

@@ -54,7 +54,8 @@ column_after col (b ∷ bytes) = column_after (next_column col b) bytes
 abbrev pub expanded : ℕ → List ℕ → List ℕ
 expanded col [] = []
 expanded col (b ∷ bytes) =
-    if b == 9 then replicate (tab_len col) 32 ++ expanded (next_column col b) bytes else b ∷ expanded (next_column col b) bytes
+    if b == 9 then replicate (tab_len col) 32 ++ expanded (next_column col b) bytes
+    else b ∷ expanded (next_column col b) bytes
 
 -- the columns of a character, and of the held one
 abbrev pub char_columns : ℕ → ℕ

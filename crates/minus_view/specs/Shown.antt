@@ -1,5 +1,6 @@
--- What a shown text is: characters that are no control characters, newlines, and sequences `ESC [ digits and ; m`, each
--- whole. No line ends, and neither does the text, where a style is open. A text is here the list of its characters.
+-- What a shown text is: characters that are no control characters, newlines, and sequences `ESC [ digits and ; m`,
+-- each whole. No line ends, and neither does the text, where a style is open. A text is here the list of its
+-- characters.
 use Rattle.std.specs.Prelude.{ℕ, ◌≡◌, chars, ◌==◌, ◌&&◌, ◌||◌, Bool, true, false, not, List, [], ◌∷◌, ◌++◌, Option, Some, None, if◌then◌else◌, option_and_then}
 use Rattle.std.specs.Str.{IsUtf8}
 use Rattle.std.specs.Int.{is_in_range}
@@ -40,7 +41,9 @@ IsShown bytes = read (chars bytes) (Some (Line false)) ≡ Some (Line false)
 
 -- no text is one, and one behind another is one
 abbrev pub ShownTextsJoin : Type 0
-ShownTextsJoin = IsShown [] × ((first second : List ℕ) → IsUtf8 first → IsShown first → IsShown second → IsShown (first ++ second))
+ShownTextsJoin =
+    IsShown []
+    × ((first second : List ℕ) → IsUtf8 first → IsShown first → IsShown second → IsShown (first ++ second))
 
 -- the only control characters of a shown text are the newline and `ESC`, and behind each `ESC` stands `[`
 abbrev pub follows : ℕ → Bool → Bool

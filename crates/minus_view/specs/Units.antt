@@ -1,5 +1,5 @@
--- How many bytes the first unit of a terminal's bytes has. A unit is a character, a sequence of a key or of the mouse, or a
--- byte that is neither; it is never empty. Each answer is nothing where the bytes end before the unit does.
+-- How many bytes the first unit of a terminal's bytes has. A unit is a character, a sequence of a key or of the
+-- mouse, or a byte that is neither; it is never empty. Where the bytes end before the unit, the answer is nothing.
 use Rattle.std.specs.Prelude.{ℕ, ◌+◌, ◌==◌, ◌&&◌, List, [], ◌∷◌, Option, Some, None, if◌then◌else◌, option_map, length, drop, min, nat_lt}
 use Rattle.std.specs.List.{prefix_len}
 use Rattle.std.specs.Int.{is_in_range}
@@ -29,15 +29,16 @@ final_len parameters (b ∷ bytes) = if nat_lt parameters 64 && is_in_range 0x40
 abbrev pub parameters_len : List ℕ → Option ℕ
 parameters_len bytes = option_map (λ n. n + final_len n (drop n bytes)) (tail_len 64 0x20 0x3F bytes)
 
--- what follows `ESC [`: `[` and one byte (the Linux console's F1 to F5), `M` and three bytes (an old report of the mouse),
--- or parameters and a last byte
+-- what follows `ESC [`: `[` and one byte (the Linux console's F1 to F5), `M` and three bytes (an old report of the
+-- mouse), or parameters and a last byte
 abbrev pub sequence_len : List ℕ → Option ℕ
 sequence_len [] = None
 sequence_len (b ∷ bytes) =
     if b == 91 then option_map (λ n. n + 1) (tail_len 1 0x20 0x7E bytes)
     else (if b == 77 then option_map (λ n. n + 1) (tail_len 3 0x20 0xFF bytes) else parameters_len (b ∷ bytes))
 
--- what follows `ESC`: `[` and its sequence, `O` and one byte, a character with Alt, or nothing where a second `ESC` follows
+-- what follows `ESC`: `[` and its sequence, `O` and one byte, a character with Alt, or nothing where a second `ESC`
+-- follows
 abbrev pub escaped_len : List ℕ → Option ℕ
 escaped_len [] = None
 escaped_len (b ∷ bytes) =

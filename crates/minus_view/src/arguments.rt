@@ -1,7 +1,7 @@
 //! The arguments of the pager program, as `less` has them.
 //!
-//! `[-N] [-S] [+F] [+LINE] [--no-mouse] [-h | --help] [--version] [FILE | -]`, in any order; letters may share a word, as
-//! in `-NS`. The first word that asks for help or the version, or that is at fault, ends the reading.
+//! `[-N] [-S] [+F] [+LINE] [--no-mouse] [-h | --help] [--version] [FILE | -]`, in any order; letters may share a
+//! word, as in `-NS`. The first word that asks for help or the version, or that is at fault, ends the reading.
 ghost use Rattle.std.specs.Prelude.{◌≡◌};
 ghost use Rattle.minus_view.specs.Arguments.{no_words, with_letters, line_number, with_source, read_other, read_word, read_words};
 

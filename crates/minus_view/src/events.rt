@@ -37,8 +37,8 @@ fn push_events(events: &mut Vec<Event>, bytes: &[u8]) -> Result<usize, AllocErro
     Ok(taken)
 }
 
-/// Adds the events of the whole units at the front of the bytes, and answers how many bytes these units are. The rest is
-/// the beginning of a unit, at most 65 bytes: the caller keeps it, and puts what it reads next behind it.
+/// Adds the events of the whole units at the front of the bytes, and answers how many bytes these units are. The rest
+/// is the beginning of a unit, at most 65 bytes: the caller keeps it, and puts what it reads next behind it.
 ///
 /// # Errors
 ///
@@ -59,8 +59,8 @@ pub fn read_events(events: &mut Vec<Event>, bytes: &[u8]) -> Result<usize, Alloc
     taken
 }
 
-/// Adds the event of a rest that nothing has followed for a while, and answers how many bytes it takes of the rest: one
-/// `ESC` is the Esc key then. Any other rest goes on waiting.
+/// Adds the event of a rest that nothing has followed for a while, and answers how many bytes it takes of the rest:
+/// one `ESC` is the Esc key then. Any other rest goes on waiting.
 ///
 /// # Errors
 ///

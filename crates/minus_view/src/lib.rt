@@ -1,5 +1,5 @@
-//! What a program needs around a pager: the events of a terminal, from the bytes that it sends; the bytes of a file as a
-//! text that a pager can show; the program's arguments; and the text of the prompt row.
+//! What a program needs around a pager: the events of a terminal, from the bytes that it sends; the bytes of a file
+//! as a text that a pager can show; the program's arguments; and the text of the prompt row.
 #![tactic(auto)]
 
 mod arguments;

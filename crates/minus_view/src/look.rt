@@ -15,8 +15,8 @@ pub(crate) struct Glyph {
     pub(crate) look: Look,
 }
 
-/// One character over another one: the same one twice is bold, and one with `_` is underlined. Any other stands in place of
-/// the first one.
+/// One character over another one: the same one twice is bold, and one with `_` is underlined. Any other stands in
+/// place of the first one.
 pub(crate) fn struck(under: Glyph, over: char) -> Glyph {
     if under.c == over {
         return Glyph {

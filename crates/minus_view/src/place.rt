@@ -50,8 +50,8 @@ fn percent(last: usize, rows: usize) -> usize
     part.min(100) as usize
 }
 
-/// The text of the prompt row, as `notes.txt  24-46/120  38%`: the name, cleaned; the first and the last row on show, counted
-/// from 1; how many rows there are; and the part of them up to the last one.
+/// The text of the prompt row, as `notes.txt  24-46/120  38%`: the name, cleaned; the first and the last row on show,
+/// counted from 1; how many rows there are; and the part of them up to the last one.
 ///
 /// # Errors
 ///

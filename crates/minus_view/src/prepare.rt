@@ -1,13 +1,14 @@
 //! A file's bytes as a text that a pager can show.
 //!
-//! Tabs become spaces up to the next column that 8 divides, and a carriage return before a newline is dropped. Any other
-//! control character is shown as `^A`, a backspace that strikes over a character aside: the same character twice is bold,
-//! and one with `_` is underlined. Sequences `ESC[..m` are kept: styles are reset at each newline and opened again behind
-//! it. Any other sequence is dropped whole, and bytes that are no UTF-8 are U+FFFD. `a\tb\r\n` becomes `a       b\n`.
+//! Tabs become spaces up to the next column that 8 divides, and a carriage return before a newline is dropped. Any
+//! other control character is shown as `^A`, a backspace that strikes over a character aside: the same character
+//! twice is bold, and one with `_` is underlined. Sequences `ESC[..m` are kept: styles are reset at each newline and
+//! opened again behind it. Any other sequence is dropped whole, and bytes that are no UTF-8 are U+FFFD. `a\tb\r\n`
+//! becomes `a       b\n`.
 //!
-//! [`Preparation::add`] takes the bytes in pieces that are cut anywhere, and each text that it hands out is reset at its
-//! end. It holds back the last character, since a backspace may follow, and what was begun; [`Preparation::pause`] hands
-//! out the character, and [`Preparation::finish`] all of it.
+//! [`Preparation::add`] takes the bytes in pieces that are cut anywhere, and each text that it hands out is reset at
+//! its end. It holds back the last character, since a backspace may follow, and what was begun;
+//! [`Preparation::pause`] hands out the character, and [`Preparation::finish`] all of it.
 ghost use Rattle.std.specs.Prelude.{ℕ, ◌≡◌, ◌++◌, ◌≤◌, ◌<◌, [], Bool, true, false, drop, length, string_bytes, IfOk, IfErr};
 ghost use Rattle.std.specs.List.{list_all, prefix_len};
 ghost use Rattle.minus_view.specs.Shown.{is_plain, IsShown};
@@ -167,15 +168,15 @@ impl Preparation {
     ///
     /// # Errors
     ///
-    /// [`AllocError`] where there is no memory: the text stays as it was. What was prepared of the bytes by then is handed
-    /// out by the next call, and the rest of them is lost.
+    /// [`AllocError`] where there is no memory: the text stays as it was. What was prepared of the bytes by then is
+    /// handed out by the next call, and the rest of them is lost.
     pub fn add(&mut self, out: &mut String, bytes: &[u8]) -> Result<(), AllocError>
         ensures shown { IsShown (string_bytes out.old) → IsShown (string_bytes out.new) }
         ensures kept { IfErr result (λ _. string_bytes out.new ≡ string_bytes out.old) }
         ensures waits { IfOk result (λ _. length (held self.new) ≤ 4) }
         ensures plain { IfOk result (λ _. (col : ℕ) → IsPlainAt col self.old → IsText bytes.now
-            → IsPlainAt (column_after col bytes.now) self.new
-            × (string_bytes out.new ++ held self.new ≡ string_bytes out.old ++ (held self.old ++ expanded col bytes.now))) }
+            → IsPlainAt (column_after col bytes.now) self.new × (string_bytes out.new ++ held self.new
+            ≡ string_bytes out.old ++ (held self.old ++ expanded col bytes.now))) }
     {
         self.take(bytes)?;
         self.hand_out(out)
@@ -198,8 +199,8 @@ impl Preparation {
         Ok(())
     }
 
-    /// Adds the held character and what was begun, at the end of the bytes: a character that is cut is U+FFFD, a carriage
-    /// return is `^M`, and a sequence that is cut is dropped.
+    /// Adds the held character and what was begun, at the end of the bytes: a character that is cut is U+FFFD, a
+    /// carriage return is `^M`, and a sequence that is cut is dropped.
     ///
     /// # Errors
     ///

@@ -94,7 +94,8 @@ impl Sheet {
     /// Puts a character on it; U+FFFD stands for a control character.
     pub(crate) fn put_char(&mut self, c: char) -> Result<(), AllocError>
         ensures styled { self.new.styled ≡ self.old.styled }
-        ensures put { IfOk result (λ _. is_control c ≡ false → string_bytes self.new.text ≡ string_bytes self.old.text ++ encode_utf8 c) }
+        ensures put { IfOk result (λ _. is_control c ≡ false
+            → string_bytes self.new.text ≡ string_bytes self.old.text ++ encode_utf8 c) }
     {
         let shown = shown_char(c);
         self.text.push(shown)?;

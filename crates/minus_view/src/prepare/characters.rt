@@ -152,8 +152,10 @@ impl Preparation {
     pub(super) fn run(&mut self, newlines: bool, bytes: &[u8]) -> Result<(), AllocError>
         requires printed { list_all (is_plain newlines) bytes.now ≡ true }
         requires begun { newlines ≡ true → IsPlain self.old }
-        ensures plain { IfOk result (λ _. newlines ≡ true → IsPlain self.new × (held self.new ≡ held self.old ++ bytes.now)) }
-        ensures column { IfOk result (λ _. (col : ℕ) → IsAt col self.old → IsAt (column_after col bytes.now) self.new) }
+        ensures plain { IfOk result (λ _. newlines ≡ true
+            → IsPlain self.new × (held self.new ≡ held self.old ++ bytes.now)) }
+        ensures column { IfOk result (λ _. (col : ℕ) → IsAt col self.old
+            → IsAt (column_after col bytes.now) self.new) }
     {
         self.release()?;
         match bytes.split_last() {
