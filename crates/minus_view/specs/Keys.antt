@@ -12,7 +12,7 @@ use Rattle.minus_term.specs.declared.event.KeyEventKind.TheVariants.{Press}
 abbrev pub press : KeyCode → ℕ → Event
 press code bits = Key (record { code = code; modifiers = record { 0 = bits }; kind = Press; state = record { 0 = 0 } })
 
--- what stands beside some bytes in a table
+-- what stands next to some bytes in a table
 abbrev pub look_up : {C : Type 0} → List ℕ → List (List ℕ × C) → Option C
 look_up bytes [] = None
 look_up bytes ((known, meant) ∷ rows) = if bytes_eq bytes known then Some meant else look_up bytes rows

@@ -56,7 +56,7 @@ fn character_len(byte: u8, bytes: &[u8]) -> Option<usize>
     }
 }
 
-// How many bytes end a sequence with so many parameters: one or none.
+// How many bytes end a sequence with this number of parameters: one or none.
 fn final_len(parameters: usize, bytes: &[u8]) -> usize
     ensures is { result ≡ final_len parameters bytes.now }
     ensures within { result ≤ length bytes.now }

@@ -23,8 +23,8 @@ fn add_event(text: &mut String, event: &Event) -> Result<(), AllocError> {
     }
 }
 
-// What the events are of bytes that come in pieces of so many, and of a rest that nothing follows for a while. A rest that
-// goes on waiting is a `+` at the end.
+// What the events are of bytes that come in pieces of `len` bytes, and of a rest that nothing follows for a while. A
+// `+` at the end is a rest that goes on waiting.
 fn events_of(alloc: Global, bytes: &[u8], len: usize) -> Option<String> {
     let mut events = Vec::new(alloc);
     let mut waiting = Vec::new(alloc);

@@ -3,7 +3,7 @@ use crate::facts::{assert_at, assert_holds};
 use minus_view::Preparation;
 use std::alloc::Global;
 
-// What bytes become that are added in pieces of so many.
+// What bytes become that are added in pieces of `len` bytes.
 fn prepared(alloc: Global, bytes: &[u8], len: usize) -> Option<String> {
     let mut preparation = Preparation::new(alloc);
     let mut text = String::new(alloc);
