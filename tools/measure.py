@@ -20,9 +20,9 @@ import tempfile
 
 PAGE = ["page", "80", "24"]
 FAULT = b"no such word\n"
-# What forms text or puts it in place. None calls another, since callgrind would stop counting there, and each is called at
+# What forms text. None calls another, since callgrind would stop counting there, and each is called at
 # two places or more, since the compiler puts what is called at one place into its caller.
-FORMING = ["store::Store::prepare_push", "store::Store::push_by", "screen::Screen::put"]
+FORMING = ["store::Store::prepare_push", "screen::Screen::of_text"]
 
 
 class Words:

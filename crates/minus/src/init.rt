@@ -273,18 +273,26 @@ pub fn init_core_with<S: OutputSink + Drop, P: Parts>(
     }
 }
 
+// Whether these are columns and rows of a terminal.
+fn check_size(cols: usize, rows: usize) -> Result<(), MinusError>
+    ensures size { OnOk result (IsSize cols rows) }
+    ensures refused { IfErr result (λ e. IsUnformedState (refusal_of e) cols rows) }
+{
+    if !is_size(cols, rows) {
+        return Err(MinusError::BadSize(cols, rows));
+    }
+    Ok(())
+}
+
 // Whether a session can be started so: in a mode in which one runs, and for a size of a terminal.
 fn check_start(mode: RunMode, cols: usize, rows: usize) -> Result<(), MinusError>
     ensures can { OnOk result (CanStart mode cols rows) }
     ensures refused { IfErr result (λ e. IsFormRefused (refusal_of e) mode cols rows) }
 {
-    if mode.is_uninitialized() {
-        return Err(MinusError::BadMode);
+    match mode {
+        RunMode::Uninitialized => Err(MinusError::BadMode),
+        RunMode::Static | RunMode::Dynamic => check_size(cols, rows),
     }
-    if !is_size(cols, rows) {
-        return Err(MinusError::BadSize(cols, rows));
-    }
-    Ok(())
 }
 
 // The register of the default bindings, for a session that can be started so.
