@@ -1,5 +1,5 @@
 -- Laws of the default bindings.
-use Rattle.std.proofs.Common.{◌≡◌, ℕ, List, [], ◌∷◌, Bool, true, Option, None, Some, is_some, map, refl, sym, ap, ◌∙◌, subst, inl, inr}
+use Rattle.std.proofs.Common.{◌≡◌, List, [], ◌∷◌, Option, None, Some, refl, sym, ap, ◌∙◌, subst, inl, inr}
 use Rattle.std.specs.Prelude.{◌↔◌}
 use Rattle.std.specs.Option.{unwrap_or, option_map}
 use Rattle.std.proofs.lemmas.Bool.{cases_Bool}
@@ -7,7 +7,6 @@ use Rattle.std.proofs.lemmas.Option.{none-some}
 use Rattle.minus_term.specs.declared.event.Event.{Event}
 use Rattle.minus_state.specs.declared.input.InputEvent.{InputEvent}
 use Rattle.minus_state.specs.declared.state.PagerState.{PagerState}
-use Rattle.minus_input.specs.declared.bound.ActionOf.{ActionOf}
 use Rattle.minus_input.specs.declared.bound.ActionOf.TheVariants as action
 use Rattle.minus_input.specs.declared.bound.Bound.{Bound}
 use Rattle.minus_input.specs.declared.bound.KeptCallback.{KeptCallback}
@@ -18,7 +17,7 @@ use Rattle.minus_input.specs.declared.event_form.EventWrapper.TheVariants.{Exact
 use Rattle.minus_input.specs.DefaultAnswers.{default_answer}
 use Rattle.minus_input.specs.DefaultBindings.{default_keys, bindings_of, default_register, default_action_at, default_asks, DefaultsHaveOneAnswer, JScrollsDown}
 use Rattle.minus_input.specs.EventForm.{same_event}
-use Rattle.minus_input.specs.Register.{Binding, bind, bind_each, bound_to, action_or, action_at}
+use Rattle.minus_input.specs.Register.{bind, bind_each, bound_to, action_or, action_at}
 use Rattle.minus_input.specs.RegisterAnswers.{Answering, IsAnswerOf}
 use Rattle.minus_input.specs.Resolved.{binding_at, default_binding, default_bounds, EachIsRead, read_each}
 use Rattle.minus_input.proofs.RegisterLaws.{EachIsRead-bind_each, read_bind_each, some_is}

@@ -1,5 +1,5 @@
 -- Laws of lists of bindings, and of what they are read as.
-use Rattle.std.proofs.Common.{◌≡◌, ℕ, zero, suc, ◌<◌, ◌++◌, ◌∷◌, [], List, Bool, true, false, cond, length, take, Option, None, Some, is_some, slice_get, map, Result, Ok, Err, OnOk, is_err, is_ok, if◌then◌else◌, get_or, ◌+◌, true≢false, refl, sym, ap, ◌∙◌, subst, inl, inr, arith}
+use Rattle.std.proofs.Common.{◌≡◌, ℕ, zero, suc, ◌<◌, ◌++◌, ◌∷◌, [], List, Bool, true, false, cond, length, take, Option, None, Some, is_some, slice_get, Result, Ok, Err, OnOk, is_err, is_ok, if◌then◌else◌, get_or, ◌+◌, true≢false, refl, sym, ap, ◌∙◌, subst, inl, inr, arith}
 use Rattle.std.proofs.lemmas.Bool.{cases_Bool}
 use Rattle.std.proofs.lemmas.List.{take_more, map-append}
 use Rattle.std.proofs.lemmas.Option.{none-some, slice_get_cases}

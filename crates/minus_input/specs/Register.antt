@@ -1,6 +1,6 @@
 -- A register of bindings: a list of keys in the order in which they were bound first, no key twice, each with what is bound to it; and
 -- what is done at an event to which no key is bound.
-use Rattle.std.specs.Prelude.{ℕ, ◌≡◌, Bool, List, [], ◌∷◌, position, Option, None, Some, is_some, if◌then◌else◌}
+use Rattle.std.specs.Prelude.{ℕ, Bool, List, [], ◌∷◌, position, Option, None, Some, is_some, if◌then◌else◌}
 
 -- what is bound to a key: what is done, and the text that the help table shows of it
 pub record Binding (A : Type 0) : Type 0 where

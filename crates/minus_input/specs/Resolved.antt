@@ -1,5 +1,5 @@
 -- What a register's bindings say, read through the callbacks that it keeps.
-use Rattle.std.specs.Prelude.{ℕ, ◌≡◌, List, [], ◌∷◌, map, true, Option, None, Some, is_some, option_map, slice_get, string_bytes}
+use Rattle.std.specs.Prelude.{◌≡◌, List, [], ◌∷◌, map, true, Option, None, Some, is_some, option_map, slice_get, string_bytes}
 use Rattle.std.specs.List.{AllByRecursion}
 use Rattle.minus_input.specs.declared.bound.ActionOf.{ActionOf}
 use Rattle.minus_input.specs.declared.bound.ActionOf.TheVariants as action

@@ -3,7 +3,6 @@ use Rattle.std.specs.Prelude.{◌≡◌, Some}
 use Rattle.minus_state.specs.Classifying.{Classifies}
 use Rattle.minus_input.specs.DefaultBindings.{default_asks, default_register}
 use Rattle.minus_input.specs.RegisterAnswers.{help_text}
-use Rattle.minus_input.specs.declared.bound.ActionOf.{ActionOf}
 use Rattle.minus_script.specs.declared.keys.DefaultKeys.{DefaultKeys}
 use Rattle.minus_script.specs.declared.keys.NoCallback.{NoCallback}
 

@@ -1,4 +1,4 @@
-use Rattle.std.proofs.Common.{◌≡◌, ◌∙◌, sym, ap, subst, is_some, true, Some}
+use Rattle.std.proofs.Common.{◌≡◌, ◌∙◌, sym, ap, subst, is_some, true}
 use Rattle.std.specs.Option.{option_map, option_and_then}
 use Rattle.minus_input.specs.HelpTable.{entry_of}
 use Rattle.minus_input.specs.RegisterAnswers.{binding_entry, key_entry}

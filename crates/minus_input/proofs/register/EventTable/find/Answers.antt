@@ -1,4 +1,4 @@
-use Rattle.std.proofs.Common.{sym, ◌∙◌, ◌<◌, length, refl, arith}
+use Rattle.std.proofs.Common.{◌∙◌, ◌<◌, length, refl, arith}
 use Rattle.std.proofs.lemmas.Option.{slice_get_read, slice_get_within}
 use Rattle.minus_input.specs.EventForm.{same_event}
 use Rattle.minus_input.proofs.RegisterLaws.{default_action_found, callback_found, nothing_found, callback_is_kept}
