@@ -8,9 +8,9 @@ use minus::{
 };
 use std::alloc::{AllocError, Global};
 
-// A classifier that asks at each event for a move to one row of the text, or past it.
+/// A classifier that asks at each event for a move to one row of the text, or past it.
 #[derive(Drop)]
-struct ToRow(usize);
+pub struct ToRow(pub usize);
 
 impl InputClassifier for ToRow {
     ghost says = { record {

@@ -1,8 +1,8 @@
 //! Which commands are equal, and what they are shown as to a programmer.
 use crate::facts::assert_at;
-use crate::sessions::{Asked, inputs};
+use crate::sessions::{Asked, Input, inputs};
 use crate::shown::is_debugged;
-use minus::{AppendStyle, Input, InputEvent, IoCommand, LineNumbers};
+use minus::{AppendStyle, InputEvent, IoCommand, LineNumbers};
 use std::alloc::Global;
 
 // What one command asks for, what another one does, and what the first is shown as.

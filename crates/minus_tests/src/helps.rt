@@ -7,19 +7,19 @@ use minus::{
 };
 use std::alloc::{AllocError, Global};
 
-// The prompt row of 20 columns while help is open.
-const HELP_ROW: &str = "\x1b[2;40;37mHELP -- Press q or S\x1b[0m";
+/// The prompt row of 20 columns while help is open.
+pub const HELP_ROW: &str = "\x1b[2;40;37mHELP -- Press q or S\x1b[0m";
 
 const OPEN: Asked<'static> = Asked::Does(InputEvent::ShowHelp);
 
 // The pages that sessions lead to.
 const SHOWN: [&Worked<'static>; 5] = [
     &Worked {
-        name: "help without a text shows blank rows",
+        name: "help shows the table of the keys",
         cols: 20,
         rows: 3,
         asked: &[Asked::Push("a"), OPEN, Asked::Push("b")],
-        texts: &["", "", HELP_ROW],
+        texts: &["             COMMAND", "", HELP_ROW],
     },
     &Worked {
         name: "a text appended in help is shown after it",
@@ -33,7 +33,7 @@ const SHOWN: [&Worked<'static>; 5] = [
         cols: 20,
         rows: 3,
         asked: &[Asked::Push("a"), OPEN, Asked::Prompt("p")],
-        texts: &["", "", HELP_ROW],
+        texts: &["             COMMAND", "", HELP_ROW],
     },
     &Worked {
         name: "a prompt set in help is dropped",

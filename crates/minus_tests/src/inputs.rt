@@ -33,7 +33,7 @@ const DRAWN: [&Worked<'static>; 4] = [
         name: "a key that stands for nothing writes nothing",
         cols: 6,
         rows: 2,
-        asked: &[Asked::Key('q')],
+        asked: &[Asked::Key('x')],
         texts: &[],
     },
     &Worked {

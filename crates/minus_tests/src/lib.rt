@@ -19,6 +19,8 @@ mod input;
 #[cfg(test)]
 mod inputs;
 #[cfg(test)]
+mod keys;
+#[cfg(test)]
 mod layouts;
 #[cfg(test)]
 mod pages;

@@ -1,13 +1,11 @@
 //! Sinks that refuse a step.
 use crate::facts::assert_holds;
 use crate::sessions::{
-    Asked, CLEANUP, PROMPT_ROW, SETUP, TEN_LINES, are_bytes, number_of, run, session_on,
+    Asked, CLEANUP, Command, Input, PROMPT_ROW, Ran, SETUP, Session, TEN_LINES, are_bytes,
+    number_of, run, session_on, start,
 };
 use crate::stubborn::{NOTHING, Refusal, Refused, Stubborn, write};
-use minus::{
-    CleanupError, Command, Input, MinusError, OutputSink, Pager, Ran, RunMode, Session, WithTty,
-    init_core,
-};
+use minus::{CleanupError, MinusError, OutputSink, RunMode, WithTty};
 use std::alloc::Global;
 use std::io::ErrorKind;
 
@@ -199,7 +197,7 @@ fn writes_once(alloc: Global, texts: &[&str]) -> bool {
         return true;
     };
     let sink = WithTty::new(held, true);
-    match init_core(Pager::new(alloc), RunMode::Static, sink, 20, 4) {
+    match start(alloc, sink, 20, 4) {
         Ok(mut session) => {
             let is_scrolled = scrolls(alloc, &mut session);
             let (sink, _) = session.finish();

@@ -1,9 +1,9 @@
 //! Selections with the mouse, and what is copied of them.
 use crate::sessions::{
-    Asked, PROMPT_ROW, TEN_LINES, Worked, assert_drawn, assert_shown, does, run, session_on,
+    Asked, PROMPT_ROW, Ran, TEN_LINES, Worked, assert_drawn, assert_shown, does, run, session_on,
     terminal,
 };
-use minus::{InputEvent, LineNumbers, PagerState, Ran};
+use minus::{InputEvent, LineNumbers, PagerState};
 use std::alloc::Global;
 
 const CLEAR: Asked<'static> = Asked::Does(InputEvent::ClearSelection);

@@ -1,9 +1,10 @@
 //! Sessions for the tests, started and stepped in one place. Where memory runs out, each answer is `false` or none.
 use minus::{
-    Calls, Command, Core, Event, Input, InputEvent, IoCommand, KeyCode, KeyEvent, KeyEventKind,
-    KeyEventState, KeyModifiers, LineNumbers, OutputSink, Page, Pager, Ran, RunMode, Session,
-    WithTty, init_core,
+    Calls, CommandOf, Core, Event, InputEvent, InputOf, IoCommand, KeyCode, KeyEvent, KeyEventKind,
+    KeyEventState, KeyModifiers, LineNumbers, MinusError, OutputSink, Page, PagerOf, RanOf,
+    RunMode, StartErrorOf, WithTty, init_core_with,
 };
+use minus_script::{DefaultKeys, ScriptKinds};
 use std::alloc::{AllocError, Global};
 use std::process::Abort;
 
@@ -18,6 +19,20 @@ pub const PROMPT_ROW: &str = "\x1b[2;40;37mminus               \x1b[0m";
 
 /// Ten lines of a row each.
 pub const TEN_LINES: &str = "l0\nl1\nl2\nl3\nl4\nl5\nl6\nl7\nl8\nl9";
+
+/// A session that keeps a register of the default bindings and no box: a function may take it by `&mut` and step it.
+pub type Session<S> = Core<S, ScriptKinds>;
+
+/// What such a session is started with, given and answers.
+pub type Pager = PagerOf<ScriptKinds>;
+
+pub type Command = CommandOf<ScriptKinds>;
+
+pub type Input = InputOf<ScriptKinds>;
+
+pub type Ran = RanOf<ScriptKinds>;
+
+pub type StartError<S> = StartErrorOf<S, ScriptKinds>;
 
 /// What a test asks of a session.
 #[derive(Clone, Copy)]
@@ -96,6 +111,23 @@ pub fn terminal(alloc: Global) -> WithTty<Vec<u8>> {
     WithTty::new(Vec::new(alloc), true)
 }
 
+/// Starts a static session over a sink, without a text.
+pub fn start<S: OutputSink + Drop>(
+    alloc: Global,
+    sink: S,
+    cols: usize,
+    rows: usize,
+) -> Result<Session<S>, StartError<S>> {
+    match DefaultKeys::new(alloc) {
+        Ok(keys) => init_core_with(Pager::new(alloc), RunMode::Static, sink, cols, rows, keys),
+        Err(cause) => Err(StartError {
+            sink,
+            pager: None,
+            cause: MinusError::from(cause),
+        }),
+    }
+}
+
 /// A session over a sink, without a text; none where its start is refused.
 pub fn session_on<S: OutputSink + Drop>(
     alloc: Global,
@@ -103,7 +135,7 @@ pub fn session_on<S: OutputSink + Drop>(
     cols: usize,
     rows: usize,
 ) -> Option<Session<S>> {
-    match init_core(Pager::new(alloc), RunMode::Static, sink, cols, rows) {
+    match start(alloc, sink, cols, rows) {
         Ok(session) => Some(session),
         Err(_) => None,
     }

@@ -135,14 +135,6 @@ fn an_early_refusal_hands_the_pager_back(rt: HostRuntime) {
     }
 }
 
-// The pager that a refused start hands back.
-fn handed_back(alloc: Global, pager: Pager) -> Option<Pager> {
-    match init_core(pager, RunMode::Static, terminal(alloc), 0, 5) {
-        Ok(_) => None,
-        Err(refused) => refused.pager,
-    }
-}
-
 // Whether a session of a pager shows these rows.
 fn starts(alloc: Global, pager: Pager, rows: &[&str]) -> bool {
     match init_core(pager, RunMode::Static, terminal(alloc), 20, 5) {
@@ -151,11 +143,19 @@ fn starts(alloc: Global, pager: Pager, rows: &[&str]) -> bool {
     }
 }
 
+// The pager that a refused start hands back.
+fn handed_back(refused: StartError<Terminal>) -> Option<Pager> {
+    refused.pager
+}
+
 // Whether one does whose start was refused before, with texts waiting in it.
 fn starts_again(alloc: Global, rows: &[&str]) -> bool {
     let mut pager = Pager::new(alloc);
     let is_filled = fill(&mut pager);
-    match handed_back(alloc, pager) {
+    let Err(refused) = init_core(pager, RunMode::Static, terminal(alloc), 0, 5) else {
+        return false;
+    };
+    match handed_back(refused) {
         Some(pager) => starts(alloc, pager, rows) && is_filled,
         None => false,
     }
@@ -179,22 +179,14 @@ fn part_of(cause: &MinusError) -> &'static str {
     }
 }
 
-// A start over a sink that refuses this of it; none where it is not refused.
-fn broken(alloc: Global, calls: Refused) -> Option<StartError<WithTty<Stubborn>>> {
-    let sink = Stubborn::terminal(alloc, calls);
-    match init_core(Pager::new(alloc), RunMode::Static, sink, 20, 5) {
-        Ok(_) => None,
-        Err(refused) => Some(refused),
-    }
-}
-
 // Whether a start that is refused a write names this part, and has this number.
 fn names(alloc: Global, at: usize, part: &str, number: u8) -> bool {
-    match broken(alloc, write(at, Refusal::Broken)) {
-        Some(refused) => {
+    let sink = Stubborn::terminal(alloc, write(at, Refusal::Broken));
+    match init_core(Pager::new(alloc), RunMode::Static, sink, 20, 5) {
+        Ok(_) => false,
+        Err(refused) => {
             part_of(&refused.cause) == part && MinusError::from(refused).number() == number
         }
-        None => false,
     }
 }
 
@@ -218,9 +210,10 @@ fn a_refused_start_names_the_part(rt: HostRuntime) {
 
 // Whether a start that is refused this leaves these texts in its sink.
 fn leaves(alloc: Global, calls: Refused, texts: &[&str]) -> bool {
-    match broken(alloc, calls) {
-        Some(refused) => are_bytes(&refused.sink.inner.held, texts),
-        None => false,
+    let sink = Stubborn::terminal(alloc, calls);
+    match init_core(Pager::new(alloc), RunMode::Static, sink, 20, 5) {
+        Ok(_) => false,
+        Err(refused) => are_bytes(&refused.sink.inner.held, texts),
     }
 }
 

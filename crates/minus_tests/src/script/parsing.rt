@@ -1,7 +1,6 @@
 //! Scripts as a person writes them, and their faulty lines.
-use minus::{
-    Command, Event, Input, InputEvent, KeyCode, KeyEvent, KeyEventKind, KeyEventState, KeyModifiers,
-};
+use crate::sessions::{Command, Input};
+use minus::{Event, InputEvent, KeyCode, KeyEvent, KeyEventKind, KeyEventState, KeyModifiers};
 use minus_script::{ScriptFault, parse_script};
 use std::alloc::Global;
 use std::fmt;

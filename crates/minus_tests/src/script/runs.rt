@@ -48,8 +48,8 @@ fn prints_the_bytes_of_a_script(rt: HostRuntime) {
     }
 }
 
-// Whether a script leads to this page of so many columns and rows.
-fn leads_to(alloc: Global, cols: usize, rows: usize, script: &str, page: &str) -> bool {
+/// Whether a script leads to this page of so many columns and rows.
+pub fn leads_to(alloc: Global, cols: usize, rows: usize, script: &str, page: &str) -> bool {
     let mut script = script.as_bytes();
     let mut out = Vec::new(alloc);
     run_script(alloc, Mode::Page, cols, rows, &mut script, &mut out).is_ok()
@@ -61,7 +61,7 @@ const PAGES: [(usize, usize, &str, &str); 8] = [
     (
         20,
         2,
-        "push ab cd\ntype q/\nresize 3 4\n",
+        "push ab cd\ntype x/\nresize 3 4\n",
         "ab\ncd\n\n\\e[2;40;37mmin\\e[0m\n",
     ),
     (
@@ -123,8 +123,8 @@ fn a_page_may_have_hundreds_of_rows(rt: HostRuntime) {
     assert_holds(&rt, fills_hundreds(rt.alloc(), "push a", "a\n\n"));
 }
 
-// Whether a run of a script ends with this fault, and prints nothing.
-fn is_refused(alloc: Global, cols: usize, rows: usize, script: &str, told: &str) -> bool {
+/// Whether a run of a script ends with this fault, and prints nothing.
+pub fn is_refused(alloc: Global, cols: usize, rows: usize, script: &str, told: &str) -> bool {
     let mut script = script.as_bytes();
     let mut out = Vec::new(alloc);
     match run_script(alloc, Mode::Page, cols, rows, &mut script, &mut out) {
