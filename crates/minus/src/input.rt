@@ -17,6 +17,7 @@ pub use minus_input::equality::{
 };
 pub use minus_input::event_form::{EventForm, EventWrapper};
 pub use minus_input::exact_keys::DefaultInputClassifier;
+pub use minus_input::lookups::{bound_keys_are_found, removed_keys_are_gone};
 pub use minus_input::names::modifier_of;
 pub use minus_input::register::EventTable;
 pub use minus_state::input::{InputClassifier, InputEvent};

@@ -9,3 +9,4 @@ pub mod RegisterLaws
 pub mod DescribedLaws
 pub mod HelpEntriesLaws
 pub mod DefaultBindingsLaws
+pub mod LookupLaws

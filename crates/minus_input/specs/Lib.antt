@@ -21,3 +21,4 @@ pub mod DefaultBindings
 pub mod ExactKeys
 pub mod ExactClassifier
 pub mod DefaultClassifier
+pub mod Lookups

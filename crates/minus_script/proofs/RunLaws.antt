@@ -1,8 +1,8 @@
 -- What a run comes to.
-use Rattle.std.proofs.Common.{◌≡◌, ℕ, Bool, true, false, List, [], ◌∷◌, ◌++◌, length, map, Option, Some, None, inl, inr, refl, sym, ap, subst, ◌∙◌}
-use Rattle.std.specs.Prelude.{◌||◌, is_some, nat_lt}
+use Rattle.std.proofs.Common.{◌≡◌, ℕ, Bool, true, false, List, [], ◌∷◌, ◌++◌, map, reverse, option_map, Option, Some, None, inl, inr, refl, sym, ap, subst, ◌∙◌, append_assoc}
+use Rattle.std.specs.Prelude.{is_some}
 use Rattle.std.specs.Io.KnownBytes.{Appends}
-use Rattle.std.proofs.lemmas.List.{map-append}
+use Rattle.std.proofs.lemmas.List.{reverse-append}
 use Rattle.minus_term.specs.declared.error.MinusError.{MinusError}
 use Rattle.minus_term.specs.declared.error.MinusError.TheVariants.{Memory, NewlineInPrompt, HookIdTaken, NoFreeHookId, BadSize, BadDescription, Bound, QueryFull, BadMode, Failed, Ended, Setup, Cleanup, Draw, HandleEvent, Cursor, FmtWriteError, Conversion, SearchExpError}
 use Rattle.minus_term.specs.Refusals.{Refusal, for_memory, for_newline, for_hook_id, for_free_hook_id, for_size, for_description, for_binding, for_query, for_mode, after_failure, after_exit, at_setup, at_cleanup, at_drawing, for_pattern, of_no_call, refusal_of}
@@ -11,23 +11,22 @@ use Rattle.minus.specs.declared.answer.Answer.{Answer}
 use Rattle.minus_state.specs.declared.state.RunMode.TheVariants.{Dynamic}
 use Rattle.minus.specs.declared.status.Status.{Status}
 use Rattle.minus.specs.declared.status.Status.TheVariants as status
-use Rattle.minus.specs.Answers.{IsAnswer, ends_run}
+use Rattle.minus.specs.Answers.{IsAnswer}
 use Rattle.minus.specs.Asked.{Asks}
 use Rattle.std.specs.List.{last_or}
 use Rattle.minus_script.specs.Keys.{default_keys_say}
-use Rattle.minus_state.specs.Classifying.{Classifies}
-use Rattle.minus_state.specs.Control.{Control}
 use Rattle.minus.specs.Reads.{Told}
-use Rattle.minus.specs.Runs.{Stops, StopsSo, StopsAfter, IsRun}
+use Rattle.minus.specs.Works.{passed_in}
+use Rattle.minus.proofs.RunLaws.{Steps-snoc}
 use Rattle.minus.specs.Starts.{IsStarted, IsStartRefused, IsSetupRefused}
 use Rattle.minus.specs.Seen.{Seen}
-use Rattle.minus.specs.Steps.{IsStep, Steps, none, more, Refuses, status_after, cleanup_after}
+use Rattle.minus.specs.Steps.{IsStep, none, Refuses, status_after, cleanup_after}
 use Rattle.minus.specs.Table.{Wanted, Exit}
 use Rattle.minus_script.specs.declared.arguments.Mode.{Mode}
 use Rattle.minus_script.specs.declared.arguments.Mode.TheVariants.{Page, Bytes}
 use Rattle.minus_script.specs.declared.fault.ScriptFault.{ScriptFault}
 use Rattle.minus_script.specs.declared.fault.ScriptFault.TheVariants.{Io, Line, Refused}
-use Rattle.minus_script.specs.Runs.{IsTaken, exit_code, printed_after, IsShown, IsWantOfMemory, IsRefusal}
+use Rattle.minus_script.specs.Runs.{IsTaken, IsWorkedOff, IsWhole, IsRunOn, IsStoppedBy, exit_code, printed_after, IsShown, IsWantOfMemory, IsRefusal}
 use Rattle.minus_script.specs.ShowFaults.{IsShowFault, IsMemory}
 
 -- a start from no text over a sink that holds nothing
@@ -35,94 +34,86 @@ pub started : (keys : DefaultKeys) (seen : Seen DefaultKeys) (waiting : List (Wa
 started keys seen waiting cols rows terminal a b e f g h =
     subst (λ (x : Option (List ℕ)). IsStarted seen keys [] Dynamic cols rows true x b) g (subst (λ (x : Bool). IsStarted seen keys [] Dynamic cols rows x a b) f (subst (λ (x : List (Wanted DefaultKeys)). IsStarted seen keys x Dynamic cols rows terminal a b) e h))
 
--- what a run comes to that no refusal stopped
-pub record Came {A : Type 0} (told : A → Told DefaultKeys) (cols rows : ℕ) (inputs rest : List A) (last : Option Answer) (new : Seen DefaultKeys) (bytes : Option (List ℕ)) : Type 0 where
-  pub answers : List Answer
-  pub taken : IsTaken cols rows (map told inputs) answers new bytes (map told rest)
-  pub whole : StopsAfter answers None (map told rest)
-  pub answer : last ≡ last_or None answers
+-- what was taken, and one step more
+pub worked_more : (old mid new : Seen DefaultKeys) (told : List (Told DefaultKeys)) (answers : List Answer) (t : Told DefaultKeys) (rest : List (Told DefaultKeys)) (answer : Answer) (a b c : Option (List ℕ)) →
+    IsWorkedOff old mid told answers (t ∷ rest) a b → IsStep default_keys_say mid t new answer b c → IsWorkedOff old new told (answers ++ answer ∷ []) rest a c
+worked_more old mid new told answers t rest answer a b c h s = record {
+  taken = h.taken ++ t ∷ [];
+  passed = h.passed ++ passed_in s.works;
+  steps = Steps-snoc t answer h.steps s;
+  all = h.all ∙ sym (append_assoc h.taken (t ∷ []) rest);
+}
 
-stopped_well : {A K : Type 0} (says : Classifies K) (told : A → Told K) (refused : List A) (reached new : Seen K) (a b : Option (List ℕ)) → Stops says told None refused reached new a b → (refused ≡ []) × (new ≡ reached) × (b ≡ a)
-stopped_well says told [] reached new a b h = (refl, h.0, h.1)
-stopped_well says told (x ∷ xs) reached new a b h = absurd h
+-- nothing was taken yet
+pub worked_none : (old : Seen DefaultKeys) (told : List (Told DefaultKeys)) (a : Option (List ℕ)) → IsWorkedOff old old told [] told a a
+worked_none old told a = record { taken = []; passed = []; steps = none; all = refl }
 
-stops_told : {A : Type 0} (told : A → Told DefaultKeys) (ends : Bool) (stopped : Option MinusError) (rest : List A) → StopsSo ends stopped rest → StopsSo ends stopped (map told rest)
-stops_told told true stopped rest h = h
-stops_told told false stopped rest h = λ well. ap (map told) (h well)
+-- what is left, read from its end
+pub left_from_end : {A : Type 0} (told : A → Told DefaultKeys) (left rest : List A) (x : A) → left ≡ rest ++ x ∷ [] → map told (reverse left) ≡ told x ∷ map told (reverse rest)
+left_from_end told left rest x is = ap (λ l. map told (reverse l)) is ∙ ap (map told) (reverse-append rest (x ∷ []))
 
-told_stops : {A : Type 0} (told : A → Told DefaultKeys) (answers : List Answer) (stopped : Option MinusError) (rest : List A) → StopsAfter answers stopped rest → StopsAfter answers stopped (map told rest)
-told_stops told [] stopped rest h = stops_told told false stopped rest h
-told_stops told (answer ∷ []) stopped rest h = stops_told told (ends_run answer) stopped rest h
-told_stops told (answer ∷ next ∷ answers) stopped rest h = (h.0, told_stops told (next ∷ answers) stopped rest h.1)
+-- the next one that is taken from the end
+pub next_left : {A : Type 0} (told : A → Told DefaultKeys) (old mid : Seen DefaultKeys) (all : List (Told DefaultKeys)) (answers : List Answer) (left rest : List A) (x : A) (a b : Option (List ℕ)) → left ≡ rest ++ x ∷ [] →
+    IsWorkedOff old mid all answers (map told (reverse left)) a b → IsWorkedOff old mid all answers (told x ∷ map told (reverse rest)) a b
+next_left told old mid all answers left rest x a b is h = subst (λ (l : List (Told DefaultKeys)). IsWorkedOff old mid all answers l a b) (left_from_end told left rest x is) h
 
-pub run_came : {A : Type 0} (keys : DefaultKeys) (told : A → Told DefaultKeys) (old new : Seen DefaultKeys) (inputs : List A) (done : ℕ) (last : Option Answer) (stopped : Option MinusError) (rest : List A) (a b : Option (List ℕ)) (cols rows : ℕ) → IsRun default_keys_say told old new inputs done last stopped rest a b → stopped ≡ None → IsStarted old keys [] Dynamic cols rows true (Some []) a
-    → Came told cols rows inputs rest last new b
-run_came keys told old new inputs done last stopped rest a b cols rows h is s =
-    let stop = stopped_well default_keys_say told h.refused h.reached new h.bytes b (subst (λ (x : Option MinusError). Stops default_keys_say told x h.refused h.reached new h.bytes b) is h.stop) in
-    let none_refused : h.refused ≡ [] = stop.0 in
-    let same : new ≡ h.reached = stop.1 in
-    let bytes : b ≡ h.bytes = stop.2 in
-    let all : inputs ≡ h.taken ++ rest = h.all ∙ ap (λ x. h.taken ++ (x ++ rest)) none_refused in
-    let to_new = subst (λ (x : Seen DefaultKeys). Steps default_keys_say old (map told h.taken) h.passed h.answers x a h.bytes) (sym same) h.steps in
-    record {
-      answers = h.answers;
-      taken = record {
-        keys = keys;
-        first = old;
-        begun = a;
-        taken = map told h.taken;
-        passed = h.passed;
-        started = s;
-        steps = subst (λ (x : Option (List ℕ)). Steps default_keys_say old (map told h.taken) h.passed h.answers new a x) (sym bytes) to_new;
-        all = ap (map told) all ∙ map-append told h.taken rest;
-      };
-      whole = told_stops told h.answers None rest (subst (λ (x : Option MinusError). StopsAfter h.answers x rest) is h.stops);
-      answer = h.answer;
-    }
+-- a refusal of the next one
+pub stopped_by : (refusal : Refusal) (old mid new : Seen DefaultKeys) (told : List (Told DefaultKeys)) (answers : List Answer) (t : Told DefaultKeys) (rest : List (Told DefaultKeys)) (a b c : Option (List ℕ)) →
+    IsWorkedOff old mid told answers (t ∷ rest) a b → mid.status ≡ status.Running → Refuses default_keys_say refusal mid t new b c → IsStoppedBy refusal old new told a c
+stopped_by refusal old mid new told answers t rest a b c h runs refuses = record { answers = answers; reached = mid; refused = t; rest = rest; bytes = b; worked = h; runs = runs; refuses = refuses }
+
+-- a step that does not exit leaves the session running
+running_by : (exit : Option Exit) (text : Option (List ℕ)) (refused : List Refusal) (answer : Answer) (now : Status) → IsAnswer exit text refused answer → is_some answer.exited ≡ false → now ≡ status_after exit → now ≡ status.Running
+running_by None text refused answer now is ends stands = stands
+running_by (Some exit) text refused answer now is ends stands = absurd (let both : true ≡ false = subst (λ (x : Option Exit). is_some x ≡ false) is.exited ends in cc)
+
+pub step_runs_on : (old new : Seen DefaultKeys) (t : Told DefaultKeys) (answer : Answer) (a b : Option (List ℕ)) → IsStep default_keys_say old t new answer a b → is_some answer.exited ≡ false → new.status ≡ status.Running
+step_runs_on old new t answer a b s ends = running_by s.exit s.copied s.refused answer new.status s.answers ends s.stands
+
+exits_by : (exit : Option Exit) → is_some exit ≡ true → is_some (option_map (λ (x : Exit). x.1) exit) ≡ true
+exits_by None h = h
+exits_by (Some exit) h = refl
+
+pub last_or_snoc : {A : Type 0} (o : Option A) (xs : List A) (x : A) → Some x ≡ last_or o (xs ++ x ∷ [])
+last_or_snoc o [] x = refl
+last_or_snoc o (y ∷ ys) x = last_or_snoc (Some y) ys x
+
+last_is : (answers : List Answer) (answer : Answer) → Some answer ≡ last_or None (answers ++ answer ∷ [])
+last_is answers answer = last_or_snoc None answers answer
+
+-- after an exit all was taken up to it
+pub whole_by_exit : (answers : List Answer) (answer : Answer) (rest : List (Told DefaultKeys)) → is_some answer.exited ≡ true → IsWhole (answers ++ answer ∷ []) rest
+whole_by_exit answers answer rest h = inr (subst (λ (o : Option Answer). is_some (exit_code o) ≡ true) (last_is answers answer) (exits_by answer.exited h))
+
+-- what a session came to over a start
+taken_over : (keys : DefaultKeys) (cols rows : ℕ) (first reached : Seen DefaultKeys) (told : List (Told DefaultKeys)) (answers : List Answer) (rest : List (Told DefaultKeys)) (a b : Option (List ℕ)) → IsStarted first keys [] Dynamic cols rows true (Some []) a → IsWorkedOff first reached told answers rest a b → IsTaken cols rows told answers reached b rest
+taken_over keys cols rows first reached told answers rest a b s h = record { keys = keys; first = first; begun = a; started = s; worked = h }
 
 -- the page is shown
-pub page_shown : {A : Type 0} (told : A → Told DefaultKeys) (cols rows : ℕ) (inputs rest : List A) (last : Option Answer) (new : Seen DefaultKeys) (bytes : Option (List ℕ)) (mode : Mode) (output : List ℕ) → Came told cols rows inputs rest last new bytes → mode ≡ Page → output ≡ printed_after (exit_code last) new.control → IsShown mode cols rows (map told inputs) output
-page_shown told cols rows inputs rest last new bytes mode output h is e = rw is (record {
+pub page_shown : (keys : DefaultKeys) (cols rows : ℕ) (first new : Seen DefaultKeys) (told : List (Told DefaultKeys)) (last : Option Answer) (a b : Option (List ℕ)) (mode : Mode) (output : List ℕ) → IsStarted first keys [] Dynamic cols rows true (Some []) a → IsRunOn first new told last a b →
+    mode ≡ Page → output ≡ printed_after (exit_code last) new.control → IsShown mode cols rows told output
+page_shown keys cols rows first new told last a b mode output s h is e = rw is (record {
   answers = h.answers;
   reached = new;
-  bytes = bytes;
-  rest = map told rest;
-  taken = h.taken;
+  bytes = b;
+  rest = h.rest;
+  taken = taken_over keys cols rows first new told h.answers h.rest a b s h.worked;
   whole = h.whole;
   prints = e ∙ ap (λ (x : Option Answer). printed_after (exit_code x) new.control) h.answer;
 })
 
 -- all bytes are shown
-pub bytes_shown : {A : Type 0} (told : A → Told DefaultKeys) (cols rows : ℕ) (inputs rest : List A) (last : Option Answer) (new : Seen DefaultKeys) (bytes : Option (List ℕ)) (mode : Mode) (output : List ℕ) → Came told cols rows inputs rest last new bytes → mode ≡ Bytes → Appends bytes (Some output) (cleanup_after new.status)
-    → IsShown mode cols rows (map told inputs) output
-bytes_shown told cols rows inputs rest last new bytes mode output h is e = rw is (record {
+pub bytes_shown : (keys : DefaultKeys) (cols rows : ℕ) (first new : Seen DefaultKeys) (told : List (Told DefaultKeys)) (last : Option Answer) (a b : Option (List ℕ)) (mode : Mode) (output : List ℕ) → IsStarted first keys [] Dynamic cols rows true (Some []) a → IsRunOn first new told last a b →
+    mode ≡ Bytes → Appends b (Some output) (cleanup_after new.status) → IsShown mode cols rows told output
+bytes_shown keys cols rows first new told last a b mode output s h is e = rw is (record {
   answers = h.answers;
   reached = new;
-  bytes = bytes;
-  rest = map told rest;
-  taken = h.taken;
+  bytes = b;
+  rest = h.rest;
+  taken = taken_over keys cols rows first new told h.answers h.rest a b s h.worked;
   whole = h.whole;
   prints = e;
 })
-
--- a step that does not end a run leaves the session running
-goes_on : (exit : Option Exit) (text : Option (List ℕ)) (refused : List Refusal) (answer : Answer) (now : Status) → IsAnswer exit text refused answer → ends_run answer ≡ false → now ≡ status_after exit → now ≡ status.Running
-goes_on None text refused answer now is ends stands = stands
-goes_on (Some exit) text refused answer now is ends stands = absurd (let both : true ≡ false = subst (λ (x : Option Exit). (is_some x || is_some answer.copied || nat_lt 0 (length answer.refused.items)) ≡ false) is.exited ends in cc)
-
-step_goes_on : {K : Type 0} (says : Classifies K) (old new : Seen K) (t : Told K) (answer : Answer) (x y : Option (List ℕ)) → IsStep says old t new answer x y → ends_run answer ≡ false → new.status ≡ status.Running
-step_goes_on says old new t answer x y s ends = goes_on s.exit s.copied s.refused answer new.status s.answers ends s.stands
-
--- after steps before an input that is refused, the session runs
-ends_not : (ends : Bool) (e : MinusError) (rest : List (Told DefaultKeys)) → StopsSo ends (Some e) rest → ends ≡ false
-ends_not true e rest h = absurd (let both : Some e ≡ None = h in cc)
-ends_not false e rest h = refl
-
-pub still_runs : {K : Type 0} (says : Classifies K) (old new : Seen K) (ts : List (Told K)) (cs : List Control) (answers : List Answer) (x y : Option (List ℕ)) (e : MinusError) (rest : List (Told DefaultKeys)) → Steps says old ts cs answers new x y → old.status ≡ status.Running → StopsAfter answers (Some e) rest → new.status ≡ status.Running
-still_runs says old new ts cs answers x y e rest (none {a = a}) runs h = runs
-still_runs says old new ts cs answers x y e rest (more {b = b} {t = t} {answer = answer} {answers = []} {x = u} {y = v} s none) runs h = step_goes_on says old b t answer u v s (ends_not (ends_run answer) e rest h)
-still_runs says old new ts cs answers x y e rest (more {b = b} {c = c} {t = t} {ts = us} {cs = ds} {answer = answer} {answers = next ∷ others} {x = u} {y = v} {z = w} s steps) runs h =
-    still_runs says b c us ds (next ∷ others) v w e rest steps (step_goes_on says old b t answer u v s h.0) h.1
 
 -- a step that is refused while the session runs
 step_refused : (e : MinusError) (cols rows : ℕ) (told rest : List (Told DefaultKeys)) (t : Told DefaultKeys) (answers : List Answer) (reached new : Seen DefaultKeys) (a b : Option (List ℕ)) → IsTaken cols rows told answers reached a (t ∷ rest) → reached.status ≡ status.Running → Refuses default_keys_say (refusal_of e) reached t new a b → IsRefusal (refusal_of e) cols rows told
@@ -151,20 +142,10 @@ step_refused Conversion cols rows told rest t answers reached new a b taken runs
 step_refused (SearchExpError cause) cols rows told rest t answers reached new a b taken runs h = absurd h
 
 -- a refusal stopped the run
-refused_one : {A : Type 0} (keys : DefaultKeys) (told : A → Told DefaultKeys) (e : MinusError) (refused rest inputs taken : List A) (old reached new : Seen DefaultKeys) (passed : List Control) (answers : List Answer) (start a b : Option (List ℕ)) (cols rows : ℕ) → Stops default_keys_say told (Some e) refused reached new a b → inputs ≡ taken ++ (refused ++ rest) → Steps default_keys_say old (map told taken) passed answers reached start a
-    → IsStarted old keys [] Dynamic cols rows true (Some []) start → reached.status ≡ status.Running → IsRefusal (refusal_of e) cols rows (map told inputs)
-refused_one keys told e [] rest inputs taken old reached new passed answers start a b cols rows h all steps s runs = absurd h
-refused_one keys told e (x ∷ y ∷ xs) rest inputs taken old reached new passed answers start a b cols rows h all steps s runs = absurd h
-refused_one keys told e (x ∷ []) rest inputs taken old reached new passed answers start a b cols rows h all steps s runs =
-    step_refused e cols rows (map told inputs) (map told rest) (told x) answers reached new a b (record { keys = keys; first = old; begun = start; taken = map told taken; passed = passed; started = s; steps = steps; all = ap (map told) all ∙ map-append told taken (x ∷ rest) }) runs h
-
-pub run_refused : {A : Type 0} (keys : DefaultKeys) (told : A → Told DefaultKeys) (old new : Seen DefaultKeys) (inputs : List A) (done : ℕ) (last : Option Answer) (stopped : Option MinusError) (rest : List A) (a b : Option (List ℕ)) (cols rows : ℕ) (e : MinusError) (fault : ScriptFault) → IsRun default_keys_say told old new inputs done last stopped rest a b → stopped ≡ Some e
-    → IsStarted old keys [] Dynamic cols rows true (Some []) a → fault ≡ Refused e → IsShowFault cols rows (map told inputs) fault
-run_refused keys told old new inputs done last stopped rest a b cols rows e fault h is s f =
-    let stop = subst (λ (x : Option MinusError). Stops default_keys_say told x h.refused h.reached new h.bytes b) is h.stop in
-    let stops = told_stops told h.answers (Some e) rest (subst (λ (x : Option MinusError). StopsAfter h.answers x rest) is h.stops) in
-    let runs = still_runs default_keys_say old h.reached (map told h.taken) h.passed h.answers a h.bytes e (map told rest) h.steps (ap (λ (x : Seen DefaultKeys). x.status) s.begins) stops in
-    rw f (refused_one keys told e h.refused rest inputs h.taken old h.reached new h.passed h.answers a h.bytes b cols rows stop h.all h.steps s runs)
+pub run_refused : (keys : DefaultKeys) (cols rows : ℕ) (first new : Seen DefaultKeys) (told : List (Told DefaultKeys)) (a b : Option (List ℕ)) (e : MinusError) (fault : ScriptFault) → IsStarted first keys [] Dynamic cols rows true (Some []) a → IsStoppedBy (refusal_of e) first new told a b →
+    fault ≡ Refused e → IsShowFault cols rows told fault
+run_refused keys cols rows first new told a b e fault s h f =
+    rw f (step_refused e cols rows told h.rest h.refused h.answers h.reached new h.bytes b (taken_over keys cols rows first h.reached told h.answers (h.refused ∷ h.rest) a h.bytes s h.worked) h.runs h.refuses)
 
 -- a start is refused
 pub start_refused : (refusal : Refusal) (cols rows : ℕ) (terminal : Bool) (told : List (Told DefaultKeys)) → terminal ≡ true → IsStartRefused refusal Dynamic cols rows terminal → IsRefusal refusal cols rows told

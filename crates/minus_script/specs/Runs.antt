@@ -1,5 +1,5 @@
 -- A run of a script.
-use Rattle.std.specs.Prelude.{◌≡◌, ℕ, List, [], ◌∷◌, ◌++◌, true, Option, Some, None, Ok, Err, codes, decimal, ◌⊎◌}
+use Rattle.std.specs.Prelude.{◌≡◌, ℕ, List, [], ◌∷◌, ◌++◌, true, is_some, Option, Some, None, Ok, Err, codes, decimal, ◌⊎◌}
 use Rattle.std.specs.List.{last_or}
 use Rattle.std.specs.Option.{option_and_then, option_map}
 use Rattle.std.specs.Io.KnownBytes.{Appends, Consumes, IsAtEnd}
@@ -13,12 +13,12 @@ use Rattle.minus_script.specs.Keys.{default_keys_say}
 use Rattle.minus_state.specs.Control.{Control}
 use Rattle.minus_state.specs.Page.{page}
 use Rattle.minus.specs.Reads.{Told}
-use Rattle.minus.specs.Runs.{StopsAfter}
 use Rattle.minus_state.specs.Sizes.{IsSize}
 use Rattle.minus.specs.Starts.{IsStarted, IsSetupRefused}
 use Rattle.minus.specs.Seen.{Seen}
 use Rattle.minus.specs.Asked.{Asks}
-use Rattle.minus.specs.Steps.{Steps, cleanup_after}
+use Rattle.minus.specs.declared.status.Status.TheVariants as status
+use Rattle.minus.specs.Steps.{Steps, Refuses, cleanup_after}
 use Rattle.minus.specs.Table.{Wanted, resizes, HasNewline}
 use Rattle.minus_script.specs.Script.{script_lines, script_told}
 use Rattle.minus_script.specs.Printed.{printed_all}
@@ -29,17 +29,21 @@ use Rattle.minus_script.specs.declared.fault.Stream.TheVariants.{Input, Output}
 use Rattle.minus_script.specs.declared.fault.ScriptFault.{ScriptFault}
 use Rattle.minus_script.specs.declared.fault.ScriptFault.TheVariants.{Io, Line, Refused}
 
--- a pager was started with the default keys and without a text over a sink that held nothing, and took what it was told in order, with these answers,
--- up to a rest
+-- a session took what it was told in order, with these answers, up to a rest
+pub record IsWorkedOff (old new : Seen DefaultKeys) (told : List (Told DefaultKeys)) (answers : List Answer) (rest : List (Told DefaultKeys)) (old_bytes new_bytes : Option (List ℕ)) : Type 0 where
+  pub taken : List (Told DefaultKeys)
+  pub passed : List Control
+  pub steps : Steps default_keys_say old taken passed answers new old_bytes new_bytes
+  pub all : told ≡ taken ++ rest
+
+-- a pager was started with the default keys and without a text over a sink that held nothing, and took what it was told in order, with
+-- these answers, up to a rest
 pub record IsTaken (cols rows : ℕ) (told : List (Told DefaultKeys)) (answers : List Answer) (reached : Seen DefaultKeys) (bytes : Option (List ℕ)) (rest : List (Told DefaultKeys)) : Type 0 where
   pub keys : DefaultKeys
   pub first : Seen DefaultKeys
   pub begun : Option (List ℕ)
-  pub taken : List (Told DefaultKeys)
-  pub passed : List Control
   pub started : IsStarted first keys [] Dynamic cols rows true (Some []) begun
-  pub steps : Steps default_keys_say first taken passed answers reached begun bytes
-  pub all : told ≡ taken ++ rest
+  pub worked : IsWorkedOff first reached told answers rest begun bytes
 
 -- what is printed after an exit: the code that the program would end with
 abbrev pub printed_exit : ℕ → List ℕ
@@ -48,6 +52,29 @@ printed_exit code = codes "exit " ++ decimal code ++ codes "\n"
 -- the code of an exit that the last step answered
 abbrev pub exit_code : Option Answer → Option ℕ
 exit_code last = option_and_then (λ (a : Answer). option_map (λ x. x.1) a.exited) last
+
+-- all was taken, or all up to an exit
+abbrev pub IsWhole : List Answer → List (Told DefaultKeys) → Type 0
+IsWhole answers rest = (rest ≡ []) ⊎ (is_some (exit_code (last_or None answers)) ≡ true)
+
+-- a session worked off all that it was told, or all up to an exit, with this last answer
+pub record IsRunOn (old new : Seen DefaultKeys) (told : List (Told DefaultKeys)) (last : Option Answer) (old_bytes new_bytes : Option (List ℕ)) : Type 0 where
+  pub answers : List Answer
+  pub rest : List (Told DefaultKeys)
+  pub worked : IsWorkedOff old new told answers rest old_bytes new_bytes
+  pub answer : last ≡ last_or None answers
+  pub whole : IsWhole answers rest
+
+-- a session that ran refused one of those that it was told, after those before it
+pub record IsStoppedBy (refusal : Refusal) (old new : Seen DefaultKeys) (told : List (Told DefaultKeys)) (old_bytes new_bytes : Option (List ℕ)) : Type 0 where
+  pub answers : List Answer
+  pub reached : Seen DefaultKeys
+  pub refused : Told DefaultKeys
+  pub rest : List (Told DefaultKeys)
+  pub bytes : Option (List ℕ)
+  pub worked : IsWorkedOff old reached told answers (refused ∷ rest) old_bytes bytes
+  pub runs : reached.status ≡ status.Running
+  pub refuses : Refuses default_keys_say refusal reached refused new bytes new_bytes
 
 -- what is printed of the page after that step
 abbrev pub printed_after : Option ℕ → Control → List ℕ
@@ -66,7 +93,7 @@ pub record IsShown (mode : Mode) (cols rows : ℕ) (told : List (Told DefaultKey
   pub bytes : Option (List ℕ)
   pub rest : List (Told DefaultKeys)
   pub taken : IsTaken cols rows told answers reached bytes rest
-  pub whole : StopsAfter answers None rest
+  pub whole : IsWhole answers rest
   pub prints : Prints mode answers reached bytes output
 
 -- a script was read to its end, each of its lines is well formed, and this is what they lead to

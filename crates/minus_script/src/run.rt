@@ -4,7 +4,10 @@ ghost use Rattle.std.specs.Io.KnownBytes.{Appends};
 ghost use Rattle.minus.specs.Reads.{told_of};
 ghost use Rattle.minus.specs.Core.{seen_of};
 ghost use Rattle.minus.specs.Steps.{cleanup_after};
+ghost use Rattle.minus.specs.declared.status.Status.TheVariants.{Running};
+ghost use Rattle.minus_term.specs.Refusals.{refusal_of};
 ghost use Rattle.minus_script.specs.Runs.{exit_code, printed_exit, printed_after, IsShown, IsScriptRun, IsRunFault, IsBeforePrinting};
+ghost use Rattle.minus_script.specs.Runs.{IsRunOn, IsStoppedBy};
 ghost use Rattle.minus_script.specs.ShowFaults.{IsShowFault, IsMemory};
 
 use crate::arguments::Mode;
@@ -13,7 +16,7 @@ use crate::keys::{DefaultKeys, ScriptKinds};
 use crate::printed::{print_rows, write_out};
 use crate::reading::read_script;
 use crate::script::{ScriptInput, parse_script};
-use minus::{Answer, Core, MinusError, PagerOf, RanOf, RunMode, WithTty, init_core_with};
+use minus::{Answer, Core, MinusError, OutputSink, PagerOf, RunMode, WithTty, init_core_with};
 use std::alloc::{AllocError, Global};
 use std::io::{Read, Write};
 
@@ -79,6 +82,31 @@ fn all_written(session: Session) -> Result<Vec<u8>, ScriptFault>
     }
 }
 
+// Works inputs off in order, up to one that exits or is refused, and answers the answer of the last one.
+fn work_off<S: OutputSink + Drop>(
+    session: &mut Core<S, ScriptKinds>,
+    inputs: Vec<ScriptInput>,
+) -> Result<Option<Answer>, MinusError>
+    requires { (seen_of session.old).status ≡ Running }
+    ensures run { IfOk result (λ last. IsRunOn (seen_of session.old) (seen_of session.new)
+        (map told_of inputs.items) last (S.seen session.old.sink).bytes (S.seen session.new.sink).bytes) }
+    ensures refused { IfErr result (λ e. IsStoppedBy (refusal_of e) (seen_of session.old) (seen_of session.new)
+        (map told_of inputs.items) (S.seen session.old.sink).bytes (S.seen session.new.sink).bytes) }
+{
+    let mut inputs = inputs;
+    inputs.reverse();
+    let mut last = None;
+    while let Some(input) = inputs.pop() {
+        let answer = session.step(input)?;
+        let exits = answer.exited.is_some();
+        last = Some(answer);
+        if exits {
+            return Ok(last);
+        }
+    }
+    Ok(last)
+}
+
 // What the mode prints of a pager that was told all inputs, from no text.
 fn show(
     alloc: Global,
@@ -97,10 +125,10 @@ fn show(
         Ok(session) => session,
         Err(refused) => return Err(ScriptFault::from(refused.cause)),
     };
-    let RanOf { last, stopped, .. } = session.run(inputs);
-    if let Some(refusal) = stopped {
-        return Err(ScriptFault::from(refusal));
-    }
+    let last = match work_off(&mut session, inputs) {
+        Ok(last) => last,
+        Err(refusal) => return Err(ScriptFault::from(refusal)),
+    };
     match mode {
         Mode::Page => print_page(alloc, &session, &last),
         Mode::Bytes => all_written(session),
@@ -109,7 +137,7 @@ fn show(
 
 /// Reads a script to its end, runs it on a pager of so many columns and rows, and prints what the mode asks for: the
 /// rows of the last page, or, after an exit, `exit` and its code; or all bytes that the terminal was sent, with those
-/// that clean it up at the end. What follows an exit in the script is not run.
+/// that clean it up at the end. What follows an exit in the script is not run; what follows a copied text is.
 ///
 /// # Errors
 ///

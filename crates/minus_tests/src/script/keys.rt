@@ -45,10 +45,10 @@ const ROWS: [(&str, &str); 29] = [
         "mouse left:down 0 0\nmouse left:drag 0 1",
         "\\e[7ml0\\e[27m\n\\e[7ml\\e[27m1\nl2\n",
     ),
-    // what is copied is not printed
+    // what is copied is not printed, and the script goes on
     (
-        "mouse left:down 0 0\nmouse left:drag 0 1\nkey y",
-        "l0\nl1\nl2\n",
+        "mouse left:down 0 0\nmouse left:drag 0 1\nkey y\nkey j",
+        "l1\nl2\nl3\n",
     ),
     (
         "mouse left:down 0 0\nmouse left:drag 0 1\nmouse left:up 0 1",

@@ -8,31 +8,29 @@ use Rattle.minus.specs.Reads.{told_of, wanted_of}
 use Rattle.minus.specs.Steps.{cleanup_after}
 use Rattle.minus_script.specs.Runs.{exit_code, printed_after, IsShown}
 use Rattle.minus_script.specs.ShowFaults.{IsShowFault, IsMemory}
-use Rattle.minus_script.proofs.RunLaws.{started, start_refused, run_came, page_shown, bytes_shown, run_refused, memory_fault}
+use Rattle.minus_script.proofs.RunLaws.{started, start_refused, page_shown, bytes_shown, run_refused, memory_fault}
 use Rattle.minus_script.proofs.run.show.Goals as goal
 
 pub returns-in-Err-clause-fault : goal.returns-in-Err-clause-fault
 returns-in-Err-clause-fault c = rw c.from.ensures (start_refused (refusal_of c.in-Err.refused.cause) c.args.cols c.args.rows _ (map told_of c.args.inputs.items) c.new-sink.ensures.tty c.in-Err.ensures.refused.refused)
 
-pub returns-in-Some-clause-fault : goal.returns-in-Some-clause-fault
-returns-in-Some-clause-fault c =
+pub returns-in-Err-work_off-clause-fault : goal.returns-in-Err-work_off-clause-fault
+returns-in-Err-work_off-clause-fault c =
     let begun = started c.in_ok-keys.keys (seen_of c.in-Ok.session) _ c.args.cols c.args.rows _ _ _ (ap (map wanted_of) c.new-pager.ensures) c.new-sink.ensures.tty (rw (c.new-sink.ensures.inner, c.new.ensures.items) refl) c.in-Ok.ensures.started.started in
-    run_refused c.in_ok-keys.keys told_of (seen_of c.in-Ok.session) (seen_of c.run-last.new.self) c.args.inputs.items _ _ _ _ _ _ c.args.cols c.args.rows c.in-Some.refusal _ c.run-last.ensures.run c.in-Some.is begun c.from-in-Some.ensures
+    run_refused c.in_ok-keys.keys c.args.cols c.args.rows (seen_of c.in-Ok.session) (seen_of c.work_off.new.session) (map told_of c.args.inputs.items) _ _ c.in-Err-work_off.refusal _ begun c.in-Err-work_off.ensures.refused c.from-in-Err-work_off.ensures
 
 pub returns-in-Page-clause-shown : goal.returns-in-Page-clause-shown
 returns-in-Page-clause-shown c =
     let begun = started c.in_ok-keys.keys (seen_of c.in-Ok.session) _ c.args.cols c.args.rows _ _ _ (ap (map wanted_of) c.new-pager.ensures) c.new-sink.ensures.tty (rw (c.new-sink.ensures.inner, c.new.ensures.items) refl) c.in-Ok.ensures.started.started in
-    let came = run_came c.in_ok-keys.keys told_of (seen_of c.in-Ok.session) (seen_of c.run-last.new.self) c.args.inputs.items _ _ _ _ _ _ c.args.cols c.args.rows c.run-last.ensures.run c.in_default.is begun in
-    IfOk-weaker c.print_page.result (λ printed. printed.items ≡ printed_after (exit_code c.run-last.result.last) (seen_of c.run-last.new.self).control) (λ printed. IsShown c.args.mode c.args.cols c.args.rows (map told_of c.args.inputs.items) printed.items)
-    (λ printed e. page_shown told_of c.args.cols c.args.rows c.args.inputs.items _ _ (seen_of c.run-last.new.self) _ c.args.mode printed.items came c.in-Page.is e)
+    IfOk-weaker c.print_page.result (λ printed. printed.items ≡ printed_after (exit_code c.in-Ok-work_off.last) (seen_of c.work_off.new.session).control) (λ printed. IsShown c.args.mode c.args.cols c.args.rows (map told_of c.args.inputs.items) printed.items)
+    (λ printed e. page_shown c.in_ok-keys.keys c.args.cols c.args.rows (seen_of c.in-Ok.session) (seen_of c.work_off.new.session) (map told_of c.args.inputs.items) c.in-Ok-work_off.last _ _ c.args.mode printed.items begun c.in-Ok-work_off.ensures.run c.in-Page.is e)
     c.print_page.ensures.page
 
 pub returns-in-Bytes-clause-shown : goal.returns-in-Bytes-clause-shown
 returns-in-Bytes-clause-shown c =
     let begun = started c.in_ok-keys.keys (seen_of c.in-Ok.session) _ c.args.cols c.args.rows _ _ _ (ap (map wanted_of) c.new-pager.ensures) c.new-sink.ensures.tty (rw (c.new-sink.ensures.inner, c.new.ensures.items) refl) c.in-Ok.ensures.started.started in
-    let came = run_came c.in_ok-keys.keys told_of (seen_of c.in-Ok.session) (seen_of c.run-last.new.self) c.args.inputs.items _ _ _ _ _ _ c.args.cols c.args.rows c.run-last.ensures.run c.in_default.is begun in
-    IfOk-weaker c.all_written.result (λ written. Appends (Some c.run-last.new.self.sink.inner.items) (Some written.items) (cleanup_after (seen_of c.run-last.new.self).status)) (λ printed. IsShown c.args.mode c.args.cols c.args.rows (map told_of c.args.inputs.items) printed.items)
-    (λ written e. bytes_shown told_of c.args.cols c.args.rows c.args.inputs.items _ _ (seen_of c.run-last.new.self) _ c.args.mode written.items came c.in-Bytes.is e)
+    IfOk-weaker c.all_written.result (λ written. Appends (Some c.work_off.new.session.sink.inner.items) (Some written.items) (cleanup_after (seen_of c.work_off.new.session).status)) (λ printed. IsShown c.args.mode c.args.cols c.args.rows (map told_of c.args.inputs.items) printed.items)
+    (λ written e. bytes_shown c.in_ok-keys.keys c.args.cols c.args.rows (seen_of c.in-Ok.session) (seen_of c.work_off.new.session) (map told_of c.args.inputs.items) c.in-Ok-work_off.last _ _ c.args.mode written.items begun c.in-Ok-work_off.ensures.run c.in-Bytes.is e)
     c.all_written.ensures.bytes
 
 pub returns-in-Bytes-clause-fault : goal.returns-in-Bytes-clause-fault
