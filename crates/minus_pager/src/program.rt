@@ -1,0 +1,191 @@
+//! The loop of the program: it hears the keys, and between them reads the text on.
+use crate::fault::Fault;
+use crate::keyboard::Keyboard;
+use crate::launch::Launch;
+use crate::size::{Size, SizeFile};
+use crate::text::TextSource;
+use crate::viewer::{Notice, Onward, Viewer};
+use minus::{Event, MinusError};
+use std::thread;
+use std::time::Duration;
+
+/// How long the program sleeps where it heard and read nothing, in milliseconds.
+const NAP: u64 = 10;
+
+/// How many bytes below the page are read of a text from standard input, where it is not followed.
+const AHEAD: usize = 64 * 1024 * 1024;
+
+/// After so many pieces of text the prompt row is told where the page is, also where more comes.
+const PIECES: u32 = 16;
+
+/// The program while it pages.
+#[derive(Drop)]
+pub struct Program {
+    viewer: Viewer,
+    source: TextSource,
+    keyboard: Keyboard,
+    sizes: SizeFile,
+    // Whether there is memory for more text.
+    has_room: bool,
+    // How many pieces came since the prompt row was told where the page is.
+    pieces: u32,
+}
+
+impl Program {
+    /// Opens the text and the terminal, and shows the first page.
+    ///
+    /// # Errors
+    ///
+    /// Those of [`TextSource::open`], [`Keyboard::open`] and [`Viewer::start`].
+    pub fn start(rt: &HostRuntime, launch: &Launch) -> Result<Program, Fault> {
+        let alloc = rt.alloc();
+        let paging = launch.paging(alloc)?;
+        let sizes = SizeFile::new(
+            String::from_str(alloc, launch.sizes.as_str())?,
+            launch.size(),
+        );
+        let mut source = TextSource::open(rt, launch.text.as_str())?;
+        let keyboard = Keyboard::open(rt)?;
+        let beginning = source.next()?.unwrap_or(String::new(alloc));
+        let mut viewer = Viewer::start(rt, launch, &paging, beginning.as_str())?;
+        viewer.set_options(&paging)?;
+        viewer.go_to_line()?;
+        viewer.make_room(source.bytes_left());
+        Ok(Program {
+            viewer,
+            source,
+            keyboard,
+            sizes,
+            has_room: true,
+            pieces: 1,
+        })
+    }
+
+    // The text of the next piece. Out of memory, there is none.
+    fn next_text(&mut self) -> Result<Option<String>, Fault> {
+        match self.source.next() {
+            Err(Fault::Pager(MinusError::Memory)) => {
+                self.run_out_of_room();
+                Ok(None)
+            }
+            next => next,
+        }
+    }
+
+    // Reads no more text, and says so.
+    fn run_out_of_room(&mut self) {
+        self.has_room = false;
+        self.pieces = PIECES;
+        self.viewer.set_notice(Notice::OutOfMemory);
+    }
+
+    // Whether the next piece of text is to be read.
+    fn wants_text(&self) -> bool {
+        self.has_room && (!self.source.is_standard() || self.viewer.wants_more(AHEAD))
+    }
+
+    // Adds the next piece of text, and answers whether there was one.
+    fn feed(&mut self) -> Result<bool, Fault> {
+        if !self.wants_text() {
+            return Ok(false);
+        }
+        let Some(text) = self.next_text()? else {
+            return Ok(false);
+        };
+        self.pieces = self.pieces.saturating_add(1);
+        if !self.viewer.append(text)? {
+            self.run_out_of_room();
+        }
+        Ok(true)
+    }
+
+    // Lets the prompt row say so where the file was cut short.
+    fn look_at_file(&mut self) {
+        if self.has_room && self.source.is_cut_short() {
+            self.pieces = self.pieces.max(1);
+            self.viewer.set_notice(Notice::CutShort);
+        }
+    }
+
+    // Lets the prompt row say where the page is, and rests where nothing was done.
+    fn settle(&mut self, rt: &HostRuntime, heard: bool, fed: bool) -> Result<(), Fault> {
+        if heard || self.pieces >= PIECES || (self.pieces > 0 && !fed) {
+            self.pieces = 0;
+            return self.viewer.show_place();
+        }
+        if !fed {
+            thread::sleep(rt, Duration::from_millis(NAP));
+        }
+        Ok(())
+    }
+
+    // Hears the keys that were pressed, and reads a piece of the text.
+    fn turn(&mut self, rt: &HostRuntime) -> Result<Onward, Fault> {
+        let mut events: Vec<Event> = Vec::new(rt.alloc());
+        let mut heard = self.keyboard.read(rt, &mut events)?;
+        let onward = self.viewer.tell_all(&events)?;
+        if onward != Onward::On {
+            return Ok(onward);
+        }
+        if let Some(size) = self.sizes.change(rt) {
+            self.viewer.resize(size)?;
+            heard = true;
+        }
+        let fed = self.feed()?;
+        if !fed {
+            self.look_at_file();
+        }
+        self.settle(rt, heard || !events.is_empty(), fed)?;
+        Ok(Onward::On)
+    }
+
+    // Waits until the launcher says that the program goes on.
+    fn wait_for_resume(&mut self, rt: &HostRuntime) -> Option<Size> {
+        let resumes = self.sizes.resumes();
+        for _ in 0..u64::MAX {
+            if let Some(size) = self.sizes.change(rt) {
+                if size.resumes != resumes {
+                    return Some(size);
+                }
+            }
+            thread::sleep(rt, Duration::from_millis(NAP));
+        }
+        None
+    }
+
+    // Hands the terminal back, asks the launcher to stop the program, and comes back after that.
+    fn suspend(&mut self, rt: &HostRuntime) -> Result<(), Fault> {
+        self.viewer.leave()?;
+        rt.eprintln("suspend")?;
+        if let Some(size) = self.wait_for_resume(rt) {
+            self.viewer.come_back(size)?;
+        }
+        self.viewer.show_place()
+    }
+
+    /// Serves the reader until the session ends.
+    ///
+    /// # Errors
+    ///
+    /// [`Fault::Io`] where the terminal, the text or the clock failed, and [`Fault::Pager`] where the session refuses.
+    pub fn serve(&mut self, rt: &HostRuntime) -> Result<(), Fault> {
+        for _ in 0..u64::MAX {
+            match self.turn(rt)? {
+                Onward::On => {}
+                Onward::Suspended => self.suspend(rt)?,
+                Onward::Ended => return Ok(()),
+            }
+        }
+        Ok(())
+    }
+
+    /// Ends the session, and hands the screen, the cursor and the mouse back.
+    ///
+    /// # Errors
+    ///
+    /// [`Fault::Pager`] where the terminal refuses.
+    pub fn finish(self) -> Result<(), Fault> {
+        let Program { viewer, .. } = self;
+        viewer.finish()
+    }
+}

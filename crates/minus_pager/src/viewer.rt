@@ -1,0 +1,380 @@
+//! The pager on the terminal: its session, and what it needs around it.
+use crate::clipboard::clipboard_sequence;
+use crate::fault::Fault;
+use crate::keys::{Keys, pager_keys};
+use crate::launch::Launch;
+use crate::size::Size;
+use minus::{
+    Answer, CommandOf, Core, Event, InputClassifier, InputEvent, InputOf, IoCommand, KeyCode,
+    KeyModifiers, Kinds, LineNumbers, MinusError, PagerOf, PagerState, RunMode, WithTty, cleanup,
+    init_core_with, setup, write_bytes,
+};
+use minus_view::{Paging, Source, place_text};
+use std::alloc::{AllocError, Global};
+use std::io::Stdout;
+
+/// The kinds of the program's session.
+type PagerKinds = Kinds<Keys>;
+
+/// The bytes that give the mouse back to the terminal.
+const MOUSE_OFF: &str = "\x1b[?1006l\x1b[?1015l\x1b[?1003l\x1b[?1002l\x1b[?1000l";
+
+/// How the program goes on.
+#[derive(Clone, Copy, Debug, PartialEq, Eq)]
+pub enum Onward {
+    /// As before.
+    On,
+    /// The reader has asked for the shell.
+    Suspended,
+    /// The session has ended.
+    Ended,
+}
+
+/// What the prompt row says of the text besides the place of the page.
+#[derive(Clone, Copy, Debug, PartialEq, Eq)]
+pub enum Notice {
+    /// Nothing.
+    Nothing,
+    /// The file has fewer bytes than were read of it.
+    CutShort,
+    /// There was no memory for the rest of the text, or for what a key asked for.
+    OutOfMemory,
+}
+
+impl Notice {
+    // What the prompt row says.
+    fn text(self) -> &'static str {
+        match self {
+            Notice::Nothing => "",
+            Notice::CutShort => "  (the file was cut short)",
+            Notice::OutOfMemory => "  (out of memory)",
+        }
+    }
+}
+
+/// The pager on the terminal.
+#[derive(Drop)]
+pub struct Viewer {
+    alloc: Global,
+    session: Core<WithTty<Stdout>, PagerKinds>,
+    // The keys once more: what an event will ask for is known before the session is told it.
+    keys: Keys,
+    // The terminal once more, for what is no part of a page.
+    terminal: WithTty<Stdout>,
+    name: String,
+    notice: Notice,
+    has_mouse: bool,
+    // The line that is shown first, counted from 0, until it was read.
+    line: Option<usize>,
+}
+
+// The name of a text in the prompt row.
+fn name_of<'a>(source: Source<'a>) -> &'a str {
+    match source {
+        Source::File(name) => name,
+        Source::Unnamed | Source::Input => "standard input",
+    }
+}
+
+// The text of the prompt row.
+fn prompt_text(
+    alloc: Global,
+    name: &str,
+    state: &PagerState,
+    notice: Notice,
+) -> Result<String, AllocError> {
+    let rows = state.screen.formatted_lines_count();
+    let first = state.upper_mark.saturating_add(1).min(rows);
+    let page = state.rows.saturating_sub(1);
+    let last = state.upper_mark.saturating_add(page).min(rows);
+    let mut text = place_text(alloc, name, first, last, rows)?;
+    text.push_str(notice.text())?;
+    Ok(text)
+}
+
+// Whether an event is the key that suspends the program.
+fn is_suspend(event: &Event) -> bool {
+    match event {
+        Event::Key(key) => {
+            key.code == KeyCode::Char('z') && key.modifiers == KeyModifiers::CONTROL
+        }
+        _ => false,
+    }
+}
+
+// How many bytes of the text stand below the first row of the page.
+fn bytes_below(state: &PagerState) -> usize {
+    let rows = state.screen.formatted_lines_count();
+    match (
+        state.screen.row_place(rows.saturating_sub(1)),
+        state.screen.row_place(state.upper_mark),
+    ) {
+        (Some(last), Some(first)) => last.end.saturating_sub(first.start),
+        _ => 0,
+    }
+}
+
+impl Viewer {
+    /// Starts a session with the beginning of a text.
+    ///
+    /// # Errors
+    ///
+    /// [`Fault::Pager`] where the session does not start.
+    pub fn start(
+        rt: &HostRuntime,
+        launch: &Launch,
+        paging: &Paging<'_>,
+        beginning: &str,
+    ) -> Result<Viewer, Fault> {
+        let alloc = rt.alloc();
+        let keys = pager_keys(alloc)?;
+        let name = String::from_str(alloc, name_of(paging.source))?;
+        let mut pager: PagerOf<PagerKinds> = PagerOf::new(alloc);
+        pager.push_str(beginning)?;
+        let session = init_core_with(
+            pager,
+            RunMode::Dynamic,
+            WithTty::new(rt.stdout(), true),
+            usize::from(launch.cols),
+            usize::from(launch.rows),
+            pager_keys(alloc)?,
+        )
+        .map_err(MinusError::from)?;
+        Ok(Viewer {
+            alloc,
+            session,
+            keys,
+            terminal: WithTty::new(rt.stdout(), true),
+            name,
+            notice: Notice::Nothing,
+            has_mouse: paging.mouse,
+            line: paging.line.checked_sub(1),
+        })
+    }
+
+    /// Sets what the options ask for.
+    ///
+    /// # Errors
+    ///
+    /// [`Fault::Pager`] where the session refuses.
+    pub fn set_options(&mut self, paging: &Paging<'_>) -> Result<(), Fault> {
+        self.release_mouse()?;
+        if paging.numbers {
+            self.command(CommandOf::SetLineNumbers(LineNumbers::Enabled))?;
+        }
+        if paging.chops {
+            self.command(CommandOf::LineWrapping(false))?;
+        }
+        if paging.follows {
+            self.command(CommandOf::FollowOutput(true))?;
+        }
+        self.show_place()
+    }
+
+    // Gives the mouse back to the terminal, where the options ask for that.
+    fn release_mouse(&mut self) -> Result<(), Fault> {
+        if !self.has_mouse {
+            write_bytes(&mut self.terminal, MOUSE_OFF.as_bytes())?;
+        }
+        Ok(())
+    }
+
+    /// Makes room for the text that is to come, where there is memory for it.
+    pub fn make_room(&mut self, bytes: u64) {
+        if let Ok(bytes) = usize::try_from(bytes) {
+            let _ = self.session.reserve(bytes);
+        }
+    }
+
+    /// Whether the next piece of a text that comes from standard input is wanted: this number of bytes is not yet read
+    /// below the page, or the text is followed, or the line that is shown first was not read yet.
+    pub fn wants_more(&self, bytes: usize) -> bool {
+        let state = self.session.state();
+        if state.help_open() {
+            return false;
+        }
+        state.follow_output() || self.line.is_some() || bytes_below(state) < bytes
+    }
+
+    // Puts a copied text on the terminal's clipboard. Where there is no memory for that, the prompt row says so.
+    fn put_on_clipboard(&mut self, copied: &str) -> Result<(), Fault> {
+        match clipboard_sequence(self.alloc, copied) {
+            Ok(sequence) => {
+                write_bytes(&mut self.terminal, sequence.as_bytes())?;
+            }
+            Err(_) => self.notice = Notice::OutOfMemory,
+        }
+        Ok(())
+    }
+
+    // Heeds what a step answers.
+    fn heed(&mut self, answer: Answer) -> Result<Onward, Fault> {
+        if let Some(copied) = &answer.copied {
+            self.put_on_clipboard(copied.as_str())?;
+        }
+        if answer.exited.is_some() {
+            return Ok(Onward::Ended);
+        }
+        Ok(Onward::On)
+    }
+
+    // Tells the session an input. Out of memory, it stays as it was, and the prompt row says so; a size that is none
+    // is passed over.
+    fn step(&mut self, input: InputOf<PagerKinds>) -> Result<Onward, Fault> {
+        match self.session.step(input) {
+            Ok(answer) => self.heed(answer),
+            Err(MinusError::BadSize(..)) => Ok(Onward::On),
+            Err(MinusError::Memory) => {
+                self.notice = Notice::OutOfMemory;
+                Ok(Onward::On)
+            }
+            Err(cause) => Err(Fault::Pager(cause)),
+        }
+    }
+
+    // Tells the session a command.
+    fn command(&mut self, command: CommandOf<PagerKinds>) -> Result<(), Fault> {
+        let _ = self.step(InputOf::Command(command))?;
+        Ok(())
+    }
+
+    // Whether the text is followed, and an event asks for a page before the last one.
+    fn leaves_the_end(&self, event: Event) -> bool {
+        let state = self.session.state();
+        if !state.follow_output() || state.help_open() {
+            return false;
+        }
+        match self.keys.classify_input(event, state) {
+            Some(InputEvent::UpdateUpperMark(mark)) => mark < state.upper_mark,
+            _ => false,
+        }
+    }
+
+    // Tells the session an event. One that moves up ends following first, which moves nothing then.
+    fn tell(&mut self, event: Event) -> Result<Onward, Fault> {
+        if is_suspend(&event) {
+            return Ok(Onward::Suspended);
+        }
+        if self.leaves_the_end(event) {
+            self.command(CommandOf::FollowOutput(false))?;
+        }
+        self.step(InputOf::Event(event))
+    }
+
+    /// Tells the session events, up to one that ends or suspends it.
+    ///
+    /// # Errors
+    ///
+    /// [`Fault::Pager`] where the session refuses.
+    pub fn tell_all(&mut self, events: &[Event]) -> Result<Onward, Fault> {
+        for event in events {
+            self.line = None;
+            let onward = self.tell(*event)?;
+            if onward != Onward::On {
+                return Ok(onward);
+            }
+        }
+        Ok(Onward::On)
+    }
+
+    /// Takes the terminal's new size.
+    ///
+    /// # Errors
+    ///
+    /// [`Fault::Pager`] where the session refuses; a size that is none is passed over.
+    pub fn resize(&mut self, size: Size) -> Result<(), Fault> {
+        let _ = self.step(InputOf::Event(Event::Resize(size.cols, size.rows)))?;
+        Ok(())
+    }
+
+    /// Adds text, and goes to the line that is shown first once it was read. Answers whether there was memory for it.
+    ///
+    /// # Errors
+    ///
+    /// [`Fault::Pager`] where the session refuses.
+    pub fn append(&mut self, text: String) -> Result<bool, Fault> {
+        match self
+            .session
+            .step(InputOf::Command(CommandOf::AppendData(text)))
+        {
+            Ok(_) => {
+                self.go_to_line()?;
+                Ok(true)
+            }
+            Err(MinusError::Memory) => Ok(false),
+            Err(cause) => Err(Fault::Pager(cause)),
+        }
+    }
+
+    /// Goes to the line that is shown first, where it was read.
+    ///
+    /// # Errors
+    ///
+    /// [`Fault::Pager`] where the session refuses.
+    pub fn go_to_line(&mut self) -> Result<(), Fault> {
+        let Some(line) = self.line else {
+            return Ok(());
+        };
+        if let Some(row) = self.session.state().line_first_row(line) {
+            self.line = None;
+            self.command(CommandOf::Io(IoCommand::SetUpperMark(row)))?;
+        }
+        Ok(())
+    }
+
+    /// Lets the prompt row say this of the text from now on.
+    pub fn set_notice(&mut self, notice: Notice) {
+        self.notice = notice;
+    }
+
+    /// Lets the prompt row say where in the text the page is, unless help is open. Where there is no memory for that,
+    /// the row stays as it is.
+    ///
+    /// # Errors
+    ///
+    /// [`Fault::Pager`] where the session refuses.
+    pub fn show_place(&mut self) -> Result<(), Fault> {
+        let state = self.session.state();
+        if state.help_open() {
+            return Ok(());
+        }
+        if let Ok(text) = prompt_text(self.alloc, self.name.as_str(), state, self.notice) {
+            self.command(CommandOf::SetPrompt(text))?;
+        }
+        Ok(())
+    }
+
+    /// Hands the screen, the cursor and the mouse back, for the time that the program is suspended.
+    ///
+    /// # Errors
+    ///
+    /// [`Fault::Pager`] where the terminal refuses.
+    pub fn leave(&mut self) -> Result<(), Fault> {
+        cleanup(&mut self.terminal, true).map_err(MinusError::from)?;
+        Ok(())
+    }
+
+    /// Comes back to the page, on a terminal of this size.
+    ///
+    /// # Errors
+    ///
+    /// [`Fault::Pager`] where the terminal or the session refuses.
+    pub fn come_back(&mut self, size: Size) -> Result<(), Fault> {
+        setup(&mut self.terminal).map_err(MinusError::from)?;
+        self.release_mouse()?;
+        self.resize(size)?;
+        self.command(CommandOf::Io(IoCommand::RedrawDisplay))
+    }
+
+    /// Ends the session, and hands the screen, the cursor and the mouse back.
+    ///
+    /// # Errors
+    ///
+    /// [`Fault::Pager`] where the terminal refuses.
+    pub fn finish(self) -> Result<(), Fault> {
+        let Viewer { session, .. } = self;
+        let (_, cleaned) = session.finish();
+        cleaned.map_err(MinusError::from)?;
+        Ok(())
+    }
+}

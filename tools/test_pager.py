@@ -1,0 +1,495 @@
+#!/usr/bin/env python3
+"""Tests of the pager program in a pseudo terminal: test_pager.py PROGRAM [MINUS_SHOW]
+
+PROGRAM is the built crates/minus_pager/out/minus_pager. It is put beside a copy of bin/minus, and run by a shell with
+job control. What comes out is played on a screen of cells; MINUS_SHOW (or the one in crates/minus_show/out) says which
+page the library defines for the same text, keys and prompt.
+"""
+import base64
+import fcntl
+import os
+import pty
+import re
+import select
+import shutil
+import signal
+import struct
+import subprocess
+import sys
+import tempfile
+import termios
+import time
+import unicodedata
+import unittest
+
+TOP = os.path.dirname(os.path.dirname(os.path.abspath(__file__)))
+PROGRAM = SHOW = None
+PATIENCE = 10  # seconds
+UNIT = re.compile(r'\x1b\[([?<]?)([0-9;]*)([@-~])|\x1b\]([^\x07\x1b]*)(?:\x07|\x1b\\)|[\s\S]')
+BEGUN = re.compile(r'\x1b(\[[?<]?[0-9;]*|\][^\x07\x1b]*\x1b?)?\Z')
+
+
+def columns(c):
+    """How many columns a character takes."""
+    if unicodedata.combining(c) or c == '\u200d':
+        return 0
+    return 2 if unicodedata.east_asian_width(c) in 'WF' else 1
+
+
+class Player:
+    """A screen of cells, each a text and its styles, that plays what a terminal is sent."""
+
+    def __init__(self, cols, rows):
+        self.cols, self.rows = cols, rows
+        self.modes, self.copied, self.rest = {}, [], ''
+        self.decode = __import__('codecs').getincrementaldecoder('utf-8')('replace').decode
+        self.clear()
+
+    def clear(self):
+        self.cells = [self.blank() for _ in range(self.rows)]
+        self.x = self.y = 0
+        self.style = ()
+
+    def blank(self):
+        return [(' ', ())] * self.cols
+
+    def resize(self, cols, rows):
+        """What stands on the screen after a resize is the terminal's matter: here nothing."""
+        self.cols, self.rows = cols, rows
+        self.clear()
+
+    def play(self, data):
+        text = self.rest + self.decode(data)
+        begun = BEGUN.search(text)
+        self.rest = begun.group() if begun else ''
+        for unit in UNIT.finditer(text[:len(text) - len(self.rest)]):
+            mark, numbers, final, command = unit.groups()
+            if command is not None:
+                self.command(command)
+            elif final:
+                self.sequence(mark, numbers, final)
+            else:
+                self.put(unit.group())
+
+    def command(self, command):
+        if command.startswith('52;c;'):
+            self.copied.append(base64.b64decode(command[5:]).decode())
+
+    def sequence(self, mark, numbers, final):
+        values = [int(n or 0) for n in numbers.split(';')]
+        first = max(values[0], 1)
+        if mark == '?':
+            self.modes.update((n, final == 'h') for n in values)
+            if 1049 in values:
+                self.clear()
+        elif final == 'H':
+            self.y = min(first, self.rows) - 1
+            self.x = min(max((values + [1])[1], 1), self.cols) - 1
+        elif final == 'J':
+            self.cells = [self.blank() for _ in range(self.rows)]
+        elif final == 'K':
+            self.cells[self.y] = self.blank()
+        elif final == 'S':
+            self.cells = (self.cells + [self.blank() for _ in range(first)])[-self.rows:] if first < self.rows else [self.blank() for _ in range(self.rows)]
+        elif final == 'T':
+            self.cells = ([self.blank() for _ in range(first)] + self.cells)[:self.rows]
+        elif final == 'm':
+            self.style = () if values == [0] else self.style + (numbers,)
+
+    def put(self, c):
+        if c == '\r':
+            self.x = 0
+        elif c == '\n':
+            if self.y == self.rows - 1:
+                self.cells = self.cells[1:] + [self.blank()]
+            self.y = min(self.y + 1, self.rows - 1)
+        elif c >= ' ':
+            width = columns(c)
+            if width == 0 and self.x:
+                text, style = self.cells[self.y][self.x - 1]
+                self.cells[self.y][self.x - 1] = (text + c, style)
+            elif self.x + width <= self.cols:
+                self.cells[self.y][self.x:self.x + width] = [(c, self.style)] + [('', self.style)] * (width - 1)
+                self.x += width
+
+    def texts(self):
+        """The rows without their styles and the blanks at their ends."""
+        return [''.join(c for c, _ in row).rstrip() for row in self.cells]
+
+
+def defined_page(cols, rows, script):
+    """The cells of the page that the library defines for a script."""
+    run = subprocess.run([SHOW, 'page', str(cols), str(rows)], input=script.encode(), stdout=subprocess.PIPE, check=True)
+    page = Player(cols, rows)
+    for y, row in enumerate(run.stdout.decode().split('\n')[:rows]):
+        row = re.sub(r'\\(.)', lambda m: {'e': '\x1b', 'n': '\n', 'r': '\r'}.get(m.group(1), m.group(1)), row)
+        page.play(f'\x1b[0m\x1b[{y + 1};1H{row}'.encode())
+    return page.cells
+
+
+def push(text):
+    """The line of a script that pushes a text."""
+    for plain, escape in (('\\', '\\\\'), ('\n', '\\n'), ('\r', '\\r'), ('\x1b', '\\e')):
+        text = text.replace(plain, escape)
+    return f'push {text}\n'
+
+
+class Terminal:
+    """A shell with job control in a pseudo terminal."""
+
+    def __init__(self, folder, cols=40, rows=8):
+        shell = shutil.which('dash')
+        words = [shell, '-i'] if shell else ['bash', '--noediting', '--norc', '--noprofile', '-i']
+        self.player = Player(cols, rows)
+        self.bytes = b''
+        master, slave = pty.openpty()
+        self.master, self.slave = master, slave
+        self.set_size(cols, rows)
+        self.pid = os.fork()
+        if self.pid == 0:
+            os.setsid()
+            fcntl.ioctl(slave, termios.TIOCSCTTY, 0)
+            for fd in range(3):
+                os.dup2(slave, fd)
+            os.closerange(3, 64)
+            os.chdir(folder)
+            os.environ.update(PS1='ready> ', TERM='xterm', TMPDIR=folder)
+            os.environ.pop('ENV', None)
+            os.execvp(words[0], words)
+        self.wait(lambda: self.ends_with('ready> '), 'a shell')
+        self.before = self.mode()
+
+    def set_size(self, cols, rows):
+        fcntl.ioctl(self.master, termios.TIOCSWINSZ, struct.pack('HHHH', rows, cols, 0, 0))
+
+    def resize(self, cols, rows):
+        self.player.resize(cols, rows)
+        self.set_size(cols, rows)
+
+    def mode(self):
+        return subprocess.run(['stty', '-a'], stdin=self.slave, stdout=subprocess.PIPE, check=True).stdout
+
+    def send(self, keys):
+        os.write(self.master, keys if isinstance(keys, bytes) else keys.encode())
+
+    def read(self, seconds):
+        """Plays what comes within this time, and answers whether anything came."""
+        if not select.select([self.master], [], [], seconds)[0]:
+            return False
+        try:
+            data = os.read(self.master, 65536)
+        except OSError:
+            return False
+        self.bytes += data
+        self.player.play(data)
+        return True
+
+    def settle(self, seconds=0.15):
+        while self.read(seconds):
+            pass
+
+    def wait(self, condition, what):
+        end = time.time() + PATIENCE
+        while not condition():
+            if time.time() > end:
+                raise AssertionError(f'waited for {what}; on show: {self.player.texts()}; bytes end with {self.bytes[-200:]}')
+            self.read(0.02)
+
+    def ends_with(self, text):
+        return self.bytes.endswith(text.encode())
+
+    def wait_for(self, text):
+        self.wait(lambda: any(text in row for row in self.player.texts()), text)
+
+    def processes(self, name):
+        """The processes below the shell whose command names this."""
+        found, left = [], [self.pid]
+        while left:
+            pid = left.pop()
+            try:
+                left += [int(p) for p in open(f'/proc/{pid}/task/{pid}/children').read().split()]
+                words = open(f'/proc/{pid}/cmdline', 'rb').read().split(b'\0')
+            except OSError:
+                continue
+            if any(os.path.basename(w).decode(errors='replace') == name for w in words[:2]):
+                found.append(pid)
+        return sorted(found)
+
+    def close(self):
+        for fd in (self.master, self.slave):
+            os.close(fd)
+        try:
+            os.kill(self.pid, signal.SIGKILL)
+        except OSError:
+            pass
+        os.waitpid(self.pid, 0)
+
+
+class PagerTests(unittest.TestCase):
+    def setUp(self):
+        self.folder = tempfile.mkdtemp(prefix='test_pager.')
+        self.addCleanup(shutil.rmtree, self.folder, True)
+        shutil.copy(os.path.join(TOP, 'bin', 'minus'), self.folder)
+        shutil.copy(PROGRAM, self.folder)
+        self.terminal = None
+
+    def tearDown(self):
+        if self.terminal:
+            self.terminal.close()
+
+    def write(self, name, text):
+        path = os.path.join(self.folder, name)
+        with open(path, 'wb') as file:
+            file.write(text if isinstance(text, bytes) else text.encode())
+        return path
+
+    def page(self, command, cols=40, rows=8):
+        """Types a command, and waits for its page."""
+        self.terminal = Terminal(self.folder, cols, rows)
+        self.terminal.send(command + '\n')
+        self.terminal.wait(lambda: self.terminal.player.modes.get(1049), 'the first page')
+        return self.terminal
+
+    def press(self, keys):
+        self.terminal.send(keys)
+        self.terminal.settle()
+
+    def assert_page(self, text, prompt, *lines):
+        """The page is that of the library, for a text, a prompt, and lines of a script."""
+        player = self.terminal.player
+        script = push(text) + ''.join(line + '\n' for line in lines) + f'prompt {prompt}\n'
+        cells = defined_page(player.cols, player.rows, script)
+        end = time.time() + PATIENCE
+        while player.cells != cells and time.time() < end:
+            self.terminal.read(0.05)
+        self.assertEqual(player.cells, cells, player.texts())
+
+    def assert_back(self, status):
+        """The shell has its terminal back, and the program's status."""
+        terminal = self.terminal
+        terminal.wait(lambda: terminal.ends_with('ready> '), 'the shell')
+        self.assertEqual(terminal.mode(), terminal.before)
+        modes = terminal.player.modes
+        self.assertTrue(modes.get(25))
+        for mode in (1049, 1000, 1002, 1003, 1006):
+            self.assertFalse(modes.get(mode), mode)
+        terminal.send('echo status=$?\n')
+        terminal.wait(lambda: terminal.bytes.count(b'status=') > 1 and terminal.ends_with('ready> '), 'a status')
+        self.assertIn(f'status={status}\r'.encode(), terminal.bytes)
+        self.assertEqual([n for n in os.listdir(self.folder) if n.startswith('minus.')], [])
+        self.assertEqual(terminal.processes('minus_pager'), [])
+
+    LINES = ''.join(f'line {n} of the text\n' for n in range(1, 101))
+
+    def test_keys_do_what_the_library_says(self):
+        self.write('notes', self.LINES)
+        self.page('./minus notes')
+        self.assert_page(self.LINES, 'notes  1-7/101  6%')
+        for keys, lines, place in (
+            ('jj', ['key j', 'key j'], '3-9/101  8%'),
+            ('5k', ['mark 0'], '1-7/101  6%'),
+            ('f', ['key pagedown'], '8-14/101  13%'),
+            (' ', ['mark 14'], '15-21/101  20%'),
+            ('b', ['mark 7'], '8-14/101  13%'),
+            ('\x1b[B', ['mark 8'], '9-15/101  14%'),
+            ('>', ['mark 94'], '95-101/101  100%'),
+            ('<', ['mark 0'], '1-7/101  6%'),
+            ('30G', ['mark 29'], '30-36/101  35%'),
+            ('\x0c', ['mark 29', 'numbers on'], '30-36/101  35%'),
+        ):
+            self.press(keys)
+            self.assert_page(self.LINES, f'notes  {place}', *lines)
+        self.press('M')
+        self.terminal.wait_for('scroll up')
+        self.press('\x1b')
+        self.terminal.settle()
+        self.press('q')
+        self.terminal.settle()
+        self.press('q')
+        self.assert_back(0)
+
+    def test_options(self):
+        long = 'a long line that takes more than one row of the screen\n' + self.LINES
+        self.write('notes', long)
+        self.page('./minus -NS +12 --no-mouse notes')
+        self.assert_page(long, 'notes  12-18/102  17%', 'numbers on', 'wrap off', 'mark 11')
+        self.assertFalse(self.terminal.player.modes.get(1000))
+        self.press('q')
+        self.assert_back(0)
+
+    def test_a_resize(self):
+        self.write('notes', self.LINES)
+        self.page('./minus notes')
+        self.terminal.wait_for('1-7/101')
+        self.press('3j')
+        self.terminal.resize(30, 12)
+        self.assert_page(self.LINES, 'notes  4-14/101  13%', 'mark 3')
+        self.press('q')
+        self.assert_back(0)
+
+    def test_a_growing_file_is_followed_until_the_reader_moves_up(self):
+        path = self.write('log', self.LINES)
+        self.page('./minus +F log')
+        self.terminal.wait_for('95-101/101')
+        with open(path, 'a') as log:
+            log.write('one more\nand')
+            log.flush()
+            self.terminal.wait_for('95-101/102') if False else self.terminal.wait_for('96-102/102')
+            self.press('k')
+            self.terminal.wait_for('95-101/102')
+            log.write(' on it goes\nlast\n')
+            log.flush()
+            self.terminal.wait_for('95-101/104')
+        text = self.LINES + 'one more\nand on it goes\nlast\n'
+        self.assert_page(text, 'log  95-101/104  97%', 'mark 94')
+        self.press('F')
+        self.assert_page(text, 'log  98-104/104  100%', 'follow on')
+        os.truncate(path, 10)
+        self.terminal.wait_for('cut short')
+        self.press('q')
+        self.assert_back(0)
+
+    def test_a_slow_pipe_leaves_the_keys_awake(self):
+        self.page("(seq 20; sleep 0.6; echo end; sleep 60) | ./minus")
+        self.terminal.wait_for('1-7/21')
+        self.press('j')
+        self.terminal.wait_for('2-8/21')
+        self.terminal.wait_for('2-8/22')
+        self.press('G')
+        self.terminal.wait_for('end')
+        self.press('q')
+        self.terminal.wait(lambda: self.terminal.player.modes.get(1049) is False, 'the main screen')
+        self.press('\x03')
+        self.terminal.wait(lambda: self.terminal.ends_with('ready> '), 'the shell')
+        self.assertEqual(self.terminal.mode(), self.terminal.before)
+
+    def test_an_endless_pipe_is_read_as_far_as_a_bound(self):
+        self.page('yes "$(printf %01000d 7)" | ./minus -S')
+        self.terminal.wait_for('1-7/')
+        pid = self.terminal.processes('minus_pager')[0]
+        read = -1
+        end = time.time() + PATIENCE
+        while time.time() < end:
+            self.terminal.settle(0.3)
+            now = int(re.search(r'rchar: (\d+)', open(f'/proc/{pid}/io').read()).group(1))
+            if now - read < 20000:
+                break
+            read = now
+        self.assertLess(now, 80 * 1024 * 1024)
+        self.press('q')
+        self.assert_back(0)
+
+    def test_hostile_bytes_as_text(self):
+        hostile = b'a\x1b]0;title\x07b\x1b[2Jc\x1b[31mred\nplain\x1b[m\t.\x00\x07\xff\xc3(\r\nbold: x\x08x _\x08u\n\xe2\x82'
+        self.write('hostile', hostile)
+        self.page('./minus hostile')
+        text = 'abc\x1b[31mred\x1b[0m\n\x1b[31mplain\x1b[0m   .^@^G\ufffd\ufffd(\nbold: \x1b[1mx\x1b[0m \x1b[4mu\x1b[0m\n'
+        self.terminal.wait_for('bold: x u')
+        self.terminal.settle()
+        defined = defined_page(40, 8, push(text))
+        plain = [''.join(c for c, _ in row).rstrip() for row in defined]
+        self.assertEqual(self.terminal.player.texts()[:3], plain[:3])
+        self.assertEqual([s for _, s in self.terminal.player.cells[0][3:6]], [('31',)] * 3)
+        self.assertEqual(self.terminal.player.cells[0][7][1], ())
+        self.press('q')
+        self.assert_back(0)
+
+    def test_hostile_bytes_as_keys(self):
+        self.write('notes', self.LINES)
+        self.page('./minus notes')
+        self.terminal.wait_for('1-7/101')
+        hostile = bytes(b for b in range(128, 256)) * 8 + b'\x1b' * 100 + b'\x1b[' + b'9' * 3000 + b'~' + b'\x1b[<1;2' + b'\x1b]x' + b'\x00' * 50
+        self.press(hostile)
+        self.press('\x1b[999;999;999m\x1b[<0;70000;70000M')
+        self.press('\x1b[<64;1;1M\x1b[<65;1;1M')
+        self.terminal.send('gg')
+        self.terminal.wait_for('1-7/101')
+        self.press('jq')
+        self.assert_back(0)
+
+    def test_a_selection_goes_to_the_clipboard(self):
+        self.write('notes', self.LINES)
+        self.page('./minus notes')
+        self.terminal.wait_for('1-7/101')
+        self.press('\x1b[<0;1;2M\x1b[<32;6;2M\x1b[<0;6;2m')
+        self.terminal.wait(lambda: self.terminal.player.copied, 'a copied text')
+        self.assertEqual(self.terminal.player.copied, ['line 2'])
+        self.press('q')
+        self.assert_back(0)
+
+    def test_ctrl_c_ends(self):
+        self.write('notes', self.LINES)
+        self.page('./minus notes')
+        self.terminal.wait_for('1-7/101')
+        self.press('\x03')
+        self.assert_back(0)
+
+    def end_by(self, name, number, status):
+        self.write('notes', self.LINES)
+        self.page('./minus notes')
+        self.terminal.wait_for('1-7/101')
+        os.kill(self.terminal.processes(name)[0], number)
+        self.assert_back(status)
+
+    def test_the_launcher_is_told_to_end(self):
+        self.end_by('minus', signal.SIGTERM, 143)
+
+    def test_the_launcher_is_hung_up(self):
+        self.end_by('minus', signal.SIGHUP, 129)
+
+    def test_the_program_is_killed(self):
+        self.end_by('minus_pager', signal.SIGKILL, 137)
+
+    def test_the_program_is_told_to_end(self):
+        self.end_by('minus_pager', signal.SIGTERM, 143)
+
+    def test_ctrl_z_suspends_and_fg_comes_back(self):
+        self.write('notes', self.LINES)
+        terminal = self.page('./minus notes')
+        terminal.wait_for('1-7/101')
+        self.press('4j')
+        terminal.send('\x1a')
+        terminal.wait(lambda: terminal.ends_with('ready> '), 'the shell')
+        self.assertEqual(terminal.mode(), terminal.before)
+        self.assertFalse(terminal.player.modes[1049])
+        self.assertFalse(terminal.player.modes[1000])
+        terminal.send('fg\n')
+        terminal.wait(lambda: terminal.player.modes[1049], 'the page')
+        self.assert_page(self.LINES, 'notes  5-11/101  10%', 'mark 4')
+        self.assertTrue(terminal.player.modes[1000])
+        self.press('j')
+        self.assert_page(self.LINES, 'notes  6-12/101  11%', 'mark 5')
+        self.press('q')
+        self.assert_back(0)
+
+    def test_refusals_before_the_terminal_is_touched(self):
+        os.mkdir(os.path.join(self.folder, 'folder'))
+        self.write('notes', self.LINES)
+        self.terminal = Terminal(self.folder)
+        for words, status in (('missing', 1), ('folder', 1), ('-x notes', 2), ('+0 notes', 2), ('notes notes', 2), ('', 2)):
+            self.terminal.bytes = b''
+            self.terminal.send(f'./minus {words}; echo status=$?\n')
+            self.terminal.wait(lambda: self.terminal.bytes.count(b'status=') > 1 and self.terminal.ends_with('ready> '), words)
+            lines = self.terminal.bytes.split(b'\r\n')
+            self.assertEqual(len(lines), 4, lines)
+            self.assertTrue(lines[1].startswith(b'minus: '), lines)
+            self.assertEqual(lines[2], f'status={status}'.encode())
+            self.assertNotIn(b'\x1b', self.terminal.bytes)
+
+    def test_no_terminal_hands_the_text_on(self):
+        raw = b'a\tb\x1b[31m\xff\r\n'
+        path = self.write('raw', raw)
+        launcher = os.path.join(self.folder, 'minus')
+        self.assertEqual(subprocess.run([launcher, path], stdout=subprocess.PIPE).stdout, raw)
+        self.assertEqual(subprocess.run([launcher], input=raw, stdout=subprocess.PIPE).stdout, raw)
+        self.assertEqual(subprocess.run([launcher, '-'], input=raw, stdout=subprocess.PIPE).stdout, raw)
+
+
+if __name__ == '__main__':
+    if len(sys.argv) < 2 or sys.argv[1].startswith('-'):
+        sys.exit(__doc__)
+    PROGRAM = os.path.abspath(sys.argv.pop(1))
+    SHOW = os.path.join(TOP, 'crates', 'minus_show', 'out', 'minus_show')
+    if len(sys.argv) > 1 and os.path.isfile(sys.argv[1]):
+        SHOW = os.path.abspath(sys.argv.pop(1))
+    unittest.main(verbosity=1)
