@@ -101,7 +101,7 @@ impl Program {
 
     // Lets the prompt row say so where the file was cut short.
     fn look_at_file(&mut self) {
-        if self.has_room && self.source.is_cut_short() {
+        if self.viewer.notice() == Notice::Nothing && self.source.is_cut_short() {
             self.pieces = self.pieces.max(1);
             self.viewer.set_notice(Notice::CutShort);
         }

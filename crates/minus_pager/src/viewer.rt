@@ -63,6 +63,8 @@ pub struct Viewer {
     terminal: WithTty<Stdout>,
     name: String,
     notice: Notice,
+    // Whether there was no memory for what a key asked for.
+    was_short: bool,
     has_mouse: bool,
     // The line that is shown first, counted from 0, until it was read.
     line: Option<usize>,
@@ -74,6 +76,14 @@ fn name_of<'a>(source: Source<'a>) -> &'a str {
         Source::File(name) => name,
         Source::Unnamed | Source::Input => "standard input",
     }
+}
+
+// The line that is shown first, counted from 0, where it is not the first one of the text.
+fn first_line(paging: &Paging<'_>) -> Option<usize> {
+    if paging.follows || paging.line <= 1 {
+        return None;
+    }
+    Some(paging.line - 1)
 }
 
 // The text of the prompt row.
@@ -147,8 +157,9 @@ impl Viewer {
             terminal: WithTty::new(rt.stdout(), true),
             name,
             notice: Notice::Nothing,
+            was_short: false,
             has_mouse: paging.mouse,
-            line: paging.line.checked_sub(1),
+            line: first_line(paging),
         })
     }
 
@@ -202,7 +213,7 @@ impl Viewer {
             Ok(sequence) => {
                 write_bytes(&mut self.terminal, sequence.as_bytes())?;
             }
-            Err(_) => self.notice = Notice::OutOfMemory,
+            Err(_) => self.was_short = true,
         }
         Ok(())
     }
@@ -225,7 +236,7 @@ impl Viewer {
             Ok(answer) => self.heed(answer),
             Err(MinusError::BadSize(..)) => Ok(Onward::On),
             Err(MinusError::Memory) => {
-                self.notice = Notice::OutOfMemory;
+                self.was_short = true;
                 Ok(Onward::On)
             }
             Err(cause) => Err(Fault::Pager(cause)),
@@ -269,6 +280,7 @@ impl Viewer {
     pub fn tell_all(&mut self, events: &[Event]) -> Result<Onward, Fault> {
         for event in events {
             self.line = None;
+            self.was_short = false;
             let onward = self.tell(*event)?;
             if onward != Onward::On {
                 return Ok(onward);
@@ -322,6 +334,11 @@ impl Viewer {
         Ok(())
     }
 
+    /// What the prompt row says of the text.
+    pub fn notice(&self) -> Notice {
+        self.notice
+    }
+
     /// Lets the prompt row say this of the text from now on.
     pub fn set_notice(&mut self, notice: Notice) {
         self.notice = notice;
@@ -338,7 +355,12 @@ impl Viewer {
         if state.help_open() {
             return Ok(());
         }
-        if let Ok(text) = prompt_text(self.alloc, self.name.as_str(), state, self.notice) {
+        let notice = if self.was_short {
+            Notice::OutOfMemory
+        } else {
+            self.notice
+        };
+        if let Ok(text) = prompt_text(self.alloc, self.name.as_str(), state, notice) {
             self.command(CommandOf::SetPrompt(text))?;
         }
         Ok(())
