@@ -389,6 +389,14 @@ class PagerTests(unittest.TestCase):
         self.press('q')
         self.assert_back(0)
 
+    def test_out_of_memory_is_said_and_the_pager_goes_on(self):
+        self.page('(ulimit -v 200000; yes | ./minus +F)')
+        self.terminal.wait_for('(out of memory)')
+        self.press('<')
+        self.terminal.wait_for(' 1-7/')
+        self.press('q')
+        self.assert_back(0)
+
     def test_hostile_bytes_as_text(self):
         hostile = b'a\x1b]0;title\x07b\x1b[2Jc\x1b[31mred\nplain\x1b[m\t.\x00\x07\xff\xc3(\r\nbold: x\x08x _\x08u\n\xe2\x82'
         self.write('hostile', hostile)
