@@ -355,7 +355,7 @@ class PagerTests(unittest.TestCase):
         self.press('F')
         self.assert_page(text, 'log  97-103/103  100%', 'follow on')
         os.truncate(path, 10)
-        self.terminal.wait_for('cut short')
+        self.terminal.wait_for('(cut short)')
         self.press('q')
         self.assert_back(0)
 
@@ -479,6 +479,22 @@ class PagerTests(unittest.TestCase):
         self.assert_page(self.LINES, 'notes  6-12/100  12%', 'mark 5')
         self.press('q')
         self.assert_back(0)
+
+    def test_ctrl_z_suspends_the_whole_job_of_a_pipe(self):
+        terminal = self.page('(seq 50; sleep 60) | ./minus')
+        terminal.wait_for('1-7/50')
+        terminal.send('\x1a')
+        terminal.wait(lambda: terminal.ends_with('ready> '), 'the shell')
+        self.assertEqual(terminal.mode(), terminal.before)
+        terminal.send('fg\n')
+        terminal.wait(lambda: terminal.player.modes[1049], 'the page')
+        self.press('>')
+        terminal.wait_for('44-50/50')
+        self.press('q')
+        terminal.wait(lambda: terminal.player.modes.get(1049) is False, 'the main screen')
+        self.press('\x03')
+        terminal.wait(lambda: terminal.ends_with('ready> '), 'the shell')
+        self.assertEqual(terminal.mode(), terminal.before)
 
     def test_refusals_before_the_terminal_is_touched(self):
         os.mkdir(os.path.join(self.folder, 'folder'))

@@ -8,6 +8,7 @@ mod keyboard;
 mod keys;
 mod launch;
 mod program;
+mod prompt;
 mod size;
 mod text;
 mod viewer;

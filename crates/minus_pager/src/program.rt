@@ -2,9 +2,10 @@
 use crate::fault::Fault;
 use crate::keyboard::Keyboard;
 use crate::launch::Launch;
+use crate::prompt::Notice;
 use crate::size::{Size, SizeFile};
 use crate::text::TextSource;
-use crate::viewer::{Notice, Onward, Viewer};
+use crate::viewer::{Onward, Viewer};
 use minus::{Event, MinusError};
 use std::thread;
 use std::time::Duration;

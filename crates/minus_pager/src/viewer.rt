@@ -3,14 +3,15 @@ use crate::clipboard::clipboard_sequence;
 use crate::fault::Fault;
 use crate::keys::{Keys, pager_keys};
 use crate::launch::Launch;
+use crate::prompt::{Notice, prompt_text};
 use crate::size::Size;
 use minus::{
     Answer, CommandOf, Core, Event, InputClassifier, InputEvent, InputOf, IoCommand, KeyCode,
     KeyModifiers, Kinds, LineNumbers, MinusError, PagerOf, PagerState, RunMode, WithTty, cleanup,
     init_core_with, setup, write_bytes,
 };
-use minus_view::{Paging, Source, place_text};
-use std::alloc::{AllocError, Global};
+use minus_view::{Paging, Source};
+use std::alloc::Global;
 use std::io::Stdout;
 
 /// The kinds of the program's session.
@@ -28,28 +29,6 @@ pub enum Onward {
     Suspended,
     /// The session has ended.
     Ended,
-}
-
-/// What the prompt row says of the text besides the place of the page.
-#[derive(Clone, Copy, Debug, PartialEq, Eq)]
-pub enum Notice {
-    /// Nothing.
-    Nothing,
-    /// The file has fewer bytes than were read of it.
-    CutShort,
-    /// There was no memory for the rest of the text, or for what a key asked for.
-    OutOfMemory,
-}
-
-impl Notice {
-    // What the prompt row says.
-    fn text(self) -> &'static str {
-        match self {
-            Notice::Nothing => "",
-            Notice::CutShort => "  (the file was cut short)",
-            Notice::OutOfMemory => "  (out of memory)",
-        }
-    }
 }
 
 /// The pager on the terminal.
@@ -84,22 +63,6 @@ fn first_line(paging: &Paging<'_>) -> Option<usize> {
         return None;
     }
     Some(paging.line - 1)
-}
-
-// The text of the prompt row.
-fn prompt_text(
-    alloc: Global,
-    name: &str,
-    state: &PagerState,
-    notice: Notice,
-) -> Result<String, AllocError> {
-    let rows = state.screen.formatted_lines_count();
-    let first = state.upper_mark.saturating_add(1).min(rows);
-    let page = state.rows.saturating_sub(1);
-    let last = state.upper_mark.saturating_add(page).min(rows);
-    let mut text = place_text(alloc, name, first, last, rows)?;
-    text.push_str(notice.text())?;
-    Ok(text)
 }
 
 // Whether an event is the key that suspends the program.

@@ -1,0 +1,2 @@
+pub mod Clipboard
+pub mod Prompt
