@@ -218,7 +218,7 @@ class Terminal:
                 words = contents(f'/proc/{pid}/cmdline').split(b'\0')
             except OSError:
                 continue
-            if any(os.path.basename(w).decode(errors='replace') == name for w in words[:2]):
+            if any(os.path.basename(w).decode(errors='replace') == name for w in words[:3]):
                 found.append(pid)
         return sorted(found)
 
