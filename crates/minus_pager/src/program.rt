@@ -100,12 +100,16 @@ impl Program {
         Ok(true)
     }
 
-    // Lets the prompt row say so where the file was cut short.
-    fn look_at_file(&mut self) {
+    // Heeds that the text ends here, and lets the prompt row say so where the file was cut short.
+    fn look_at_end(&mut self) -> Result<(), Fault> {
+        if self.source.is_at_end() {
+            self.viewer.end_at_last_page()?;
+        }
         if self.viewer.notice() == Notice::Nothing && self.source.is_cut_short() {
             self.pieces = self.pieces.max(1);
             self.viewer.set_notice(Notice::CutShort);
         }
+        Ok(())
     }
 
     // Lets the prompt row say where the page is, and rests where nothing was done.
@@ -120,13 +124,24 @@ impl Program {
         Ok(())
     }
 
-    // Hears the keys that were pressed, and reads a piece of the text.
-    fn turn(&mut self, rt: &HostRuntime) -> Result<Onward, Fault> {
+    // Tells the pager events, up to one that ends the session. Answers whether it goes on.
+    fn tell(&mut self, rt: &HostRuntime, events: &[Event]) -> Result<bool, Fault> {
+        for event in events {
+            match self.viewer.tell(*event)? {
+                Onward::On => {}
+                Onward::Suspended => self.suspend(rt)?,
+                Onward::Ended => return Ok(false),
+            }
+        }
+        Ok(true)
+    }
+
+    // Hears the keys that were pressed, and reads a piece of the text. Answers whether the session goes on.
+    fn turn(&mut self, rt: &HostRuntime) -> Result<bool, Fault> {
         let mut events: Vec<Event> = Vec::new(rt.alloc());
         let mut heard = self.keyboard.read(rt, &mut events)?;
-        let onward = self.viewer.tell_all(&events)?;
-        if onward != Onward::On {
-            return Ok(onward);
+        if !self.tell(rt, &events)? {
+            return Ok(false);
         }
         if let Some(size) = self.sizes.change(rt) {
             self.viewer.resize(size)?;
@@ -134,10 +149,10 @@ impl Program {
         }
         let fed = self.feed()?;
         if !fed {
-            self.look_at_file();
+            self.look_at_end()?;
         }
         self.settle(rt, heard || !events.is_empty(), fed)?;
-        Ok(Onward::On)
+        Ok(true)
     }
 
     // Waits until the launcher says that the program goes on.
@@ -171,10 +186,8 @@ impl Program {
     /// [`Fault::Io`] where the terminal, the text or the clock failed, and [`Fault::Pager`] where the session refuses.
     pub fn serve(&mut self, rt: &HostRuntime) -> Result<(), Fault> {
         for _ in 0..u64::MAX {
-            match self.turn(rt)? {
-                Onward::On => {}
-                Onward::Suspended => self.suspend(rt)?,
-                Onward::Ended => return Ok(()),
+            if !self.turn(rt)? {
+                return Ok(());
             }
         }
         Ok(())

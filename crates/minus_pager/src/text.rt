@@ -76,6 +76,8 @@ pub struct TextSource {
     read: u64,
     // Whether nothing came since what was begun was handed out.
     is_paused: bool,
+    // Whether the last read found that the text ends, for now or for good.
+    is_at_end: bool,
 }
 
 impl TextSource {
@@ -93,6 +95,7 @@ impl TextSource {
             piece: vec![in alloc; 0; PIECE]?,
             read: 0,
             is_paused: true,
+            is_at_end: false,
         })
     }
 
@@ -104,6 +107,11 @@ impl TextSource {
     /// How many bytes the file has that were not read yet; 0 where that is not known.
     pub fn bytes_left(&self) -> u64 {
         self.origin.len().unwrap_or(0).saturating_sub(self.read)
+    }
+
+    /// Whether the text was read to its end: that of a file so far, or that of standard input whose writer has ended.
+    pub fn is_at_end(&self) -> bool {
+        self.is_at_end
     }
 
     /// Whether the file has fewer bytes than were read of it.
@@ -136,10 +144,12 @@ impl TextSource {
                 let count = count.min(self.piece.len());
                 self.read = self.read.saturating_add(count as u64);
                 self.is_paused = false;
+                self.is_at_end = false;
                 self.preparation.add(&mut text, &self.piece[..count])?;
                 Ok(Some(text))
             }
             found => {
+                self.is_at_end = found == Found::End || !self.is_standard();
                 self.pause(found, &mut text)?;
                 if text.is_empty() {
                     Ok(None)

@@ -224,8 +224,15 @@ impl Viewer {
         }
     }
 
-    // Tells the session an event. One that moves up ends following first, which moves nothing then.
-    fn tell(&mut self, event: Event) -> Result<Onward, Fault> {
+    /// Tells the session an event. One that moves up ends following first, which moves nothing then; the key that
+    /// suspends is the program's.
+    ///
+    /// # Errors
+    ///
+    /// [`Fault::Pager`] where the session refuses.
+    pub fn tell(&mut self, event: Event) -> Result<Onward, Fault> {
+        self.line = None;
+        self.was_short = false;
         if is_suspend(&event) {
             return Ok(Onward::Suspended);
         }
@@ -233,23 +240,6 @@ impl Viewer {
             self.command(CommandOf::FollowOutput(false))?;
         }
         self.step(InputOf::Event(event))
-    }
-
-    /// Tells the session events, up to one that ends or suspends it.
-    ///
-    /// # Errors
-    ///
-    /// [`Fault::Pager`] where the session refuses.
-    pub fn tell_all(&mut self, events: &[Event]) -> Result<Onward, Fault> {
-        for event in events {
-            self.line = None;
-            self.was_short = false;
-            let onward = self.tell(*event)?;
-            if onward != Onward::On {
-                return Ok(onward);
-            }
-        }
-        Ok(Onward::On)
     }
 
     /// Takes the terminal's new size.
@@ -295,6 +285,20 @@ impl Viewer {
             self.command(CommandOf::Io(IoCommand::SetUpperMark(row)))?;
         }
         Ok(())
+    }
+
+    /// Goes to the last page, where the text ended before the line that is shown first.
+    ///
+    /// # Errors
+    ///
+    /// [`Fault::Pager`] where the session refuses.
+    pub fn end_at_last_page(&mut self) -> Result<(), Fault> {
+        if self.line.is_none() {
+            return Ok(());
+        }
+        self.line = None;
+        self.command(CommandOf::Io(IoCommand::SetUpperMark(usize::MAX)))?;
+        self.show_place()
     }
 
     /// What the prompt row says of the text.
