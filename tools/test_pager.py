@@ -24,7 +24,7 @@ import unittest
 
 TOP = os.path.dirname(os.path.dirname(os.path.abspath(__file__)))
 PROGRAM = SHOW = None
-PATIENCE = 6  # seconds
+PATIENCE = 60  # seconds: what has to come may take so long; no test waits without need
 UNIT = re.compile(r'\x1b\[([?<]?)([0-9;]*)([@-~])|\x1b\]([^\x07\x1b]*)(?:\x07|\x1b\\)|[\s\S]')
 BEGUN = re.compile(r'\x1b(\[[?<]?[0-9;]*|\][^\x07\x1b]*\x1b?)?\Z')
 
@@ -90,7 +90,7 @@ class Player:
         elif final == 'K':
             self.cells[self.y] = self.blank()
         elif final == 'S':
-            self.cells = (self.cells + [self.blank() for _ in range(first)])[-self.rows:] if first < self.rows else [self.blank() for _ in range(self.rows)]
+            self.cells = (self.cells + [self.blank() for _ in range(first)])[-self.rows:]
         elif final == 'T':
             self.cells = ([self.blank() for _ in range(first)] + self.cells)[:self.rows]
         elif final == 'm':
@@ -119,7 +119,8 @@ class Player:
 
 def defined_page(cols, rows, script):
     """The cells of the page that the library defines for a script."""
-    run = subprocess.run([SHOW, 'page', str(cols), str(rows)], input=script.encode(), stdout=subprocess.PIPE, check=True)
+    words = [SHOW, 'page', str(cols), str(rows)]
+    run = subprocess.run(words, input=script.encode(), stdout=subprocess.PIPE, check=True)
     page = Player(cols, rows)
     for y, row in enumerate(run.stdout.decode().split('\n')[:rows]):
         row = re.sub(r'\\(.)', lambda m: {'e': '\x1b', 'n': '\n', 'r': '\r'}.get(m.group(1), m.group(1)), row)
@@ -191,15 +192,12 @@ class Terminal:
         self.player.play(data)
         return True
 
-    def settle(self, seconds=0.15):
-        while self.read(seconds):
-            pass
-
     def wait(self, condition, what):
         end = time.time() + PATIENCE
         while not condition():
             if time.time() > end:
-                raise AssertionError(f'waited for {what}; on show: {self.player.texts()}; bytes end with {self.bytes[-200:]}')
+                shown = self.player.texts()
+                raise AssertionError(f'waited for {what}; on show: {shown}; bytes end with {self.bytes[-200:]}')
             self.read(0.02)
 
     def ends_with(self, text):
@@ -209,7 +207,7 @@ class Terminal:
         self.wait(lambda: any(text in row for row in self.player.texts()), text)
 
     def processes(self, name):
-        """The processes below the shell whose command names this."""
+        """The processes below the shell whose command names this, each before those that it started."""
         found, left = [], [self.pid]
         while left:
             pid = left.pop()
@@ -220,7 +218,27 @@ class Terminal:
                 continue
             if any(os.path.basename(w).decode(errors='replace') == name for w in words[:3]):
                 found.append(pid)
-        return sorted(found)
+        return found
+
+    def counted(self, name):
+        """What the system has counted of the program's reads: how many (syscr), or of how many bytes (rchar)."""
+        counts = contents(f'/proc/{self.processes("minus_pager")[0]}/io').decode()
+        return int(re.search(f'{name}: (\\d+)', counts).group(1))
+
+    def send_some(self, keys):
+        """Sends what the terminal takes of the keys without a wait, and answers how many these are."""
+        try:
+            return os.write(self.master, keys)
+        except BlockingIOError:
+            return 0
+
+    def wait_for_turns(self, count=2):
+        """Waits until the program has taken all keys, and has gone through its loop so many times since."""
+        unread = lambda: struct.unpack('i', fcntl.ioctl(self.slave, termios.FIONREAD, bytes(4)))[0]
+        self.wait(lambda: not unread(), 'the keys to be read')
+        # (a turn reads the keys, the size and the text: three times at most)
+        end = self.counted('syscr') + 3 * (count + 1)
+        self.wait(lambda: self.counted('syscr') >= end, 'turns of the loop')
 
     def close(self):
         for fd in (self.master, self.slave):
@@ -243,15 +261,17 @@ class PagerTests(unittest.TestCase):
     def tearDown(self):
         if self.terminal:
             self.terminal.close()
+            self.terminal = None
 
     def write(self, name, text):
-        path = os.path.join(self.folder, name)
+        path = os.path.join(self.folder, os.fsdecode(name))
         with open(path, 'wb') as file:
             file.write(text if isinstance(text, bytes) else text.encode())
         return path
 
     def page(self, command, cols=40, rows=8):
-        """Types a command, and waits for its page."""
+        """Types a command in a new terminal, and waits for its page."""
+        self.tearDown()
         self.terminal = Terminal(self.folder, cols, rows)
         self.terminal.send(command + '\n')
         self.terminal.wait(lambda: self.terminal.player.modes.get(1049), 'the first page')
@@ -259,7 +279,13 @@ class PagerTests(unittest.TestCase):
 
     def press(self, keys):
         self.terminal.send(keys)
-        self.terminal.settle()
+
+    def press_escape(self):
+        """Presses Esc alone: the program takes it so in a turn 50 ms after its byte."""
+        self.terminal.send('\x1b')
+        self.terminal.wait_for_turns()
+        time.sleep(0.1)
+        self.terminal.wait_for_turns()
 
     def assert_page(self, text, prompt, *lines):
         """The page is that of the library, for a text, a prompt, and lines of a script."""
@@ -306,13 +332,20 @@ class PagerTests(unittest.TestCase):
         ):
             self.press(keys)
             self.assert_page(self.LINES, f'notes  {place}', *lines)
+        # (a key that comes in two pieces)
+        self.press('\x1b[')
+        self.terminal.wait_for_turns()
+        self.press('B')
+        self.assert_page(self.LINES, 'notes  31-37/100  37%', 'mark 30', 'numbers on')
+        self.press('k')
+        self.assert_page(self.LINES, 'notes  30-36/100  36%', 'mark 29', 'numbers on')
         self.press('M')
         self.terminal.wait_for('COMMAND SUMMARY')
         self.press('q')
         self.assert_page(self.LINES, 'notes  30-36/100  36%', 'mark 29', 'numbers on')
         self.press('M')
         self.terminal.wait_for('COMMAND SUMMARY')
-        self.press('\x1b')
+        self.press_escape()
         self.press('q')
         self.assert_page(self.LINES, 'notes  30-36/100  36%', 'mark 29', 'numbers on')
         self.press('q')
@@ -322,16 +355,63 @@ class PagerTests(unittest.TestCase):
         long = 'a long line that takes more than one row of the screen\n' + self.LINES
         self.write('notes', long)
         self.page('./minus -NS +12 --no-mouse notes')
-        self.assert_page(long, 'notes  12-18/101  17%', 'numbers on', 'wrap off', 'mark 11')
+        page = (long, 'notes  12-18/101  17%', 'numbers on', 'wrap off', 'mark 11')
+        self.assert_page(*page)
         self.assertFalse(self.terminal.player.modes.get(1000))
+        self.suspend()
+        self.resume()
+        self.assert_page(*page)
+        self.assertFalse(self.terminal.player.modes[1000])
         self.press('q')
         self.assert_back(0)
+
+    def test_a_first_line_beyond_a_file_shows_the_last_page(self):
+        self.write('notes', self.LINES)
+        self.page('./minus +200 notes')
+        self.assert_page(self.LINES, 'notes  94-100/100  100%', 'mark 93')
+        self.press('q')
+        self.assert_back(0)
+
+    def test_a_first_line_is_waited_for_until_a_pipe_ends(self):
+        writer = self.page_pipe('seq 20', '+25')
+        self.terminal.wait_for('1-7/20')
+        self.terminal.wait_for_turns()
+        os.write(writer, b'21\n')
+        self.terminal.wait_for('1-7/21')
+        os.close(writer)
+        self.assert_page(''.join(f'{n}\n' for n in range(1, 22)), 'standard input  15-21/21  100%', 'mark 14')
+        self.press('q')
+        self.assert_back(0)
+
+    def test_a_first_line_of_a_pipe(self):
+        writer = self.page_pipe('seq 20', '+25')
+        self.terminal.wait_for('1-7/20')
+        os.write(writer, ''.join(f'{n}\n' for n in range(21, 41)).encode())
+        self.terminal.wait_for('25-31/40')
+        self.end_pipe(writer)
+
+    def test_a_name_that_is_no_utf_8(self):
+        self.write(b'caf\xe9\tnotes', self.LINES)
+        self.page('./minus caf*')
+        self.assert_page(self.LINES, 'caf??notes  1-7/100  7%')
+        self.press('q')
+        self.assert_back(0)
+
+    def told_size(self):
+        """What the launcher tells the program of the terminal's size."""
+        folder = next(name for name in os.listdir(self.folder) if name.startswith('minus.'))
+        return contents(os.path.join(self.folder, folder, 'size')).decode()
 
     def test_a_resize(self):
         self.write('notes', self.LINES)
         self.page('./minus notes')
         self.terminal.wait_for('1-7/100')
         self.press('3j')
+        self.terminal.wait_for('4-10/100')
+        # (a terminal without rows is none that can be paged on)
+        self.terminal.set_size(0, 0)
+        self.terminal.wait(lambda: self.told_size() == '0 0 0\n', 'the size of no terminal')
+        self.terminal.wait_for_turns()
         self.terminal.resize(30, 12)
         self.assert_page(self.LINES, 'notes  4-14/100  14%', 'mark 3')
         self.press('q')
@@ -345,6 +425,7 @@ class PagerTests(unittest.TestCase):
             log.write('one more\nand')
             log.flush()
             self.terminal.wait_for('96-102/102')
+            self.terminal.wait_for('and')
             self.press('k')
             self.terminal.wait_for('95-101/102')
             log.write(' on it goes\nlast\n')
@@ -359,33 +440,61 @@ class PagerTests(unittest.TestCase):
         self.press('q')
         self.assert_back(0)
 
+    def test_a_text_is_read_while_keys_come(self):
+        path = self.write('log', self.LINES)
+        terminal = self.page('./minus log')
+        terminal.wait_for('1-7/100')
+        os.set_blocking(terminal.master, False)
+        sent = 0
+        end = time.time() + PATIENCE
+        while not any('/101' in row for row in terminal.player.texts()):
+            self.assertLess(time.time(), end, 'the text is not read on while keys come')
+            sent += terminal.send_some(b'x' * 1000)
+            if sent >= 3000 and path:
+                with open(path, 'a') as log:
+                    log.write('one more\n')
+                path = None
+            terminal.read(0)
+        os.set_blocking(terminal.master, True)
+        self.press('q')
+        self.assert_back(0)
+
+    def page_pipe(self, begin, options=''):
+        """Pages a pipe whose producer writes what a command says and then what this test writes: to this descriptor."""
+        path = os.path.join(self.folder, 'to_come')
+        os.mkfifo(path)
+        writer = os.open(path, os.O_RDWR)
+        self.page(f'({begin}; cat to_come) | ./minus {options}')
+        return writer
+
+    def end_pipe(self, writer):
+        """The pager ends before the pipe's producer does, and then the shell goes on."""
+        self.press('q')
+        self.terminal.wait(lambda: not self.terminal.player.modes[1049], 'the main screen')
+        os.close(writer)
+        self.assert_back(0)
+
     def test_a_slow_pipe_leaves_the_keys_awake(self):
-        self.page("(seq 20; sleep 0.6; echo end; sleep 60) | ./minus")
+        writer = self.page_pipe('seq 20')
         self.terminal.wait_for('1-7/20')
         self.press('j')
         self.terminal.wait_for('2-8/20')
+        os.write(writer, b'end\n')
         self.terminal.wait_for('2-8/21')
         self.press('G')
         self.terminal.wait_for('end')
-        self.press('q')
-        self.terminal.wait(lambda: self.terminal.player.modes.get(1049) is False, 'the main screen')
-        self.press('\x03')
-        self.terminal.wait(lambda: self.terminal.ends_with('ready> '), 'the shell')
-        self.assertEqual(self.terminal.mode(), self.terminal.before)
+        self.end_pipe(writer)
 
     def test_an_endless_pipe_is_read_as_far_as_a_bound(self):
-        self.page('yes "$(printf %01000d 7)" | ./minus -S')
-        self.terminal.wait_for('1-7/')
-        pid = self.terminal.processes('minus_pager')[0]
-        read = -1
-        end = time.time() + PATIENCE
-        while time.time() < end:
-            self.terminal.settle(0.3)
-            now = int(re.search(rb'rchar: (\d+)', contents(f'/proc/{pid}/io')).group(1))
-            if now - read < 20000:
-                break
-            read = now
-        self.assertLess(now, 80 * 1024 * 1024)
+        terminal = self.page('yes "$(printf %01000d 7)" | ./minus -S')
+        bound = 64 * 1024 * 1024
+        terminal.wait(lambda: terminal.counted('rchar') >= bound, 'as much as the bound')
+        terminal.wait_for_turns(8)
+        before = terminal.counted('rchar')
+        terminal.wait_for_turns(32)
+        # (what is read now is the terminal's size alone)
+        self.assertLess(terminal.counted('rchar') - before, 4096)
+        self.assertLess(before, bound + 1024 * 1024)
         self.press('q')
         self.assert_back(0)
 
@@ -398,31 +507,37 @@ class PagerTests(unittest.TestCase):
         self.assert_back(0)
 
     def test_hostile_bytes_as_text(self):
-        hostile = b'a\x1b]0;title\x07b\x1b[2Jc\x1b[31mred\nplain\x1b[m\t.\x00\x07\xff\xc3(\r\nbold: x\x08x _\x08u\n\xe2\x82'
+        hostile = b'a\x1b]0;title\x07b\x1b[2Jc\x1b[31mred\nplain\x1b[m\t.\x00\x07\xff\xc3(\r\n'
+        hostile += b'bold: x\x08x _\x08u\n\xe2\x82'
         self.write('hostile', hostile)
-        self.page('./minus hostile')
-        text = 'abc\x1b[31mred\x1b[0m\n\x1b[31mplain\x1b[0m   .^@^G\ufffd\ufffd(\nbold: \x1b[1mx\x1b[0m \x1b[4mu\x1b[0m\n'
-        self.terminal.wait_for('bold: x u')
-        self.terminal.settle()
-        defined = defined_page(40, 8, push(text))
-        plain = [''.join(c for c, _ in row).rstrip() for row in defined]
-        self.assertEqual(self.terminal.player.texts()[:3], plain[:3])
-        self.assertEqual([s for _, s in self.terminal.player.cells[0][3:6]], [('31',)] * 3)
-        self.assertEqual(self.terminal.player.cells[0][7][1], ())
-        self.press('q')
-        self.assert_back(0)
+        text = (
+            'abc\x1b[31mred\x1b[0m\n\x1b[31mplain\x1b[0m   .^@^G\ufffd\ufffd(\n'
+            'bold: \x1b[1mx\x1b[0m \x1b[4mu\x1b[0m\n'
+        )
+        # (a file may go on with the character that is cut, and a pipe that has ended does not)
+        for command, end, prompt in (
+            ('./minus hostile', '', 'hostile  1-3/3  100%'),
+            ('cat hostile | ./minus', '\ufffd', 'standard input  1-4/4  100%'),
+        ):
+            self.page(command)
+            self.assert_page(text + end, prompt)
+            self.press('q')
+            self.assert_back(0)
 
     def test_hostile_bytes_as_keys(self):
         self.write('notes', self.LINES)
         self.page('./minus notes')
         self.terminal.wait_for('1-7/100')
-        hostile = bytes(b for b in range(128, 256)) * 8 + b'\x1b' * 100 + b'\x1b[' + b'9' * 3000 + b'~' + b'\x1b[<1;2' + b'\x1b]x' + b'\x00' * 50
+        hostile = bytes(range(128, 256)) * 8 + b'\x1b' * 100 + b'\x1b[' + b'9' * 3000 + b'~'
+        hostile += b'\x1b[<1;2' + b'\x1b]x' + b'\x00' * 50
         self.press(hostile)
         self.press('\x1b[999;999;999m\x1b[<0;70000;70000M')
         self.press('\x1b[<64;1;1M\x1b[<65;1;1M')
-        self.terminal.send('gg')
+        self.press('G')
+        self.terminal.wait_for('94-100/100')
+        self.press('g')
         self.terminal.wait_for('1-7/100')
-        self.press('jq')
+        self.press('q')
         self.assert_back(0)
 
     def test_a_selection_goes_to_the_clipboard(self):
@@ -461,54 +576,89 @@ class PagerTests(unittest.TestCase):
     def test_the_program_is_told_to_end(self):
         self.end_by('minus_pager', signal.SIGTERM, 143)
 
+    def suspend(self, keys='\x1a'):
+        """Presses Ctrl-Z: the shell has its terminal back."""
+        terminal = self.terminal
+        terminal.send(keys)
+        terminal.wait(lambda: terminal.ends_with('ready> '), 'the shell')
+        self.assertEqual(terminal.mode(), terminal.before)
+        for mode in (1049, 1000, 1002, 1003, 1006):
+            self.assertFalse(terminal.player.modes[mode], mode)
+
+    def resume(self):
+        self.terminal.send('fg\n')
+        self.terminal.wait(lambda: self.terminal.player.modes[1049], 'the page')
+
     def test_ctrl_z_suspends_and_fg_comes_back(self):
         self.write('notes', self.LINES)
         terminal = self.page('./minus notes')
         terminal.wait_for('1-7/100')
         self.press('4j')
-        terminal.send('\x1a')
-        terminal.wait(lambda: terminal.ends_with('ready> '), 'the shell')
-        self.assertEqual(terminal.mode(), terminal.before)
-        self.assertFalse(terminal.player.modes[1049])
-        self.assertFalse(terminal.player.modes[1000])
-        terminal.send('fg\n')
-        terminal.wait(lambda: terminal.player.modes[1049], 'the page')
-        self.assert_page(self.LINES, 'notes  5-11/100  11%', 'mark 4')
+        terminal.wait_for('5-11/100')
+        self.suspend()
+        terminal.resize(30, 12)
+        self.resume()
+        self.assert_page(self.LINES, 'notes  5-15/100  15%', 'mark 4')
         self.assertTrue(terminal.player.modes[1000])
-        self.press('j')
-        self.assert_page(self.LINES, 'notes  6-12/100  12%', 'mark 5')
+        # (what was typed behind Ctrl-Z, before the shell heard of it)
+        self.suspend('\x1a2j')
+        self.resume()
+        self.assert_page(self.LINES, 'notes  7-17/100  17%', 'mark 6')
         self.press('q')
         self.assert_back(0)
 
     def test_ctrl_z_suspends_the_whole_job_of_a_pipe(self):
-        terminal = self.page('(seq 50; sleep 60) | ./minus')
-        terminal.wait_for('1-7/50')
-        terminal.send('\x1a')
-        terminal.wait(lambda: terminal.ends_with('ready> '), 'the shell')
-        self.assertEqual(terminal.mode(), terminal.before)
-        terminal.send('fg\n')
-        terminal.wait(lambda: terminal.player.modes[1049], 'the page')
+        writer = self.page_pipe('seq 50')
+        self.terminal.wait_for('1-7/50')
+        self.suspend()
+        self.resume()
+        os.write(writer, b'end\n')
+        self.terminal.wait_for('1-7/51')
         self.press('>')
-        terminal.wait_for('44-50/50')
-        self.press('q')
-        terminal.wait(lambda: terminal.player.modes.get(1049) is False, 'the main screen')
-        self.press('\x03')
-        terminal.wait(lambda: terminal.ends_with('ready> '), 'the shell')
-        self.assertEqual(terminal.mode(), terminal.before)
+        self.terminal.wait_for('45-51/51')
+        self.end_pipe(writer)
 
     def test_refusals_before_the_terminal_is_touched(self):
         os.mkdir(os.path.join(self.folder, 'folder'))
         self.write('notes', self.LINES)
         self.terminal = Terminal(self.folder)
-        for words, status in (('missing', 1), ('folder', 1), ('-x notes', 2), ('+0 notes', 2), ('notes notes', 2), ('', 2)):
+        said = lambda: self.terminal.bytes.count(b'status=') > 1 and self.terminal.ends_with('ready> ')
+        for words, status in (
+            ('missing', 1), ('folder', 1), ('-x notes', 2), ('+0 notes', 2), ('notes notes', 2), ('', 2),
+        ):
             self.terminal.bytes = b''
             self.terminal.send(f'./minus {words}; echo status=$?\n')
-            self.terminal.wait(lambda: self.terminal.bytes.count(b'status=') > 1 and self.terminal.ends_with('ready> '), words)
+            self.terminal.wait(said, words)
             lines = self.terminal.bytes.split(b'\r\n')
             self.assertEqual(len(lines), 4, lines)
             self.assertTrue(lines[1].startswith(b'minus: '), lines)
             self.assertEqual(lines[2], f'status={status}'.encode())
             self.assertNotIn(b'\x1b', self.terminal.bytes)
+
+    # Words, and what they ask for: a page of the file or of standard input, or something else; or they are refused.
+    WORDS = (
+        ('', 'page'), ('-', 'page'), ('notes', 'page'), ('-N -S notes', 'page'), ('notes -SNS', 'page'),
+        ('+F +12 --no-mouse notes', 'page'), ('+9999999999999 notes', 'page'), ('+00000000000000000001 notes', 'page'),
+        ('-h', 'other'), ('-N --help', 'other'), ('--version', 'other'), ('--help -x', 'other'),
+        ('-x --help', 'refused'), ('-x notes', 'refused'), ('-Nx notes', 'refused'), ('-- notes', 'refused'),
+        ('--nomouse notes', 'refused'),
+        ('+ notes', 'refused'), ('+0 notes', 'refused'), ('+000 notes', 'refused'), ('+1x notes', 'refused'),
+        ('+-1 notes', 'refused'), ('+10000000000000 notes', 'refused'), ('+F1 notes', 'refused'),
+        ('notes notes', 'refused'), ('- -', 'refused'), ('notes - --version', 'refused'),
+    )
+
+    def test_the_launcher_and_the_program_read_words_alike(self):
+        self.write('notes', self.LINES)
+        launcher, how = os.path.join(self.folder, 'minus'), dict(cwd=self.folder, input=b'', capture_output=True)
+        for words, what in self.WORDS:
+            launched = subprocess.run([launcher, *words.split()], **how)
+            self.assertEqual(launched.returncode, 2 if what == 'refused' else 0, words)
+            self.assertEqual(launched.stderr.count(b'\n'), what == 'refused', words)
+            if what == 'page':
+                self.assertEqual(launched.stdout, self.LINES.encode() if 'notes' in words else b'', words)
+            # (the program alone: it says its usage where it is to page nothing, and else misses its text)
+            said = subprocess.run([PROGRAM, '80', '24', 'no_size', 'no_text', *words.split()], **how).stderr
+            self.assertEqual(said.startswith(b'usage: '), what != 'page', words)
 
     def test_no_terminal_hands_the_text_on(self):
         raw = b'a\tb\x1b[31m\xff\r\n'
