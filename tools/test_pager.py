@@ -455,6 +455,7 @@ class PagerTests(unittest.TestCase):
                     log.write('one more\n')
                 path = None
             terminal.read(0)
+        terminal.wait_for_turns()
         os.set_blocking(terminal.master, True)
         self.press('q')
         self.assert_back(0)

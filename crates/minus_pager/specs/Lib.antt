@@ -1,2 +1,3 @@
 pub mod Clipboard
 pub mod Prompt
+pub mod Reading

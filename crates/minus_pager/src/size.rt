@@ -1,4 +1,6 @@
 //! The terminal's size, which the launcher writes to a file whenever it changes.
+ghost use Rattle.std.specs.Prelude.{◌≡◌, ◌≢◌, None, IfSome};
+
 use std::fs::File;
 use std::io::Read;
 
@@ -52,7 +54,11 @@ impl SizeFile {
     }
 
     /// What the file says now, where it says something else than before.
-    pub fn change(&mut self, rt: &HostRuntime) -> Option<Size> {
+    pub fn change(&mut self, rt: &HostRuntime) -> Option<Size>
+        ensures kept { result ≡ None → self.new ≡ self.old }
+        ensures other { IfSome result (λ size. self.old.last ≢ size) }
+        ensures told { IfSome result (λ size. self.new ≡ record self.old { last = size }) }
+    {
         let size = self.read(rt)?;
         if self.last == size {
             return None;

@@ -1,4 +1,7 @@
 //! The pager on the terminal: its session, and what it needs around it.
+ghost use Rattle.std.specs.Prelude.{◌≡◌};
+ghost use Rattle.minus_pager.specs.Reading.{name_of, first_line, bytes_below, wants_more};
+
 use crate::clipboard::clipboard_sequence;
 use crate::fault::Fault;
 use crate::keys::{Keys, pager_keys};
@@ -50,7 +53,9 @@ pub struct Viewer {
 }
 
 // The name of a text in the prompt row.
-fn name_of<'a>(source: Source<'a>) -> &'a str {
+fn name_of<'a>(source: Source<'a>) -> &'a str
+    ensures { result.now ≡ name_of source.entry }
+{
     match source {
         Source::File(name) => name,
         Source::Unnamed | Source::Input => "standard input",
@@ -58,7 +63,9 @@ fn name_of<'a>(source: Source<'a>) -> &'a str {
 }
 
 // The line that is shown first, counted from 0, where it is not the first one of the text.
-fn first_line(paging: &Paging<'_>) -> Option<usize> {
+fn first_line(paging: &Paging<'_>) -> Option<usize>
+    ensures { result ≡ first_line paging.now }
+{
     if paging.follows || paging.line <= 1 {
         return None;
     }
@@ -76,7 +83,9 @@ fn is_suspend(event: &Event) -> bool {
 }
 
 // How many bytes of the text stand below the first row of the page.
-fn bytes_below(state: &PagerState) -> usize {
+fn bytes_below(state: &PagerState) -> usize
+    ensures { result ≡ bytes_below state.now }
+{
     let rows = state.screen.formatted_lines_count();
     match (
         state.screen.row_place(rows.saturating_sub(1)),
@@ -85,6 +94,14 @@ fn bytes_below(state: &PagerState) -> usize {
         (Some(last), Some(first)) => last.end.saturating_sub(first.start),
         _ => 0,
     }
+}
+
+// Whether more is read of a text from standard input, where so many bytes below the page are enough. `waits` says that
+// the line that is shown first was not read yet.
+fn wants_more(state: &PagerState, waits: bool, most: usize) -> bool
+    ensures { result ≡ wants_more state.now waits most }
+{
+    !state.help_open() && (state.follow_output() || waits || bytes_below(state) < most)
 }
 
 impl Viewer {
@@ -163,11 +180,7 @@ impl Viewer {
     /// Whether the next piece of a text that comes from standard input is wanted: this number of bytes is not yet read
     /// below the page, or the text is followed, or the line that is shown first was not read yet.
     pub fn wants_more(&self, bytes: usize) -> bool {
-        let state = self.session.state();
-        if state.help_open() {
-            return false;
-        }
-        state.follow_output() || self.line.is_some() || bytes_below(state) < bytes
+        wants_more(self.session.state(), self.line.is_some(), bytes)
     }
 
     // Puts a copied text on the terminal's clipboard. Where there is no memory for that, the prompt row says so.
