@@ -1,5 +1,5 @@
--- How much of a text the program reads, how it begins to show it, and which key is its own.
-use Rattle.std.specs.Prelude.{ℕ, ◌-◌, ◌&&◌, ◌||◌, ◌==◌, not, List, Option, Some, None, is_some, Bool, false, if◌then◌else◌, codes, length, nat_lt, slice_get}
+-- How much of a text the program reads, and how it begins to show it.
+use Rattle.std.specs.Prelude.{ℕ, ◌-◌, ◌&&◌, ◌||◌, not, List, Option, Some, None, Bool, if◌then◌else◌, codes, length, nat_lt, slice_get}
 use Rattle.minus_text.specs.declared.wrap.Span.{Span}
 use Rattle.minus_text.specs.LinePlaces.{row_places}
 use Rattle.minus_text.specs.Document.{rows_of}
