@@ -398,6 +398,18 @@ class PagerTests(unittest.TestCase):
         self.press('q')
         self.assert_back(0)
 
+    def test_a_text_of_many_pieces_is_whole(self):
+        self.write('numbers', ''.join(f'{n}\n' for n in range(1, 50001)))
+        for command in ('./minus numbers', 'cat numbers | ./minus'):
+            self.page(command)
+            self.terminal.wait_for('1-7/50000')
+            for line in (17000, 33000, 49994):
+                self.press(f'{line}G')
+                self.terminal.wait_for(f'{line}-{line + 6}/50000')
+                self.assertEqual(self.terminal.player.texts()[:7], [str(line + n) for n in range(7)])
+            self.press('q')
+            self.assert_back(0)
+
     def told_size(self):
         """What the launcher tells the program of the terminal's size, once it does."""
         found = glob.glob(os.path.join(self.folder, 'minus.*', 'size'))
