@@ -542,7 +542,7 @@ class PagerTests(unittest.TestCase):
         self.write('notes', self.LINES)
         self.page('./minus notes')
         self.terminal.wait_for('1-7/100')
-        hostile = bytes(range(128, 256)) * 8 + b'\x1b' * 100 + b'\x1b[' + b'9' * 3000 + b'~'
+        hostile = bytes(range(128, 256)) * 8 + b'\x1b' * 100 + b'\x1b[' + b'9' * 300 + b'~'
         hostile += b'\x1b[<1;2' + b'\x1b]x' + b'\x00' * 50
         self.press(hostile)
         self.press('\x1b[999;999;999m\x1b[<0;70000;70000M')
