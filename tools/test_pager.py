@@ -360,6 +360,8 @@ class PagerTests(unittest.TestCase):
         self.assert_page(*page)
         self.assertFalse(self.terminal.player.modes.get(1000))
         self.suspend()
+        # (from a terminal that tells no size it comes back as it was)
+        self.terminal.set_size(0, 0)
         self.resume()
         self.assert_page(*page)
         self.assertFalse(self.terminal.player.modes[1000])
