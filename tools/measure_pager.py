@@ -28,6 +28,7 @@ MB = 1_000_000
 SIZES = (1, 10, 100)  # of the texts, in MB
 PATIENCE = 60  # seconds
 QUIET = 0.1  # seconds without a byte, after which a page is whole
+RESIZES = ((100, 40), (80, 24)) * 3 + ((100, 40),)  # columns and rows, one after another
 KEYS = 40  # keys that are pressed when all of a text was read
 # By what a program scrolls by a row: this one by a sequence, less by a new row, down or up.
 SCROLLED = re.compile(rb'\x1b\[1[ST]|\x1b\[K|\x1bM')
@@ -119,21 +120,23 @@ class Run:
         return self.settle() - begun
 
     def reader(self, path):
-        """The process that has a file open, of this one and those below it, and its descriptor."""
+        """The process that has read of a file, of this one and those below it."""
         end = time.perf_counter() + PATIENCE
         while time.perf_counter() < end:
             left = [self.pid]
             while left:
                 pid = left.pop()
                 left += [int(child) for child in said(f'/proc/{pid}/task/{pid}/children').split()]
-                for fd in descriptors(pid):
-                    if os.path.realpath(f'/proc/{pid}/fd/{fd}') == path:
-                        return pid, fd
+                if how_far(pid, path):
+                    return pid
         sys.exit(f'measure_pager.py: nothing reads {path}')
 
     def end(self):
         """Presses q, and waits for the end."""
         os.write(self.terminal, b'q')
+        self.wait_for_end()
+
+    def wait_for_end(self):
         while self.read(PATIENCE):
             pass
         os.waitpid(self.pid, 0)
@@ -157,17 +160,18 @@ def said(path):
         return ''
 
 
-def descriptors(pid):
-    try:
-        return os.listdir(f'/proc/{pid}/fd')
-    except OSError:
-        return []
-
-
 def number_of(path, name):
-    """The number behind a name in a file of /proc."""
-    return next(int(row.split()[1]) for row in said(path).splitlines() if row.startswith(name))
+    """The number behind a name in a file of /proc; 0 where there is none."""
+    return next((int(row.split()[1]) for row in said(path).splitlines() if row.startswith(name)), 0)
 
+
+def how_far(pid, path):
+    """How many bytes of a file a process has read."""
+    try:
+        fds = [fd for fd in os.listdir(f'/proc/{pid}/fd') if os.path.realpath(f'/proc/{pid}/fd/{fd}') == path]
+    except OSError:
+        return 0
+    return max((number_of(f'/proc/{pid}/fdinfo/{fd}', 'pos:') for fd in fds), default=0)
 
 
 def first_page(begin, text, runs):
@@ -190,16 +194,12 @@ def last_page(begin, word, text, last, runs):
     return times
 
 
-def is_read(pid, fd, text):
-    return number_of(f'/proc/{pid}/fdinfo/{fd}', 'pos:') >= os.path.getsize(text)
-
-
 def while_loading(begin, text):
     """The seconds until all of a text was read, and those of each key that was pressed meanwhile."""
     run, chance, waits = begin(text), random.Random(7), []
     run.wait_for(b'00000009 ')
-    pid, fd = run.reader(text)
-    while not is_read(pid, fd, text):
+    pid, size = run.reader(text), os.path.getsize(text)
+    while how_far(pid, text) < size:
         waits.append(run.press(b'jk'[len(waits) % 2:][:1]))
         run.rest(chance.uniform(0.002, 0.012))
     loaded = time.perf_counter() - run.begun
@@ -208,14 +208,14 @@ def while_loading(begin, text):
 
 
 def at_rest(begin, text, loads):
-    """The seconds of each key and of a resize, and the memory at rest, its peak, and its peak after the resize.
+    """The seconds of each key and of each resize, and the memory at rest, its peak, and its peak after the resizes.
 
     A program that loads a text has read all of it before; after the keys each goes to the end of the text.
     """
     run, chance, waits = begin(text), random.Random(7), []
     run.wait_for(b'00000009 ')
-    pid, fd = run.reader(text)
-    while loads and not is_read(pid, fd, text):
+    pid, size = run.reader(text), os.path.getsize(text)
+    while loads and how_far(pid, text) < size:
         run.read(0.01)
     run.settle()
     for number in range(KEYS):
@@ -224,10 +224,10 @@ def at_rest(begin, text, loads):
     os.write(run.terminal, b'G')
     run.settle()
     memory = [number_of(f'/proc/{pid}/status', name) * 1024 for name in ('VmRSS:', 'VmHWM:')]
-    resize = run.resize(100, 40)
+    resizes = [run.resize(*size) for size in RESIZES]
     memory.append(number_of(f'/proc/{pid}/status', 'VmHWM:') * 1024)
     run.end()
-    return waits, resize, memory
+    return waits, resizes, memory
 
 
 def milliseconds(times):
@@ -248,6 +248,17 @@ def print_first_pages(programs, texts, runs):
         times = [first_page(begin, text, runs) for begin in programs.values()]
         medians = [statistics.median(of) for of in times]
         row(f'{size} MB', *map(milliseconds, times), *(f'{median / medians[0]:.1f}' for median in medians[1:]))
+    print(f'\n{milliseconds([statistics.median(empty_starts(runs))])} of each is the making of a process and its terminal.')
+
+
+def empty_starts(runs):
+    """The times of a process that says at once what a first page is known by."""
+    times = []
+    for _ in range(runs):
+        run = Run(['echo', '00000009 '])
+        times.append(run.wait_for(b'00000009 '))
+        run.wait_for_end()
+    return times
 
 
 def print_large(programs, text, last, runs):
@@ -262,8 +273,8 @@ def print_large(programs, text, last, runs):
     row('the last page, from the start, by `+G` and `+F`', *(milliseconds(last_page(begin, word, text, last, runs)) for begin, word in ((less, '+G'), (minus, '+F'))))
     row(f'a key while it is read, of {len(loading)}', '', milliseconds(loading))
     row(f'a key after, of {KEYS}', *map(milliseconds, keys))
-    row('a resize', *(milliseconds([time]) for time in resizes))
-    for name, number in (('memory at rest', 0), ('its peak', 1), ('its peak after the resize', 2)):
+    row(f'a resize, of {len(RESIZES)}', *map(milliseconds, resizes))
+    for name, number in (('memory at rest', 0), ('its peak', 1), ('its peak after the resizes', 2)):
         row(name, f'{memories[0][number] / MB:.1f} MB', f'{memories[1][number] / MB:.1f} MB, {memories[1][number] / size:.2f} for each byte')
 
 
@@ -283,9 +294,8 @@ def main():
         os.environ.pop(name, None)
     print(machine() + '\n')
     with tempfile.TemporaryDirectory() as folder:
-        for file in (os.path.join(TOP, 'bin', 'minus'), given.program):
-            shutil.copy(file, folder)
-        launcher, program = os.path.join(folder, 'minus'), os.path.join(folder, 'minus_pager')
+        launcher = shutil.copy(os.path.join(TOP, 'bin', 'minus'), folder)
+        program = shutil.copy(given.program, os.path.join(folder, 'minus_pager'))
         programs = {
             '`less`': lambda *words: Run(['less', *words]),
             'the program alone': lambda *words: Run([program, str(COLS), str(ROWS), os.path.join(folder, 'none'), words[-1], *words], raw=True),
