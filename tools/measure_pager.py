@@ -199,10 +199,12 @@ def while_loading(begin, text):
     run, chance, waits = begin(text), random.Random(7), []
     run.wait_for(b'00000009 ')
     pid, size = run.reader(text), os.path.getsize(text)
-    while how_far(pid, text) < size:
+    loaded = None
+    while not loaded:
         waits.append(run.press(b'jk'[len(waits) % 2:][:1]))
         run.rest(chance.uniform(0.002, 0.012))
-    loaded = time.perf_counter() - run.begun
+        if how_far(pid, text) == size:
+            loaded = time.perf_counter() - run.begun
     run.end()
     return loaded, waits
 
