@@ -1,9 +1,9 @@
 #!/usr/bin/env python3
 """Measures the pager program beside `less`: tools/measure_pager.py [--runs N] [PROGRAM]
 
-PROGRAM is the built crates/minus_pager/out/minus_pager; bin/minus runs it, in a pseudo terminal of 80 columns and 24 rows.
-The texts are logs of 1, 10 and 100 MB, lines of 87 bytes on the average, the same in each run. Standard output gets the
-tables of docs/MEASURING.md; a run takes about two minutes. A time ends where the bytes came that it waits for.
+PROGRAM is the built crates/minus_pager/out/minus_pager; bin/minus runs it, in a pseudo terminal of 80 columns and 24
+rows. The texts are logs of 1, 10 and 100 MB, lines of 87 bytes on the average, the same in each run. Standard output
+gets the tables of docs/MEASURING.md; a run takes a minute. A time ends where the bytes came that it waits for.
 """
 import argparse
 import fcntl
@@ -15,6 +15,7 @@ import re
 import select
 import shutil
 import statistics
+import string
 import struct
 import subprocess
 import sys
@@ -37,7 +38,8 @@ LEVELS = ('INFO ', 'DEBUG', 'WARN ', 'ERROR')
 
 def line(number, chance):
     """A line of a log, which begins with its number."""
-    words = ' '.join(''.join(chance.choices('abcdefghijklmnopqrstuvwxyz', k=chance.randint(2, 9))) for _ in range(chance.randint(3, 13)))
+    count = chance.randint(3, 13)
+    words = ' '.join(''.join(chance.choices(string.ascii_lowercase, k=chance.randint(2, 9))) for _ in range(count))
     return f'{number:08} 2026-03-02 08:14:07 {chance.choice(LEVELS)} {words}\n'
 
 
@@ -70,7 +72,8 @@ class Run:
             os.execvp(words[0], words)
 
     def set_size(self, cols, rows, terminal=None):
-        fcntl.ioctl(self.terminal if terminal is None else terminal, termios.TIOCSWINSZ, struct.pack('HHHH', rows, cols, 0, 0))
+        terminal = self.terminal if terminal is None else terminal
+        fcntl.ioctl(terminal, termios.TIOCSWINSZ, struct.pack('HHHH', rows, cols, 0, 0))
 
     def read(self, seconds):
         """Whether bytes came within this time."""
@@ -250,7 +253,8 @@ def print_first_pages(programs, texts, runs):
         times = [first_page(begin, text, runs) for begin in programs.values()]
         medians = [statistics.median(of) for of in times]
         row(f'{size} MB', *map(milliseconds, times), *(f'{median / medians[0]:.1f}' for median in medians[1:]))
-    print(f'\n{milliseconds([statistics.median(empty_starts(runs))])} of each is the making of a process and its terminal.')
+    empty = statistics.median(empty_starts(runs))
+    print(f'\n{milliseconds([empty])} of each is the making of a process and its terminal.')
 
 
 def empty_starts(runs):
@@ -272,16 +276,19 @@ def print_large(programs, text, last, runs):
     row(f'of {size / MB:.0f} MB', '`less`', '`bin/minus`')
     row('---', '---', '---')
     row('all of it is read after', 'it reads what it shows', f'{loaded:.2f} s')
-    row('the last page, from the start, by `+G` and `+F`', *(milliseconds(last_page(begin, word, text, last, runs)) for begin, word in ((less, '+G'), (minus, '+F'))))
+    last_pages = last_page(less, '+G', text, last, runs), last_page(minus, '+F', text, last, runs)
+    row('the last page, from the start, by `+G` and `+F`', *map(milliseconds, last_pages))
     row(f'a key while it is read, of {len(loading)}', '', milliseconds(loading))
     row(f'a key after, of {KEYS}', *map(milliseconds, keys))
     row(f'a resize, of {len(RESIZES)}', *map(milliseconds, resizes))
     for name, number in (('memory at rest', 0), ('its peak', 1), ('its peak after the resizes', 2)):
-        row(name, f'{memories[0][number] / MB:.1f} MB', f'{memories[1][number] / MB:.1f} MB, {memories[1][number] / size:.2f} for each byte')
+        of_less, of_minus = memories[0][number], memories[1][number]
+        row(name, f'{of_less / MB:.1f} MB', f'{of_minus / MB:.1f} MB, {of_minus / size:.2f} for each byte')
 
 
 def machine():
-    model = next((row.split(': ')[1] for row in said('/proc/cpuinfo').splitlines() if row.startswith('model name')), 'unknown')
+    models = (row.split(': ')[1] for row in said('/proc/cpuinfo').splitlines() if row.startswith('model name'))
+    model = next(models, 'unknown')
     less = subprocess.run(['less', '--version'], stdout=subprocess.PIPE, text=True).stdout.split('\n')[0]
     shell = os.path.basename(os.path.realpath('/bin/sh'))
     return f'{less}; {shell}; Linux {platform.release()}; {os.cpu_count()} x {model}; load {os.getloadavg()[0]:.2f}'
@@ -298,9 +305,10 @@ def main():
     with tempfile.TemporaryDirectory() as folder:
         launcher = shutil.copy(os.path.join(TOP, 'bin', 'minus'), folder)
         program = shutil.copy(given.program, os.path.join(folder, 'minus_pager'))
+        alone = program, str(COLS), str(ROWS), os.path.join(folder, 'none')  # (no window changes its size)
         programs = {
             '`less`': lambda *words: Run(['less', *words]),
-            'the program alone': lambda *words: Run([program, str(COLS), str(ROWS), os.path.join(folder, 'none'), words[-1], *words], raw=True),
+            'the program alone': lambda *words: Run([*alone, words[-1], *words], raw=True),
             '`bin/minus`': lambda *words: Run([launcher, *words]),
         }
         texts = {}

@@ -1,8 +1,8 @@
 #!/usr/bin/env python3
 """Draws docs/page.svg, the picture of a page in README: tools/page_svg.py [PROGRAM]
 
-Runs `bin/minus -N +38 server.log` over a log of its own in a pseudo terminal, plays what the terminal is sent, and draws
-the cells. PROGRAM is the built crates/minus_pager/out/minus_pager. Each run writes the same file.
+Runs `bin/minus -N +38 server.log` over a log of its own in a pseudo terminal, plays what the terminal is sent, and
+draws the cells. PROGRAM is the built crates/minus_pager/out/minus_pager. Each run writes the same file.
 """
 import fcntl
 import html
@@ -46,7 +46,8 @@ def log():
     for n, (level, part, text) in zip(range(LINES), itertools.cycle(EVENTS)):
         seconds = 8 * 3600 + 7 * n
         time = f'{seconds // 3600:02}:{seconds // 60 % 60:02}:{seconds % 60:02}'
-        yield f'\x1b[2m{time}\x1b[0m \x1b[{LEVELS[level]}m{level:5}\x1b[0m \x1b[1m{part:5}\x1b[0m {text.format(100 + n * 37 % 89)}\n'
+        head = f'\x1b[2m{time}\x1b[0m \x1b[{LEVELS[level]}m{level:5}\x1b[0m \x1b[1m{part:5}\x1b[0m'
+        yield f'{head} {text.format(100 + n * 37 % 89)}\n'
 
 
 def page(program):
@@ -100,8 +101,8 @@ def draw_row(y, cells):
         blanks = len(text) - len(text.lstrip())
         if text:
             how = ' font-weight="bold"' * bold + ' opacity="0.7"' * dim
-            yield (f'<text x="{left + blanks * WIDTH:.1f}" y="{top + 13.5}" textLength="{(len(text) - blanks) * WIDTH:.1f}" fill="{front}"{how}>'
-                   f'{html.escape(text[blanks:], quote=False)}</text>')
+            place = f'x="{left + blanks * WIDTH:.1f}" y="{top + 13.5}" textLength="{(len(text) - blanks) * WIDTH:.1f}"'
+            yield f'<text {place} fill="{front}"{how}>{html.escape(text[blanks:], quote=False)}</text>'
         x += len(run)
 
 
@@ -109,10 +110,13 @@ def picture(cells):
     width, height = COLS * WIDTH + 2 * MARGIN, ROWS * HEIGHT + 2 * MARGIN
     elements = [element for y, row in enumerate(cells) for element in draw_row(y, row)]
     return '\n'.join([
-        f'<svg xmlns="http://www.w3.org/2000/svg" viewBox="0 0 {width:.1f} {height}" width="{width:.1f}" height="{height}" role="img"',
-        ' font-family="ui-monospace, SFMono-Regular, Menlo, Consolas, \'DejaVu Sans Mono\', monospace" font-size="14" xml:space="preserve">',
+        f'<svg xmlns="http://www.w3.org/2000/svg" width="{width:.1f}" height="{height}"',
+        f' viewBox="0 0 {width:.1f} {height}"',
+        ' font-family="ui-monospace, SFMono-Regular, Menlo, Consolas, \'DejaVu Sans Mono\', monospace" font-size="14"',
+        ' role="img" xml:space="preserve">',
         '<title>A page of a log: numbers of lines, coloured levels, and the prompt row</title>',
-        f'<rect x="0.5" y="0.5" width="{width - 1:.1f}" height="{height - 1}" rx="8" fill="{BACKGROUND}" stroke="{EDGE}"/>',
+        f'<rect x="0.5" y="0.5" width="{width - 1:.1f}" height="{height - 1}" rx="8"',
+        f' fill="{BACKGROUND}" stroke="{EDGE}"/>',
         *elements,
         '</svg>\n',
     ])
