@@ -71,7 +71,7 @@ sets c settings = changes (record c { settings = settings }) Stays
 abbrev pub appends : Control → List ℕ → Effect
 appends c text = let new : Control = record c { text = c.text ++ text } in record (changes new (append_redraw c text)) { moves_to = Some (followed c new) }
 
--- the same, but while help is open nothing moves and nothing is drawn
+-- a text is added at the end; while help is open nothing moves and nothing is drawn
 abbrev pub adds_text : Control → List ℕ → Effect
 adds_text c text = record (appends c text) {
   changed = with_more c text;

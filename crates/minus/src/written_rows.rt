@@ -29,7 +29,8 @@ struct RowStyle {
 
 // A stored row from the left mark on.
 fn row_from(alloc: Global, row: &str, style: RowStyle) -> Result<Row, AllocError>
-    ensures { IfOk result (λ r. string_bytes r ≡ row_from style.cols style.left_mark style.numbers style.line_count row.now) }
+    ensures { IfOk result (λ r. string_bytes r
+        ≡ row_from style.cols style.left_mark style.numbers style.line_count row.now) }
 {
     let RowStyle {
         cols,
@@ -54,7 +55,8 @@ fn push_shown(
     style: RowStyle,
 ) -> Result<(), AllocError>
     ensures { OnOk result (bytes.new.items ≡ bytes.old.items
-        ++ written_all (row_ops (written_row style.wrapping style.cols style.left_mark style.numbers style.line_count row.now))) }
+        ++ written_all (row_ops
+        (written_row style.wrapping style.cols style.left_mark style.numbers style.line_count row.now))) }
 {
     if style.wrapping {
         return push_row(alloc, bytes, row);
@@ -71,7 +73,8 @@ fn push_lines<L: AsStr>(
     style: RowStyle,
 ) -> Result<(), AllocError>
     ensures { OnOk result (bytes.new.items ≡ bytes.old.items
-        ++ written_all (lines_ops style.wrapping style.cols style.left_mark style.numbers style.line_count (map L.text lines.now))) }
+        ++ written_all (lines_ops style.wrapping style.cols style.left_mark style.numbers style.line_count
+        (map L.text lines.now))) }
 {
     for line in lines {
         push_shown(alloc, bytes, line.as_str(), style)?;
@@ -162,7 +165,8 @@ fn push_text<L: AsStr>(
     style: RowStyle,
 ) -> Result<(), AllocError>
     ensures { OnOk result (bytes.new.items ≡ bytes.old.items ++ written_all
-        (text_ops upper_mark rows style.wrapping style.cols style.left_mark style.numbers style.line_count (map L.text lines.now))) }
+        (text_ops upper_mark rows style.wrapping style.cols style.left_mark style.numbers style.line_count
+        (map L.text lines.now))) }
 {
     write_ops(alloc, bytes, &[DrawOp::GoTo(0, 0), DrawOp::ClearAll])?;
     push_lines(alloc, bytes, lines_of_page(lines, upper_mark, rows), style)?;
@@ -190,10 +194,12 @@ pub fn write_text_checked<W: OutputSink, L: AsStr>(
     line_count: usize,
 ) -> Result<(), MinusError>
     ensures ok { OnOk result (Appends (W.seen out.old).bytes (W.seen out.new).bytes
-        (written_all (text_ops upper_mark rows wrapping cols left_mark (is_on line_numbers) line_count (map L.text lines.now)))) }
+        (written_all (text_ops upper_mark rows wrapping cols left_mark (is_on line_numbers) line_count
+        (map L.text lines.now)))) }
     ensures stays { OnOk result (Stays (W.seen out.old).refusals (W.seen out.new).refusals) }
     ensures err { IfErr result (λ e. WriteRefuses W.seen e out.old out.new
-        (written_all (text_ops upper_mark rows wrapping cols left_mark (is_on line_numbers) line_count (map L.text lines.now)))) }
+        (written_all (text_ops upper_mark rows wrapping cols left_mark (is_on line_numbers) line_count
+        (map L.text lines.now)))) }
 {
     let style = RowStyle {
         wrapping,

@@ -21,7 +21,8 @@ pub enum DefaultAction {
     HalfPageDown,
     /// Go to the first row.
     Top,
-    /// Go to the first row of the line that the typed prefix names, counted from 1; to the last page where it names none.
+    /// Go to the first row of the line that the typed prefix names, counted from 1; to the last page where it names
+    /// none.
     GoToLine,
     /// Scroll up by a page.
     PageUp,

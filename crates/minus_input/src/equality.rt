@@ -10,8 +10,8 @@ use minus_term::{Event, KeyEvent};
 use std::hash::{Hash, Hasher};
 
 impl EventWrapper {
-    /// What a key of a register is compared and hashed by: a key event by its normal form, an event of the mouse by what
-    /// is done and the modifiers, and each resize alike.
+    /// What a key of a register is compared and hashed by: a key event by its normal form, an event of the mouse by
+    /// what is done and the modifiers, and each resize alike.
     pub fn form(&self) -> EventForm
         ensures { result ≡ form_of self.now }
     {

@@ -119,7 +119,8 @@ fn names_of<'a>(
     entries: &'a [Entry<'_>],
     description: &str,
 ) -> Result<Vec<&'a str>, AllocError>
-    ensures { IfOk result (λ names. map (λ name. name.now) names.items ≡ names_of (map seen_entry entries.now) description.now) }
+    ensures { IfOk result (λ names. map (λ name. name.now) names.items
+        ≡ names_of (map seen_entry entries.now) description.now) }
 {
     let mut names = Vec::new(alloc);
     for entry in entries {
@@ -162,7 +163,8 @@ fn format_groups(
     entries: &[Entry<'_>],
     descriptions: &[&str],
 ) -> Result<String, AllocError>
-    ensures { IfOk result (λ lines. string_bytes lines ≡ flat_map (group_line (map seen_entry entries.now)) (map (λ text. text.now) descriptions.now)) }
+    ensures { IfOk result (λ lines. string_bytes lines
+        ≡ flat_map (group_line (map seen_entry entries.now)) (map (λ text. text.now) descriptions.now)) }
 {
     let mut lines = String::new(alloc);
     for description in descriptions {

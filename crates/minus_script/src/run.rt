@@ -57,7 +57,8 @@ fn print_page(
     session: &Session,
     last: &Option<Answer>,
 ) -> Result<Vec<u8>, ScriptFault>
-    ensures page { IfOk result (λ printed. printed.items ≡ printed_after (exit_code last.now) (seen_of session.now).control) }
+    ensures page { IfOk result (λ printed. printed.items
+        ≡ printed_after (exit_code last.now) (seen_of session.now).control) }
     ensures memory { IfErr result IsMemory }
 {
     match exit_code(last) {
@@ -72,7 +73,8 @@ fn print_page(
 
 // All bytes of a session's sink, with those that clean the terminal up.
 fn all_written(session: Session) -> Result<Vec<u8>, ScriptFault>
-    ensures bytes { IfOk result (λ written. Appends (Some session.sink.inner.items) (Some written.items) (cleanup_after (seen_of session).status)) }
+    ensures bytes { IfOk result (λ written.
+        Appends (Some session.sink.inner.items) (Some written.items) (cleanup_after (seen_of session).status)) }
     ensures memory { IfErr result IsMemory }
 {
     let (sink, cleaned) = session.finish();
@@ -154,8 +156,10 @@ pub fn run_script<R: Read, W: Write>(
     reader: &mut R,
     writer: &mut W,
 ) -> Result<(), ScriptFault>
-    ensures shown { OnOk result (IsScriptRun mode cols rows (R.remaining reader.old) (R.remaining reader.new) (W.contents writer.old) (W.contents writer.new)) }
-    ensures fault { IfErr result (IsRunFault mode cols rows (R.remaining reader.old) (R.remaining reader.new) (W.contents writer.old) (W.contents writer.new)) }
+    ensures shown { OnOk result (IsScriptRun mode cols rows
+        (R.remaining reader.old) (R.remaining reader.new) (W.contents writer.old) (W.contents writer.new)) }
+    ensures fault { IfErr result (IsRunFault mode cols rows
+        (R.remaining reader.old) (R.remaining reader.new) (W.contents writer.old) (W.contents writer.new)) }
     ensures untouched { IfErr result (λ e. IsBeforePrinting e → writer.new ≡ writer.old) }
 {
     let script = read_script(alloc, reader)?;

@@ -35,7 +35,8 @@ fn find_newline(script: &[u8]) -> Option<usize>
 
 /// The first line of a script, without its newline, and what follows it.
 fn split_line(script: &[u8]) -> Option<(&[u8], &[u8])>
-    ensures lines { MatchOption result (script_lines script.now ≡ []) (λ x. script_lines script.now ≡ x.0.now ∷ script_lines x.1.now) }
+    ensures lines { MatchOption result (script_lines script.now ≡ [])
+        (λ x. script_lines script.now ≡ x.0.now ∷ script_lines x.1.now) }
     ensures room { IfSome result (λ x. length x.1.now < length script.now) }
 {
     if script.is_empty() {
@@ -64,7 +65,8 @@ fn escape_character(letter: u8) -> Option<char>
 
 /// The character of the escape whose letter a text begins with, and what follows the letter.
 fn split_escape(text: &str) -> Option<(char, &str)>
-    ensures value { MatchOption result (split_escape_of text.now ≡ None) (λ x. split_escape_of text.now ≡ Some (x.0, x.1.now)) }
+    ensures value { MatchOption result (split_escape_of text.now ≡ None)
+        (λ x. split_escape_of text.now ≡ Some (x.0, x.1.now)) }
     ensures ascii { IfSome result (λ x. x.0 < 128) }
     ensures room { IfSome result (λ x. length x.1.now < length text.now) }
 {

@@ -47,7 +47,7 @@ formed_placed s t change new f h p = record {
   screen = p.screen ∙ ap (λ (d : Document). searched None d) (document_next s change new f h) ∙ sym (ap (λ (c : Control). searched None (document_of c)) (placed s t change new f h p));
 }
 
--- the same where the state was drawn from between
+-- a change that was placed on an equal state was placed on this one
 pub placed_from : (s d t : PagerState) (change : Change) → d ≡ s → IsPlaced d change t → IsPlaced s change t
 placed_from s d t change same p = subst (λ (x : PagerState). IsPlaced x change t) same p
 

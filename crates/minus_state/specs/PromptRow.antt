@@ -78,7 +78,7 @@ prompt_row p =
 abbrev pub FillsItsRow : PromptRow → Type 0
 FillsItsRow p = columns (fitted (columns_left p) (said p)) + indicator_columns p ≡ max p.cols (indicator_columns p)
 
--- the same for the characters of what the row says, of any prompt row
+-- what any prompt row says fills its row, counted in characters
 abbrev pub PromptFillsItsRow : Type 0
 PromptFillsItsRow =
     (p : PromptRow) → columns_of (fitted_units (columns_left p) (text_units (chars (said p)))) + indicator_columns p ≡ max p.cols (indicator_columns p)

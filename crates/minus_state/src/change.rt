@@ -3,8 +3,7 @@ ghost use Rattle.minus_state.specs.Sizes.{IsSize};
 
 use crate::selection::SelectionEnds;
 use crate::state::help::HelpSwitch;
-use minus_text::{Layout, PendingPush, Row, Screen};
-use std::alloc::{AllocError, Global};
+use minus_text::{PendingPush, RowsView, Screen};
 
 /// What a command asks to be drawn.
 #[derive(Clone, Copy)]
@@ -47,82 +46,21 @@ pub enum NextText {
 }
 
 impl NextText {
-    ghost use Rattle.std.specs.Prelude.{◌≡◌, None, length, slice_get, option_map, string_bytes, IfOk};
-    ghost use Rattle.minus_text.specs.Document.{rows_of, line_count};
-    ghost use Rattle.minus_text.specs.Searched.{stored_rows_for};
+    ghost use Rattle.std.specs.Prelude.{◌≡◌, None};
+    ghost use Rattle.minus_text.specs.Searched.{IsFoundBy};
+    ghost use Rattle.minus_text.specs.Views.{viewed};
     ghost use Rattle.minus_state.specs.NextTexts.{next_document, IsNext};
 
-    /// How many rows there will be.
-    pub fn rows_after(&self, screen: &Screen) -> usize
+    /// The rows that there will be, where the text on show stands in a screen.
+    pub fn view<'a>(&'a self, screen: &'a Screen) -> RowsView<'a>
         requires { IsNext screen.now self.now }
-        ensures { result ≡ length (rows_of (next_document screen.now.document self.now)) }
+        ensures document { (viewed result).document ≡ next_document screen.now.document self.now }
+        ensures found { IsFoundBy None (viewed result) }
     {
         match self {
-            NextText::Whole(next) => next.formatted_lines_count(),
-            NextText::Pushed(_, pending) => screen.rows_after(pending),
-            NextText::Same | NextText::SavedWhole(_) | NextText::SavedMore(_) => {
-                screen.formatted_lines_count()
-            }
-        }
-    }
-
-    // The text of a row, counted from 0, as it will be.
-    pub(crate) fn row_after<'a>(&'a self, screen: &'a Screen, i: usize) -> Option<&'a str>
-        requires { IsNext screen.now self.now }
-        ensures { option_map (λ r. r.now) result ≡ slice_get (rows_of (next_document screen.now.document self.now)) i }
-    {
-        match self {
-            NextText::Whole(next) => next.row_text(i),
-            NextText::Pushed(_, pending) => screen.row_after(pending, i),
-            NextText::Same | NextText::SavedWhole(_) | NextText::SavedMore(_) => screen.row_text(i),
-        }
-    }
-
-    // How its rows will be laid out.
-    pub(crate) fn layout_after(&self, screen: &Screen) -> Layout
-        requires { IsNext screen.now self.now }
-        ensures { result ≡ (next_document screen.now.document self.now).layout }
-    {
-        match self {
-            NextText::Whole(next) => next.layout(),
-            NextText::Same
-            | NextText::Pushed(..)
-            | NextText::SavedWhole(_)
-            | NextText::SavedMore(_) => screen.layout(),
-        }
-    }
-
-    // How many lines there will be.
-    pub(crate) fn line_count_after(&self, screen: &Screen) -> usize
-        requires { IsNext screen.now self.now }
-        ensures { result ≡ line_count (next_document screen.now.document self.now) }
-    {
-        match self {
-            NextText::Whole(next) => next.line_count(),
-            NextText::Pushed(_, pending) => screen.line_count_after(pending),
-            NextText::Same | NextText::SavedWhole(_) | NextText::SavedMore(_) => {
-                screen.line_count()
-            }
-        }
-    }
-
-    // A row as it will be stored, counted from 0, if there will be one.
-    pub(crate) fn formatted_row_after(
-        &self,
-        alloc: Global,
-        screen: &Screen,
-        i: usize,
-    ) -> Result<Option<Row>, AllocError>
-        requires { IsNext screen.now self.now }
-        ensures { IfOk result (λ row. option_map string_bytes row
-            ≡ slice_get (stored_rows_for None (next_document screen.now.document self.now)) i) }
-    {
-        match self {
-            NextText::Whole(next) => next.formatted_row(alloc, i),
-            NextText::Pushed(_, pending) => screen.formatted_row_after(alloc, pending, i),
-            NextText::Same | NextText::SavedWhole(_) | NextText::SavedMore(_) => {
-                screen.formatted_row(alloc, i)
-            }
+            NextText::Whole(next) => next.view(),
+            NextText::Pushed(text, pending) => screen.view_after(text.as_str(), pending),
+            NextText::Same | NextText::SavedWhole(_) | NextText::SavedMore(_) => screen.view(),
         }
     }
 }
@@ -266,7 +204,7 @@ impl Change {
               (self.old.rows - 1));
         } }
     {
-        let top = self.text.rows_after(screen).saturating_sub(self.rows - 1);
+        let top = self.text.view(screen).len().saturating_sub(self.rows - 1);
         self.mark = self.mark.min(top);
     }
 

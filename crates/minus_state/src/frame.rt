@@ -1,13 +1,14 @@
 //! What stands around the text of a row: the number before it, and the columns that it has.
 ghost use Rattle.std.specs.Prelude.{◌≡◌, ◌<◌, ◌+◌, ◌^◌, ℕ, string_bytes, IfOk};
 ghost use Rattle.minus_text.specs.Document.{Document};
+ghost use Rattle.minus_text.specs.Views.{viewed};
 ghost use Rattle.minus_state.specs.Frame.{frame_of};
 ghost use Rattle.minus_state.specs.Selection.{ends_in_order};
 ghost use Rattle.minus_state.specs.ShownRow.{cropped_line, selected_range};
 ghost use Rattle.minus_state.specs.View.{prefix_in, cut_in};
 
 use crate::selection::{SelectionEnds, marked_range};
-use minus_text::{FormattedRow, Layout, Row, Screen, crop_columns, prefix_columns};
+use minus_text::{FormattedRow, Layout, Row, RowsView, crop_columns, prefix_columns};
 use std::alloc::{AllocError, Global};
 
 // How a text is laid out, how many lines it has, and the left mark that it is shown from.
@@ -19,13 +20,13 @@ pub(crate) struct Frame {
 }
 
 impl Frame {
-    // That of the rows of a screen.
-    pub(crate) fn of(screen: &Screen, left_mark: usize) -> Frame
-        ensures { result ≡ frame_of screen.now.document left_mark }
+    // What stands around the rows of a text that are shown from a left mark on.
+    pub(crate) fn of(view: RowsView<'_>, left_mark: usize) -> Frame
+        ensures { result ≡ frame_of (viewed view.entry).document left_mark }
     {
         Frame {
-            layout: screen.layout(),
-            line_count: screen.line_count(),
+            layout: view.layout(),
+            line_count: view.line_count(),
             left_mark,
         }
     }
@@ -47,10 +48,12 @@ impl Frame {
         self.left_mark
     }
 
-    // What is shown of a line that is one row, counted from 0, with this text: of the text what stands from the left mark on.
+    // What is shown of a line that is one row, counted from 0, with this text: of the text what stands from the left
+    // mark on.
     pub(crate) fn cropped_line(self, alloc: Global, i: usize, text: &str) -> Result<Row, AllocError>
         requires { i + 1 < 2 ^ 64 }
-        ensures { IfOk result (λ row. (d : Document) (left : ℕ) → self ≡ frame_of d left → string_bytes row ≡ cropped_line d left i text.now) }
+        ensures { IfOk result (λ row. (d : Document) (left : ℕ) → self ≡ frame_of d left →
+            string_bytes row ≡ cropped_line d left i text.now) }
     {
         let numbers = self.layout.numbers.is_on();
         let columns = self.layout.cols.saturating_sub(self.prefix());
@@ -65,7 +68,8 @@ impl Frame {
         ends: SelectionEnds,
         i: usize,
     ) -> Option<(usize, Option<usize>)>
-        ensures { (d : Document) (left : ℕ) → self ≡ frame_of d left → result ≡ selected_range d left (ends_in_order ends) i }
+        ensures { (d : Document) (left : ℕ) → self ≡ frame_of d left →
+            result ≡ selected_range d left (ends_in_order ends) i }
     {
         let (first, last) = ends.in_order()?;
         marked_range(first, last, i, self.prefix(), self.cut())

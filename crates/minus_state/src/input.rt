@@ -11,8 +11,8 @@ pub enum InputEvent {
     UpdateUpperMark(usize),
     /// The terminal has so many columns and rows now, each from 1 to 65,535.
     UpdateTermArea(usize, usize),
-    /// Move the left mark, the columns that are cut off at the left where lines are not wrapped, to this column, counted
-    /// from 0. It moves to the right only as long as the page does not go beyond the longest line.
+    /// Move the left mark, the columns that are cut off at the left where lines are not wrapped, to this column,
+    /// counted from 0. It moves to the right only as long as the page does not go beyond the longest line.
     UpdateLeftMark(usize),
     /// Let rows begin with the numbers of their lines, or not.
     UpdateLineNumber(LineNumbers),

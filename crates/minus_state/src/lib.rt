@@ -19,12 +19,10 @@ pub use change::{AppendStyle, Change, NextText, Redraw, Setting};
 pub use copied::extract_selection;
 pub use input::{InputClassifier, InputEvent};
 pub use prompt::{PromptRow, format_prompt, prompt_fills_its_row};
-pub use rendering::{
-    Rendering, render_rows_for_display, selection_adds_markers_alone, shown_rows_fit,
-};
+pub use rendering::{render_rows_for_display, selection_adds_markers_alone, shown_rows_fit};
 pub use scroll::get_horizontal_scroll_bounds;
 pub use selection::{Selection, SelectionEnds, marked_range};
-pub use showing::ShownRow;
+pub use showing::{ShownRow, ShownRows};
 pub use state::help::{HelpSwitch, Saved};
 pub use state::{ExitStrategy, PagerState, RunMode, has_newline, is_size};
 pub use view::{View, selection_from_coordinates};

@@ -1,97 +1,23 @@
 //! What is shown of rows.
-ghost use Rattle.std.specs.Prelude.{◌≡◌, ◌^◌, ◌<◌, Option, [], ◌++◌, map, option_map, string_bytes, IfOk, OnOk};
+ghost use Rattle.std.specs.Prelude.{◌≡◌, Option, [], ◌++◌, map, option_map, string_bytes, IfOk, OnOk};
 ghost use Rattle.regex.specs.Patterns.{Re};
 ghost use Rattle.minus_text.specs.Searched.{IsFoundBy};
+ghost use Rattle.minus_text.specs.Views.{viewed};
 ghost use Rattle.minus_state.specs.Selection.{ends_in_order};
-ghost use Rattle.minus_state.specs.ShownRow.{cropped_row, unmarked_row, with_marks, shown_row, before_rows, shown_rows, ShownRowsFit, SelectionAddsMarkersAlone};
+ghost use Rattle.minus_state.specs.ShownRow.{before_rows, shown_rows, ShownRowsFit, SelectionAddsMarkersAlone};
+ghost use Rattle.minus_state.specs.Showing.{row_text};
 
-use crate::frame::Frame;
-use crate::selection::SelectionEnds;
-use crate::visible::highlight_visible_range;
-use minus_text::{Row, Rows, Screen};
+use crate::showing::{ShownRow, ShownRows};
+use minus_text::Rows;
 use std::alloc::{AllocError, Global};
 
-/// What rows are shown of, and how.
-#[derive(Clone, Copy)]
-pub struct Rendering<'s> {
-    /// The text with its rows.
-    pub screen: &'s Screen,
-    /// The columns of the text that are cut off at the left where lines are not wrapped.
-    pub left_mark: usize,
-    /// What is selected.
-    pub ends: SelectionEnds,
-}
-
-// A line that is its one row, counted from 0, from the left mark on, if there is one.
-fn cropped_row(
-    alloc: Global,
-    screen: &Screen,
-    left_mark: usize,
-    i: usize,
-) -> Result<Option<Row>, AllocError>
-    requires { i < 2 ^ 63 }
-    ensures { IfOk result (λ row. (term : Option Re) → IsFoundBy term screen.now
-        → option_map string_bytes row ≡ cropped_row term screen.now.document left_mark i) }
-{
-    match screen.highlighted_row(alloc, i)? {
-        Some(text) => {
-            let frame = Frame::of(screen, left_mark);
-            Ok(Some(frame.cropped_line(alloc, i, text.as_str())?))
-        }
-        None => Ok(None),
-    }
-}
-
-// A row without a selection, counted from 0, if there is one.
-fn unmarked_row(
-    alloc: Global,
-    screen: &Screen,
-    left_mark: usize,
-    i: usize,
-) -> Result<Option<Row>, AllocError>
-    requires { i < 2 ^ 63 }
-    ensures { IfOk result (λ row. (term : Option Re) → IsFoundBy term screen.now
-        → option_map string_bytes row ≡ unmarked_row term screen.now.document left_mark i) }
-{
-    if screen.layout().wrapping {
-        return screen.formatted_row(alloc, i);
-    }
-    cropped_row(alloc, screen, left_mark, i)
-}
-
-// A row with marks around a range of its visible characters.
-fn with_marks(
-    alloc: Global,
-    row: Row,
-    range: Option<(usize, Option<usize>)>,
-) -> Result<Row, AllocError>
-    ensures { IfOk result (λ shown. string_bytes shown ≡ with_marks range (string_bytes row)) }
-{
-    let Some((start, end)) = range else {
-        return Ok(row);
-    };
-    highlight_visible_range(alloc, row.as_str(), start, end.unwrap_or(row.len()))
-}
-
-// A shown row, counted from 0, if there is one.
-fn shown_row(alloc: Global, rendering: &Rendering<'_>, i: usize) -> Result<Option<Row>, AllocError>
-    requires { i < 2 ^ 63 }
-    ensures { IfOk result (λ row. (term : Option Re) → IsFoundBy term rendering.now.screen.now → option_map string_bytes row
-        ≡ shown_row term rendering.now.screen.now.document rendering.now.left_mark (ends_in_order rendering.now.ends) i) }
-{
-    let frame = Frame::of(rendering.screen, rendering.left_mark);
-    match unmarked_row(alloc, rendering.screen, rendering.left_mark, i)? {
-        Some(row) => Ok(Some(with_marks(alloc, row, frame.selected_range(rendering.ends, i))?)),
-        None => Ok(None),
-    }
-}
-
-// Puts a row at the end, if there is one.
-fn push_some(rows: &mut Rows, row: Option<Row>) -> Result<(), AllocError>
-    ensures { OnOk result (map string_bytes rows.new.items ≡ map string_bytes rows.old.items ++ before_rows (option_map string_bytes row) []) }
+// Puts the text of a row at the end, if there is one.
+fn push_row(alloc: Global, rows: &mut Rows, row: Option<ShownRow<'_>>) -> Result<(), AllocError>
+    ensures { OnOk result (map string_bytes rows.new.items
+        ≡ map string_bytes rows.old.items ++ before_rows (option_map row_text row.entry) []) }
 {
     match row {
-        Some(row) => Ok(rows.push(row)?),
+        Some(row) => Ok(rows.push(row.into_row(alloc)?)?),
         None => Ok(()),
     }
 }
@@ -103,17 +29,19 @@ fn push_some(rows: &mut Rows, row: Option<Row>) -> Result<(), AllocError>
 /// for want of memory alone.
 pub fn render_rows_for_display(
     alloc: Global,
-    rendering: &Rendering<'_>,
+    rendering: &ShownRows<'_>,
     start: usize,
     end: usize,
 ) -> Result<Rows, AllocError>
-    ensures { IfOk result (λ rows. (term : Option Re) → IsFoundBy term rendering.now.screen.now → map string_bytes rows.items
-        ≡ shown_rows term rendering.now.screen.now.document rendering.now.left_mark (ends_in_order rendering.now.ends) start end) }
+    ensures { IfOk result (λ rows. (term : Option Re) → IsFoundBy term (viewed rendering.now.view) →
+        map string_bytes rows.items
+        ≡ shown_rows term (viewed rendering.now.view).document rendering.now.left_mark
+        (ends_in_order rendering.now.ends) start end) }
 {
-    let count = rendering.screen.formatted_lines_count();
+    let count = rendering.view.len();
     let mut rows = Vec::new(alloc);
     for i in start..end.min(count) {
-        push_some(&mut rows, shown_row(alloc, rendering, i)?)?;
+        push_row(alloc, &mut rows, rendering.row(alloc, i)?)?;
     }
     Ok(rows)
 }

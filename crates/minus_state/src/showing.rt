@@ -1,16 +1,16 @@
-//! What is shown of the rows of a text that there will be.
-ghost use Rattle.std.specs.Prelude.{◌≡◌, ◌+◌, ◌<◌, ◌^◌, ℕ, Option, None, option_map, slice_get, string_bytes, IfOk};
-ghost use Rattle.minus_text.specs.Searched.{stored_rows_for};
+//! What is shown of the rows of a text.
+ghost use Rattle.std.specs.Prelude.{◌≡◌, ◌+◌, ◌<◌, ◌^◌, Option, option_map, string_bytes, IfOk};
+ghost use Rattle.regex.specs.Patterns.{Re};
+ghost use Rattle.minus_text.specs.Searched.{IsFoundBy, IsStoredRow};
+ghost use Rattle.minus_text.specs.Views.{viewed};
 ghost use Rattle.minus_state.specs.Selection.{ends_in_order};
-ghost use Rattle.minus_state.specs.Frame.{frame_of};
-ghost use Rattle.minus_state.specs.ShownRow.{unmarked_row, with_marks, shown_row};
-ghost use Rattle.minus_state.specs.Showing.{row_text, document_shown, IsShowing};
+ghost use Rattle.minus_state.specs.ShownRow.{cropped_row, unmarked_row, shown_row};
+ghost use Rattle.minus_state.specs.Showing.{row_text};
 
-use crate::change::NextText;
 use crate::frame::Frame;
 use crate::selection::SelectionEnds;
 use crate::visible::highlight_visible_range;
-use minus_text::Screen;
+use minus_text::{Row, RowsView};
 use std::alloc::{AllocError, Global};
 
 /// What is shown of a row: its own text as it stands, or a text that was put together.
@@ -18,12 +18,13 @@ use std::alloc::{AllocError, Global};
 pub enum ShownRow<'a> {
     /// The row's own text.
     Own(&'a str),
-    /// A text that was put together: behind a number, cropped, or with what is selected in reverse.
+    /// A text that was put together: behind a number, cropped, or with what matches or is selected in reverse.
     Formed(String),
 }
 
-impl ShownRow<'_> {
-    ghost use Rattle.std.specs.Prelude.{◌≡◌};
+impl<'a> ShownRow<'a> {
+    ghost use Rattle.std.specs.Prelude.{◌≡◌, string_bytes, IfOk};
+    ghost use Rattle.minus_state.specs.ShownRow.{with_marks};
     ghost use Rattle.minus_state.specs.Showing.{row_text};
 
     /// Its text.
@@ -35,98 +36,112 @@ impl ShownRow<'_> {
             ShownRow::Formed(row) => row.as_str(),
         }
     }
-}
 
-// A row with marks around a range of its visible characters.
-fn with_marks<'a>(
-    alloc: Global,
-    row: ShownRow<'a>,
-    range: Option<(usize, Option<usize>)>,
-) -> Result<ShownRow<'a>, AllocError>
-    ensures { IfOk result (λ shown. row_text shown ≡ with_marks range (row_text row.entry)) }
-{
-    let Some((start, end)) = range else {
-        return Ok(row);
-    };
-    let text = row.as_str();
-    let marked = highlight_visible_range(alloc, text, start, end.unwrap_or(text.len()))?;
-    Ok(ShownRow::Formed(marked))
-}
-
-// What rows are shown of, and how: the text that there will be beside that of a screen, from a left mark on, with a selection.
-#[derive(Clone, Copy)]
-pub(crate) struct Showing<'a> {
-    pub(crate) screen: &'a Screen,
-    pub(crate) text: &'a NextText,
-    pub(crate) left: usize,
-    pub(crate) ends: SelectionEnds,
-}
-
-impl<'a> Showing<'a> {
-    // What stands around the text of its rows.
-    fn frame(&self) -> Frame
-        requires { IsShowing self.now }
-        ensures { result ≡ frame_of (document_shown self.now) self.now.left }
+    /// Its text, which is copied where it is the row's own.
+    ///
+    /// # Errors
+    ///
+    /// [`AllocError`] where there is no memory for the copy.
+    pub fn into_row(self, alloc: Global) -> Result<Row, AllocError>
+        ensures { IfOk result (λ row. string_bytes row ≡ row_text self.entry) }
     {
-        Frame {
-            layout: self.text.layout_after(self.screen),
-            line_count: self.text.line_count_after(self.screen),
-            left_mark: self.left,
+        match self {
+            ShownRow::Own(row) => String::from_str(alloc, row),
+            ShownRow::Formed(row) => Ok(row),
         }
     }
 
-    // A row as it is stored, counted from 0, if there is one.
-    fn stored(&self, alloc: Global, i: usize) -> Result<Option<ShownRow<'a>>, AllocError>
-        requires { IsShowing self.now }
-        ensures { IfOk result (λ row. option_map row_text row ≡ slice_get (stored_rows_for None (document_shown self.now)) i) }
+    // It with marks around a range of its visible characters.
+    fn with_marks(
+        self,
+        alloc: Global,
+        range: Option<(usize, Option<usize>)>,
+    ) -> Result<ShownRow<'a>, AllocError>
+        ensures { IfOk result (λ shown. row_text shown ≡ with_marks range (row_text self.entry)) }
     {
-        match self.text.formatted_row_after(alloc, self.screen, i)? {
+        let Some((start, end)) = range else {
+            return Ok(self);
+        };
+        let text = self.as_str();
+        let marked = highlight_visible_range(alloc, text, start, end.unwrap_or(text.len()))?;
+        Ok(ShownRow::Formed(marked))
+    }
+}
+
+/// What rows are shown of, and how.
+#[derive(Clone, Copy)]
+pub struct ShownRows<'s> {
+    /// The rows, and what was found in them.
+    pub view: RowsView<'s>,
+    /// The columns of the text that are cut off at the left where lines are not wrapped.
+    pub left_mark: usize,
+    /// What is selected.
+    pub ends: SelectionEnds,
+}
+
+impl<'s> ShownRows<'s> {
+    // A row as it is stored, counted from 0, if there is one; without a number and a match it is its own text.
+    fn stored(self, alloc: Global, i: usize) -> Result<Option<ShownRow<'s>>, AllocError>
+        ensures { IfOk result (λ row. IsStoredRow (viewed self.entry.view) i (option_map row_text row)) }
+    {
+        if let Some(row) = self.view.plain_row(i) {
+            return Ok(Some(ShownRow::Own(row)));
+        }
+        match self.view.formatted_row(alloc, i)? {
             Some(row) => Ok(Some(ShownRow::Formed(row))),
             None => Ok(None),
         }
     }
 
-    // The same; without numbers it is its own text.
-    fn wrapped(&self, alloc: Global, i: usize) -> Result<Option<ShownRow<'a>>, AllocError>
-        requires { IsShowing self.now }
-        ensures { IfOk result (λ row. option_map row_text row ≡ slice_get (stored_rows_for None (document_shown self.now)) i) }
+    // A line that is its one row, counted from 0, from the left mark on, if there is one.
+    fn cropped(self, alloc: Global, i: usize) -> Result<Option<Row>, AllocError>
+        requires { i + 1 < 2 ^ 64 }
+        ensures { IfOk result (λ row. (term : Option Re) → IsFoundBy term (viewed self.entry.view) →
+            option_map string_bytes row
+            ≡ cropped_row term (viewed self.entry.view).document self.entry.left_mark i) }
     {
-        if self.frame().layout.numbers.is_on() {
-            return self.stored(alloc, i);
+        let frame = Frame::of(self.view, self.left_mark);
+        if let Some(text) = self.view.plain_text(i) {
+            return Ok(Some(frame.cropped_line(alloc, i, text)?));
         }
-        match self.text.row_after(self.screen, i) {
-            Some(row) => Ok(Some(ShownRow::Own(row))),
+        match self.view.highlighted_row(alloc, i)? {
+            Some(text) => Ok(Some(frame.cropped_line(alloc, i, text.as_str())?)),
             None => Ok(None),
         }
     }
 
     // A row without a selection, counted from 0, if there is one.
-    fn unmarked(&self, alloc: Global, i: usize) -> Result<Option<ShownRow<'a>>, AllocError>
-        requires showing { IsShowing self.now }
-        requires few { i + 1 < 2 ^ 64 }
-        ensures { IfOk result (λ row. option_map row_text row ≡ unmarked_row None (document_shown self.now) self.now.left i) }
+    fn unmarked(self, alloc: Global, i: usize) -> Result<Option<ShownRow<'s>>, AllocError>
+        requires { i + 1 < 2 ^ 64 }
+        ensures { IfOk result (λ row. (term : Option Re) → IsFoundBy term (viewed self.entry.view) →
+            option_map row_text row
+            ≡ unmarked_row term (viewed self.entry.view).document self.entry.left_mark i) }
     {
-        let frame = self.frame();
-        if frame.layout.wrapping {
-            return self.wrapped(alloc, i);
+        if self.view.layout().wrapping {
+            return self.stored(alloc, i);
         }
-        match self.text.row_after(self.screen, i) {
-            Some(text) => Ok(Some(ShownRow::Formed(frame.cropped_line(alloc, i, text)?))),
+        match self.cropped(alloc, i)? {
+            Some(row) => Ok(Some(ShownRow::Formed(row))),
             None => Ok(None),
         }
     }
 
-    // What is shown of a row, counted from 0, if there is one.
-    pub(crate) fn row(&self, alloc: Global, i: usize) -> Result<Option<ShownRow<'a>>, AllocError>
-        requires showing { IsShowing self.now }
-        requires few { i + 1 < 2 ^ 64 }
-        ensures { IfOk result (λ row. option_map row_text row
-            ≡ shown_row None (document_shown self.now) self.now.left (ends_in_order self.now.ends) i) }
+    /// What is shown of a row, counted from 0, if there is one.
+    ///
+    /// # Errors
+    ///
+    /// [`AllocError`] where there is no memory for it.
+    pub fn row(self, alloc: Global, i: usize) -> Result<Option<ShownRow<'s>>, AllocError>
+        requires { i + 1 < 2 ^ 64 }
+        ensures { IfOk result (λ row. (term : Option Re) → IsFoundBy term (viewed self.entry.view) →
+            option_map row_text row
+            ≡ shown_row term (viewed self.entry.view).document self.entry.left_mark
+            (ends_in_order self.entry.ends) i) }
     {
         match self.unmarked(alloc, i)? {
             Some(row) => {
-                let range = self.frame().selected_range(self.ends, i);
-                Ok(Some(with_marks(alloc, row, range)?))
+                let range = Frame::of(self.view, self.left_mark).selected_range(self.ends, i);
+                Ok(Some(row.with_marks(alloc, range)?))
             }
             None => Ok(None),
         }

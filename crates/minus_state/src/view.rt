@@ -29,7 +29,7 @@ pub fn selection_from_coordinates(screen: &Screen, view: View, x: u16, y: u16) -
     if count == 0 || row >= view.rows.saturating_sub(1) {
         return None;
     }
-    let frame = Frame::of(screen, view.left_mark);
+    let frame = Frame::of(screen.view(), view.left_mark);
     let column = usize::from(x).saturating_sub(frame.prefix());
     Some(Selection {
         absolute_row: view.upper_mark.saturating_add(row).min(count - 1),

@@ -13,7 +13,8 @@ const REVERSE_OFF: &str = "\x1b[27m";
 // The units from a visible character on, where so many come before it.
 fn from_visible(units: Units<'_>, count: usize) -> Units<'_>
     ensures units { units_left result ≡ behind_visible count (units_left units.entry) }
-    ensures bytes { bytes_left units.entry ≡ text_of (before_visible count (units_left units.entry)) ++ bytes_left result }
+    ensures bytes { bytes_left units.entry ≡ text_of (before_visible count (units_left units.entry))
+        ++ bytes_left result }
 {
     let mut left = count;
     let mut rest = units;

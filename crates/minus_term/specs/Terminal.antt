@@ -46,7 +46,7 @@ SetupBreaksOff (HideCursor cause) old new = AppendsPart old new (alternate_scree
 SetupBreaksOff (RawMode cause) old new = ⊥
 SetupBreaksOff (TerminalSize cause) old new = ⊥
 
--- the same of a cleanup
+-- what a cleanup that is cut short has written
 abbrev pub CleanupBreaksOff : CleanupError → Option (List ℕ) → Option (List ℕ) → Type 0
 CleanupBreaksOff (ShowCursor cause) old new = AppendsPart old new [] (written op.ShowCursor)
 CleanupBreaksOff (DisableMouseCapture cause) old new = AppendsPart old new (written op.ShowCursor) mouse_off

@@ -30,7 +30,8 @@ impl Flags for KeyModifiers {
 
     ghost exact = { ⊤ };
 
-    ghost table = { (codes "SHIFT", 1) ∷ (codes "CONTROL", 2) ∷ (codes "ALT", 4) ∷ (codes "SUPER", 8) ∷ (codes "HYPER", 16) ∷ (codes "META", 32) ∷ [] };
+    ghost table = { (codes "SHIFT", 1) ∷ (codes "CONTROL", 2) ∷ (codes "ALT", 4) ∷ (codes "SUPER", 8) ∷
+        (codes "HYPER", 16) ∷ (codes "META", 32) ∷ [] };
 
     ghost set_of = { λ m. m.0 };
 

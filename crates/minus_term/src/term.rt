@@ -45,7 +45,8 @@ pub fn setup<S: OutputSink>(out: &mut S) -> Result<(), SetupError>
     ensures terminal { IsErrOf result SetupError.InvalidTerminal ↔ ((S.seen out.old).terminal ≡ false) }
     ensures untouched { IsErrOf result SetupError.InvalidTerminal → out.new ≡ out.old }
     ensures broken { IfErr result (λ e. SetupBreaksOff e (S.seen out.old).bytes (S.seen out.new).bytes) }
-    ensures rises { OnErr result ((S.seen out.old).terminal ≡ true → Rises (S.seen out.old).refusals (S.seen out.new).refusals) }
+    ensures rises { OnErr result ((S.seen out.old).terminal ≡ true →
+        Rises (S.seen out.old).refusals (S.seen out.new).refusals) }
 {
     if !out.is_tty() {
         return Err(SetupError::InvalidTerminal);
@@ -70,7 +71,8 @@ pub fn setup<S: OutputSink>(out: &mut S) -> Result<(), SetupError>
 /// That of the three that the sink refused a write or the flush of: those before it were written, and a beginning of
 /// it.
 pub fn cleanup<S: OutputSink>(out: &mut S, cleanup_screen: bool) -> Result<(), CleanupError>
-    ensures ok { OnOk result (Appends (S.seen out.old).bytes (S.seen out.new).bytes (if cleanup_screen then cleanup_bytes else [])) }
+    ensures ok { OnOk result (Appends (S.seen out.old).bytes (S.seen out.new).bytes
+        (if cleanup_screen then cleanup_bytes else [])) }
     ensures tried { AppendsFront (S.seen out.old).bytes (S.seen out.new).bytes cleanup_bytes }
     ensures stays { OnOk result (Stays (S.seen out.old).refusals (S.seen out.new).refusals) }
     ensures off { cleanup_screen ≡ false → IsOk result }

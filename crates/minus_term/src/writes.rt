@@ -111,9 +111,11 @@ pub fn write_raw_lines<W: OutputSink, L: AsStr>(
     lines: &[L],
     initial: Option<&str>,
 ) -> Result<(), MinusError>
-    ensures ok { OnOk result (Appends (W.seen out.old).bytes (W.seen out.new).bytes (raw_lines (initial_text initial.entry) (map L.text lines.now))) }
+    ensures ok { OnOk result (Appends (W.seen out.old).bytes (W.seen out.new).bytes
+        (raw_lines (initial_text initial.entry) (map L.text lines.now))) }
     ensures stays { OnOk result (Stays (W.seen out.old).refusals (W.seen out.new).refusals) }
-    ensures err { IfErr result (λ e. WriteRefuses W.seen e out.old out.new (raw_lines (initial_text initial.entry) (map L.text lines.now))) }
+    ensures err { IfErr result (λ e.
+        WriteRefuses W.seen e out.old out.new (raw_lines (initial_text initial.entry) (map L.text lines.now))) }
 {
     let bytes = formed_raw_lines(alloc, lines, initial.unwrap_or(""))?;
     write_formed(out, bytes.as_slice(), false)

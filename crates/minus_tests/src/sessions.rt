@@ -259,7 +259,7 @@ fn go_on(before: &[u8], after: &[u8], texts: &[&str]) -> bool {
     }
 }
 
-// The same, where there are such bytes.
+// Whether bytes that a sink tells go on so, where it tells them.
 fn are_there_and_go_on(before: &Option<Vec<u8>>, after: &Option<Vec<u8>>, texts: &[&str]) -> bool {
     match (before, after) {
         (Some(before), Some(after)) => go_on(before, after, texts),

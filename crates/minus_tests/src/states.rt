@@ -75,7 +75,7 @@ const SHORT: Written<'static> = Written {
     left: 0,
 };
 
-// The same with numbers.
+// The rows of that text with numbers.
 const NUMBERED: Written<'static> = Written {
     name: "all rows of a short text with numbers",
     numbers: LineNumbers::Enabled,
@@ -86,7 +86,7 @@ const NUMBERED: Written<'static> = Written {
     ..SHORT
 };
 
-// The same, its whole page.
+// The whole page of that text.
 const WHOLE: Written<'static> = Written {
     name: "the whole page of a short text",
     numbers: LineNumbers::AlwaysOff,

@@ -143,7 +143,7 @@ tells_found r told rows n found d piece numbers cols is keys at h =
     subst (λ x. TellsWith x (row_numbers (found_from m found)) f m clean) (sym is)
     (subst (λ ks. TellsWith (record told { append_search_idx = rows }) ks f m clean) (keys ∙ ap (λ k. row_numbers (found_from k found)) at) (tells_matches told rows f m clean h))
 
--- the same of all rows
+-- what is told of all rows, formed anew
 pub tells_formed : (r told : FormatResult) (rows : BTreeSet ℕ) (term : Option Re) (found : List RowMatches) (d : Document) (text : List ℕ) (layout : Layout) → r ≡ record told { append_search_idx = rows } → rows.keys ≡ row_numbers found
     → found ≡ found_by term 0 (rows_of d) → d ≡ record { text = text; layout = layout } → Tells told None (record { text = text; wrap = wrap_of layout (length (lines text)) }) 0 true → Tells r term (record { text = text; wrap = wrap_of layout (length (lines text)) }) 0 true
 unfolding rows_of rows_in

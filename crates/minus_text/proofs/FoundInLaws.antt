@@ -75,7 +75,7 @@ place_above row (f ∷ fs) (suc n) le h k =
 
 -- ---- a row by its number
 
-none_later : (n m : ℕ) (found : List RowMatches) → n < m → Ascend m found → found_of_row n found ≡ None
+pub none_later : (n m : ℕ) (found : List RowMatches) → n < m → Ascend m found → found_of_row n found ≡ None
 none_later n m [] lt h = refl
 none_later n m (r ∷ rs) lt h =
     let f : eqb r.row n ≡ false = ne_eqb r.row n (λ e. omega (arith, e, h.0, lt)) in

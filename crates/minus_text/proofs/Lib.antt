@@ -55,3 +55,5 @@ pub mod SearchedLaws
 pub mod LinePartsLaws
 pub mod RowHomesLaws
 pub mod StoredKeptLaws
+mod WordStartsLaws
+pub mod ViewLaws

@@ -157,7 +157,7 @@ start_behind (x ∷ xs) (suc j) (suc k) l =
     let e : suc k - suc j ≡ k - j = omega arith in
     rw e (omega (arith, sum_by-cons bytes_of x (take k xs), sum_by-cons bytes_of x (take j xs), start_behind xs j k (omega (arith, l))))
 
--- the same part, cut at its end first
+-- a part of a text may be cut at its end first
 cut_end_first : (text : List ℕ) (a b : ℕ) → take (b - a) (drop a text) ≡ drop a (take b text)
 cut_end_first text a b = elim (cases_lt b a) [
   | inl l ↦ let z : b - a ≡ 0 = omega arith in rw z (sym (drop_all a (take b text) (omega (arith, length-take b text))))

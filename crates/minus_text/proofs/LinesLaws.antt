@@ -61,7 +61,7 @@ cut_none (b ∷ bs) e = elim (cases_Bool (eqb b 10)) [
   | inr f ↦ let h = position_no b bs f in rw (f, cut_none bs (omega arith)) refl
 ]
 
--- the same lines as those of std
+-- a text is split at its newlines as std splits it
 parts : (bs : List ℕ) → slice_split nl bs ≡ (cut bs).closed ++ (cut bs).open_line ∷ []
 parts [] = refl
 parts (b ∷ bs) = elim (cases_Bool (eqb b 10)) [

@@ -116,7 +116,7 @@ entries_after d piece plan start f w k formed = elim (cases_Bool plan.keeps) [
       )
 ]
 
--- the same of the document that it leaves
+-- the line map of the document that a push leaves
 map_after : (d : Document) (piece : List ℕ) (numbers : LineNumbers) (cols : ℕ) (plan : Plan) (entries : List ℕ) → plan ≡ plan_of d piece numbers cols → entries ≡ first_rows plan.wrap 0 (lines (d.text ++ piece)) → line_map (pushed d piece numbers cols) ≡ entries
 unfolding line_map
 map_after d piece numbers cols plan entries is m = ap (λ (p : Plan). first_rows p.wrap 0 (lines (d.text ++ piece))) (sym is) ∙ sym m

@@ -218,7 +218,7 @@ push_start text plan start piece u v k = elim (cases_Bool plan.keeps) [
       rw f (IsUtf8-append text piece u v, ap (λ m. drop m text ++ piece) first ∙ sym (ap (λ m. drop m [] ++ (text ++ piece)) at))
 ]
 
--- the same in the text that went on
+-- the tail of a text that went on begins at a character
 pub pushed_tail : (text piece all : List ℕ) (start : Restart) (plan : Plan) → all ≡ text ++ piece → IsUtf8 text → IsUtf8 piece → IsCharBoundary text (start.finished.bytes + start.bytes) → IsRestartOf text plan start
     → IsCharBoundary all (start.finished.bytes + start.bytes) × (drop (start.finished.bytes + start.bytes) all ≡ drop start.bytes (line_going_on text plan) ++ piece_behind text plan piece)
 pushed_tail text piece all start plan e u w b k =

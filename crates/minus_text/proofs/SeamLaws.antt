@@ -308,7 +308,7 @@ seam_goes_on cols line at i d u s l e =
           ∙ ap (λ rs. take i rs ++ line_stored (At cols) (n + at) (strip_carriage_return (rest ++ more))) (sym (some_open (At cols) n line some).1);
     }
 
--- the same for rows that are stored; a line that is not wrapped has none behind its first
+-- rows that are stored go on so too; a line that is not wrapped has none behind its first
 pub stored_seam : (wrap : Wrap) (base : ℕ) (line : List ℕ) (rows : List Span) (at i : ℕ) (d : Span) → IsUtf8 line → rows ≡ open_stored wrap base line → StandsAlone line at → i < length rows → at ≡ (get_or rows i d).start - base → GoesOn wrap line i at
 stored_seam (At cols) base line rows at i d u e s l is =
     let within : at < length line = s.within in

@@ -1,5 +1,5 @@
 -- The stored rows of a document under a term.
-use Rattle.std.proofs.Common.{inl, inr, ◌≡◌, ℕ, ◌+◌, ◌-◌, ◌<◌, ◌≤◌, Bool, false, eqb, List, [], ◌∷◌, ◌++◌, map, length, Option, None, Some, option_map, refl, sym, ap, ◌∙◌, arith}
+use Rattle.std.proofs.Common.{inl, inr, ◌≡◌, ℕ, ◌+◌, ◌-◌, Bool, false, eqb, List, [], ◌∷◌, ◌++◌, map, length, Option, None, Some, option_map, refl, sym, ap, ◌∙◌, arith}
 use Rattle.std.specs.List.{slice_get}
 use Rattle.std.specs.Str.Lines.{lines}
 use Rattle.std.proofs.lemmas.Bool.{cases_Bool, cases_lt}
@@ -9,14 +9,12 @@ use Rattle.regex.specs.Patterns.{Re}
 use Rattle.minus_text.specs.declared.layout.Wrap.{Wrap}
 use Rattle.minus_text.specs.Prefixes.{is_on, prefix}
 use Rattle.minus_text.specs.Layouts.{own_rows}
-use Rattle.minus_text.specs.Document.{Document, rows_of_lines, rows_of, line_count, wrap_in, stored_line, stored_lines, stored_rows, pushed, IsPrefixOf}
-use Rattle.minus_text.specs.Pending.{IsPendingPrefix}
+use Rattle.minus_text.specs.Document.{Document, rows_of_lines, rows_of, line_count, wrap_in, stored_line, stored_lines, stored_rows, IsPrefixOf}
 use Rattle.minus_text.specs.Escapes.{stripped, escapes, escape_places}
 use Rattle.minus_text.specs.Highlight.{highlighted, line_matches, line_match_places}
 use Rattle.minus_text.specs.Found.{RowMatches, found_by, found_of_row, marked}
-use Rattle.minus_text.specs.Fragments.{rows_in}
-use Rattle.minus_text.specs.Searched.{Searched, SearchedPush, shown_for, stored_lines_for, stored_rows_for, IsRowBehind, IsPendingRow}
-use Rattle.minus_text.proofs.PendingLaws.{get_behind, row_staying, row_forming}
+use Rattle.minus_text.specs.Searched.{Searched, shown_for, stored_lines_for, stored_rows_for, IsRowBehind}
+use Rattle.minus_text.proofs.PendingLaws.{get_behind}
 use Rattle.minus_text.proofs.StoredLaws.{row_in_line, at_front, none_alike, length-stored_line}
 use Rattle.minus_text.proofs.MarkersLaws.{no_match_no_change}
 use Rattle.minus_text.proofs.FoundInLaws.{found_of}
@@ -101,21 +99,3 @@ pub found_behind : (s : Searched) (i : ℕ) (text before row : List ℕ) → sli
 found_behind s i text before row e r = λ term h.
     let here : i ≡ 0 + i = omega arith in
     rw (e, r) (ap (λ t. Some (before ++ t)) (marked_is term (rows_of s.document) 0 i i text s.found h here e))
-
--- a row that stays, and one that a push forms
-pub kept_pending : (s : Searched) (p : SearchedPush) (i : ℕ) (before : List ℕ) (row : Option (List ℕ)) → i < p.push.kept_rows → IsPendingPrefix s.document p.push i before → IsRowBehind before s i row → IsPendingRow s p i row
-kept_pending s p i before row lt b r = λ term piece numbers cols h k is.
-    r term h ∙ ap (option_map (λ text. before ++ shown_for term text)) (sym (row_staying s.document piece numbers cols p.push i is lt)) ∙ stored_behind term (pushed s.document piece numbers cols) i before (b piece numbers cols is)
-
-pub formed_pending : (s : Searched) (p : SearchedPush) (i : ℕ) (before text row : List ℕ) → p.push.kept_rows ≤ i → IsPendingPrefix s.document p.push i before → slice_get (rows_in p.push.tail) (i - p.push.kept_rows) ≡ Some text
-    → row ≡ before ++ marked (found_of_row i p.found) text → IsPendingRow s p i (Some row)
-formed_pending s p i before text row le b e r = λ term piece numbers cols h k is.
-    let here : i ≡ p.push.kept_rows + (i - p.push.kept_rows) = omega (arith, le) in
-    let there : slice_get (rows_of (pushed s.document piece numbers cols)) i ≡ Some text = row_forming s.document piece numbers cols p.push i is le ∙ e in
-    let shown = marked_is term (rows_in p.push.tail) p.push.kept_rows (i - p.push.kept_rows) i text p.found k here e in
-    let stored = stored_behind term (pushed s.document piece numbers cols) i before (b piece numbers cols is) in
-    ap Some (r ∙ ap (λ t. before ++ t) shown) ∙ sym (ap (option_map (λ t. before ++ shown_for term t)) there) ∙ stored
-
-pub none_pending : (s : Searched) (p : SearchedPush) (i : ℕ) → p.push.kept_rows ≤ i → None ≡ slice_get (rows_in p.push.tail) (i - p.push.kept_rows) → IsPendingRow s p i None
-none_pending s p i le e = λ term piece numbers cols h k is.
-    sym (none_for term (pushed s.document piece numbers cols) i (e ∙ sym (row_forming s.document piece numbers cols p.push i is le)))

@@ -1,6 +1,7 @@
 -- The stored rows of a text that goes on: those of its finished lines stay where its numbers take the same columns.
-use Rattle.std.proofs.Common.{◌≡◌, ℕ, ◌+◌, ◌-◌, Bool, true, false, eqb, List, [], ◌∷◌, ◌++◌, length, map, take, replicate, codes, Option, None, refl, sym, ap, ◌∙◌, arith, append_assoc, inl, inr}
+use Rattle.std.proofs.Common.{◌≡◌, ℕ, ◌+◌, ◌-◌, Bool, true, false, eqb, List, [], ◌∷◌, ◌++◌, length, map, take, replicate, codes, Option, refl, sym, ap, ◌∙◌, arith, append_assoc, inl, inr}
 use Rattle.std.specs.Fmt.{decimal}
+use Rattle.std.specs.List.{slice_get}
 use Rattle.std.specs.Str.Lines.{lines}
 use Rattle.std.proofs.lemmas.Bool.{cases_Bool, and_parts, eqb-true}
 use Rattle.std.proofs.lemmas.List.{append-nil, take_at, length-take-le}
@@ -10,7 +11,7 @@ use Rattle.minus_text.specs.declared.line_numbers.LineNumbers.{LineNumbers}
 use Rattle.minus_text.specs.Prefixes.{is_on, padding, number_prefix, prefix, prefix_columns}
 use Rattle.minus_text.specs.Layouts.{own_rows, margin}
 use Rattle.minus_text.specs.Lines.{finished_lines, unfinished_line}
-use Rattle.minus_text.specs.Document.{Document, rows_of, rows_of_lines, open_rows, unfinished_rows, line_count, pushed, wrap_in, margin_in, stored_line, keeps_rows}
+use Rattle.minus_text.specs.Document.{Document, rows_of, rows_of_lines, open_rows, unfinished_rows, line_count, pushed, wrap_in, margin_in, stored_line, stored_lines, stored_rows, keeps_rows, IsPrefixOf}
 use Rattle.minus_text.specs.Fragments.{rows_in}
 use Rattle.minus_text.specs.Searched.{shown_for, stored_lines_for, stored_rows_for}
 use Rattle.minus_text.proofs.DocumentLaws.{length-rows_of_lines}
@@ -108,16 +109,11 @@ pub length-stored_for : (term : Option Re) (d : Document) → length (stored_row
 unfolding rows_of stored_rows_for
 length-stored_for term d = sym (length-lines_for term (wrap_in d) (is_on d.layout.numbers) (line_count d) 1 (lines d.text))
 
--- without numbers and without a term they are the rows
-own_lines : (wrap : Wrap) (count k : ℕ) (ls : List (List ℕ)) → stored_lines_for None wrap false count k ls ≡ rows_of_lines wrap ls
+-- without numbers they are the rows, and nothing stands before one
+own_lines : (wrap : Wrap) (count k : ℕ) (ls : List (List ℕ)) → stored_lines wrap false count k ls ≡ rows_of_lines wrap ls
 own_lines wrap count k [] = refl
-own_lines wrap count k (x ∷ xs) =
-    ap (λ rs. rs ++ stored_lines_for None wrap false count (k + 1) xs) (ap (stored_line false count k) (map_same (own_rows wrap x)) ∙ own_line count k (own_rows wrap x)) ∙ ap (λ rs. own_rows wrap x ++ rs) (own_lines wrap count (k + 1) xs)
+own_lines wrap count k (x ∷ xs) = ap (λ rs. rs ++ stored_lines wrap false count (k + 1) xs) (own_line count k (own_rows wrap x)) ∙ ap (λ rs. own_rows wrap x ++ rs) (own_lines wrap count (k + 1) xs)
   where
-    map_same : (rs : List (List ℕ)) → map (shown_for None) rs ≡ rs
-    map_same [] = refl
-    map_same (r ∷ rs) = ap (λ ys. r ∷ ys) (map_same rs)
-
     same : (m l : ℕ) (rs : List (List ℕ)) → map (λ r. prefix false m l false ++ r) rs ≡ rs
     same m l [] = refl
     same m l (r ∷ rs) = ap (λ ys. r ∷ ys) (same m l rs)
@@ -126,6 +122,9 @@ own_lines wrap count k (x ∷ xs) =
     own_line m l [] = refl
     own_line m l (r ∷ rs) = ap (λ ys. r ∷ ys) (same m l rs)
 
-pub stored_off_for : (d : Document) → is_on d.layout.numbers ≡ false → stored_rows_for None d ≡ rows_of d
-unfolding rows_of stored_rows_for
-stored_off_for d off = ap (λ (b : Bool). stored_lines_for None (wrap_in d) b (line_count d) 1 (lines d.text)) off ∙ own_lines (wrap_in d) (line_count d) 1 (lines d.text)
+stored_off : (d : Document) → is_on d.layout.numbers ≡ false → stored_rows d ≡ rows_of d
+unfolding rows_of stored_rows
+stored_off d off = ap (λ (b : Bool). stored_lines (wrap_in d) b (line_count d) 1 (lines d.text)) off ∙ own_lines (wrap_in d) (line_count d) 1 (lines d.text)
+
+pub nothing_before : (d : Document) (i : ℕ) → is_on d.layout.numbers ≡ false → IsPrefixOf d i []
+nothing_before d i off = λ row e. ap (λ rs. slice_get rs i) (stored_off d off) ∙ e

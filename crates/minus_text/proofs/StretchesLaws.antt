@@ -62,7 +62,7 @@ body_ends text front rest u e none end =
     ] in
     sym (ap (λ k. drop k (chars text)) len ∙ ap (drop (length (chars front))) all ∙ drop_at (chars front) (chars rest) (length (chars front)) refl)
 
--- the same at a place where a space stands, or the end
+-- what stands behind the body of a text begins at its first space, or at its end
 pub body_at : (text rest : List ℕ) (at : ℕ) → IsUtf8 text → at ≤ length text → ((i : ℕ) → i < at → get_or text i 0 ≢ 32) → rest ≡ drop at text → ((length text ≤ at) ⊎ ((at < length text) × (get_or text at 0 ≡ 32)))
     → chars rest ≡ drop (body_len (chars text)) (chars text)
 body_at text rest at u le none e end =

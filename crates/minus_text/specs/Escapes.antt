@@ -1,5 +1,6 @@
 -- The escape sequences of a text, and the text without them. Places count bytes from 0.
 use Rattle.std.specs.Prelude.{ℕ, ◌+◌, ◌-◌, ◌≤◌, List, [], ◌∷◌, ◌++◌, drop, slice_range, IsCharBoundary}
+use Rattle.std.specs.Coded.{le_prop}
 use Rattle.minus_text.specs.FixedPatterns.{escape_sequence, match_places}
 use Rattle.minus_text.specs.declared.search.escapes.Insert.{Insert}
 
@@ -31,6 +32,10 @@ escapes line = inside line 0 0 (escape_places line)
 abbrev pub CutsText : List ℕ → ℕ → List (ℕ × ℕ) → Type 0
 CutsText text at [] = IsCharBoundary text at
 CutsText text at (p ∷ ps) = IsCharBoundary text at × (at ≤ p.0) × IsCharBoundary text p.0 × (p.0 ≤ p.1) × CutsText text p.1 ps
+
+pub CutsText-prop : (text : List ℕ) (at : ℕ) (ps : List (ℕ × ℕ)) → IsProp (CutsText text at ps)
+CutsText-prop text at [] = hlevel le_prop
+CutsText-prop text at (p ∷ ps) = hlevel (le_prop, CutsText-prop text p.1 ps)
 
 -- what is inserted, and where
 abbrev pub insert_of : Insert → ℕ × List ℕ

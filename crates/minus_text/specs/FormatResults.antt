@@ -20,7 +20,7 @@ pub record TellsWith (result : FormatResult) (matches : List ℕ) (formed : Frag
   pub longest_told : result.max_line_length ≡ longest_of (lines formed.text)
   pub clean_told : result.clean_append ≡ clean
 
--- the same, and the rows are those that match a term
+-- a result tells of a formed fragment, and its matches are the rows in which a term is found
 abbrev pub Tells : FormatResult → Option Re → Fragment → ℕ → Bool → Type 0
 Tells result term formed first_row clean = TellsWith result (row_numbers (found_by term first_row (rows_in formed))) formed first_row clean
 

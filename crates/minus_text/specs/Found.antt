@@ -1,8 +1,9 @@
 -- What a term finds in rows.
 use Rattle.std.specs.Prelude.{◌≡◌, ℕ, ◌+◌, ◌≤◌, ◌==◌, false, List, [], ◌∷◌, ◌++◌, map, Option, None, Some, take, drop, slice_get, if◌then◌else◌, nat_le}
 use Rattle.std.specs.List.{position_or_len}
+use Rattle.std.specs.Coded.{le_prop}
 use Rattle.regex.specs.Patterns.{Re}
-use Rattle.minus_text.specs.Escapes.{escape_places, outside, inside, CutsText}
+use Rattle.minus_text.specs.Escapes.{escape_places, outside, inside, CutsText, CutsText-prop}
 use Rattle.minus_text.specs.Highlight.{line_matches, line_match_places, ordered, put_in}
 
 -- a row that matches: its number, where its escape sequences stand in it, and where its matches stand in the row without these
@@ -21,7 +22,7 @@ abbrev pub found_in_rows : Re → ℕ → List (List ℕ) → List RowMatches
 found_in_rows pattern n [] = []
 found_in_rows pattern n (row ∷ rows) = found_in_row pattern n row ++ found_in_rows pattern (n + 1) rows
 
--- the same for a term, if there is one
+-- what a term finds in rows, if there is one
 abbrev pub found_by : Option Re → ℕ → List (List ℕ) → List RowMatches
 found_by None n rows = []
 found_by (Some pattern) n rows = found_in_rows pattern n rows
@@ -52,7 +53,7 @@ marked (Some r) row = put_in (outside row 0 r.escapes) 0 (ordered false r.matche
 abbrev pub IsPlaced : List ℕ → RowMatches → Type 0
 IsPlaced row r = CutsText row 0 r.escapes × CutsText (outside row 0 r.escapes) 0 r.matches
 
--- the same of the row with its number, among rows of which the first has a number
+-- these places stand in the row that has their number, among rows of which the first has a number
 abbrev pub IsPlacedIn : ℕ → List (List ℕ) → RowMatches → Type 0
 IsPlacedIn first rows r = (i : ℕ) (row : List ℕ) → r.row ≡ first + i → slice_get rows i ≡ Some row → IsPlaced row r
 
@@ -69,3 +70,12 @@ Ascend first (r ∷ rs) = (first ≤ r.row) × Ascend (r.row + 1) rs
 pub record AreFoundIn (first : ℕ) (rows : List (List ℕ)) (found : List RowMatches) : Type 0 where
   pub placed : ArePlaced first rows found
   pub ascend : Ascend first found
+
+-- each of these is a fact
+pub ArePlaced-prop : (first : ℕ) (rows : List (List ℕ)) (found : List RowMatches) → IsProp (ArePlaced first rows found)
+ArePlaced-prop first rows [] = hlevel
+ArePlaced-prop first rows (r ∷ rs) = hlevel (CutsText-prop, ArePlaced-prop first rows rs)
+
+pub Ascend-prop : (first : ℕ) (found : List RowMatches) → IsProp (Ascend first found)
+Ascend-prop first [] = hlevel
+Ascend-prop first (r ∷ rs) = hlevel (le_prop, Ascend-prop (r.row + 1) rs)

@@ -39,5 +39,8 @@ pub mod Pending
 pub mod FoundBy
 pub mod LinePlaces
 pub mod Searched
+pub mod Words
+pub mod NextPushes
+pub mod Views
 pub mod LineParts
 pub mod RowHomes

@@ -1,9 +1,9 @@
 -- A push before it is made.
-use Rattle.std.specs.Prelude.{◌≡◌, ℕ, ◌≤◌, List, Option, ◌+◌, ◌++◌, length, take, drop, slice_get}
+use Rattle.std.specs.Prelude.{◌≡◌, ℕ, ◌≤◌, List, ◌+◌, ◌++◌, length, take, drop}
 use Rattle.std.specs.Str.{IsUtf8}
 use Rattle.minus_text.specs.declared.line_numbers.LineNumbers.{LineNumbers}
 use Rattle.minus_text.specs.declared.formed.Restart.{Restart}
-use Rattle.minus_text.specs.Document.{Document, rows_of, line_map, wrap_in, plan_of, pushed, IsPrefixOf}
+use Rattle.minus_text.specs.Document.{Document, rows_of, line_map, wrap_in, plan_of, pushed}
 use Rattle.minus_text.specs.Fragments.{Fragment, rows_in}
 use Rattle.minus_text.specs.Kept.{IsRestartOf}
 
@@ -32,11 +32,3 @@ pub record IsPreparedFor (d : Document) (piece : List ℕ) (p : Pending) : Type 
   pub begins : IsRestartOf d.text (plan_of d piece p.numbers p.cols) p.start
   pub wrapping : p.tail.wrap ≡ wrap_in (pushed d piece p.numbers p.cols)
   pub follows : p.tail.text ≡ drop (p.start.finished.bytes + p.start.bytes) d.text ++ piece
-
--- a row with a number, if there is one, is the row that the push of whatever piece this belongs to would leave
-abbrev pub RowIsPending : Document → Pending → ℕ → Option (List ℕ) → Type 0
-RowIsPending d p i row = (piece : List ℕ) (numbers : LineNumbers) (cols : ℕ) → IsPending d piece numbers cols p → row ≡ slice_get (rows_of (pushed d piece numbers cols)) i
-
--- this would stand before the text of a row after the push of whatever piece this belongs to
-abbrev pub IsPendingPrefix : Document → Pending → ℕ → List ℕ → Type 0
-IsPendingPrefix d p i before = (piece : List ℕ) (numbers : LineNumbers) (cols : ℕ) → IsPending d piece numbers cols p → IsPrefixOf (pushed d piece numbers cols) i before

@@ -3,14 +3,13 @@ use Rattle.std.specs.Prelude.{◌≡◌, ℕ, ◌+◌, Bool, false, List, [], �
 use Rattle.std.specs.Str.Lines.{lines}
 use Rattle.regex.specs.Patterns.{Re}
 use Rattle.minus_text.specs.declared.layout.Wrap.{Wrap}
-use Rattle.minus_text.specs.declared.line_numbers.LineNumbers.{LineNumbers}
 use Rattle.minus_text.specs.Prefixes.{is_on}
 use Rattle.minus_text.specs.Layouts.{own_rows}
 use Rattle.minus_text.specs.Document.{Document, rows_of, wrap_in, line_count, stored_line, pushed}
 use Rattle.minus_text.specs.Fragments.{rows_in}
-use Rattle.minus_text.specs.Pending.{Pending, IsPending}
+use Rattle.minus_text.specs.Pending.{Pending}
 use Rattle.minus_text.specs.Highlight.{highlighted}
-use Rattle.minus_text.specs.Found.{RowMatches, found_by}
+use Rattle.minus_text.specs.Found.{RowMatches, found_by, found_above}
 
 -- a document, and what was found in its rows
 pub record Searched : Type 0 where
@@ -25,6 +24,10 @@ pub record SearchedPush : Type 0 where
 -- a document with what a term finds in it, if there is one
 abbrev pub searched : Option Re → Document → Searched
 searched term d = record { document = d; found = found_by term 0 (rows_of d) }
+
+-- the document that a push of a text would leave, for its own numbers and columns, and what would be found in that
+abbrev pub searched_after : Searched → List ℕ → SearchedPush → Searched
+searched_after s text p = record { document = pushed s.document text p.push.numbers p.push.cols; found = found_above p.push.kept_rows s.found ++ p.found }
 
 -- what was found is what a term finds
 abbrev pub IsFoundBy : Option Re → Searched → Type 0
@@ -51,15 +54,10 @@ stored_rows_for term d = stored_lines_for term (wrap_in d) (is_on d.layout.numbe
 abbrev pub IsRowBehind : List ℕ → Searched → ℕ → Option (List ℕ) → Type 0
 IsRowBehind before s i row = (term : Option Re) → IsFoundBy term s → row ≡ option_map (λ text. before ++ shown_for term text) (slice_get (rows_of s.document) i)
 
--- the same with nothing before it
+-- a row, if there is one, with its matches shown in reverse and nothing before it
 abbrev pub IsHighlightedRow : Searched → ℕ → Option (List ℕ) → Type 0
 IsHighlightedRow s i row = (term : Option Re) → IsFoundBy term s → row ≡ option_map (shown_for term) (slice_get (rows_of s.document) i)
 
 -- a stored row, if there is one, under whatever term the rows were searched for
 abbrev pub IsStoredRow : Searched → ℕ → Option (List ℕ) → Type 0
 IsStoredRow s i row = (term : Option Re) → IsFoundBy term s → row ≡ slice_get (stored_rows_for term s.document) i
-
--- a stored row, if there is one, that the push of whatever piece this belongs to would leave
-abbrev pub IsPendingRow : Searched → SearchedPush → ℕ → Option (List ℕ) → Type 0
-IsPendingRow s p i row = (term : Option Re) (piece : List ℕ) (numbers : LineNumbers) (cols : ℕ) → IsFoundBy term s → IsFoundInPush term p
-    → IsPending s.document piece numbers cols p.push → row ≡ slice_get (stored_rows_for term (pushed s.document piece numbers cols)) i

@@ -41,6 +41,6 @@ body_of (c ∷ cs) = if (c == 32) && (length (body_of cs) == 0) then [] else c �
 unfoldable pub text_columns : List ℕ → ℕ
 text_columns cs = sum_by unit_columns (units (body_of cs)) + (length cs - length (body_of cs))
 
--- the same for the bytes of a text
+-- the columns of a text, given by its bytes
 unfoldable pub columns : List ℕ → ℕ
 columns text = text_columns (chars text)

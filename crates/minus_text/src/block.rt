@@ -80,7 +80,12 @@ impl Model for FormattedBlock {
 
     ghost Value = { Block };
 
-    ghost view = { λ b. record { text = b.formed.tail.text; layout = b.layout; lines_before = b.lines_before; first_row = b.formed.kept_rows } };
+    ghost view = { λ b. record {
+      text = b.formed.tail.text;
+      layout = b.layout;
+      lines_before = b.lines_before;
+      first_row = b.formed.kept_rows;
+    } };
 
     ghost invariant = { λ b. IsBlockFormed b.formed b.layout b.lines_before b.unfinished b.longest };
 }
@@ -96,7 +101,12 @@ impl FormattedBlock {
     ) -> Result<Self, AllocError>
         requires lines { lines_before < 2 ^ 63 }
         requires rows { first_row < 2 ^ 63 }
-        ensures { IfOk result (λ b. b ≡ record { text = string_bytes text; layout = layout; lines_before = lines_before; first_row = first_row }) }
+        ensures { IfOk result (λ b. b ≡ record {
+          text = string_bytes text;
+          layout = layout;
+          lines_before = lines_before;
+          first_row = first_row;
+        }) }
     {
         let columns = margin(layout.numbers, lines_before + line_count(&text));
         let wrap = Wrap::of(layout.wrapping, layout.cols.saturating_sub(columns));
@@ -214,8 +224,10 @@ fn put_row<B: AppendableBuffer>(
     i: usize,
 ) -> Result<(), AllocError>
     requires { i < 2 ^ 63 }
-    ensures rows { OnOk result (B.rows buffer.new ≡ B.rows buffer.old ++ one (slice_get (block_rows (option_map finder_pattern finder.old) block.now) i)) }
-    ensures found { OnOk result (found.new.keys ≡ noted_in (option_map finder_pattern finder.old) block.now i found.old.keys) }
+    ensures rows { OnOk result (B.rows buffer.new ≡ B.rows buffer.old
+        ++ one (slice_get (block_rows (option_map finder_pattern finder.old) block.now) i)) }
+    ensures found { OnOk result (found.new.keys
+        ≡ noted_in (option_map finder_pattern finder.old) block.now i found.old.keys) }
     ensures same { option_map finder_pattern finder.new ≡ option_map finder_pattern finder.old }
     ensures err { OnErr result (B.rows buffer.new ≡ B.rows buffer.old) }
 {

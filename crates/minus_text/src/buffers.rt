@@ -89,7 +89,8 @@ fn write_over<D: fmt::Display>(text: &mut String, row: &D) -> Result<(), AllocEr
 // Writes what a row prints in the place of one that is there.
 fn put_over<D: fmt::Display>(rows: &mut Rows, at: usize, row: &D) -> Result<(), AllocError>
     requires { at + 1 ≤ vec_len rows.old }
-    ensures ok { OnOk result (PutsText at (map string_bytes rows.old.items) (map string_bytes rows.new.items) (D.output row.now)) }
+    ensures ok { OnOk result (PutsText at (map string_bytes rows.old.items) (map string_bytes rows.new.items)
+        (D.output row.now)) }
     ensures front { take at (map string_bytes rows.new.items) ≡ take at (map string_bytes rows.old.items) }
     ensures len { vec_len rows.new ≡ vec_len rows.old }
 {
@@ -105,7 +106,8 @@ fn put_at<D: fmt::Display>(
     row: &D,
 ) -> Result<(), AllocError>
     requires { at ≤ vec_len rows.old }
-    ensures ok { OnOk result (PutsText at (map string_bytes rows.old.items) (map string_bytes rows.new.items) (D.output row.now)) }
+    ensures ok { OnOk result (PutsText at (map string_bytes rows.old.items) (map string_bytes rows.new.items)
+        (D.output row.now)) }
     ensures front { take at (map string_bytes rows.new.items) ≡ take at (map string_bytes rows.old.items) }
     ensures len { at ≤ vec_len rows.new }
     ensures more { OnOk result (at + 1 ≤ vec_len rows.new) }

@@ -72,7 +72,8 @@ impl Window {
         requires columns { unit.columns ≡ unit_columns (chars unit.text.now) }
         requires sequence { unit.is_sequence ≡ begins_sequence (chars unit.text.now) }
         ensures { OnOk result (string_bytes row.new
-            ≡ string_bytes row.old ++ encode_utf8_all (concat (shown_unit self.left self.width at last (chars unit.entry.text.now)))) }
+            ≡ string_bytes row.old
+            ++ encode_utf8_all (concat (shown_unit self.left self.width at last (chars unit.entry.text.now)))) }
     {
         if self.is_shown(at, last, unit) {
             row.push_str(unit.text)?;

@@ -50,7 +50,8 @@ fn form_with(
 ) -> Result<FormattedBlock, AllocError>
     requires lines { lines < 2 ^ 63 }
     requires rows { rows < 2 ^ 63 }
-    ensures { IfOk result (λ b. b ≡ block_with (option_map (λ a. a.now) attachment.entry) text.now layout lines rows unterminated) }
+    ensures { IfOk result (λ b. b
+        ≡ block_with (option_map (λ a. a.now) attachment.entry) text.now layout lines rows unterminated) }
 {
     let Some(front) = attachment else {
         let whole = String::from_str(alloc, text)?;
@@ -77,8 +78,10 @@ pub fn format_text_block<B: AppendableBuffer>(
 ) -> Result<FormatResult, MinusError>
     requires lines { opts.lines_count < 2 ^ 63 }
     requires rows { opts.formatted_lines_count < 2 ^ 63 }
-    ensures rows { OnOk result (B.rows opts.exit.0.now ≡ B.rows opts.entry.buffer.now ++ block_rows (term_of opts.entry) (block_of opts.entry)) }
-    ensures told { IfOk result (λ r. TellsBlock r (term_of opts.entry) (block_of opts.entry) (attaches_none opts.entry)) }
+    ensures rows { OnOk result (B.rows opts.exit.0.now ≡ B.rows opts.entry.buffer.now
+        ++ block_rows (term_of opts.entry) (block_of opts.entry)) }
+    ensures told { IfOk result (λ r.
+        TellsBlock r (term_of opts.entry) (block_of opts.entry) (attaches_none opts.entry)) }
     ensures err { OnErr result (B.rows opts.exit.0.now ≡ B.rows opts.entry.buffer.now) }
     ensures memory { IfErr result (λ e. e ≡ MinusError.Memory) }
 {
@@ -125,8 +128,10 @@ pub fn format_lines_into(
     layout: Layout,
     search_term: Option<Term<'_>>,
 ) -> Result<FormatResult, MinusError>
-    ensures rows { OnOk result (map string_bytes buffer.new.items ≡ block_rows (pattern_of search_term.entry) (block_with None text.now layout 0 0 0)) }
-    ensures told { IfOk result (λ r. TellsBlock r (pattern_of search_term.entry) (block_with None text.now layout 0 0 0) true) }
+    ensures rows { OnOk result (map string_bytes buffer.new.items
+        ≡ block_rows (pattern_of search_term.entry) (block_with None text.now layout 0 0 0)) }
+    ensures told { IfOk result (λ r.
+        TellsBlock r (pattern_of search_term.entry) (block_with None text.now layout 0 0 0) true) }
     ensures err { OnErr result (buffer.new.items ≡ buffer.old.items) }
     ensures memory { IfErr result (λ e. e ≡ MinusError.Memory) }
 {

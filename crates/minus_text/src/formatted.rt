@@ -166,7 +166,8 @@ pub(crate) fn search_row<'a>(
     finder: &mut Option<Finder<'_>>,
     row: FormattedRow<'a>,
 ) -> Result<(SearchFormattedRow<'a>, bool), AllocError>
-    ensures printed { IfOk result (λ r. printed_searched r.0 ≡ printed_under (option_map finder_pattern finder.old) row.entry) }
+    ensures printed { IfOk result (λ r. printed_searched r.0
+        ≡ printed_under (option_map finder_pattern finder.old) row.entry) }
     ensures matches { IfOk result (λ r. r.1 ≡ row_matches (option_map finder_pattern finder.old) row.entry.row.now) }
     ensures same { option_map finder_pattern finder.new ≡ option_map finder_pattern finder.old }
 {
@@ -191,8 +192,10 @@ pub fn format_search_rows<'a>(
     rows: &[FormattedRow<'a>],
     search_term: Option<Term<'_>>,
 ) -> Result<Vec<(SearchFormattedRow<'a>, bool)>, AllocError>
-    ensures printed { IfOk result (λ found. map (λ r. printed_searched r.0) found.items ≡ map (printed_under (pattern_of search_term.entry)) rows.now) }
-    ensures matches { IfOk result (λ found. map (λ r. r.1) found.items ≡ map (λ r. row_matches (pattern_of search_term.entry) r.row.now) rows.now) }
+    ensures printed { IfOk result (λ found. map (λ r. printed_searched r.0) found.items
+        ≡ map (printed_under (pattern_of search_term.entry)) rows.now) }
+    ensures matches { IfOk result (λ found. map (λ r. r.1) found.items
+        ≡ map (λ r. row_matches (pattern_of search_term.entry) r.row.now) rows.now) }
 {
     let mut finder = finder_of(alloc, search_term)?;
     let mut found = Vec::new(alloc);

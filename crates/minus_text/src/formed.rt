@@ -127,7 +127,8 @@ struct Forming {
 
 // The columns that a line is to be wrapped to; none where it is one row, all of it.
 fn wrapped_to(line: &str, wrap: Wrap) -> Option<usize>
-    ensures { MatchOption result (own_places wrap line.now ≡ record { start = 0; end = length line.now } ∷ []) (λ cols. wrap ≡ Wrap.At cols) }
+    ensures { MatchOption result (own_places wrap line.now ≡ record { start = 0; end = length line.now } ∷ [])
+        (λ cols. wrap ≡ Wrap.At cols) }
 {
     match wrap {
         Wrap::At(cols) => {
@@ -178,8 +179,10 @@ fn add_line(
     wrap: Wrap,
 ) -> Result<(), AllocError>
     requires { place.bytes + length line.now < 2 ^ 64 }
-    ensures rows { OnOk result (forming.new.rows.items ≡ forming.old.rows.items ++ line_stored wrap place.bytes line.now) }
-    ensures count { OnOk result (length forming.new.rows.items ≡ length forming.old.rows.items + length (own_rows wrap line.now)) }
+    ensures rows { OnOk result (forming.new.rows.items ≡ forming.old.rows.items
+        ++ line_stored wrap place.bytes line.now) }
+    ensures count { OnOk result (length forming.new.rows.items
+        ≡ length forming.old.rows.items + length (own_rows wrap line.now)) }
     ensures first_row { OnOk result (forming.new.first_rows.items ≡ forming.old.first_rows.items ++ place.rows ∷ []) }
     ensures longest { OnOk result (forming.new.longest ≡ max forming.old.longest (columns line.now)) }
 {

@@ -1,9 +1,10 @@
 //! What a push forms, before it is made.
 ghost use Rattle.std.specs.Prelude.{◌≡◌, ℕ, ◌^◌, ◌<◌, ◌≤◌, slice_get, option_map, length};
 ghost use Rattle.minus_text.specs.Fragments.{rows_in};
+ghost use Rattle.minus_text.specs.Layouts.{relaid};
 
 use crate::formed::{Formed, Restart};
-use crate::layout::Wrap;
+use crate::layout::{Layout, Wrap};
 use crate::line_numbers::LineNumbers;
 use crate::lines_row_map::LinesRowMap;
 use std::marker::Model;
@@ -28,7 +29,15 @@ impl Model for FormedPush {
 
     ghost Value = { Pending };
 
-    ghost view = { λ p. record { kept_rows = p.start.finished.rows + p.start.rows; kept_lines = p.start.finished.lines; first_rows = p.formed.first_rows; start = p.start; tail = record { text = string_bytes p.tail; wrap = p.wrap }; numbers = p.numbers; cols = p.cols } };
+    ghost view = { λ p. record {
+      kept_rows = p.start.finished.rows + p.start.rows;
+      kept_lines = p.start.finished.lines;
+      first_rows = p.formed.first_rows;
+      start = p.start;
+      tail = record { text = string_bytes p.tail; wrap = p.wrap };
+      numbers = p.numbers;
+      cols = p.cols;
+    } };
 
     ghost invariant = { λ p. IsPreparedPush p.wrap (string_bytes p.tail) p.start p.formed };
 }
@@ -41,12 +50,33 @@ impl FormedPush {
         &self.formed.first_rows
     }
 
-    // The same for good.
+    // The row at which each line begins, handed out for good.
     pub(crate) fn into_first_rows(self) -> LinesRowMap
         ensures { result ≡ self.first_rows }
     {
         let FormedPush { formed, .. } = self;
         formed.first_rows
+    }
+
+    // The number of lines that stay in front of what is formed.
+    pub(crate) fn kept_lines(&self) -> usize
+        ensures { result ≡ self.now.kept_lines }
+    {
+        self.start.finished.lines
+    }
+
+    // The line numbers of the push.
+    pub(crate) fn numbers(&self) -> LineNumbers
+        ensures { result ≡ self.now.numbers }
+    {
+        self.numbers
+    }
+
+    // A layout with the line numbers and columns of the push.
+    pub(crate) fn relaid(&self, layout: Layout) -> Layout
+        ensures { result ≡ relaid layout self.now.numbers self.now.cols }
+    {
+        layout.relaid(self.numbers, self.cols)
     }
 
     // How many rows stay in front of what is formed.

@@ -28,7 +28,7 @@ impl Layout {
         }
     }
 
-    // The same with other numbers and columns.
+    // This layout with other numbers and columns.
     pub(crate) fn relaid(self, numbers: LineNumbers, cols: usize) -> Layout
         ensures { result ≡ relaid self numbers cols }
     {

@@ -19,6 +19,7 @@ pub mod search;
 mod spaces;
 mod store;
 pub mod units;
+pub mod view;
 pub mod wrap;
 
 pub use buffers::{AppendableBuffer, ReusableRows};
@@ -32,6 +33,7 @@ pub use lines::{
 };
 pub use lines_row_map::LinesRowMap;
 pub use pending::PendingPush;
+pub use screen::searching::Findings;
 pub use screen::{
     FormatResult, Line, OwnedTextBlock, Row, Rows, Screen, TextBlock, line_map_ascends, pushes_join,
 };
@@ -39,8 +41,10 @@ pub use seams::rows_go_on;
 pub use search::{
     HighlightMatchesArgs, Patterns, Term, found_rows_go_on, highlight_line_matches,
     highlights_add_markers_alone, next_nth_match, only_matches_are_highlighted, strip_escapes,
+    word_starts,
 };
 pub use units::{Unit, Units};
+pub use view::RowsView;
 pub use wrap::{
     Span, columns, format_line, pieces_join, rows_are_determined, rows_fit,
     words_are_cut_at_joints, wrap_line,

@@ -34,7 +34,8 @@ pub(crate) fn newlines(text: &str) -> usize
 
 // The first line that a newline ends, and what follows the newline.
 pub(crate) fn split_line(text: &str) -> Option<(&str, &str)>
-    ensures cut { MatchOption result (cut text.now ≡ whole text.now) (λ x. cut text.now ≡ behind x.0.now (cut x.1.now)) }
+    ensures cut { MatchOption result (cut text.now ≡ whole text.now)
+        (λ x. cut text.now ≡ behind x.0.now (cut x.1.now)) }
     ensures room { IfSome result (λ x. (length x.0.now + 1) + length x.1.now ≡ length text.now) }
 {
     match text.split_once('\n') {

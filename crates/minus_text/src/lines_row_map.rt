@@ -135,7 +135,8 @@ impl LinesRowMap {
     // first few of these.
     pub(crate) fn line_in(&self, keep: usize, behind: &Self, row: usize) -> Option<(usize, bool)>
         requires { keep ≤ length self.now }
-        ensures { MatchOption result (take keep self.now ++ behind.now ≡ []) (λ x. IsLineIn (take keep self.now ++ behind.now) row x.0 x.1) }
+        ensures { MatchOption result (take keep self.now ++ behind.now ≡ [])
+            (λ x. IsLineIn (take keep self.now ++ behind.now) row x.0 x.1) }
     {
         let front = &self.first_rows[..keep];
         let found = behind.row_to_line(row);

@@ -23,3 +23,25 @@ impl Model for PendingPush {
 
     ghost invariant = { λ p. AreFoundIn p.push.kept_rows (rows_in p.push.tail) (found_rows p.found) };
 }
+
+impl PendingPush {
+    ghost use Rattle.std.specs.Prelude.{◌≡◌};
+    ghost use Rattle.minus_text.specs.Fragments.{rows_in};
+    ghost use Rattle.minus_text.specs.Found.{AreFoundIn};
+    ghost use Rattle.minus_text.specs.FoundBy.{found_rows};
+
+    // What was formed.
+    pub(crate) fn push(&self) -> &FormedPush
+        ensures { result.now ≡ self.now.push }
+    {
+        &self.push
+    }
+
+    // What was found in that.
+    pub(crate) fn found(&self) -> &FoundRows
+        ensures value { found_rows result.now ≡ self.now.found }
+        ensures stand { AreFoundIn self.now.push.kept_rows (rows_in self.now.push.tail) (found_rows result.now) }
+    {
+        &self.found
+    }
+}

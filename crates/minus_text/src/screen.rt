@@ -1,20 +1,20 @@
 //! A text and its rows, and what a term finds in them.
-ghost use Rattle.std.specs.Prelude.{◌≡◌, ℕ, List, [], length, OnOk, OnErr, IfOk, IfErr, Option, Some, None, slice_get, option_map, string_bytes, true, ◌^◌, ◌<◌};
+ghost use Rattle.std.specs.Prelude.{◌≡◌, [], length, OnOk, OnErr, IfOk, IfErr, Option, Some, None, slice_get, option_map, string_bytes, true, ◌^◌, ◌<◌};
 ghost use Rattle.std.specs.Str.Lines.{lines};
 ghost use Rattle.minus_text.specs.Layouts.{plain, wrap_of};
 ghost use Rattle.minus_text.specs.Document.{rows_of, line_map, line_count, longest, unfinished_rows, pushed, PushesJoin, LineMapAscends};
 ghost use Rattle.minus_text.specs.Fragments.{rows_in};
 ghost use Rattle.minus_text.specs.LinePlaces.{row_places};
-ghost use Rattle.minus_text.specs.Pending.{IsPending, IsPreparedFor, RowIsPending};
+ghost use Rattle.minus_text.specs.Pending.{IsPending, IsPreparedFor};
 ghost use Rattle.minus_text.specs.FormatResults.{Tells, TellsPush, TellsFound};
-ghost use Rattle.minus_text.specs.Formatted.{prefix_of};
 ghost use Rattle.minus_text.specs.Found.{AreFoundIn};
 ghost use Rattle.minus_text.specs.FoundRows.{pattern_of};
 ghost use Rattle.minus_text.specs.FoundBy.{found_rows};
-ghost use Rattle.minus_text.specs.Searched.{searched, IsFoundBy, IsFoundInPush, IsRowBehind, IsStoredRow, IsHighlightedRow, IsPendingRow};
+ghost use Rattle.minus_text.specs.Searched.{searched, IsFoundBy, IsFoundInPush, IsStoredRow, IsHighlightedRow};
 ghost use Rattle.regex.specs.Patterns.{Re};
 
-use crate::formatted::{FormattedRow, RowPrefix};
+pub mod searching;
+
 use crate::formed_push::FormedPush;
 use crate::layout::Layout;
 use crate::line_numbers::LineNumbers;
@@ -65,7 +65,7 @@ pub struct FormatResult {
 }
 
 impl FormatResult {
-    // The same, with these rows told to match.
+    // This result, with these rows told to match.
     fn with_matches(self, rows: BTreeSet<usize>) -> Self
         ensures { result ≡ record self { append_search_idx = rows } }
     {
@@ -247,30 +247,12 @@ impl Screen {
         self.found.row(i)
     }
 
-    // A row, counted from 0, if there is one: this before its text, and its text with its matches shown in
-    // reverse.
-    fn row_behind(
-        &self,
-        alloc: Global,
-        prefix: RowPrefix,
-        i: usize,
-    ) -> Result<Option<Row>, AllocError>
-        ensures { IfOk result (λ row. IsRowBehind (prefix_of prefix) self.now i (option_map string_bytes row)) }
-    {
-        let Some(row) = self.store.row_text(i) else {
-            return Ok(None);
-        };
-        let row = FormattedRow { row, prefix };
-        let text = self.found.format_row(alloc, i, row)?;
-        Ok(Some(text))
-    }
-
     /// A row as it is stored, counted from 0, if there is one: what stands before its text, and its text
     /// with its matches shown in reverse. Fails for want of memory alone.
     pub fn formatted_row(&self, alloc: Global, i: usize) -> Result<Option<Row>, AllocError>
         ensures { IfOk result (λ row. IsStoredRow self.now i (option_map string_bytes row)) }
     {
-        self.row_behind(alloc, self.store.row_prefix(i), i)
+        self.view().formatted_row(alloc, i)
     }
 
     /// The own text of a row, counted from 0, if there is one, with its matches shown in reverse and nothing
@@ -278,7 +260,7 @@ impl Screen {
     pub fn highlighted_row(&self, alloc: Global, i: usize) -> Result<Option<Row>, AllocError>
         ensures { IfOk result (λ row. IsHighlightedRow self.now i (option_map string_bytes row)) }
     {
-        self.row_behind(alloc, RowPrefix::NONE, i)
+        self.view().highlighted_row(alloc, i)
     }
 
     /// Puts a text at the end, with numbers and columns for all. Where the columns differ from those
@@ -299,7 +281,8 @@ impl Screen {
         term: Option<Term<'_>>,
     ) -> Result<FormatResult, MinusError>
         ensures ok { OnOk result (self.new.document ≡ pushed self.old.document text.now numbers cols) }
-        ensures found { OnOk result (IsFoundBy (pattern_of term.entry) self.old → IsFoundBy (pattern_of term.entry) self.new) }
+        ensures found { OnOk result (IsFoundBy (pattern_of term.entry) self.old →
+            IsFoundBy (pattern_of term.entry) self.new) }
         ensures without { OnOk result (term.entry ≡ None → self.new.found ≡ []) }
         ensures told { IfOk result (λ r. IsFoundBy (pattern_of term.entry) self.old →
             TellsPush r (pattern_of term.entry) self.old.document text.now numbers cols) }
@@ -331,7 +314,8 @@ impl Screen {
         ensures ok { OnOk result (self.new.document ≡ pushed self.old.document text.now push.numbers push.cols) }
         ensures found { OnOk result ((term : Option Re) → IsFoundBy term self.old →
             IsFoundInPush term (record { push = push; found = found_rows found }) → IsFoundBy term self.new) }
-        ensures told { IfOk result (λ r. TellsFound r self.new.found self.old.document text.now push.numbers push.cols) }
+        ensures told { IfOk result (λ r.
+            TellsFound r self.new.found self.old.document text.now push.numbers push.cols) }
         ensures err { OnErr result (self.new ≡ self.old) }
     {
         let first = push.kept_rows();
@@ -345,8 +329,7 @@ impl Screen {
     }
 
     /// Forms what a push of this text would form, beside the rows that would stay, and searches that for
-    /// a term. The screen stays as it is; `rows_after` and `row_after` tell of it as the push would
-    /// leave it.
+    /// a term. The screen stays as it is; `view_after` shows the rows that the push would leave.
     ///
     /// # Errors
     ///
@@ -360,61 +343,13 @@ impl Screen {
         term: Option<Term<'_>>,
     ) -> Result<PendingPush, MinusError>
         ensures ok { IfOk result (λ p. IsPending self.now.document text.now numbers cols p.push) }
+        ensures own { IfOk result (λ p. IsPending self.now.document text.now p.push.numbers p.push.cols p.push) }
         ensures found { IfOk result (IsFoundInPush (pattern_of term.entry)) }
         ensures memory { IfErr result (λ e. e ≡ MinusError.Memory) }
     {
         let push = self.store.prepare_push(alloc, text, numbers, cols)?;
         let found = FoundRows::of_push(alloc, term, &push)?;
         Ok(PendingPush { push, found })
-    }
-
-    /// How many rows there would be after the push. It takes no memory.
-    pub fn rows_after(&self, pending: &PendingPush) -> usize
-        ensures { (piece : List ℕ) (numbers : LineNumbers) (cols : ℕ) → IsPending self.now.document piece numbers cols pending.now.push →
-            result ≡ length (rows_of (pushed self.now.document piece numbers cols)) }
-    {
-        self.store.rows_after(&pending.push)
-    }
-
-    /// How many lines there would be after the push. It takes no memory.
-    pub fn line_count_after(&self, pending: &PendingPush) -> usize
-        ensures { (piece : List ℕ) (numbers : LineNumbers) (cols : ℕ) → IsPending self.now.document piece numbers cols pending.now.push →
-            result ≡ line_count (pushed self.now.document piece numbers cols) }
-    {
-        self.store.line_count_after(&pending.push)
-    }
-
-    /// The own text of a row, counted from 0, as it would be after the push. It takes no memory.
-    pub fn row_after<'a>(&'a self, pending: &'a PendingPush, i: usize) -> Option<&'a str>
-        ensures { RowIsPending self.now.document pending.now.push i (option_map (λ r. r.now) result) }
-    {
-        match self.store.row_after(&pending.push, i) {
-            Some(row) => Some(row),
-            None => None,
-        }
-    }
-
-    /// A row as it would be stored after the push, counted from 0, if there would be one: what stands before
-    /// its text, and its text with its matches shown in reverse. Fails for want of memory alone.
-    pub fn formatted_row_after(
-        &self,
-        alloc: Global,
-        pending: &PendingPush,
-        i: usize,
-    ) -> Result<Option<Row>, AllocError>
-        ensures { IfOk result (λ row. IsPendingRow self.now pending.now i (option_map string_bytes row)) }
-    {
-        let prefix = self.store.prefix_after(&pending.push, i);
-        let kept = pending.push.kept_rows();
-        if i < kept {
-            return self.row_behind(alloc, prefix, i);
-        }
-        let Some(row) = pending.push.row_text(i - kept) else {
-            return Ok(None);
-        };
-        let row = FormattedRow { row, prefix };
-        let text = pending.found.format_row(alloc, i, row)?;
-        Ok(Some(text))
     }
 
     /// Pushes a text for the numbers and columns of a push that was prepared, with the term that it was
@@ -431,12 +366,16 @@ impl Screen {
         pending: PendingPush,
         term: Option<Term<'_>>,
     ) -> Result<FormatResult, MinusError>
-        ensures ok { OnOk result (self.new.document ≡ pushed self.old.document text.now pending.push.numbers pending.push.cols) }
-        ensures found { OnOk result (IsFoundBy (pattern_of term.entry) self.old → IsFoundInPush (pattern_of term.entry) pending →
+        ensures ok { OnOk result (self.new.document
+            ≡ pushed self.old.document text.now pending.push.numbers pending.push.cols) }
+        ensures found { OnOk result (IsFoundBy (pattern_of term.entry) self.old →
+            IsFoundInPush (pattern_of term.entry) pending →
             IsFoundBy (pattern_of term.entry) self.new) }
-        ensures told { IfOk result (λ r. IsFoundBy (pattern_of term.entry) self.old → IsFoundInPush (pattern_of term.entry) pending →
+        ensures told { IfOk result (λ r. IsFoundBy (pattern_of term.entry) self.old →
+            IsFoundInPush (pattern_of term.entry) pending →
             TellsPush r (pattern_of term.entry) self.old.document text.now pending.push.numbers pending.push.cols) }
-        ensures kept { IfOk result (λ r. TellsFound r self.new.found self.old.document text.now pending.push.numbers pending.push.cols) }
+        ensures kept { IfOk result (λ r.
+            TellsFound r self.new.found self.old.document text.now pending.push.numbers pending.push.cols) }
         ensures err { OnErr result (self.new ≡ self.old) }
         ensures memory { IfErr result (λ e. e ≡ MinusError.Memory) }
     {
@@ -461,7 +400,8 @@ impl Screen {
         layout: Layout,
         term: Option<Term<'_>>,
     ) -> Result<FormatResult, MinusError>
-        ensures ok { OnOk result (self.new ≡ searched (pattern_of term.entry) (record self.old.document { layout = layout })) }
+        ensures ok { OnOk result (self.new
+            ≡ searched (pattern_of term.entry) (record self.old.document { layout = layout })) }
         ensures told { IfOk result (λ r. Tells r (pattern_of term.entry)
             (record { text = self.old.document.text; wrap = wrap_of layout (line_count self.old.document) }) 0 true) }
         ensures err { OnErr result (self.new ≡ self.old) }
@@ -489,8 +429,10 @@ impl Screen {
         layout: Layout,
         term: Option<Term<'_>>,
     ) -> Result<FormatResult, MinusError>
-        ensures ok { OnOk result (self.new ≡ searched (pattern_of term.entry) (record { text = text.now; layout = layout })) }
-        ensures told { IfOk result (λ r. Tells r (pattern_of term.entry) (record { text = text.now; wrap = wrap_of layout (length (lines text.now)) }) 0 true) }
+        ensures ok { OnOk result (self.new ≡ searched (pattern_of term.entry)
+            (record { text = text.now; layout = layout })) }
+        ensures told { IfOk result (λ r. Tells r (pattern_of term.entry)
+            (record { text = text.now; wrap = wrap_of layout (length (lines text.now)) }) 0 true) }
         ensures err { OnErr result (self.new ≡ self.old) }
         ensures memory { IfErr result (λ e. e ≡ MinusError.Memory) }
     {

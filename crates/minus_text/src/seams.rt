@@ -43,7 +43,8 @@ fn stands_alone(line: &str, at: usize) -> bool
 pub(crate) fn last_seam(line: &str, rows: &[Span], first: usize, base: usize, border: usize) -> Seam
     requires rows { first ≤ length rows.now }
     requires behind { All (λ r. base ≤ r.start) (drop first rows.now) }
-    ensures goes_on { (wrap : Wrap) → IsUtf8 line.now → drop first rows.now ≡ open_stored wrap base line.now → GoesOn wrap line.now result.rows result.bytes }
+    ensures goes_on { (wrap : Wrap) → IsUtf8 line.now → drop first rows.now ≡ open_stored wrap base line.now →
+        GoesOn wrap line.now result.rows result.bytes }
     ensures border { result.bytes ≤ border }
     ensures last { NoneAlone line.now base border (drop (first + result.rows + 1) rows.now) }
 {

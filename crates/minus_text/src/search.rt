@@ -6,6 +6,7 @@ pub mod highlight;
 pub mod matches;
 pub mod patterns;
 pub mod term;
+pub mod words;
 
 pub use escapes::strip_escapes;
 pub(crate) use found::Finder;
@@ -17,3 +18,4 @@ pub use highlight::{
 pub use matches::next_nth_match;
 pub use patterns::Patterns;
 pub use term::Term;
+pub use words::word_starts;

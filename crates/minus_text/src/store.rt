@@ -1,15 +1,14 @@
 //! A text with its rows.
-ghost use Rattle.std.specs.Prelude.{◌≡◌, ℕ, List, ◌+◌, ◌-◌, ◌^◌, ◌<◌, ◌≤◌, [], ◌++◌, length, take, drop, true, ◌==◌, ◌&&◌, if◌then◌else◌, IsTrue, None, IfOk, OnOk, OnErr, false, slice_get, option_map, string_bytes, vec_len, vec_capacity};
+ghost use Rattle.std.specs.Prelude.{◌≡◌, ◌+◌, ◌-◌, ◌^◌, ◌<◌, ◌≤◌, [], ◌++◌, length, take, drop, true, ◌==◌, ◌&&◌, if◌then◌else◌, IsTrue, None, IfOk, OnOk, OnErr, false, slice_get, option_map, string_bytes, vec_len, vec_capacity};
 ghost use Rattle.std.specs.List.Sorted.{IsStrictlyIncreasing};
 ghost use Rattle.std.specs.Str.{IsUtf8, IsCharBoundary};
 ghost use Rattle.std.specs.Str.Lines.{lines};
 ghost use Rattle.std.specs.String.{string_len, string_capacity};
 ghost use Rattle.minus_text.specs.Layouts.{margin, plain, wrap_of};
 ghost use Rattle.minus_text.specs.Document.{rows_of, IsPrefixOf, line_map, line_count, longest, unfinished_rows, pushed, wrap_in, plan_of};
-ghost use Rattle.minus_text.specs.Fragments.{rows_in};
 ghost use Rattle.minus_text.specs.Kept.{IsFormOf, IsPrepared, IsRestartOf, GoesOnInSome, AscendsBehind, line_going_on, piece_behind};
 ghost use Rattle.minus_text.specs.LinePlaces.{row_places};
-ghost use Rattle.minus_text.specs.Pending.{IsPending, IsPreparedFor, RowIsPending, IsPendingPrefix};
+ghost use Rattle.minus_text.specs.Pending.{IsPending, IsPreparedFor};
 ghost use Rattle.minus_text.specs.FormatResults.{Tells, TellsPlan, TellsPush};
 ghost use Rattle.minus_text.specs.Formatted.{prefix_of};
 
@@ -67,7 +66,8 @@ impl Model for Store {
 
     ghost view = { λ s. record { text = string_bytes s.text; layout = s.layout } };
 
-    ghost invariant = { λ s. IsFormed (string_bytes s.text) (wrap_of s.layout (length (lines (string_bytes s.text)))) s.rows.items s.first_rows s.finished s.longest s.border };
+    ghost invariant = { λ s. IsFormed (string_bytes s.text) (wrap_of s.layout (length (lines (string_bytes s.text))))
+        s.rows.items s.first_rows s.finished s.longest s.border };
 }
 
 // Whether columns stay, and what numbers take of them.
@@ -115,8 +115,10 @@ fn replace_rows(
 ) -> Result<(), AllocError>
     requires rows { start.finished.rows + start.rows < 2 ^ 64 }
     requires first_rows { IsStrictlyIncreasing (take start.finished.lines first_rows.old ++ formed.now.first_rows) }
-    ensures rows { OnOk result (rows.new.items ≡ take (start.finished.rows + start.rows) rows.old.items ++ formed.now.rows.items) }
-    ensures first_rows { OnOk result (first_rows.new ≡ take start.finished.lines first_rows.old ++ formed.now.first_rows) }
+    ensures rows { OnOk result (rows.new.items ≡ take (start.finished.rows + start.rows) rows.old.items
+        ++ formed.now.rows.items) }
+    ensures first_rows { OnOk result (first_rows.new ≡ take start.finished.lines first_rows.old
+        ++ formed.now.first_rows) }
     ensures rows_stay { OnErr result (rows.new.items ≡ rows.old.items) }
     ensures first_rows_stay { OnErr result (first_rows.new ≡ first_rows.old) }
 {
@@ -143,7 +145,8 @@ fn form_end(
     requires start { GoesOnInSome wrap (drop (start.finished.bytes + start.bytes) text.now) start }
     requires ascends { AscendsBehind wrap (drop (start.finished.bytes + start.bytes) text.now) start first_rows.old }
     ensures formed { IfOk result (λ f. IsPrepared wrap (drop (start.finished.bytes + start.bytes) text.now) start f) }
-    ensures rows { IfOk result (λ f. rows.new.items ≡ take (start.finished.rows + start.rows) rows.old.items ++ f.rows.items) }
+    ensures rows { IfOk result (λ f. rows.new.items ≡ take (start.finished.rows + start.rows) rows.old.items
+        ++ f.rows.items) }
     ensures first_rows { IfOk result (λ f. first_rows.new ≡ take start.finished.lines first_rows.old ++ f.first_rows) }
     ensures rows_stay { OnErr result (rows.new.items ≡ rows.old.items) }
     ensures first_rows_stay { OnErr result (first_rows.new ≡ first_rows.old) }
@@ -160,7 +163,8 @@ fn told(alloc: Global, start: Restart, formed: Formed, clean: bool) -> FormatRes
     requires finished { formed.finished.rows ≤ start.finished.rows + (start.rows + length formed.rows.items) }
     ensures lines { result.lines_formatted ≡ length formed.first_rows }
     ensures rows { result.rows_formatted ≡ start.rows + length formed.rows.items }
-    ensures unfinished { result.num_unterminated ≡ (start.finished.rows + (start.rows + length formed.rows.items)) - formed.finished.rows }
+    ensures unfinished { result.num_unterminated
+        ≡ (start.finished.rows + (start.rows + length formed.rows.items)) - formed.finished.rows }
     ensures matches { result.append_search_idx.keys ≡ [] }
     ensures map { result.lines_to_row_map ≡ formed.first_rows }
     ensures longest { result.max_line_length ≡ formed.longest }
@@ -361,7 +365,10 @@ impl Store {
 
     // How all is formed anew in a layout, with a piece behind the text.
     fn plan_anew(&self, piece: &str, layout: Layout) -> Plan
-        ensures { result ≡ record { keeps = false; wrap = wrap_of layout (length (lines (self.now.text ++ piece.now))) } }
+        ensures { result ≡ record {
+          keeps = false;
+          wrap = wrap_of layout (length (lines (self.now.text ++ piece.now)));
+        } }
     {
         let margin = self.margin_after(piece, layout.numbers);
         Plan {
@@ -464,7 +471,8 @@ impl Store {
         requires wrap { plan.wrap ≡ wrap_of layout (length (lines (self.old.text ++ piece.now))) }
         requires keeps { plan.keeps ≡ true → plan.wrap ≡ wrap_in self.old }
         requires start { IsRestartOf self.old.text plan start }
-        requires formed { IsFormOf plan.wrap (line_going_on self.old.text plan) (piece_behind self.old.text plan piece.now) start formed }
+        requires formed { IsFormOf plan.wrap (line_going_on self.old.text plan)
+            (piece_behind self.old.text plan piece.now) start formed }
         ensures ok { OnOk result (self.new ≡ record { text = self.old.text ++ piece.now; layout = layout }) }
         ensures told { IfOk result (λ r. TellsPlan r None self.old piece.now plan) }
         ensures err { OnErr result (self.new ≡ self.old) }
@@ -543,54 +551,6 @@ impl Store {
         })
     }
 
-    // How many rows there would be after the push. It takes no memory.
-    pub(crate) fn rows_after(&self, pending: &FormedPush) -> usize
-        ensures { (piece : List ℕ) (numbers : LineNumbers) (cols : ℕ) → IsPending self.now piece numbers cols pending.now →
-            result ≡ length (rows_of (pushed self.now piece numbers cols)) }
-    {
-        let staying = pending.kept_rows().min(self.formatted_lines_count());
-        staying + pending.formed_rows()
-    }
-
-    // How many lines there would be after the push. It takes no memory.
-    pub(crate) fn line_count_after(&self, pending: &FormedPush) -> usize
-        ensures { (piece : List ℕ) (numbers : LineNumbers) (cols : ℕ) → IsPending self.now piece numbers cols pending.now →
-            result ≡ line_count (pushed self.now piece numbers cols) }
-    {
-        let behind = &pending.formed.first_rows;
-        let staying = pending.start.finished.lines.min(self.first_rows.len());
-        staying + behind.len()
-    }
-
-    // The own text of a row, counted from 0, as it would be after the push. It takes no memory.
-    pub(crate) fn row_after<'a>(&'a self, pending: &'a FormedPush, i: usize) -> Option<&'a str>
-        ensures { RowIsPending self.now pending.now i (option_map (λ r. r.now) result) }
-    {
-        let kept = pending.kept_rows();
-        if i < kept {
-            self.row_text(i)
-        } else {
-            pending.row_text(i - kept)
-        }
-    }
-
-    // What would stand before the text of a row, counted from 0, after the push.
-    pub(crate) fn prefix_after(&self, pending: &FormedPush, i: usize) -> RowPrefix
-        ensures { IsPendingPrefix self.now pending.now i (prefix_of result) }
-    {
-        let behind = &pending.formed.first_rows;
-        let kept = pending.start.finished.lines.min(self.first_rows.len());
-        let Some((line, is_first)) = self.first_rows.line_in(kept, behind, i) else {
-            return RowPrefix::NONE;
-        };
-        RowPrefix {
-            numbers: pending.numbers.is_on(),
-            line_count: kept + behind.len(),
-            line: line + 1,
-            is_first,
-        }
-    }
-
     // Whether a push of this text forms what was formed.
     pub(crate) fn is_prepared(&self, text: &str, pending: &FormedPush) -> bool
         ensures { IsTrue result → IsPreparedFor self.now text.now pending.now }
@@ -633,7 +593,8 @@ impl Store {
         layout: Layout,
     ) -> Result<FormatResult, AllocError>
         ensures ok { OnOk result (self.new ≡ record self.old { layout = layout }) }
-        ensures told { IfOk result (λ r. Tells r None (record { text = self.old.text; wrap = wrap_of layout (line_count self.old) }) 0 true) }
+        ensures told { IfOk result (λ r. Tells r None
+            (record { text = self.old.text; wrap = wrap_of layout (line_count self.old) }) 0 true) }
         ensures err { OnErr result (self.new ≡ self.old) }
     {
         let plan = self.plan_anew("", layout);

@@ -54,12 +54,14 @@ impl<'t> Units<'t> {
 
     /// The first unit, and what is left behind it.
     pub fn split_first(self) -> Option<(Unit<'t>, Units<'t>)>
-        ensures units { MatchOption result (units_left self.entry ≡ []) (λ x. units_left self.entry ≡ chars x.0.text.now ∷ units_left x.1) }
+        ensures units { MatchOption result (units_left self.entry ≡ [])
+            (λ x. units_left self.entry ≡ chars x.0.text.now ∷ units_left x.1) }
         ensures text { IfSome result (λ x. x.0.text.now ≡ encode_utf8_all (chars x.0.text.now)) }
         ensures columns { IfSome result (λ x. x.0.columns ≡ unit_columns (chars x.0.text.now)) }
         ensures sequence { IfSome result (λ x. x.0.is_sequence ≡ begins_sequence (chars x.0.text.now)) }
         ensures bytes { IfSome result (λ x. bytes_left self.entry ≡ x.0.text.now ++ bytes_left x.1) }
-        ensures room { IfSome result (λ x. x.0.columns + 2 * length (bytes_left x.1) ≤ 2 * length (bytes_left self.entry)) }
+        ensures room { IfSome result (λ x.
+            x.0.columns + 2 * length (bytes_left x.1) ≤ 2 * length (bytes_left self.entry)) }
         ensures less { IfSome result (λ x. length (bytes_left x.1) < length (bytes_left self.entry)) }
     {
         if let Some((columns, rest)) = split_unit(self.body) {

@@ -151,7 +151,8 @@ fn past_sequence(text: &str) -> &str
 
 // What follows `ESC[`, where a text begins with it.
 pub(crate) fn strip_escape(text: &str) -> Option<&str>
-    ensures inside { MatchOption result (begins_sequence (chars text.now) ≡ false) (λ x. chars text.now ≡ 27 ∷ 91 ∷ chars x.now) }
+    ensures inside { MatchOption result (begins_sequence (chars text.now) ≡ false)
+        (λ x. chars text.now ≡ 27 ∷ 91 ∷ chars x.now) }
     ensures less { IfSome result (λ x. length x.now < length text.now) }
 {
     let Some(('\x1b', rest)) = split_char(text) else {
@@ -253,7 +254,8 @@ fn push_part(
     spaces: usize,
     cols: usize,
 ) -> Result<(), AllocError>
-    ensures { OnOk result (pieces.new.items ≡ pieces.old.items ++ map measure (with_spaces (fronts cols (chars part.now)) spaces)) }
+    ensures { OnOk result (pieces.new.items ≡ pieces.old.items
+        ++ map measure (with_spaces (fronts cols (chars part.now)) spaces)) }
 {
     let len = part.len();
     if len <= cols && is_printable(part) {
@@ -331,7 +333,8 @@ fn push_word(
     spaces: usize,
     cols: usize,
 ) -> Result<(), AllocError>
-    ensures { OnOk result (pieces.new.items ≡ pieces.old.items ++ map measure (with_spaces (flat_map (fronts cols) (parts (chars body.now))) spaces)) }
+    ensures { OnOk result (pieces.new.items ≡ pieces.old.items
+        ++ map measure (with_spaces (flat_map (fronts cols) (parts (chars body.now))) spaces)) }
 {
     let len = body.len();
     if len <= cols && is_plain(body) {
@@ -361,7 +364,8 @@ struct Word<'a> {
 
 // The first word of a line.
 fn split_word(line: &str) -> Word<'_>
-    ensures word { 0 < length line.now → SplitsWord (chars line.now) (chars result.body.now) result.spaces (chars result.rest.now) }
+    ensures word { 0 < length line.now →
+        SplitsWord (chars line.now) (chars result.body.now) result.spaces (chars result.rest.now) }
     ensures less { 0 < length line.now → length result.rest.now < length line.now }
 {
     let after = past_body(line);
@@ -446,7 +450,8 @@ fn first_run(pieces: &[Measured], at: usize, cols: usize) -> Run
 // The rows that pieces fill, as places in the bytes of their line.
 fn fit(alloc: Global, pieces: &[Measured], cols: usize) -> Result<Vec<Span>, AllocError>
     requires { sum_by size pieces.now < 2 ^ 64 }
-    ensures { IfOk result (λ rows. (runs : List (List Measured)) × AreRuns (fits_measured cols) pieces.now runs × (rows.items ≡ measured_places 0 runs)) }
+    ensures { IfOk result (λ rows. (runs : List (List Measured)) × AreRuns (fits_measured cols) pieces.now runs
+        × (rows.items ≡ measured_places 0 runs)) }
 {
     let mut rows = Vec::with_capacity(alloc, pieces.len() / 2)?;
     let mut at = 0;

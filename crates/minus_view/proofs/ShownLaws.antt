@@ -14,7 +14,7 @@ pub read-append : (xs ys : List ℕ) (at : Option Spot) → read (xs ++ ys) at �
 read-append [] ys at = refl
 read-append (x ∷ xs) ys at = read-append xs ys (option_and_then (λ spot. step spot x) at)
 
--- the same for the bytes of texts
+-- a text after another one, both given by their bytes, is read from where that one ends
 pub read_bytes-append : (bs ds : List ℕ) (at : Option Spot) → IsUtf8 bs → read (chars (bs ++ ds)) at ≡ read (chars ds) (read (chars bs) at)
 read_bytes-append bs ds at u = ap (λ cs. read cs at) (chars-append bs ds u) ∙ read-append (chars bs) (chars ds) at
 
@@ -24,7 +24,7 @@ pub put_behind : (bs ds es : List ℕ) (begun styled : Bool) (at : Option Spot) 
 put_behind bs ds es begun styled at u h g e =
     ap (λ xs. read (chars xs) (Some (Line begun))) e ∙ read_bytes-append bs ds (Some (Line begun)) u ∙ ap (λ o. read (chars ds) o) h ∙ g
 
--- the same where memory may have been wanting, and then nothing was put
+-- a text put behind another one, or nothing where memory was wanting
 pub put_or_not : (b : Bool) (bs ds es : List ℕ) (begun styled : Bool) → IsUtf8 bs
     → read (chars bs) (Some (Line begun)) ≡ Some (Line styled) → read (chars ds) (Some (Line styled)) ≡ Some (Line styled) → es ≡ (if b then bs ++ ds else bs) → read (chars es) (Some (Line begun)) ≡ Some (Line styled)
 put_or_not true bs ds es begun styled u h g e = put_behind bs ds es begun styled (Some (Line styled)) u h g e

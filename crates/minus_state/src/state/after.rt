@@ -5,12 +5,12 @@ ghost use Rattle.minus_state.specs.Showing.{row_text};
 
 use crate::change::{Change, NextText, Redraw, Setting};
 use crate::prompt::{PromptRow, format_prompt};
-use crate::showing::{Showing, ShownRow};
+use crate::showing::{ShownRow, ShownRows};
 use crate::state::PagerState;
 use std::alloc::{AllocError, Global};
 
-// Puts a row at the end, if there is one.
-fn push_some<'a>(rows: &mut Vec<ShownRow<'a>>, row: Option<ShownRow<'a>>) -> Result<(), AllocError>
+// Puts a shown row at the end, if there is one.
+fn push_shown<'a>(rows: &mut Vec<ShownRow<'a>>, row: Option<ShownRow<'a>>) -> Result<(), AllocError>
     ensures { OnOk result (map row_text rows.new.items
         ≡ map row_text rows.old.items ++ before_rows (option_map row_text row.entry) []) }
 {
@@ -21,13 +21,15 @@ fn push_some<'a>(rows: &mut Vec<ShownRow<'a>>, row: Option<ShownRow<'a>>) -> Res
 }
 
 impl PagerState {
-    ghost use Rattle.std.specs.Prelude.{◌≡◌, true, ◌+◌, ◌^◌, ◌<◌, length, map, take, drop, string_bytes, IfOk};
+    ghost use Rattle.std.specs.Prelude.{◌≡◌, None, true, ◌+◌, ◌^◌, ◌<◌, length, map, take, drop, string_bytes, IfOk};
     ghost use Rattle.std.specs.Option.{option_map, unwrap_or};
     ghost use Rattle.minus_state.specs.Control.{Control, first_changed};
     ghost use Rattle.minus_state.specs.ShownPrompt.{shown_in, prompt_row, prompt_row_of};
     ghost use Rattle.minus_state.specs.PromptRow.{seen_prompt};
     ghost use Rattle.minus_state.specs.States.{control_of, settings_of, ends_of, IsFormed};
-    ghost use Rattle.minus_state.specs.NextTexts.{IsNext};
+    ghost use Rattle.minus_state.specs.NextTexts.{next_document, IsNext};
+    ghost use Rattle.minus_text.specs.Searched.{IsFoundBy};
+    ghost use Rattle.minus_text.specs.Views.{viewed};
     ghost use Rattle.minus_state.specs.Changes.{IsChange, settings_after, left_set, ends_set, shown_by};
     ghost use Rattle.minus_state.specs.Showing.{row_text};
 
@@ -114,24 +116,22 @@ impl PagerState {
         ensures count { result ≡ length (shown_by self.now change.now) }
         ensures within { change.now.mark + result < 2 ^ 64 }
     {
-        let left = change
-            .text
-            .rows_after(&self.screen)
-            .saturating_sub(change.mark);
+        let rows = change.text.view(&self.screen).len();
+        let left = rows.saturating_sub(change.mark);
         left.min(change.rows - 1)
     }
 
     // What rows are shown of after a change, and how.
-    fn showing<'a>(&'a self, change: &'a Change) -> Showing<'a>
-        ensures screen { result.screen.now ≡ self.now.screen }
-        ensures text { result.text.now ≡ change.now.text }
-        ensures left { result.left ≡ left_set change.now.setting self.now.left_mark }
+    fn showing<'a>(&'a self, change: &'a Change) -> ShownRows<'a>
+        requires { IsNext self.now.screen change.now.text }
+        ensures view { (viewed result.view).document ≡ next_document self.now.screen.document change.now.text }
+        ensures found { IsFoundBy None (viewed result.view) }
+        ensures left { result.left_mark ≡ left_set change.now.setting self.now.left_mark }
         ensures ends { result.ends ≡ ends_set change.now.setting (ends_of self.now) }
     {
-        Showing {
-            screen: &self.screen,
-            text: &change.text,
-            left: change.setting.left(self.left_mark),
+        ShownRows {
+            view: change.text.view(&self.screen),
+            left_mark: change.setting.left(self.left_mark),
             ends: change.setting.ends(self.ends()),
         }
     }
@@ -153,7 +153,7 @@ impl PagerState {
         let showing = self.showing(change);
         let mut shown = Vec::with_capacity(alloc, count - start)?;
         for i in start..count {
-            push_some(&mut shown, showing.row(alloc, change.mark + i)?)?;
+            push_shown(&mut shown, showing.row(alloc, change.mark + i)?)?;
         }
         Ok(shown)
     }

@@ -217,7 +217,7 @@ impl PagerState {
     pub(crate) fn prefix(&self) -> usize
         ensures { result ≡ prefix_in self.now.screen.document }
     {
-        Frame::of(&self.screen, self.left_mark).prefix()
+        Frame::of(self.screen.view(), self.left_mark).prefix()
     }
 
     // Whether the page does not go beyond the longest line at a left mark.
@@ -261,7 +261,7 @@ impl PagerState {
             (self.now.rows - 1) else self.now.upper_mark) }
     {
         if self.follow {
-            return text.rows_after(&self.screen).saturating_sub(self.rows - 1);
+            return text.view(&self.screen).len().saturating_sub(self.rows - 1);
         }
         self.upper_mark
     }
@@ -273,8 +273,8 @@ impl PagerState {
             (next_document self.now.screen.document next.now) == margin_in self.now.screen.document
             then Redraw.Appended else Redraw.Whole) }
     {
-        let numbers = next.layout_after(&self.screen).numbers.is_on();
-        let after = prefix_columns(numbers, next.line_count_after(&self.screen));
+        let view = next.view(&self.screen);
+        let after = prefix_columns(view.layout().numbers.is_on(), view.line_count());
         if after == self.prefix() {
             return Redraw::Appended;
         }

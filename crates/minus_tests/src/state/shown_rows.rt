@@ -1,7 +1,7 @@
 //! Worked shown rows.
 use crate::facts::assert_holds;
 use crate::state::texts::{PLAIN, ends, form, form_searched};
-use minus_state::{Rendering, SelectionEnds, render_rows_for_display};
+use minus_state::{SelectionEnds, ShownRows, render_rows_for_display};
 use minus_text::{Layout, LineNumbers, Screen};
 use std::alloc::Global;
 
@@ -32,8 +32,8 @@ fn form_case(alloc: Global, screen: &mut Screen, case: &Shown<'_>) -> bool {
 
 // Whether the first row of a screen is shown so, and is all that is shown up to the second.
 fn shows(alloc: Global, screen: &Screen, case: &Shown<'_>) -> bool {
-    let rendering = Rendering {
-        screen,
+    let rendering = ShownRows {
+        view: screen.view(),
         left_mark: case.left_mark,
         ends: case.ends.map_or(NOTHING, |(anchor, end)| ends(anchor, end)),
     };
@@ -213,8 +213,8 @@ fn rows_are_shown(rt: HostRuntime) {
 
 // Whether the last two rows of a text are shown by what asks for more rows.
 fn shows_the_last_two(alloc: Global, screen: &Screen, first: &str, second: &str) -> bool {
-    let rendering = Rendering {
-        screen,
+    let rendering = ShownRows {
+        view: screen.view(),
         left_mark: 0,
         ends: NOTHING,
     };

@@ -74,7 +74,7 @@ fn is_refused_for(alloc: Global, sink: &mut WithTty<Stubborn>, text: &str) -> bo
     }
 }
 
-// The same of one that refuses this write, and that was settled so often before.
+// Whether a setup is refused by a sink that refuses this write, and that was settled so often before.
 fn is_setup_refused(alloc: Global, write: usize, flushes: usize, text: &str) -> bool {
     let mut sink = terminal(alloc, write);
     let is_named = is_refused_for(alloc, &mut sink, text);
@@ -107,7 +107,7 @@ fn is_left_for(alloc: Global, sink: &mut Stubborn, text: &str) -> bool {
     }
 }
 
-// The same of one that takes nothing at this write, and that was settled so often before.
+// Whether a cleanup is refused by a sink that takes nothing at this write, and that was settled so often before.
 fn is_cleanup_refused(alloc: Global, number: usize, flushes: usize, text: &str) -> bool {
     let mut sink = Stubborn::new(alloc, write(number, Refusal::NothingTaken));
     let is_named = is_left_for(alloc, &mut sink, text);

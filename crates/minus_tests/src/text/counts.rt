@@ -2,7 +2,7 @@
 use crate::facts::{assert_at, assert_holds};
 use crate::text::screens::{has_rows, push, push_all, stores};
 use crate::text::told::{Told, tells};
-use minus_text::{FormatResult, Layout, LineNumbers, LinesRowMap, PendingPush, Screen};
+use minus_text::{FormatResult, Layout, LineNumbers, LinesRowMap, PendingPush, RowsView, Screen};
 use std::alloc::Global;
 
 // Whether a screen has so many lines and rows, and its longest line so many columns, after these pieces.
@@ -150,10 +150,10 @@ fn the_text_is_kept(rt: HostRuntime) {
 }
 
 // Whether a push of `ee`, a newline and `four` that is not made yet is seen.
-fn is_seen_before(screen: &Screen, pending: &PendingPush) -> bool {
-    screen.rows_after(pending) == 4
-        && screen.row_after(pending, 0) == Some("one")
-        && screen.row_after(pending, 2) == Some("three")
+fn is_seen_before(screen: &Screen, rows: RowsView<'_>) -> bool {
+    rows.len() == 4
+        && rows.text(0) == Some("one")
+        && rows.text(2) == Some("three")
         && has_rows(screen, "one|two|thr")
 }
 
@@ -177,7 +177,7 @@ fn is_made(alloc: Global, screen: &mut Screen, pending: PendingPush) -> bool {
 fn is_seen_twice(alloc: Global, screen: &mut Screen) -> bool {
     match screen.prepare_push(alloc, "ee\nfour", LineNumbers::Disabled, 5, None) {
         Ok(pending) => {
-            let is_seen = is_seen_before(screen, &pending);
+            let is_seen = is_seen_before(screen, screen.view_after("ee\nfour", &pending));
             is_made(alloc, screen, pending) && is_seen
         }
         Err(_) => false,

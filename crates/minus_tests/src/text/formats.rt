@@ -256,7 +256,7 @@ fn is_searched(alloc: Global, term: Option<Term<'_>>, first: &str, second: &str)
     }
 }
 
-// The same of the term that a text says.
+// Whether the term that a text says finds the first line, and not the second.
 fn is_searched_for(alloc: Global, term: &str, first: &str, second: &str) -> bool {
     match Search::of(alloc, term) {
         Some(search) => is_searched(alloc, search.term(), first, second),

@@ -4,7 +4,7 @@ use crate::text::screens::{push, sees, stores};
 use crate::text::searches::Search;
 use crate::text::told::{row_of, tells_matches};
 use minus_term::error::MinusError;
-use minus_text::{FormatResult, Layout, LineNumbers, Screen, Term};
+use minus_text::{FormatResult, Layout, LineNumbers, RowsView, Screen, Term};
 use std::alloc::Global;
 
 // Puts a piece into a screen of 20 columns under a term. The first sets the text; of the others, every other one is
@@ -116,7 +116,7 @@ fn matches_change_when_the_unfinished_line_goes_on(rt: HostRuntime) {
 // Whether the last row is seen so beside a push that is prepared.
 fn shows_after(alloc: Global, screen: &Screen, term: Option<Term<'_>>, row: &str) -> bool {
     match screen.prepare_push(alloc, "st", LineNumbers::Disabled, 20, term) {
-        Ok(pending) => sees(alloc, screen, &pending, 2, row),
+        Ok(pending) => sees(alloc, screen.view_after("st", &pending), 2, row),
         Err(_) => false,
     }
 }
@@ -137,4 +137,42 @@ fn shows(alloc: Global, term: &str, row: &str, after: &str) -> bool {
 fn a_row_that_matches_is_stored_with_its_matches_in_reverse(rt: HostRuntime) {
     let row = "a \x1b[7mtest\x1b[27m\x1b[34m\x1b[0m";
     assert_holds(&rt, shows(rt.alloc(), "test", row, "\x1b[7mtest\x1b[27m"));
+}
+
+// Whether three rows match, the last of which a push is prepared for, and jumps from a row go to these places.
+fn matches_after(rows: RowsView<'_>) -> bool {
+    rows.match_count() == 3
+        && rows.match_row(0) == Some(0)
+        && rows.match_row(2) == Some(3)
+        && rows.nth_match(0, 0) == Some(0)
+        && rows.nth_match(1, 0) == Some(1)
+        && rows.nth_match(2, 1) == Some(2)
+        && rows.nth_match(3, 1) == Some(0)
+        && rows.nth_match(0, 4) == Some(1)
+}
+
+// Whether they do beside a screen of rows that match, but for the second.
+fn are_found_after(alloc: Global, term: &str) -> bool {
+    let Some(search) = Search::of(alloc, term) else {
+        return false;
+    };
+    let mut screen = Screen::new(alloc);
+    if !put_all(
+        alloc,
+        &mut screen,
+        "a test\n|no\ntest\n",
+        search.term(),
+        "2",
+    ) {
+        return false;
+    }
+    match screen.prepare_push(alloc, "test", LineNumbers::Disabled, 20, search.term()) {
+        Ok(pending) => matches_after(screen.view_after("test", &pending)),
+        Err(_) => false,
+    }
+}
+
+#[test]
+fn matches_are_counted_with_a_push_that_is_not_made_yet(rt: HostRuntime) {
+    assert_holds(&rt, are_found_after(rt.alloc(), "test"));
 }

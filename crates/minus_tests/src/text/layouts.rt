@@ -1,7 +1,7 @@
 //! Rows with numbers before them, and lines that are not wrapped.
 use crate::facts::assert_holds;
 use crate::text::screens::{push, sees, set, stores};
-use minus_text::{Layout, LineNumbers, PendingPush, Screen};
+use minus_text::{Layout, LineNumbers, RowsView, Screen};
 use std::alloc::Global;
 
 // Lines that go on, one of them with a hyphen, wide characters and a sequence, and enough of them that their number gets a second digit.
@@ -148,28 +148,28 @@ fn numbered_lines_in_pieces_store_the_rows_of_the_whole(rt: HostRuntime) {
     }
 }
 
-// Whether a row is seen beside a push as another screen stores it.
-fn sees_one(alloc: Global, screen: &Screen, push: &PendingPush, all: &Screen, i: usize) -> bool {
+// Whether a row is seen as another screen stores it.
+fn sees_one(alloc: Global, rows: RowsView<'_>, all: &Screen, i: usize) -> bool {
     match all.formatted_row(alloc, i) {
-        Ok(Some(row)) => sees(alloc, screen, push, i, row.as_str()),
+        Ok(Some(row)) => sees(alloc, rows, i, row.as_str()),
         _ => false,
     }
 }
 
 // Whether all rows are seen so.
-fn sees_all(alloc: Global, screen: &Screen, pending: &PendingPush, all: &Screen) -> bool {
+fn sees_all(alloc: Global, rows: RowsView<'_>, all: &Screen) -> bool {
     for i in 0..all.formatted_lines_count() {
-        if !sees_one(alloc, screen, pending, all, i) {
+        if !sees_one(alloc, rows, all, i) {
             return false;
         }
     }
-    screen.rows_after(pending) == all.formatted_lines_count()
+    rows.len() == all.formatted_lines_count()
 }
 
 // Whether a push is seen, before it is made, as another screen stores its rows.
 fn is_seen_before(alloc: Global, screen: &Screen, piece: &str, all: &Screen) -> bool {
     match screen.prepare_push(alloc, piece, LineNumbers::Enabled, 14, None) {
-        Ok(pending) => sees_all(alloc, screen, &pending, all),
+        Ok(pending) => sees_all(alloc, screen.view_after(piece, &pending), all),
         Err(_) => false,
     }
 }

@@ -1,7 +1,7 @@
 //! An unfinished line that comes in pieces has the rows of the whole.
 use crate::facts::{assert_at, assert_holds};
 use crate::text::screens::push;
-use minus_text::{LineNumbers, PendingPush, Screen};
+use minus_text::{LineNumbers, PendingPush, RowsView, Screen};
 use std::alloc::Global;
 
 // Lines that go on at their hyphens, in wide and combining characters, in `ESC[`, and between both characters of an ending;
@@ -97,7 +97,7 @@ fn same_by_characters(alloc: Global, text: &str, cols: usize) -> bool {
     push_characters(alloc, &mut screen, text, cols) && same_as_whole(alloc, &screen, text, cols)
 }
 
-// The same in each number of columns.
+// Whether a text that comes character by character shows so in each number of columns.
 fn same_by_characters_everywhere(alloc: Global, text: &str) -> bool {
     for cols in 0..12 {
         if !same_by_characters(alloc, text, cols) {
@@ -108,10 +108,10 @@ fn same_by_characters_everywhere(alloc: Global, text: &str) -> bool {
 }
 
 // Whether a push that is not made yet shows what a screen does.
-fn shows_before(screen: &Screen, pending: &PendingPush, all: &Screen) -> bool {
-    let mut alike = screen.rows_after(pending) == all.formatted_lines_count();
+fn shows_before(rows: RowsView<'_>, all: &Screen) -> bool {
+    let mut alike = rows.len() == all.formatted_lines_count();
     for row in 0..all.formatted_lines_count() {
-        alike &= screen.row_after(pending, row) == all.row_text(row);
+        alike &= rows.text(row) == all.row_text(row);
     }
     alike
 }
@@ -120,7 +120,7 @@ fn shows_before(screen: &Screen, pending: &PendingPush, all: &Screen) -> bool {
 fn pushed_as(alloc: Global, screen: &mut Screen, piece: &str, cols: usize, all: &Screen) -> bool {
     match screen.prepare_push(alloc, piece, LineNumbers::Disabled, cols, None) {
         Ok(pending) => {
-            let is_seen = shows_before(screen, &pending, all);
+            let is_seen = shows_before(screen.view_after(piece, &pending), all);
             let is_made = screen.place_push(alloc, piece, pending, None).is_ok();
             is_seen && is_made && same(screen, all)
         }
@@ -147,13 +147,13 @@ fn same_prepared_at_each_place(alloc: Global, text: &str, cols: usize, all: &Scr
     true
 }
 
-// The same of a text, beside a screen of the whole.
+// Whether a text that was prepared is placed as the whole is, in this number of columns.
 fn same_prepared_in(alloc: Global, text: &str, cols: usize) -> bool {
     let mut all = Screen::new(alloc);
     push_plain(alloc, &mut all, text, cols) && same_prepared_at_each_place(alloc, text, cols, &all)
 }
 
-// The same in each number of columns.
+// Whether a text that was prepared is placed so in each number of columns.
 fn same_prepared_everywhere(alloc: Global, text: &str) -> bool {
     for cols in 0..12 {
         if !same_prepared_in(alloc, text, cols) {

@@ -1,5 +1,5 @@
 //! Screens for tests, and what they have. Pieces, and rows, stand in one text with a bar between them. Where memory runs out, each answer is `false`.
-use minus_text::{Layout, LineNumbers, PendingPush, Screen};
+use minus_text::{Layout, LineNumbers, RowsView, Screen};
 use std::alloc::Global;
 
 // Pushes a text.
@@ -49,15 +49,9 @@ pub(crate) fn stores(alloc: Global, screen: &Screen, i: usize, wanted: &str) -> 
     }
 }
 
-// Whether a row is seen so beside a push that is prepared.
-pub(crate) fn sees(
-    alloc: Global,
-    screen: &Screen,
-    pending: &PendingPush,
-    i: usize,
-    wanted: &str,
-) -> bool {
-    match screen.formatted_row_after(alloc, pending, i) {
+// Whether a row is seen so.
+pub(crate) fn sees(alloc: Global, rows: RowsView<'_>, i: usize, wanted: &str) -> bool {
+    match rows.formatted_row(alloc, i) {
         Ok(Some(row)) => row.as_str() == wanted,
         _ => false,
     }

@@ -1,6 +1,6 @@
 //! Searches: which match a jump goes to, and which sequences are no text.
 use crate::facts::assert_holds;
-use minus_text::{Patterns, next_nth_match, strip_escapes};
+use minus_text::{Patterns, next_nth_match, strip_escapes, word_starts};
 use std::alloc::Global;
 use std::collections::BTreeSet;
 
@@ -70,7 +70,7 @@ fn strips(alloc: Global, patterns: &Patterns, text: &str, wanted: &str) -> bool 
     }
 }
 
-// The same of each of these texts.
+// Whether each of these texts is stripped so.
 fn strips_all(alloc: Global, cases: &[(&str, &str)]) -> bool {
     let Ok(patterns) = Patterns::new(alloc) else {
         return false;
@@ -93,4 +93,31 @@ fn escape_sequences_are_stripped(rt: HostRuntime) {
         ("\x1b[ m", "\x1b[ m"),
     ];
     assert_holds(&rt, strips_all(rt.alloc(), cases));
+}
+
+// Whether the words of a text start at these characters, counted from 1.
+fn start_at(alloc: Global, patterns: &Patterns, text: &str, wanted: &[usize]) -> bool {
+    match word_starts(alloc, patterns, text) {
+        Ok(starts) => starts.as_slice() == wanted,
+        Err(_) => false,
+    }
+}
+
+// Whether the words of each of these texts start so.
+fn all_start_at(alloc: Global, cases: &[(&str, &[usize])]) -> bool {
+    let Ok(patterns) = Patterns::new(alloc) else {
+        return false;
+    };
+    for (text, wanted) in cases {
+        if !start_at(alloc, &patterns, text, wanted) {
+            return false;
+        }
+    }
+    true
+}
+
+#[test]
+fn words_start_at_their_characters(rt: HostRuntime) {
+    let cases: &[(&str, &[usize])] = &[("", &[]), ("text search matches", &[1, 5, 6, 12, 13])];
+    assert_holds(&rt, all_start_at(rt.alloc(), cases));
 }

@@ -14,7 +14,8 @@ use std::alloc::{AllocError, Global};
 // The match that follows one that ends at a place. An empty one right there is passed over.
 fn following<'h>(matcher: &mut Matcher<'_>, text: &'h str, end: usize) -> Option<Match<'h>>
     requires { end ≤ length text.now }
-    ensures found { option_map match_span result ≡ option_map span (find_after (find_str (matcher_pattern matcher.old) text.now) end) }
+    ensures found { option_map match_span result
+        ≡ option_map span (find_after (find_str (matcher_pattern matcher.old) text.now) end) }
     ensures within { IfSome result (λ m. match_haystack m ≡ text.now) }
     ensures same { matcher_pattern matcher.new ≡ matcher_pattern matcher.old }
 {

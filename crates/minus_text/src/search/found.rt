@@ -43,7 +43,8 @@ fn outside_matches(
     places: &[(usize, usize)],
 ) -> Result<Vec<(usize, usize)>, AllocError>
     requires { CutsText row.now 0 places.now }
-    ensures found { IfOk result (λ found. found.items ≡ match_places (matcher_pattern matcher.old) (outside row.now 0 places.now)) }
+    ensures found { IfOk result (λ found. found.items
+        ≡ match_places (matcher_pattern matcher.old) (outside row.now 0 places.now)) }
     ensures cuts { IfOk result (λ found. CutsText (outside row.now 0 places.now) 0 found.items) }
     ensures same { matcher_pattern matcher.new ≡ matcher_pattern matcher.old }
 {
@@ -93,9 +94,12 @@ impl<'p> Finder<'p> {
         n: usize,
         row: &str,
     ) -> Result<(), AllocError>
-        ensures found { OnOk result (map matches_of found.new.items ≡ map matches_of found.old.items ++ found_in_row (finder_pattern self.old) n row.now) }
-        ensures placed { OnOk result ((first : ℕ) (rows : List (List ℕ)) (i : ℕ) → n ≡ first + i → slice_get rows i ≡ Some row.now →
-            ArePlaced first rows (map matches_of found.old.items) → ArePlaced first rows (map matches_of found.new.items)) }
+        ensures found { OnOk result (map matches_of found.new.items ≡ map matches_of found.old.items
+            ++ found_in_row (finder_pattern self.old) n row.now) }
+        ensures placed { OnOk result ((first : ℕ) (rows : List (List ℕ)) (i : ℕ) → n ≡ first + i →
+            slice_get rows i ≡ Some row.now →
+            ArePlaced first rows (map matches_of found.old.items) →
+            ArePlaced first rows (map matches_of found.new.items)) }
         ensures same { finder_pattern self.new ≡ finder_pattern self.old }
     {
         let here = self.find(alloc, n, row)?;

@@ -1,9 +1,10 @@
 //! The rows of a text that a term matches.
-ghost use Rattle.std.specs.Prelude.{◌≡◌, ℕ, ◌+◌, ◌≤◌, List, [], ◌++◌, length, map, option_map, nat_le, slice_get, string_bytes, IfOk, IfSome, OnOk};
+ghost use Rattle.std.specs.Prelude.{◌≡◌, ℕ, ◌+◌, ◌≤◌, List, [], ◌++◌, length, map, option_map, nat_le, slice_get, string_bytes, IfOk, IfSome, OnOk, ◌<◌, ◌^◌};
 ghost use Rattle.minus_text.specs.Formatted.{prefix_of};
 ghost use Rattle.std.specs.List.{position_or_len};
 ghost use Rattle.regex.specs.Strings.{regex_pattern};
 ghost use Rattle.minus_text.specs.Document.{rows_of};
+ghost use Rattle.minus_text.specs.Matches.{counts_first};
 ghost use Rattle.minus_text.specs.Fragments.{rows_in};
 ghost use Rattle.minus_text.specs.Found.{found_in_rows, found_by, found_above, found_from, row_numbers, found_of_row, marked, IsPlaced, ArePlaced, Ascend, AreFoundIn};
 ghost use Rattle.minus_text.specs.FoundRows.{finder_pattern, matches_of, pattern_of};
@@ -14,6 +15,7 @@ use crate::formed_push::FormedPush;
 use crate::screen::Row;
 use crate::search::found::{Finder, FoundRow};
 use crate::search::highlight::HighlightMatchesArgs;
+use crate::search::matches::counts_first;
 use crate::search::term::Term;
 use crate::store::Store;
 use std::alloc::{AllocError, Global};
@@ -35,7 +37,8 @@ fn note_some(
     row: Option<&str>,
 ) -> Result<(), AllocError>
     ensures found { OnOk result (map matches_of found.new.items
-        ≡ map matches_of found.old.items ++ found_in_some (finder_pattern finder.old) n (option_map (λ r. r.now) row.entry)) }
+        ≡ map matches_of found.old.items ++ found_in_some (finder_pattern finder.old) n
+        (option_map (λ r. r.now) row.entry)) }
     ensures placed { OnOk result ((first : ℕ) (rows : List (List ℕ)) (i : ℕ) → n ≡ first + i →
         option_map (λ r. r.now) row.entry ≡ slice_get rows i → ArePlaced first rows (map matches_of found.old.items) →
         ArePlaced first rows (map matches_of found.new.items)) }
@@ -50,7 +53,8 @@ fn note_some(
 
 // What a term finds in the rows of a text.
 fn find_in_store(alloc: Global, term: Term<'_>, store: &Store) -> Result<FoundRows, AllocError>
-    ensures found { IfOk result (λ f. found_rows f ≡ found_in_rows (regex_pattern term.entry.pattern.now) 0 (rows_of store.now)) }
+    ensures found { IfOk result (λ f. found_rows f
+        ≡ found_in_rows (regex_pattern term.entry.pattern.now) 0 (rows_of store.now)) }
     ensures placed { IfOk result (λ f. ArePlaced 0 (rows_of store.now) (found_rows f)) }
 {
     let mut finder = Finder::new(alloc, term)?;
@@ -67,7 +71,8 @@ fn find_in_push(
     term: Term<'_>,
     pending: &FormedPush,
 ) -> Result<FoundRows, AllocError>
-    ensures found { IfOk result (λ f. found_rows f ≡ found_in_rows (regex_pattern term.entry.pattern.now) pending.now.kept_rows (rows_in pending.now.tail)) }
+    ensures found { IfOk result (λ f. found_rows f
+        ≡ found_in_rows (regex_pattern term.entry.pattern.now) pending.now.kept_rows (rows_in pending.now.tail)) }
     ensures placed { IfOk result (λ f. ArePlaced pending.now.kept_rows (rows_in pending.now.tail) (found_rows f)) }
 {
     let mut finder = Finder::new(alloc, term)?;
@@ -88,7 +93,8 @@ fn find_in_push(
 // How many of these rows stand above one.
 fn count_above(found: &[FoundRow], row: usize) -> usize
     requires { Ascend 0 (map matches_of found.now) }
-    ensures { result ≡ position_or_len (λ f. nat_le row f.row) (map matches_of found.now) }
+    ensures value { result ≡ position_or_len (λ f. nat_le row f.row) (map matches_of found.now) }
+    ensures few { result ≤ length found.now }
 {
     found.partition_point(|f| f.row < row)
 }
@@ -135,7 +141,8 @@ impl FoundRows {
         term: Option<Term<'_>>,
         pending: &FormedPush,
     ) -> Result<Self, AllocError>
-        ensures found { IfOk result (λ f. found_rows f ≡ found_by (pattern_of term.entry) pending.now.kept_rows (rows_in pending.now.tail)) }
+        ensures found { IfOk result (λ f. found_rows f
+            ≡ found_by (pattern_of term.entry) pending.now.kept_rows (rows_in pending.now.tail)) }
         ensures stand { IfOk result (λ f. AreFoundIn pending.now.kept_rows (rows_in pending.now.tail) (found_rows f)) }
     {
         let Some(term) = term else {
@@ -180,7 +187,8 @@ impl FoundRows {
         requires order { first ≤ row }
         requires ascend { Ascend 0 (found_rows self.now) }
         requires behind { Ascend row (found_rows fresh.now) }
-        ensures { IfOk result (λ s. s.keys ≡ row_numbers (found_from first (found_above row (found_rows self.now) ++ found_rows fresh.now))) }
+        ensures { IfOk result (λ s. s.keys ≡ row_numbers (found_from first (found_above row (found_rows self.now)
+            ++ found_rows fresh.now))) }
     {
         let rows = self.rows.as_slice();
         let from = count_above(rows, first);
@@ -215,6 +223,25 @@ impl FoundRows {
         self.rows.len()
     }
 
+    // How many of them stand above a row.
+    pub(crate) fn count_above(&self, row: usize) -> usize
+        requires { Ascend 0 (found_rows self.now) }
+        ensures value { result ≡ length (found_above row (found_rows self.now)) }
+        ensures few { result < 2 ^ 63 }
+    {
+        count_above(self.rows.as_slice(), row)
+    }
+
+    // How many of them stand before the first that a jump by this number of matches from a mark may count.
+    pub(crate) fn count_before(&self, mark: usize, jump: usize) -> usize
+        requires { Ascend 0 (found_rows self.now) }
+        ensures value { result ≡ position_or_len (counts_first mark jump) (row_numbers (found_rows self.now)) }
+        ensures few { result < 2 ^ 63 }
+    {
+        self.rows
+            .partition_point(|found| !counts_first(mark, jump, found.row))
+    }
+
     // The number of one of them, which are counted from 0.
     pub(crate) fn row(&self, i: usize) -> Option<usize>
         ensures { result ≡ option_map (λ f. f.row) (slice_get (found_rows self.now) i) }
@@ -226,7 +253,7 @@ impl FoundRows {
     }
 
     // What was found in the row with a number.
-    fn of_row(&self, n: usize) -> Option<&FoundRow>
+    pub(crate) fn of_row(&self, n: usize) -> Option<&FoundRow>
         requires { Ascend 0 (found_rows self.now) }
         ensures { option_map (λ f. matches_of f.now) result ≡ found_of_row n (found_rows self.now) }
     {
@@ -249,7 +276,8 @@ impl FoundRows {
     ) -> Result<Row, AllocError>
         requires ascend { Ascend 0 (found_rows self.now) }
         requires placed { IfSome (found_of_row n (found_rows self.now)) (λ r. IsPlaced row.row.now r) }
-        ensures { IfOk result (λ text. string_bytes text ≡ prefix_of row.entry.prefix ++ marked (found_of_row n (found_rows self.now)) row.entry.row.now) }
+        ensures { IfOk result (λ text. string_bytes text ≡ prefix_of row.entry.prefix
+            ++ marked (found_of_row n (found_rows self.now)) row.entry.row.now) }
     {
         let Some(found) = self.of_row(n) else {
             return row.to_string(alloc);

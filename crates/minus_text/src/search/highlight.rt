@@ -31,7 +31,8 @@ fn put_moved<'l>(
     escapes: &[Insert<'l>],
     place: usize,
 ) -> Result<(), AllocError>
-    ensures { OnOk result (map insert_of puts.new.items ≡ map insert_of puts.old.items ++ moved place (map insert_of escapes.now)) }
+    ensures { OnOk result (map insert_of puts.new.items ≡ map insert_of puts.old.items
+        ++ moved place (map insert_of escapes.now)) }
 {
     for escape in escapes {
         puts.push(Insert {
@@ -49,7 +50,8 @@ fn put_end<'l>(
     accurate: bool,
     end: usize,
 ) -> Result<(), AllocError>
-    ensures { OnOk result (map insert_of puts.new.items ≡ map insert_of puts.old.items ++ closed accurate end (map insert_of inner.now)) }
+    ensures { OnOk result (map insert_of puts.new.items ≡ map insert_of puts.old.items
+        ++ closed accurate end (map insert_of inner.now)) }
 {
     let off = Insert {
         place: end,
@@ -71,7 +73,8 @@ fn put_match<'l>(
     accurate: bool,
     place: (usize, usize),
 ) -> Result<usize, AllocError>
-    ensures puts { OnOk result (map insert_of puts.new.items ≡ map insert_of puts.old.items ++ of_match accurate place (map insert_of escapes.now)) }
+    ensures puts { OnOk result (map insert_of puts.new.items ≡ map insert_of puts.old.items
+        ++ of_match accurate place (map insert_of escapes.now)) }
     ensures rest { IfOk result (λ count. (count ≤ length escapes.now)
         × (drop count (map insert_of escapes.now) ≡ behind place.1 (behind place.0 (map insert_of escapes.now)))) }
 {
@@ -93,7 +96,8 @@ fn ordered<'l>(
     escapes: &[Insert<'l>],
     accurate: bool,
 ) -> Result<Vec<Insert<'l>>, AllocError>
-    ensures { IfOk result (λ puts. map insert_of puts.items ≡ ordered accurate matches.now (map insert_of escapes.now)) }
+    ensures { IfOk result (λ puts. map insert_of puts.items
+        ≡ ordered accurate matches.now (map insert_of escapes.now)) }
 {
     let mut puts = Vec::new(alloc);
     let mut done = 0;
@@ -146,7 +150,7 @@ impl<'l> HighlightMatchesArgs<'l> {
         Ok(highlight)
     }
 
-    // The same of a line that is parted, by what finds the matches.
+    // The matches of a line that is already parted, by what finds them.
     pub(crate) fn of_parted(
         alloc: Global,
         matcher: &mut Matcher<'_>,
@@ -154,8 +158,10 @@ impl<'l> HighlightMatchesArgs<'l> {
         accurate: bool,
     ) -> Result<Self, AllocError>
         requires { StandIn (string_bytes parted.text) 0 (map insert_of parted.escapes.items) }
-        ensures line { IfOk result (λ h. shown_line h ≡ highlighted_parted (matcher_pattern matcher.old) accurate parted.entry) }
-        ensures matches { IfOk result (λ h. h.is_match ≡ matches_text (matcher_pattern matcher.old) (string_bytes parted.entry.text)) }
+        ensures line { IfOk result (λ h. shown_line h
+            ≡ highlighted_parted (matcher_pattern matcher.old) accurate parted.entry) }
+        ensures matches { IfOk result (λ h. h.is_match
+            ≡ matches_text (matcher_pattern matcher.old) (string_bytes parted.entry.text)) }
         ensures same { matcher_pattern matcher.new ≡ matcher_pattern matcher.old }
     {
         let Parted { text, escapes } = parted;
@@ -178,7 +184,8 @@ impl<'l> HighlightMatchesArgs<'l> {
         requires escapes { CutsText row.now 0 escape_places.now }
         requires matches { CutsText (outside row.now 0 escape_places.now) 0 matches.now }
         ensures { IfOk result (λ h. shown_line h
-            ≡ put_in (outside row.now 0 escape_places.now) 0 (ordered false matches.now (inside row.now 0 0 escape_places.now))) }
+            ≡ put_in (outside row.now 0 escape_places.now) 0
+            (ordered false matches.now (inside row.now 0 0 escape_places.now))) }
     {
         let Parted { text, escapes } = part(alloc, row, escape_places)?;
         let puts = ordered(alloc, matches, &escapes, false)?;

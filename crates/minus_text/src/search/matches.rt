@@ -5,7 +5,7 @@ ghost use Rattle.minus_text.specs.Matches.{counts_first, nearest, nth_match};
 use std::collections::BTreeSet;
 
 // Whether a jump may count this row as its first.
-fn counts_first(mark: usize, jump: usize, row: usize) -> bool
+pub(crate) fn counts_first(mark: usize, jump: usize, row: usize) -> bool
     ensures { result ≡ counts_first mark jump row }
 {
     if jump == 0 { row >= mark } else { row > mark }

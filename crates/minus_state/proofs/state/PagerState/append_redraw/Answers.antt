@@ -13,7 +13,7 @@ pub returns-then-after-prefix : goal.returns-then-after-prefix
 returns-then-after-prefix c =
     let old : Document = c.args.self.now.screen.document in
     let new : Document = next_document old c.args.next.now in
-    let numbers = c.is_on-numbers.ensures ∙ ap (λ (l : Layout). is_on l.numbers) c.layout_after.ensures in
-    let after = c.prefix_columns-after.ensures.value ∙ ap (λ (b : Bool). prefix_columns b c.line_count_after.result) numbers ∙ ap (λ (n : ℕ). prefix_columns (is_on new.layout.numbers) n) c.line_count_after.ensures in
+    let numbers = c.is_on.ensures ∙ ap (λ (l : Layout). is_on l.numbers) c.layout.ensures ∙ ap (λ (d : Document). is_on d.layout.numbers) c.view-view.ensures.document in
+    let after = c.prefix_columns-after.ensures.value ∙ ap (λ (b : Bool). prefix_columns b c.line_count.result) numbers ∙ ap (λ (n : ℕ). prefix_columns (is_on new.layout.numbers) n) (c.line_count.ensures ∙ ap (λ (d : Document). line_count d) c.view-view.ensures.document) in
     let columns = sym after ∙ c.if-after-prefix.true ∙ c.prefix.ensures in
     sym (ap (λ (b : Bool). if b then Appended else Whole) (eq-eqb (margin_in new) (margin_in old) (margins_alike new.layout.numbers old.layout.numbers (line_count new) (line_count old) columns)))

@@ -1,7 +1,7 @@
 -- As many rows are shown as there are.
-use Rattle.std.proofs.Common.{ℕ, ◌-◌, List, None, drop, arith}
+use Rattle.std.proofs.Common.{ℕ, ◌-◌, List, None, length, drop, ap, arith}
 use Rattle.std.proofs.lemmas.List.{length-take, length-drop}
-use Rattle.minus_text.specs.Document.{Document}
+use Rattle.minus_text.specs.Document.{Document, rows_of}
 use Rattle.minus_state.specs.declared.selection.SelectionEnds.{SelectionEnds}
 use Rattle.minus_state.specs.Selection.{ends_in_order}
 use Rattle.minus_state.proofs.ShownRowsLaws.{length-shown_rows}
@@ -19,4 +19,4 @@ returns-clause-count c =
     let ends : SelectionEnds = ends_set c.args.change.now.setting (ends_of c.args.self.now) in
     let rows : List (List ℕ) = shown_of d left ends in
     let all = length-shown_rows None d left (ends_in_order ends) in
-    omega (arith, c.min.ensures, c.saturating_sub-left.ensures, c.rows_after.ensures, length-take (change.rows - 1) (drop change.mark rows), length-drop change.mark rows, all)
+    omega (arith, c.min.ensures, c.saturating_sub-left.ensures, c.len-rows.ensures, ap (λ (x : Document). length (rows_of x)) c.view.ensures.document, length-take (change.rows - 1) (drop change.mark rows), length-drop change.mark rows, all)

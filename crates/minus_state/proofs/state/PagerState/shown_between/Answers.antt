@@ -29,8 +29,8 @@ loop-i-preserved c =
     let all = length-shown_rows None d left (ends_in_order ends) in
     let within : mark + c.loop-i.i < length rows = omega (arith, count, cut, test, on_page, below) in
     let showing = c.showing-showing.ensures in
-    shown_next rows mark c.min-start.result c.loop-i.i (map row_text c.loop-i.shown.items) (map row_text c.push_some.new.rows.items) _ c.loop-i.auto.i within c.loop-i.invariant
-    (row_shown c.args.self.now c.args.change.now c.showing-showing.result _ (mark + c.loop-i.i) showing.screen showing.text showing.left showing.ends (omega (arith, within, all)) c.in_ok-row.ensures) c.in_ok-push_some.ensures
+    shown_next rows mark c.min-start.result c.loop-i.i (map row_text c.loop-i.shown.items) (map row_text c.push_shown.new.rows.items) _ c.loop-i.auto.i within c.loop-i.invariant
+    (row_shown d _ left _ ends _ _ (mark + c.loop-i.i) showing.view showing.left showing.ends (omega (arith, within, all)) (c.in_ok-row.ensures None showing.found)) c.in_ok-push_shown.ensures
 
 pub returns : goal.returns
 returns c =

@@ -14,8 +14,8 @@ slice_bounds-add_numbers-start c =
     let old = found_rows c.args.self.now in
     let a = c.count_above-from.result in
     let b = c.count_above-staying.result in
-    let at_a : a ≡ position_or_len (λ (f : RowMatches). nat_le c.args.first f.row) old = c.count_above-from.ensures ∙ ap (λ l. position_or_len (λ (f : RowMatches). nat_le c.args.first f.row) (map matches_of l)) c.as_slice-rows.ensures.value in
-    let at_b : b ≡ position_or_len (λ (f : RowMatches). nat_le c.args.row f.row) old = c.count_above-staying.ensures ∙ ap (λ l. position_or_len (λ (f : RowMatches). nat_le c.args.row f.row) (map matches_of l)) c.as_slice-rows.ensures.value in
+    let at_a : a ≡ position_or_len (λ (f : RowMatches). nat_le c.args.first f.row) old = c.count_above-from.ensures.value ∙ ap (λ l. position_or_len (λ (f : RowMatches). nat_le c.args.first f.row) (map matches_of l)) c.as_slice-rows.ensures.value in
+    let at_b : b ≡ position_or_len (λ (f : RowMatches). nat_le c.args.row f.row) old = c.count_above-staying.ensures.value ∙ ap (λ l. position_or_len (λ (f : RowMatches). nat_le c.args.row f.row) (map matches_of l)) c.as_slice-rows.ensures.value in
     omega (arith, above_ordered c.args.first c.args.row old c.requires.order, at_a, at_b)
 
 pub slice_bounds-add_numbers-count : goal.slice_bounds-add_numbers-count
@@ -24,8 +24,8 @@ slice_bounds-add_numbers-count c =
     let old = found_rows c.args.self.now in
     let a = c.count_above-from.result in
     let b = c.count_above-staying.result in
-    let at_a : a ≡ position_or_len (λ (f : RowMatches). nat_le c.args.first f.row) old = c.count_above-from.ensures ∙ ap (λ l. position_or_len (λ (f : RowMatches). nat_le c.args.first f.row) (map matches_of l)) c.as_slice-rows.ensures.value in
-    let at_b : b ≡ position_or_len (λ (f : RowMatches). nat_le c.args.row f.row) old = c.count_above-staying.ensures ∙ ap (λ l. position_or_len (λ (f : RowMatches). nat_le c.args.row f.row) (map matches_of l)) c.as_slice-rows.ensures.value in
+    let at_a : a ≡ position_or_len (λ (f : RowMatches). nat_le c.args.first f.row) old = c.count_above-from.ensures.value ∙ ap (λ l. position_or_len (λ (f : RowMatches). nat_le c.args.first f.row) (map matches_of l)) c.as_slice-rows.ensures.value in
+    let at_b : b ≡ position_or_len (λ (f : RowMatches). nat_le c.args.row f.row) old = c.count_above-staying.ensures.value ∙ ap (λ l. position_or_len (λ (f : RowMatches). nat_le c.args.row f.row) (map matches_of l)) c.as_slice-rows.ensures.value in
     omega (arith, above_ordered c.args.first c.args.row old c.requires.order, at_a, at_b)
 
 pub slice_bounds-add_numbers-end : goal.slice_bounds-add_numbers-end
@@ -34,8 +34,8 @@ slice_bounds-add_numbers-end c =
     let old = found_rows c.args.self.now in
     let a = c.count_above-from.result in
     let b = c.count_above-staying.result in
-    let at_a : a ≡ position_or_len (λ (f : RowMatches). nat_le c.args.first f.row) old = c.count_above-from.ensures ∙ ap (λ l. position_or_len (λ (f : RowMatches). nat_le c.args.first f.row) (map matches_of l)) c.as_slice-rows.ensures.value in
-    let at_b : b ≡ position_or_len (λ (f : RowMatches). nat_le c.args.row f.row) old = c.count_above-staying.ensures ∙ ap (λ l. position_or_len (λ (f : RowMatches). nat_le c.args.row f.row) (map matches_of l)) c.as_slice-rows.ensures.value in
+    let at_a : a ≡ position_or_len (λ (f : RowMatches). nat_le c.args.first f.row) old = c.count_above-from.ensures.value ∙ ap (λ l. position_or_len (λ (f : RowMatches). nat_le c.args.first f.row) (map matches_of l)) c.as_slice-rows.ensures.value in
+    let at_b : b ≡ position_or_len (λ (f : RowMatches). nat_le c.args.row f.row) old = c.count_above-staying.ensures.value ∙ ap (λ l. position_or_len (λ (f : RowMatches). nat_le c.args.row f.row) (map matches_of l)) c.as_slice-rows.ensures.value in
     let size : length c.as_slice-rows.result.now ≡ length items = ap length c.as_slice-rows.ensures.value in
     omega (arith, above_within c.args.row old, length-map items matches_of, at_b, size)
 
@@ -45,8 +45,8 @@ offset_bounds-rows-from c =
     let old = found_rows c.args.self.now in
     let a = c.count_above-from.result in
     let b = c.count_above-staying.result in
-    let at_a : a ≡ position_or_len (λ (f : RowMatches). nat_le c.args.first f.row) old = c.count_above-from.ensures ∙ ap (λ l. position_or_len (λ (f : RowMatches). nat_le c.args.first f.row) (map matches_of l)) c.as_slice-rows.ensures.value in
-    let at_b : b ≡ position_or_len (λ (f : RowMatches). nat_le c.args.row f.row) old = c.count_above-staying.ensures ∙ ap (λ l. position_or_len (λ (f : RowMatches). nat_le c.args.row f.row) (map matches_of l)) c.as_slice-rows.ensures.value in
+    let at_a : a ≡ position_or_len (λ (f : RowMatches). nat_le c.args.first f.row) old = c.count_above-from.ensures.value ∙ ap (λ l. position_or_len (λ (f : RowMatches). nat_le c.args.first f.row) (map matches_of l)) c.as_slice-rows.ensures.value in
+    let at_b : b ≡ position_or_len (λ (f : RowMatches). nat_le c.args.row f.row) old = c.count_above-staying.ensures.value ∙ ap (λ l. position_or_len (λ (f : RowMatches). nat_le c.args.row f.row) (map matches_of l)) c.as_slice-rows.ensures.value in
     let size : length c.as_slice-rows.result.now ≡ length items = ap length c.as_slice-rows.ensures.value in
     let le : a ≤ length c.as_slice-rows.result.now = omega (arith, above_within c.args.first old, length-map items matches_of, at_a, size) in
     search (rules, le)
@@ -57,8 +57,8 @@ returns c =
     let old = found_rows c.args.self.now in
     let a = c.count_above-from.result in
     let b = c.count_above-staying.result in
-    let at_a : a ≡ position_or_len (λ (f : RowMatches). nat_le c.args.first f.row) old = c.count_above-from.ensures ∙ ap (λ l. position_or_len (λ (f : RowMatches). nat_le c.args.first f.row) (map matches_of l)) c.as_slice-rows.ensures.value in
-    let at_b : b ≡ position_or_len (λ (f : RowMatches). nat_le c.args.row f.row) old = c.count_above-staying.ensures ∙ ap (λ l. position_or_len (λ (f : RowMatches). nat_le c.args.row f.row) (map matches_of l)) c.as_slice-rows.ensures.value in
+    let at_a : a ≡ position_or_len (λ (f : RowMatches). nat_le c.args.first f.row) old = c.count_above-from.ensures.value ∙ ap (λ l. position_or_len (λ (f : RowMatches). nat_le c.args.first f.row) (map matches_of l)) c.as_slice-rows.ensures.value in
+    let at_b : b ≡ position_or_len (λ (f : RowMatches). nat_le c.args.row f.row) old = c.count_above-staying.ensures.value ∙ ap (λ l. position_or_len (λ (f : RowMatches). nat_le c.args.row f.row) (map matches_of l)) c.as_slice-rows.ensures.value in
     let mid : map matches_of (take (b - a) (drop a c.as_slice-rows.result.now)) ≡ take (b - a) (drop a old) =
     ap (map matches_of) (ap (λ l. take (b - a) (drop a l)) c.as_slice-rows.ensures.value)
     ∙ sym (take-map matches_of (b - a) (drop a items)) ∙ ap (take (b - a)) (sym (drop-map matches_of a items)) in

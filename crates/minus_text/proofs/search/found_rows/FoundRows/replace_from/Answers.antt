@@ -12,4 +12,4 @@ returns c =
     ap (map matches_of) (c.in-Ok.ensures.items ∙ ap (λ l. l ++ fresh) c.truncate.ensures.items)
     ∙ map-append matches_of (take c.count_above-staying.result old) fresh
     ∙ ap (λ l. l ++ map matches_of fresh) (sym (take-map matches_of c.count_above-staying.result old)
-    ∙ ap (λ n. take n (map matches_of old)) (c.count_above-staying.ensures ∙ ap (λ l. position_or_len (λ (f : RowMatches). nat_le c.args.row f.row) (map matches_of l)) c.as_slice.ensures.value))
+    ∙ ap (λ n. take n (map matches_of old)) (c.count_above-staying.ensures.value ∙ ap (λ l. position_or_len (λ (f : RowMatches). nat_le c.args.row f.row) (map matches_of l)) c.as_slice.ensures.value))

@@ -1,0 +1,283 @@
+//! The rows of a text, or those that a push of it would leave, and what was found in them.
+ghost use Rattle.minus_text.specs.Document.{rows_of};
+ghost use Rattle.minus_text.specs.Found.{ArePlaced, Ascend, ArePlaced-prop, Ascend-prop};
+ghost use Rattle.minus_text.specs.FoundBy.{found_rows};
+ghost use Rattle.minus_text.specs.NextPushes.{IsPendingBehind, IsPendingBehind-prop};
+
+use crate::formatted::{FormattedRow, RowPrefix};
+use crate::layout::Layout;
+use crate::pending::PendingPush;
+use crate::screen::Row;
+use crate::search::found_rows::FoundRows;
+use crate::store::Store;
+use std::alloc::{AllocError, Global};
+
+// A push that is not made yet: its text, and what was formed and found for it.
+#[derive(Clone, Copy)]
+pub(crate) struct NextPush<'s> {
+    pub(crate) text: &'s str,
+    pub(crate) pending: &'s PendingPush,
+}
+
+/// The rows of a text, with what was found in them: those that a screen has, or those that a push would leave.
+/// `Screen::view`, `Screen::view_of` and `Screen::view_after` make it.
+#[derive(Clone, Copy)]
+pub struct RowsView<'s> {
+    pub(crate) store: &'s Store,
+    pub(crate) found: &'s FoundRows,
+    pub(crate) next: Option<NextPush<'s>>,
+    pub(crate) ghost placed: { ArePlaced 0 (rows_of store.now) (found_rows found.now) } by { ArePlaced-prop 0 (rows_of store.now) (found_rows found.now) },
+    pub(crate) ghost ascend: { Ascend 0 (found_rows found.now) } by { Ascend-prop 0 (found_rows found.now) },
+    pub(crate) ghost pending: { IsPendingBehind store.now next } by { IsPendingBehind-prop store.now next },
+}
+
+impl<'s> RowsView<'s> {
+    ghost use Rattle.std.specs.Prelude.{◌≡◌, ◌==◌, ℕ, List, Some, length, string_bytes, option_map, slice_get, IfOk, IfSome};
+    ghost use Rattle.std.specs.List.{position_or_len};
+    ghost use Rattle.minus_text.specs.Document.{rows_of, line_count, IsPrefixOf};
+    ghost use Rattle.minus_text.specs.Formatted.{prefix_of};
+    ghost use Rattle.minus_text.specs.Found.{Ascend, IsPlaced, found_of_row, row_numbers};
+    ghost use Rattle.minus_text.specs.Matches.{counts_first, nearest, nth_match};
+    ghost use Rattle.minus_text.specs.Searched.{IsRowBehind, IsStoredRow, IsHighlightedRow};
+    ghost use Rattle.minus_text.specs.Views.{viewed};
+
+    /// The number of rows. It takes no memory.
+    pub fn len(self) -> usize
+        ensures { result ≡ length (rows_of (viewed self.entry).document) }
+    {
+        match self.next {
+            Some(next) => {
+                let push = next.pending.push();
+                push.kept_rows() + push.formed_rows()
+            }
+            None => self.store.formatted_lines_count(),
+        }
+    }
+
+    /// Whether there is no row. It takes no memory.
+    pub fn is_empty(self) -> bool
+        ensures { result ≡ (length (rows_of (viewed self.entry).document) == 0) }
+    {
+        self.len() == 0
+    }
+
+    /// The number of lines. It takes no memory.
+    pub fn line_count(self) -> usize
+        ensures { result ≡ line_count (viewed self.entry).document }
+    {
+        match self.next {
+            Some(next) => {
+                let push = next.pending.push();
+                let kept = push.kept_lines().min(self.store.lines_to_row_map().len());
+                kept + push.first_rows().len()
+            }
+            None => self.store.line_count(),
+        }
+    }
+
+    /// The layout of the rows. It takes no memory.
+    pub fn layout(self) -> Layout
+        ensures { result ≡ (viewed self.entry).document.layout }
+    {
+        match self.next {
+            Some(next) => next.pending.push().relaid(self.store.layout()),
+            None => self.store.layout(),
+        }
+    }
+
+    /// The text of a row, counted from 0, without what stands before it and without markers. It takes no memory.
+    pub fn text(self, i: usize) -> Option<&'s str>
+        ensures { option_map (λ r. r.now) result ≡ slice_get (rows_of (viewed self.entry).document) i }
+    {
+        let Some(next) = self.next else {
+            return self.store.row_text(i);
+        };
+        let push = next.pending.push();
+        let kept = push.kept_rows();
+        if i < kept {
+            return self.store.row_text(i);
+        }
+        push.row_text(i - kept)
+    }
+
+    // What stands before the text of a row, counted from 0.
+    fn prefix(self, i: usize) -> RowPrefix
+        ensures { IsPrefixOf (viewed self.entry).document i (prefix_of result) }
+    {
+        let Some(next) = self.next else {
+            return self.store.row_prefix(i);
+        };
+        let push = next.pending.push();
+        let behind = push.first_rows();
+        let lines = self.store.lines_to_row_map();
+        let kept = push.kept_lines().min(lines.len());
+        let Some((line, is_first)) = lines.line_in(kept, behind, i) else {
+            return RowPrefix::NONE;
+        };
+        RowPrefix {
+            numbers: push.numbers().is_on(),
+            line_count: kept + behind.len(),
+            line: line + 1,
+            is_first,
+        }
+    }
+
+    // What knows of a row, counted from 0, what was found in it.
+    fn found_at(self, i: usize) -> &'s FoundRows
+        ensures ascend { Ascend 0 (found_rows result.now) }
+        ensures found { found_of_row i (found_rows result.now) ≡ found_of_row i (viewed self.entry).found }
+        ensures placed { (row : List ℕ) → slice_get (rows_of (viewed self.entry).document) i ≡ Some row →
+            IfSome (found_of_row i (found_rows result.now)) (λ r. IsPlaced row r) }
+    {
+        let Some(next) = self.next else {
+            return self.found;
+        };
+        let formed = next.pending.found();
+        if i < next.pending.push().kept_rows() {
+            return self.found;
+        }
+        formed
+    }
+
+    // A row, counted from 0, if there is one: this before its text, and its text with its matches in reverse.
+    fn row_behind(
+        self,
+        alloc: Global,
+        prefix: RowPrefix,
+        i: usize,
+    ) -> Result<Option<Row>, AllocError>
+        ensures { IfOk result (λ row. IsRowBehind (prefix_of prefix) (viewed self.entry) i
+            (option_map string_bytes row)) }
+    {
+        let Some(row) = self.text(i) else {
+            return Ok(None);
+        };
+        let found = self.found_at(i);
+        let text = found.format_row(alloc, i, FormattedRow { row, prefix })?;
+        Ok(Some(text))
+    }
+
+    /// A row as it is stored, counted from 0, if there is one: what stands before its text, and its text with its
+    /// matches in reverse.
+    ///
+    /// # Errors
+    ///
+    /// [`AllocError`] where there is no memory for it.
+    pub fn formatted_row(self, alloc: Global, i: usize) -> Result<Option<Row>, AllocError>
+        ensures { IfOk result (λ row. IsStoredRow (viewed self.entry) i (option_map string_bytes row)) }
+    {
+        self.row_behind(alloc, self.prefix(i), i)
+    }
+
+    /// The text of a row, counted from 0, if there is one, with its matches in reverse and nothing before it.
+    ///
+    /// # Errors
+    ///
+    /// [`AllocError`] where there is no memory for it.
+    pub fn highlighted_row(self, alloc: Global, i: usize) -> Result<Option<Row>, AllocError>
+        ensures { IfOk result (λ row. IsHighlightedRow (viewed self.entry) i (option_map string_bytes row)) }
+    {
+        self.row_behind(alloc, RowPrefix::NONE, i)
+    }
+
+    /// The text of a row, counted from 0, if there is one and nothing was found in it: so it is with its matches in
+    /// reverse. It takes no memory.
+    pub fn plain_text(self, i: usize) -> Option<&'s str>
+        ensures { IfSome result (λ text. IsHighlightedRow (viewed self.entry) i (Some text.now)) }
+    {
+        let text = self.text(i)?;
+        match self.found_at(i).of_row(i) {
+            Some(_) => None,
+            None => Some(text),
+        }
+    }
+
+    /// A row, counted from 0, if there is one that is stored as its own text: it has no number, and nothing was found
+    /// in it. It takes no memory.
+    pub fn plain_row(self, i: usize) -> Option<&'s str>
+        ensures { IfSome result (λ row. IsStoredRow (viewed self.entry) i (Some row.now)) }
+    {
+        if self.layout().numbers.is_on() {
+            return None;
+        }
+        let row = self.plain_text(i)?;
+        Some(row)
+    }
+
+    /// The number of rows that match. It takes no memory.
+    pub fn match_count(self) -> usize
+        ensures { result ≡ length (viewed self.entry).found }
+    {
+        match self.next {
+            Some(next) => {
+                let kept = self.found.count_above(next.pending.push().kept_rows());
+                kept + next.pending.found().len()
+            }
+            None => self.found.len(),
+        }
+    }
+
+    /// The number, counted from 0, of a row that matches. Such rows are counted from 0 in their order. It takes no
+    /// memory.
+    pub fn match_row(self, i: usize) -> Option<usize>
+        ensures { result ≡ option_map (λ f. f.row) (slice_get (viewed self.entry).found i) }
+    {
+        let Some(next) = self.next else {
+            return self.found.row(i);
+        };
+        let kept = self.found.count_above(next.pending.push().kept_rows());
+        if i < kept {
+            return self.found.row(i);
+        }
+        next.pending.found().row(i - kept)
+    }
+
+    // The number of rows that match before the first that a jump by this number of matches from a mark may count.
+    fn matches_before(self, mark: usize, jump: usize) -> usize
+        ensures { result ≡ position_or_len (counts_first mark jump) (row_numbers (viewed self.entry).found) }
+    {
+        let before = self.found.count_before(mark, jump);
+        let Some(next) = self.next else {
+            return before;
+        };
+        let kept = self.found.count_above(next.pending.push().kept_rows());
+        if before < kept {
+            return before;
+        }
+        kept + next.pending.found().count_before(mark, jump)
+    }
+
+    // The place of the first row that matches and that a jump may count, or 0.
+    fn nearest(self, mark: usize, jump: usize) -> usize
+        ensures { result ≡ nearest (row_numbers (viewed self.entry).found) mark jump }
+    {
+        let before = self.matches_before(mark, jump);
+        if before < self.match_count() {
+            return before;
+        }
+        0
+    }
+
+    /// The place, counted from 0, of the row that matches and that a jump by this number of matches from a row goes
+    /// to; a jump by 0 stays at a match that is right there. Past the last match the jump goes on at the first. `None`
+    /// where no row matches. It takes no memory, and halves the rows that match.
+    pub fn nth_match(self, mark: usize, jump: usize) -> Option<usize>
+        ensures { result ≡ nth_match (row_numbers (viewed self.entry).found) mark jump }
+    {
+        let count = self.match_count();
+        if count == 0 {
+            return None;
+        }
+        let first = self.nearest(mark, jump);
+        if jump == 0 {
+            return Some(first);
+        }
+        let step = (jump - 1) % count;
+        let left = count - first;
+        Some(if step < left {
+            first + step
+        } else {
+            step - left
+        })
+    }
+}
