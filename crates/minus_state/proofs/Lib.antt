@@ -9,3 +9,5 @@ pub mod SelectingLaws
 pub mod ChangeLaws
 pub mod AppendLaws
 pub mod RefusalLaws
+pub mod CharacterLaws
+pub mod QueryEditorLaws

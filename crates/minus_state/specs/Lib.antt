@@ -23,3 +23,6 @@ pub mod Events
 pub mod States
 pub mod Changes
 pub mod Classifying
+pub mod SearchMode
+pub mod QueryKeys
+pub mod QueryEditor

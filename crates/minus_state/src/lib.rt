@@ -1,5 +1,5 @@
 //! The state of a pager: its text, its marks and what is set beside them, what is selected, what of a row
-//! and of the prompt row is shown, and what events ask it for.
+//! and of the prompt row is shown, what events ask it for, and the editor of a search prompt's query.
 #![tactic(auto)]
 
 pub mod change;
@@ -9,6 +9,7 @@ pub mod input;
 pub mod prompt;
 pub mod rendering;
 pub mod scroll;
+pub mod search;
 pub mod selection;
 pub mod showing;
 pub mod state;
@@ -21,6 +22,9 @@ pub use input::{InputClassifier, InputEvent};
 pub use prompt::{PromptRow, format_prompt, prompt_fills_its_row};
 pub use rendering::{render_rows_for_display, selection_adds_markers_alone, shown_rows_fit};
 pub use scroll::get_horizontal_scroll_bounds;
+pub use search::keys::{QueryEdit, edit_of};
+pub use search::query::{Fed, QueryEditor};
+pub use search::{InputStatus, SearchMode};
 pub use selection::{Selection, SelectionEnds, marked_range};
 pub use showing::{ShownRow, ShownRows};
 pub use state::help::{HelpSwitch, Saved};

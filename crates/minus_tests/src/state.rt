@@ -1,6 +1,7 @@
 //! Tests of `minus_state`: worked rows.
 mod copies;
 mod prompts;
+mod queries;
 mod rows;
 mod selections;
 mod shown_rows;
