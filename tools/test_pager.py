@@ -315,6 +315,18 @@ class PagerTests(unittest.TestCase):
 
     LINES = ''.join(f'line {n} of the text\n' for n in range(1, 101))
 
+    def page_lines(self):
+        """Pages a file of a hundred lines, and waits for its first page."""
+        self.write('notes', self.LINES)
+        self.page('./minus notes')
+        self.terminal.wait_for('1-7/100')
+        return self.terminal
+
+    def quit(self):
+        """Ends the pager by its key."""
+        self.press('q')
+        self.assert_back(0)
+
     def test_keys_do_what_the_library_says(self):
         self.write('notes', self.LINES)
         self.page('./minus notes')
@@ -349,8 +361,7 @@ class PagerTests(unittest.TestCase):
         self.press_escape()
         self.press('q')
         self.assert_page(self.LINES, 'notes  30-36/100  36%', 'mark 29', 'numbers on')
-        self.press('q')
-        self.assert_back(0)
+        self.quit()
 
     def test_options(self):
         long = 'a long line that takes more than one row of the screen\n' + self.LINES
@@ -365,15 +376,13 @@ class PagerTests(unittest.TestCase):
         self.resume()
         self.assert_page(*page)
         self.assertFalse(self.terminal.player.modes[1000])
-        self.press('q')
-        self.assert_back(0)
+        self.quit()
 
     def test_a_first_line_beyond_a_file_shows_the_last_page(self):
         self.write('notes', self.LINES)
         self.page('./minus +200 notes')
         self.assert_page(self.LINES, 'notes  94-100/100  100%', 'mark 93')
-        self.press('q')
-        self.assert_back(0)
+        self.quit()
 
     def test_a_first_line_is_waited_for_until_a_pipe_ends(self):
         writer = self.page_pipe('seq 20', '+25')
@@ -383,8 +392,7 @@ class PagerTests(unittest.TestCase):
         self.terminal.wait_for('1-7/21')
         os.close(writer)
         self.assert_page(''.join(f'{n}\n' for n in range(1, 22)), 'standard input  15-21/21  100%', 'mark 14')
-        self.press('q')
-        self.assert_back(0)
+        self.quit()
 
     def test_a_first_line_of_a_pipe(self):
         writer = self.page_pipe('seq 20', '+25')
@@ -397,8 +405,7 @@ class PagerTests(unittest.TestCase):
         self.write(b'caf\xe9\tnotes', self.LINES)
         self.page('./minus caf*')
         self.assert_page(self.LINES, 'caf??notes  1-7/100  7%')
-        self.press('q')
-        self.assert_back(0)
+        self.quit()
 
     def test_a_text_of_many_pieces_is_whole(self):
         self.write('numbers', ''.join(f'{n}\n' for n in range(1, 50001)))
@@ -409,8 +416,7 @@ class PagerTests(unittest.TestCase):
                 self.press(f'{line}G')
                 self.terminal.wait_for(f'{line}-{line + 6}/50000')
                 self.assertEqual(self.terminal.player.texts()[:7], [str(line + n) for n in range(7)])
-            self.press('q')
-            self.assert_back(0)
+            self.quit()
 
     def told_size(self):
         """What the launcher tells the program of the terminal's size, once it does."""
@@ -418,9 +424,7 @@ class PagerTests(unittest.TestCase):
         return contents(found[0]).decode() if found else ''
 
     def test_a_resize(self):
-        self.write('notes', self.LINES)
-        self.page('./minus notes')
-        self.terminal.wait_for('1-7/100')
+        self.page_lines()
         self.press('3j')
         self.terminal.wait_for('4-10/100')
         # (a terminal without rows is none that can be paged on)
@@ -429,8 +433,7 @@ class PagerTests(unittest.TestCase):
         self.terminal.wait_for_turns()
         self.terminal.resize(30, 12)
         self.assert_page(self.LINES, 'notes  4-14/100  14%', 'mark 3')
-        self.press('q')
-        self.assert_back(0)
+        self.quit()
 
     def test_a_growing_file_is_followed_until_the_reader_moves_up(self):
         path = self.write('log', self.LINES)
@@ -452,8 +455,7 @@ class PagerTests(unittest.TestCase):
         self.assert_page(text, 'log  97-103/103  100%', 'follow on')
         os.truncate(path, 10)
         self.terminal.wait_for('(cut short)')
-        self.press('q')
-        self.assert_back(0)
+        self.quit()
 
     def test_a_text_is_read_while_keys_come(self):
         path = self.write('log', self.LINES)
@@ -472,8 +474,7 @@ class PagerTests(unittest.TestCase):
             terminal.read(0)
         terminal.wait_for_turns()
         os.set_blocking(terminal.master, True)
-        self.press('q')
-        self.assert_back(0)
+        self.quit()
 
     def page_pipe(self, begin, options=''):
         """Pages a pipe whose producer writes what a command says and then what this test writes: to this descriptor."""
@@ -511,16 +512,14 @@ class PagerTests(unittest.TestCase):
         # (what is read now is the terminal's size alone)
         self.assertLess(terminal.counted('rchar') - before, 4096)
         self.assertLess(before, bound + 1024 * 1024)
-        self.press('q')
-        self.assert_back(0)
+        self.quit()
 
     def test_out_of_memory_is_said_and_the_pager_goes_on(self):
         self.page('(ulimit -v 200000; yes | ./minus +F)')
         self.terminal.wait_for('(out of memory)')
         self.press('<')
         self.terminal.wait_for(' 1-7/')
-        self.press('q')
-        self.assert_back(0)
+        self.quit()
 
     def test_hostile_bytes_as_text(self):
         hostile = b'a\x1b]0;title\x07b\x1b[2Jc\x1b[31mred\nplain\x1b[m\t.\x00\x07\xff\xc3(\r\n'
@@ -537,13 +536,10 @@ class PagerTests(unittest.TestCase):
         ):
             self.page(command)
             self.assert_page(text + end, prompt)
-            self.press('q')
-            self.assert_back(0)
+            self.quit()
 
     def test_hostile_bytes_as_keys(self):
-        self.write('notes', self.LINES)
-        self.page('./minus notes')
-        self.terminal.wait_for('1-7/100')
+        self.page_lines()
         hostile = bytes(range(128, 256)) * 8 + b'\x1b' * 100 + b'\x1b[' + b'9' * 300 + b'~'
         hostile += b'\x1b[<1;2' + b'\x1b]x' + b'\x00' * 50
         self.press(hostile)
@@ -553,30 +549,22 @@ class PagerTests(unittest.TestCase):
         self.terminal.wait_for('94-100/100')
         self.press('g')
         self.terminal.wait_for('1-7/100')
-        self.press('q')
-        self.assert_back(0)
+        self.quit()
 
     def test_a_selection_goes_to_the_clipboard(self):
-        self.write('notes', self.LINES)
-        self.page('./minus notes')
-        self.terminal.wait_for('1-7/100')
+        self.page_lines()
         self.press('\x1b[<0;1;2M\x1b[<32;6;2M\x1b[<0;6;2m')
         self.terminal.wait(lambda: self.terminal.player.copied, 'a copied text')
         self.assertEqual(self.terminal.player.copied, ['line 2'])
-        self.press('q')
-        self.assert_back(0)
+        self.quit()
 
     def test_ctrl_c_ends(self):
-        self.write('notes', self.LINES)
-        self.page('./minus notes')
-        self.terminal.wait_for('1-7/100')
+        self.page_lines()
         self.press('\x03')
         self.assert_back(0)
 
     def end_by(self, name, number, status):
-        self.write('notes', self.LINES)
-        self.page('./minus notes')
-        self.terminal.wait_for('1-7/100')
+        self.page_lines()
         os.kill(self.terminal.processes(name)[0], number)
         self.assert_back(status)
 
@@ -606,9 +594,7 @@ class PagerTests(unittest.TestCase):
         self.terminal.wait(lambda: self.terminal.player.modes[1049], 'the page')
 
     def test_ctrl_z_suspends_and_fg_comes_back(self):
-        self.write('notes', self.LINES)
-        terminal = self.page('./minus notes')
-        terminal.wait_for('1-7/100')
+        terminal = self.page_lines()
         self.press('4j')
         terminal.wait_for('5-11/100')
         self.suspend()
@@ -620,8 +606,7 @@ class PagerTests(unittest.TestCase):
         self.suspend('\x1a2j')
         self.resume()
         self.assert_page(self.LINES, 'notes  7-17/100  17%', 'mark 6')
-        self.press('q')
-        self.assert_back(0)
+        self.quit()
 
     def test_ctrl_z_suspends_the_whole_job_of_a_pipe(self):
         writer = self.page_pipe('seq 50')
