@@ -1,15 +1,16 @@
 -- The drawing of a whole page.
-use Rattle.std.proofs.Common.{◌≡◌, ℕ, zero, suc, ◌+◌, ◌-◌, ◌<◌, leb, nat_eq, min, false, cond, List, [], ◌∷◌, ◌++◌, length, map, replicate, set, get_or, Option, Some, None, refl, sym, ap, ◌∙◌, arith, inl, inr, append_assoc}
+use Rattle.std.proofs.Common.{◌≡◌, ℕ, zero, suc, ◌+◌, ◌-◌, ◌<◌, leb, nat_eq, min, false, cond, List, [], ◌∷◌, ◌++◌, length, map, take, replicate, set, get_or, Option, Some, None, refl, sym, ap, ◌∙◌, arith, inl, inr, append_assoc}
 use Rattle.std.specs.List.{Contains, flat_map}
 use Rattle.std.proofs.lemmas.Bool.{cases_Bool, lt-leb}
-use Rattle.std.proofs.lemmas.List.{length-replicate, length-append, length-map, get_or_at, set_at, map-append, append-nil, replicate_more}
+use Rattle.std.proofs.lemmas.List.{length-replicate, length-append, length-map, get_or_at, set_at, map-append, append-nil, replicate_more, map_more}
+use Rattle.std.proofs.lemmas.List.Concat.{flat_map-append}
 use Rattle.std.proofs.lemmas.List.Elements.{Contains-push, Contains-append_left}
 use Rattle.minus_term.specs.FullRedraw.{page_of, row_ops, prompt_ops, full_ops, FullRedrawShowsItsPage}
 use Rattle.minus_term.specs.Operations.{GoTo, Return, Put, ClearRow, ClearAll}
 use Rattle.minus_term.specs.PlayedScreen.{ShownPage, PlayedScreen, blank, play_all}
-use Rattle.minus_term.specs.Written.{IsClean, IsRowOf}
+use Rattle.minus_term.specs.Written.{written_all, IsClean, IsRowOf}
 use Rattle.minus_term.proofs.PlayLaws.{Texts, play_all-append}
-use Rattle.minus_term.proofs.WrittenLaws.{IsClean-append}
+use Rattle.minus_term.proofs.WrittenLaws.{ops_added, IsClean-append}
 
 -- some rows of text at the top, so many blank ones after them, and the cursor in the first of these
 abbrev pub filled : List (List ℕ) → ℕ → Option ℕ → PlayedScreen
@@ -91,6 +92,14 @@ full_redraw_lem rows shown prompt s e l =
     map-append Some (shown ++ replicate k []) (prompt ∷ []) ∙ ap (λ xs. xs ++ Some prompt ∷ []) (map-append Some shown (replicate k []) ∙ ap (λ xs. map Some shown ++ xs) (map_blank k)) in
     record { texts = ap (λ (p : PlayedScreen). p.texts) all ∙ play_prompt rows prompt after (map Some shown ++ replicate k blank) blank texts n ∙ sym page; cursor = tt }
 
+-- the bytes of one more row of a list, after those of the rows before it
+pub rows_more : {X : Type 0} (f : X → List ℕ) (xs : List X) (i : ℕ) (d : X) (old a b : List ℕ) → i < length xs → a ≡ old ++ written_all (flat_map row_ops (map f (take i xs))) → b ≡ a ++ written_all (row_ops (f (get_or xs i d)))
+    → b ≡ old ++ written_all (flat_map row_ops (map f (take (i + 1) xs)))
+rows_more f xs i d old a b l e g =
+    let done : List (List ℕ) = map f (take i xs) in
+    let row : List ℕ = f (get_or xs i d) in
+    ops_added old a b (flat_map row_ops done) (row_ops row) e g ∙ ap (λ ops. old ++ written_all ops) (sym (flat_map-append row_ops done (row ∷ [])) ∙ ap (flat_map row_ops) (sym (map_more f xs i d l)))
+
 pub Contains-head : {X : Type 0} (x : X) (xs : List X) → Contains (x ∷ xs) x
 Contains-head x xs = (0, omega arith, refl)
 
@@ -118,15 +127,22 @@ IsClean-prompt pages rows prompt h = (
   ),
 )
 
+-- the rows of text that a page shows are rows of it
+pub shown_in_page : (rows : ℕ) (shown : List (List ℕ)) (prompt text : List ℕ) → Contains shown text → Contains (page_of rows shown prompt).texts text
+shown_in_page rows shown prompt text k =
+    let blanks : List (List ℕ) = replicate (rows - 1 - length shown) [] in
+    Contains-append_left (shown ++ blanks) (prompt ∷ []) text (Contains-append_left shown blanks text k)
+
+-- the prompt of a page is a row of it
+pub prompt_in_page : (rows : ℕ) (shown : List (List ℕ)) (prompt : List ℕ) → Contains (page_of rows shown prompt).texts prompt
+prompt_in_page rows shown prompt = Contains-push (shown ++ replicate (rows - 1 - length shown) []) prompt
+
+-- the drawing of a whole page is clean where each row that it shows and its prompt are rows of one of the pages
+pub IsClean-full_rows : (pages : List ShownPage) (rows : ℕ) (shown : List (List ℕ)) (prompt : List ℕ) → ((text : List ℕ) → Contains shown text → IsRowOf pages text) → IsRowOf pages prompt → IsClean pages (full_ops rows shown prompt)
+IsClean-full_rows pages rows shown prompt each last = (tt, (tt, IsClean-append pages (flat_map row_ops shown) (prompt_ops rows prompt) (IsClean-rows pages shown each) (IsClean-prompt pages rows prompt last)))
+
 -- the drawing of a whole page is clean of each list of pages that contains it
 pub IsClean-full : (pages : List ShownPage) (rows : ℕ) (shown : List (List ℕ)) (prompt : List ℕ) → Contains pages (page_of rows shown prompt) → IsClean pages (full_ops rows shown prompt)
 IsClean-full pages rows shown prompt h =
-    let blanks : List (List ℕ) = replicate (rows - 1 - length shown) [] in (
-      tt,
-      (
-        tt,
-        IsClean-append pages (flat_map row_ops shown) (prompt_ops rows prompt)
-            (IsClean-rows pages shown (λ text k. (page_of rows shown prompt, h, Contains-append_left (shown ++ blanks) (prompt ∷ []) text (Contains-append_left shown blanks text k))))
-            (IsClean-prompt pages rows prompt (page_of rows shown prompt, h, Contains-push (shown ++ blanks) prompt)),
-      ),
-    )
+    let page : ShownPage = page_of rows shown prompt in
+    IsClean-full_rows pages rows shown prompt (λ text k. (page, h, shown_in_page rows shown prompt text k)) (page, h, prompt_in_page rows shown prompt)

@@ -4,6 +4,7 @@ pub mod PlayLaws
 pub mod PutsLaws
 pub mod ScrollLaws
 pub mod AppendLaws
+pub mod SearchPromptLaws
 pub mod JoinLaws
 pub mod SinkLaws
 pub mod WritesLaws

@@ -6,6 +6,7 @@ pub mod Counts
 pub mod FullRedraw
 pub mod Scroll
 pub mod Append
+pub mod SearchPrompt
 pub mod Refusals
 pub mod Written
 pub mod Terminal

@@ -6,7 +6,9 @@
 pub mod draw;
 pub mod error;
 pub mod event;
+mod full_redraw;
 pub mod hooks;
+pub mod search_prompt;
 pub mod sink;
 pub mod sinks;
 pub mod term;
@@ -28,6 +30,11 @@ pub use event::{
     MouseEventKind,
 };
 pub use hooks::Hook;
+pub use search_prompt::{
+    closing_shows_its_page, cursor_shows_its_page, edit_shows_its_page, opening_puts_none,
+    opening_shows_its_page, write_search_closing, write_search_cursor, write_search_edit,
+    write_search_opening,
+};
 pub use sink::{OutputSink, draw_bytes, write_bytes};
 pub use term::{cleanup, setup};
 pub use with_tty::WithTty;
