@@ -18,10 +18,13 @@ pub mod FindPlacesLaws
 pub mod PartedLaws
 pub mod HighlightLaws
 pub mod EscapePatternLaws
+pub mod NoEscapeLaws
 pub mod MarkersLaws
 pub mod FoundLaws
 pub mod FoundByLaws
 pub mod FoundFromLaws
+pub mod FoundRangeLaws
+pub mod FirstFoundLaws
 pub mod StandLaws
 pub mod GoesOnLaws
 pub mod FewColumnsLaws

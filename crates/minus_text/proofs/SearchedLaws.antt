@@ -98,4 +98,5 @@ stored_behind term d i before h = go (slice_get (rows_of d) i) refl
 pub found_behind : (s : Searched) (i : ℕ) (text before row : List ℕ) → slice_get (rows_of s.document) i ≡ Some text → row ≡ before ++ marked (found_of_row i s.found) text → IsRowBehind before s i (Some row)
 found_behind s i text before row e r = λ term h.
     let here : i ≡ 0 + i = omega arith in
-    rw (e, r) (ap (λ t. Some (before ++ t)) (marked_is term (rows_of s.document) 0 i i text s.found h here e))
+    let found = found_by term 0 (rows_of s.document) in
+    rw (e, r) (ap (λ o. Some (before ++ marked o text)) h ∙ ap (λ t. Some (before ++ t)) (marked_is term (rows_of s.document) 0 i i text found refl here e))

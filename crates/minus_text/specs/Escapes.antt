@@ -1,5 +1,6 @@
 -- The escape sequences of a text, and the text without them. Places count bytes from 0.
-use Rattle.std.specs.Prelude.{ℕ, ◌+◌, ◌-◌, ◌≤◌, List, [], ◌∷◌, ◌++◌, drop, slice_range, IsCharBoundary}
+use Rattle.std.specs.Prelude.{ℕ, ◌+◌, ◌-◌, ◌≤◌, ◌⊎◌, List, [], ◌∷◌, ◌++◌, drop, slice_range, IsCharBoundary}
+use Rattle.std.specs.Str.Iter.{HasSubslice}
 use Rattle.std.specs.Coded.{le_prop}
 use Rattle.minus_text.specs.FixedPatterns.{escape_sequence, match_places}
 use Rattle.minus_text.specs.declared.search.escapes.Insert.{Insert}
@@ -19,6 +20,10 @@ inside text at before (p ∷ ps) =
 -- where a line's escape sequences begin and end
 abbrev pub escape_places : List ℕ → List (ℕ × ℕ)
 escape_places line = match_places escape_sequence line
+
+-- a text has ESC or U+009B, here in UTF-8: each escape sequence begins with one of them
+abbrev pub HasEscapeStart : List ℕ → Type 0
+HasEscapeStart text = HasSubslice text (0x1B ∷ []) ⊎ HasSubslice text (0xC2 ∷ 0x9B ∷ [])
 
 -- a line without its escape sequences
 unfoldable pub stripped : List ℕ → List ℕ

@@ -1,5 +1,5 @@
 -- Which of the matching rows a search goes to.
-use Rattle.std.specs.Prelude.{ℕ, ◌+◌, ◌-◌, ◌%◌, Bool, List, length, Option, Some, None, if◌then◌else◌, ◌==◌, nat_lt, nat_le}
+use Rattle.std.specs.Prelude.{ℕ, ◌+◌, ◌-◌, ◌%◌, Bool, List, length, Option, Some, None, slice_get, if◌then◌else◌, ◌==◌, nat_lt, nat_le}
 use Rattle.std.specs.List.{position}
 use Rattle.std.specs.Option.{unwrap_or}
 
@@ -17,3 +17,7 @@ nth_match rows mark jump =
     let first = nearest rows mark jump in
     if length rows == 0 then None
     else Some (if jump == 0 then first else (first + (jump - 1)) % length rows)
+
+-- the row of the match that a search from a mark goes to: the first one at the mark or behind it, or else the first one
+abbrev pub match_at : List ℕ → ℕ → Option ℕ
+match_at rows mark = slice_get rows (unwrap_or (nth_match rows mark 0) 0)

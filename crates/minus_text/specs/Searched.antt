@@ -1,5 +1,5 @@
 -- A document as a function of a term: what that finds in its rows, and its rows with that shown in reverse.
-use Rattle.std.specs.Prelude.{◌≡◌, ℕ, ◌+◌, Bool, false, List, [], ◌∷◌, ◌++◌, map, Option, None, Some, option_map, slice_get}
+use Rattle.std.specs.Prelude.{◌≡◌, ℕ, ◌+◌, ◌≤◌, ◌<◌, Bool, false, List, [], ◌∷◌, ◌++◌, map, Option, None, Some, option_map, slice_get}
 use Rattle.std.specs.Str.Lines.{lines}
 use Rattle.regex.specs.Patterns.{Re}
 use Rattle.minus_text.specs.declared.layout.Wrap.{Wrap}
@@ -9,7 +9,7 @@ use Rattle.minus_text.specs.Document.{Document, rows_of, wrap_in, line_count, st
 use Rattle.minus_text.specs.Fragments.{rows_in}
 use Rattle.minus_text.specs.Pending.{Pending}
 use Rattle.minus_text.specs.Highlight.{highlighted}
-use Rattle.minus_text.specs.Found.{RowMatches, found_by, found_above}
+use Rattle.minus_text.specs.Found.{RowMatches, found_by, found_above, found_of_row}
 
 -- a document, and what was found in its rows
 pub record Searched : Type 0 where
@@ -33,6 +33,14 @@ searched_after s text p = record { document = pushed s.document text p.push.numb
 abbrev pub IsFoundBy : Option Re → Searched → Type 0
 IsFoundBy term s = s.found ≡ found_by term 0 (rows_of s.document)
 
+-- what was found in a row is what a term finds in it; and so it is in the rows from one on up to another
+abbrev pub IsFoundAt : Option Re → Searched → ℕ → Type 0
+IsFoundAt term s i = found_of_row i s.found ≡ found_of_row i (found_by term 0 (rows_of s.document))
+
+abbrev pub IsFoundBetween : Option Re → Searched → ℕ → ℕ → Type 0
+IsFoundBetween term s start end = (i : ℕ) → start ≤ i → i < end → IsFoundAt term s i
+
+-- what was found in the rows that a push forms is what a term finds in them
 abbrev pub IsFoundInPush : Option Re → SearchedPush → Type 0
 IsFoundInPush term p = p.found ≡ found_by term p.push.kept_rows (rows_in p.push.tail)
 
@@ -50,14 +58,14 @@ stored_lines_for term wrap numbers count line (x ∷ xs) = stored_line numbers c
 unfoldable pub stored_rows_for : Option Re → Document → List (List ℕ)
 stored_rows_for term d = stored_lines_for term (wrap_in d) (is_on d.layout.numbers) (line_count d) 1 (lines d.text)
 
--- a row, if there is one, with its matches shown in reverse and this before it, under whatever term the rows were searched for
+-- a row, if there is one, with its matches shown in reverse and this before it, under whatever term it was searched for
 abbrev pub IsRowBehind : List ℕ → Searched → ℕ → Option (List ℕ) → Type 0
-IsRowBehind before s i row = (term : Option Re) → IsFoundBy term s → row ≡ option_map (λ text. before ++ shown_for term text) (slice_get (rows_of s.document) i)
+IsRowBehind before s i row = (term : Option Re) → IsFoundAt term s i → row ≡ option_map (λ text. before ++ shown_for term text) (slice_get (rows_of s.document) i)
 
 -- a row, if there is one, with its matches shown in reverse and nothing before it
 abbrev pub IsHighlightedRow : Searched → ℕ → Option (List ℕ) → Type 0
-IsHighlightedRow s i row = (term : Option Re) → IsFoundBy term s → row ≡ option_map (shown_for term) (slice_get (rows_of s.document) i)
+IsHighlightedRow s i row = (term : Option Re) → IsFoundAt term s i → row ≡ option_map (shown_for term) (slice_get (rows_of s.document) i)
 
--- a stored row, if there is one, under whatever term the rows were searched for
+-- a stored row, if there is one, under whatever term it was searched for
 abbrev pub IsStoredRow : Searched → ℕ → Option (List ℕ) → Type 0
-IsStoredRow s i row = (term : Option Re) → IsFoundBy term s → row ≡ slice_get (stored_rows_for term s.document) i
+IsStoredRow s i row = (term : Option Re) → IsFoundAt term s i → row ≡ slice_get (stored_rows_for term s.document) i

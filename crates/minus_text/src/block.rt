@@ -190,7 +190,8 @@ impl FormattedBlock {
 
     // What it tells, with these rows that match.
     fn told(self, matches: BTreeSet<usize>, clean: bool) -> FormatResult
-        ensures { (term : Option Re) → matches.keys ≡ matching_rows term self → TellsBlock result term self clean }
+        ensures { (term : Option Re) → matches.keys ≡ matching_rows term self →
+            TellsBlock result term self clean }
     {
         let FormattedBlock {
             formed,
@@ -248,7 +249,8 @@ fn put_rows<B: AppendableBuffer>(
     block: &FormattedBlock,
     term: Option<Term<'_>>,
 ) -> Result<BTreeSet<usize>, AllocError>
-    ensures rows { OnOk result (B.rows buffer.new ≡ B.rows buffer.old ++ block_rows (pattern_of term.entry) block.now) }
+    ensures rows { OnOk result (B.rows buffer.new
+        ≡ B.rows buffer.old ++ block_rows (pattern_of term.entry) block.now) }
     ensures found { IfOk result (λ found. found.keys ≡ matching_rows (pattern_of term.entry) block.now) }
     ensures grows { GrowsByRows (B.rows buffer.old) (B.rows buffer.new) }
 {

@@ -7,7 +7,7 @@ ghost use Rattle.minus_text.specs.FoundRows.{finder_pattern, pattern_of};
 ghost use Rattle.minus_text.specs.Formatted.{prefix_of, printed_row, printed_under, printed_searched, row_matches};
 
 use crate::line_numbers::{digits, prefix_columns};
-use crate::search::escapes::{match_places, part};
+use crate::search::escapes::part;
 use crate::search::{Finder, HighlightMatchesArgs, Term};
 use std::alloc::{AllocError, Global};
 use std::fmt;
@@ -154,7 +154,7 @@ fn highlight_row<'l>(
     ensures matches { IfOk result (λ h. h.is_match ≡ line_matches (finder_pattern finder.old) line.now) }
     ensures same { finder_pattern finder.new ≡ finder_pattern finder.old }
 {
-    let places = match_places(alloc, &mut finder.escapes, line)?;
+    let places = finder.escape_places(alloc, line)?;
     let parted = part(alloc, line, &places)?;
     let highlight = HighlightMatchesArgs::of_parted(alloc, &mut finder.term, parted, false)?;
     Ok(highlight)

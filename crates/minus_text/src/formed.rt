@@ -183,7 +183,8 @@ fn add_line(
         ++ line_stored wrap place.bytes line.now) }
     ensures count { OnOk result (length forming.new.rows.items
         ≡ length forming.old.rows.items + length (own_rows wrap line.now)) }
-    ensures first_row { OnOk result (forming.new.first_rows.items ≡ forming.old.first_rows.items ++ place.rows ∷ []) }
+    ensures first_row { OnOk result (forming.new.first_rows.items
+        ≡ forming.old.first_rows.items ++ place.rows ∷ []) }
     ensures longest { OnOk result (forming.new.longest ≡ max forming.old.longest (columns line.now)) }
 {
     push_rows(alloc, &mut forming.rows, place.bytes, line, wrap)?;

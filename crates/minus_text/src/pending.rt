@@ -25,9 +25,9 @@ impl Model for PendingPush {
 }
 
 impl PendingPush {
-    ghost use Rattle.std.specs.Prelude.{◌≡◌};
+    ghost use Rattle.std.specs.Prelude.{◌≡◌, ◌++◌, length};
     ghost use Rattle.minus_text.specs.Fragments.{rows_in};
-    ghost use Rattle.minus_text.specs.Found.{AreFoundIn};
+    ghost use Rattle.minus_text.specs.Found.{AreFoundIn, Ascend, found_above};
     ghost use Rattle.minus_text.specs.FoundBy.{found_rows};
 
     // What was formed.
@@ -43,5 +43,13 @@ impl PendingPush {
         ensures stand { AreFoundIn self.now.push.kept_rows (rows_in self.now.push.tail) (found_rows result.now) }
     {
         &self.found
+    }
+
+    // The number of rows that match once it is made, where these are found before: those that stay, and those formed.
+    pub(crate) fn match_count(&self, found: &FoundRows) -> usize
+        requires { Ascend 0 (found_rows found.now) }
+        ensures { result ≡ length (found_above self.now.push.kept_rows (found_rows found.now) ++ self.now.found) }
+    {
+        found.count_above(self.push.kept_rows()) + self.found.len()
     }
 }

@@ -147,7 +147,8 @@ fn form_end(
     ensures formed { IfOk result (λ f. IsPrepared wrap (drop (start.finished.bytes + start.bytes) text.now) start f) }
     ensures rows { IfOk result (λ f. rows.new.items ≡ take (start.finished.rows + start.rows) rows.old.items
         ++ f.rows.items) }
-    ensures first_rows { IfOk result (λ f. first_rows.new ≡ take start.finished.lines first_rows.old ++ f.first_rows) }
+    ensures first_rows { IfOk result (λ f. first_rows.new
+        ≡ take start.finished.lines first_rows.old ++ f.first_rows) }
     ensures rows_stay { OnErr result (rows.new.items ≡ rows.old.items) }
     ensures first_rows_stay { OnErr result (first_rows.new ≡ first_rows.old) }
 {
@@ -494,7 +495,8 @@ impl Store {
         ensures text { IsUtf8 self.now.text }
         ensures start { IsTrue result → IsRestartOf self.now.text plan start }
         ensures wrap { IsTrue result → wrap ≡ plan.wrap }
-        ensures tail { IsTrue result → tail.now ≡ drop (start.finished.bytes + start.bytes) self.now.text ++ piece.now }
+        ensures tail { IsTrue result → tail.now
+            ≡ drop (start.finished.bytes + start.bytes) self.now.text ++ piece.now }
     {
         let own = self.restart(plan);
         if !start.is_same(own) {

@@ -209,10 +209,7 @@ impl<'s> RowsView<'s> {
         ensures { result ≡ length (viewed self.entry).found }
     {
         match self.next {
-            Some(next) => {
-                let kept = self.found.count_above(next.pending.push().kept_rows());
-                kept + next.pending.found().len()
-            }
+            Some(next) => next.pending.match_count(self.found),
             None => self.found.len(),
         }
     }

@@ -1,22 +1,24 @@
 //! Searches in a screen.
-ghost use Rattle.std.specs.Prelude.{◌≡◌, IfOk};
+ghost use Rattle.std.specs.Prelude.{◌≡◌, ℕ, ◌≤◌, ◌<◌, IfOk, IfErr, OnOk, OnErr, Some};
 ghost use Rattle.minus_text.specs.Document.{rows_of};
 ghost use Rattle.minus_text.specs.Pending.{IsPending};
-ghost use Rattle.minus_text.specs.Found.{AreFoundIn, found_by};
+ghost use Rattle.minus_text.specs.Found.{AreFoundIn, found_by, found_of_row, row_numbers};
+ghost use Rattle.minus_text.specs.Matches.{match_at};
+ghost use Rattle.regex.specs.Strings.{regex_pattern};
 ghost use Rattle.minus_text.specs.FoundRows.{pattern_of};
-ghost use Rattle.minus_text.specs.Searched.{searched_after};
-ghost use Rattle.minus_text.specs.Views.{viewed};
+ghost use Rattle.minus_text.specs.Searched.{searched_after, IsFoundBy};
 
 use crate::pending::PendingPush;
 use crate::screen::{Screen, TextBlock};
-use crate::search::found_rows::FoundRows;
+use crate::search::found_rows::{FoundRows, first_match};
 use crate::search::term::Term;
 use crate::view::{NextPush, RowsView};
+use minus_term::error::MinusError;
 use std::alloc::{AllocError, Global};
 use std::marker::Model;
 
-/// What a term finds in the rows of a text, apart from what is kept as found: `Screen::search` makes it, and
-/// `Screen::view_of` shows it.
+/// What a term finds in the rows of a text, apart from what is kept as found: `Screen::search` makes it,
+/// `Screen::view_of` shows it, and `Screen::place_findings` keeps it.
 #[derive(Debug, Drop)]
 pub struct Findings {
     rows: FoundRows,
@@ -24,15 +26,32 @@ pub struct Findings {
 
 impl Model for Findings {
     ghost use Rattle.std.specs.Prelude.{List};
-    ghost use Rattle.minus_text.specs.Found.{RowMatches};
+    ghost use Rattle.minus_text.specs.Found.{RowMatches, Ascend};
     ghost use Rattle.minus_text.specs.FoundBy.{found_rows};
 
     ghost Value = { List RowMatches };
 
     ghost view = { λ f. found_rows f.rows };
+
+    ghost invariant = { λ f. Ascend 0 (found_rows f.rows) };
+}
+
+impl Findings {
+    ghost use Rattle.std.specs.Prelude.{◌≡◌, length};
+
+    /// The number of rows that match.
+    pub fn match_count(&self) -> usize
+        ensures { result ≡ length self.now }
+    {
+        self.rows.len()
+    }
 }
 
 impl Screen {
+    ghost use Rattle.std.specs.Prelude.{◌++◌, length};
+    ghost use Rattle.minus_text.specs.Found.{found_above};
+    ghost use Rattle.minus_text.specs.Views.{viewed};
+
     /// Its rows, with what is kept as found in them.
     pub fn view(&self) -> RowsView<'_>
         ensures { viewed result ≡ self.now }
@@ -70,6 +89,14 @@ impl Screen {
         }
     }
 
+    /// The number of rows that match once a push is made, whichever text it was prepared for: those that are kept as
+    /// found above the rows that it forms, and those that were found in these. It takes no memory.
+    pub fn match_count_after(&self, pending: &PendingPush) -> usize
+        ensures { result ≡ length (found_above pending.now.push.kept_rows self.now.found ++ pending.now.found) }
+    {
+        pending.match_count(&self.found)
+    }
+
     /// Searches the rows for a term, and leaves what is kept as found.
     ///
     /// # Errors
@@ -84,11 +111,71 @@ impl Screen {
         })
     }
 
-    /// Keeps what a search found in the rows as found. It takes no memory.
-    pub fn place_findings(&mut self, findings: Findings)
-        requires { AreFoundIn 0 (rows_of self.old.document) findings }
-        ensures { self.new ≡ record self.old { found = findings } }
+    /// What a term finds in the rows from `start` on up to but without `end`, counted from 0, as far as there are rows:
+    /// `view_of` shows these rows with their matches. No other row is searched, and what is kept as found stays.
+    ///
+    /// # Errors
+    ///
+    /// [`AllocError`] where there is no memory for what is found.
+    pub fn search_rows(
+        &self,
+        alloc: Global,
+        term: Option<Term<'_>>,
+        start: usize,
+        end: usize,
+    ) -> Result<Findings, AllocError>
+        ensures found { IfOk result (λ f. (i : ℕ) → start ≤ i → i < end →
+            found_of_row i f ≡ found_of_row i (found_by (pattern_of term.entry) 0 (rows_of self.now.document))) }
+        ensures stand { IfOk result (λ f. AreFoundIn 0 (rows_of self.now.document) f) }
     {
-        self.found = findings.rows;
+        Ok(Findings {
+            rows: FoundRows::of_rows(alloc, term, &self.store, start, end)?,
+        })
+    }
+
+    /// The row that a search for a term from a mark goes to, counted from 0: the first row that matches at the mark or
+    /// behind it, or else the first of all rows that match; `None` where no row matches. The search reads the rows from
+    /// the mark on and then those above it, each at most once, and reads no row further than the one that it answers.
+    /// What is kept as found stays.
+    ///
+    /// # Errors
+    ///
+    /// [`AllocError`] where there is no memory for the search.
+    pub fn first_match(
+        &self,
+        alloc: Global,
+        term: Term<'_>,
+        mark: usize,
+    ) -> Result<Option<usize>, AllocError>
+        ensures { IfOk result (λ row. row ≡ match_at (row_numbers (found_by (Some (regex_pattern
+            term.entry.pattern.now)) 0 (rows_of self.now.document))) mark) }
+    {
+        first_match(alloc, term, &self.store, mark)
+    }
+
+    /// Keeps what a term was found to match as found, where it stands in these rows. Where it does not, since it was
+    /// found in the rows of another text, the rows are searched for the term anew. The check looks at places alone, and
+    /// not at what the term matches there: the term is to be the one that was searched for. So the check runs no
+    /// pattern, reads only the rows in which something was found, and takes memory only while it reads one that has
+    /// escape sequences.
+    ///
+    /// # Errors
+    ///
+    /// [`MinusError::Memory`] where there is no memory for it. Nothing has changed then.
+    pub fn place_findings(
+        &mut self,
+        alloc: Global,
+        findings: Findings,
+        term: Option<Term<'_>>,
+    ) -> Result<(), MinusError>
+        ensures document { OnOk result (self.new.document ≡ self.old.document) }
+        ensures found { OnOk result (findings ≡ found_by (pattern_of term.entry) 0 (rows_of self.old.document) →
+            IsFoundBy (pattern_of term.entry) self.new) }
+        ensures err { OnErr result (self.new ≡ self.old) }
+        ensures memory { IfErr result (λ e. e ≡ MinusError.Memory) }
+    {
+        let Findings { rows } = findings;
+        self.found = rows.or_found(alloc, term, &self.store)?;
+        Ok(())
     }
 }

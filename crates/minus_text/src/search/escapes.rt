@@ -1,15 +1,22 @@
 //! The escape sequences of a text, and the text without them.
-ghost use Rattle.std.specs.Prelude.{◌≡◌, ◌≤◌, map, length, option_map, IfOk, IfSome, string_bytes, slice_range};
+ghost use Rattle.std.specs.Prelude.{◌≡◌, ◌↔◌, ◌≤◌, map, length, option_map, IfOk, IfSome, IsTrue, string_bytes, slice_range};
 ghost use Rattle.regex_hir.specs.Find.{find_after};
 ghost use Rattle.regex.specs.Patterns.{find_str, span};
 ghost use Rattle.regex.specs.Strings.{matcher_pattern, match_span, match_haystack};
-ghost use Rattle.minus_text.specs.Escapes.{escape_places, outside, inside, stripped, escapes, insert_of, CutsText};
+ghost use Rattle.minus_text.specs.Escapes.{escape_places, outside, inside, stripped, escapes, insert_of, CutsText, HasEscapeStart};
 ghost use Rattle.minus_text.specs.FixedPatterns.{match_places};
 ghost use Rattle.minus_text.specs.Highlight.{StandIn};
 
 use crate::search::patterns::Patterns;
 use regex::{Match, Matcher};
 use std::alloc::{AllocError, Global};
+
+// Whether a text has a character that an escape sequence begins with. A text without one has no escape sequence.
+pub(crate) fn has_escape_start(text: &str) -> bool
+    ensures { IsTrue result ↔ HasEscapeStart text.now }
+{
+    text.contains("\u{1B}") || text.contains("\u{9B}")
+}
 
 // The match that follows one that ends at a place. An empty one right there is passed over.
 fn following<'h>(matcher: &mut Matcher<'_>, text: &'h str, end: usize) -> Option<Match<'h>>

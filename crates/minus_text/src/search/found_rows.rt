@@ -1,10 +1,12 @@
 //! The rows of a text that a term matches.
-ghost use Rattle.std.specs.Prelude.{◌≡◌, ℕ, ◌+◌, ◌≤◌, List, [], ◌++◌, length, map, option_map, nat_le, slice_get, string_bytes, IfOk, IfSome, OnOk, ◌<◌, ◌^◌};
+ghost use Rattle.std.specs.Prelude.{◌≡◌, ℕ, false, ◌+◌, ◌-◌, ◌≤◌, List, [], ◌++◌, length, map, take, drop, option_map, nat_le, slice_get, string_bytes, IfOk, IfSome, OnOk, ◌<◌, ◌^◌};
 ghost use Rattle.minus_text.specs.Formatted.{prefix_of};
 ghost use Rattle.std.specs.List.{position_or_len};
 ghost use Rattle.regex.specs.Strings.{regex_pattern};
 ghost use Rattle.minus_text.specs.Document.{rows_of};
-ghost use Rattle.minus_text.specs.Matches.{counts_first};
+ghost use Rattle.minus_text.specs.Matches.{counts_first, match_at};
+ghost use Rattle.std.specs.Option.{unwrap_or};
+ghost use Rattle.minus_text.specs.Highlight.{line_matches};
 ghost use Rattle.minus_text.specs.Fragments.{rows_in};
 ghost use Rattle.minus_text.specs.Found.{found_in_rows, found_by, found_above, found_from, row_numbers, found_of_row, marked, IsPlaced, ArePlaced, Ascend, AreFoundIn};
 ghost use Rattle.minus_text.specs.FoundRows.{finder_pattern, matches_of, pattern_of};
@@ -16,6 +18,7 @@ use crate::screen::Row;
 use crate::search::found::{Finder, FoundRow};
 use crate::search::highlight::HighlightMatchesArgs;
 use crate::search::matches::counts_first;
+use crate::search::standing::all_stand;
 use crate::search::term::Term;
 use crate::store::Store;
 use std::alloc::{AllocError, Global};
@@ -40,7 +43,8 @@ fn note_some(
         ≡ map matches_of found.old.items ++ found_in_some (finder_pattern finder.old) n
         (option_map (λ r. r.now) row.entry)) }
     ensures placed { OnOk result ((first : ℕ) (rows : List (List ℕ)) (i : ℕ) → n ≡ first + i →
-        option_map (λ r. r.now) row.entry ≡ slice_get rows i → ArePlaced first rows (map matches_of found.old.items) →
+        option_map (λ r. r.now) row.entry ≡ slice_get rows i →
+        ArePlaced first rows (map matches_of found.old.items) →
         ArePlaced first rows (map matches_of found.new.items)) }
     ensures same { finder_pattern finder.new ≡ finder_pattern finder.old }
 {
@@ -51,15 +55,21 @@ fn note_some(
     Ok(())
 }
 
-// What a term finds in the rows of a text.
-fn find_in_store(alloc: Global, term: Term<'_>, store: &Store) -> Result<FoundRows, AllocError>
-    ensures found { IfOk result (λ f. found_rows f
-        ≡ found_in_rows (regex_pattern term.entry.pattern.now) 0 (rows_of store.now)) }
+// What a term finds in the rows of a text from `start` on up to but without `end`, as far as there are rows.
+fn find_in_rows(
+    alloc: Global,
+    term: Term<'_>,
+    store: &Store,
+    start: usize,
+    end: usize,
+) -> Result<FoundRows, AllocError>
+    ensures found { IfOk result (λ f. found_rows f ≡ found_in_rows (regex_pattern term.entry.pattern.now) start
+        (take (end - start) (drop start (rows_of store.now)))) }
     ensures placed { IfOk result (λ f. ArePlaced 0 (rows_of store.now) (found_rows f)) }
 {
     let mut finder = Finder::new(alloc, term)?;
     let mut rows = Vec::new(alloc);
-    for i in 0..store.formatted_lines_count() {
+    for i in start..end.min(store.formatted_lines_count()) {
         note_some(alloc, &mut finder, &mut rows, i, store.row_text(i))?;
     }
     Ok(FoundRows { rows })
@@ -88,6 +98,63 @@ fn find_in_push(
         )?;
     }
     Ok(FoundRows { rows })
+}
+
+// Whether a row matches, if there is one.
+fn matches_some(
+    alloc: Global,
+    finder: &mut Finder<'_>,
+    row: Option<&str>,
+) -> Result<bool, AllocError>
+    ensures value { IfOk result (λ b. b
+        ≡ unwrap_or (option_map (λ r. line_matches (finder_pattern finder.old) r.now) row.entry) false) }
+    ensures same { finder_pattern finder.new ≡ finder_pattern finder.old }
+{
+    let Some(row) = row else {
+        return Ok(false);
+    };
+    finder.matches(alloc, row)
+}
+
+// The number of the first row that matches, of the rows of a text from `start` on up to but without `end`. No row
+// behind it is searched.
+fn first_in_rows(
+    alloc: Global,
+    finder: &mut Finder<'_>,
+    store: &Store,
+    start: usize,
+    end: usize,
+) -> Result<Option<usize>, AllocError>
+    ensures row { IfOk result (λ row. row ≡ slice_get (row_numbers (found_in_rows (finder_pattern finder.old) start
+        (take (end - start) (drop start (rows_of store.now))))) 0) }
+    ensures same { finder_pattern finder.new ≡ finder_pattern finder.old }
+{
+    for i in start..end.min(store.formatted_lines_count()) {
+        if matches_some(alloc, finder, store.row_text(i))? {
+            return Ok(Some(i));
+        }
+    }
+    Ok(None)
+}
+
+// The number of the row that a search for a term from a mark goes to.
+pub(crate) fn first_match(
+    alloc: Global,
+    term: Term<'_>,
+    store: &Store,
+    mark: usize,
+) -> Result<Option<usize>, AllocError>
+    ensures { IfOk result (λ row. row
+        ≡ match_at (row_numbers (found_in_rows (regex_pattern term.entry.pattern.now) 0 (rows_of store.now))) mark) }
+{
+    let mut finder = Finder::new(alloc, term)?;
+    let count = store.formatted_lines_count();
+    let behind = first_in_rows(alloc, &mut finder, store, mark, count)?;
+    if behind.is_some() {
+        return Ok(behind);
+    }
+    let above = first_in_rows(alloc, &mut finder, store, 0, mark)?;
+    Ok(above)
 }
 
 // How many of these rows stand above one.
@@ -128,10 +195,26 @@ impl FoundRows {
         ensures found { IfOk result (λ f. found_rows f ≡ found_by (pattern_of term.entry) 0 (rows_of store.now)) }
         ensures stand { IfOk result (λ f. AreFoundIn 0 (rows_of store.now) (found_rows f)) }
     {
+        FoundRows::of_rows(alloc, term, store, 0, store.formatted_lines_count())
+    }
+
+    // What a term finds in the rows of a text from `start` on up to but without `end`, as far as there are rows;
+    // nothing without a term. No other row is searched.
+    pub(crate) fn of_rows(
+        alloc: Global,
+        term: Option<Term<'_>>,
+        store: &Store,
+        start: usize,
+        end: usize,
+    ) -> Result<Self, AllocError>
+        ensures found { IfOk result (λ f. found_rows f
+            ≡ found_by (pattern_of term.entry) start (take (end - start) (drop start (rows_of store.now)))) }
+        ensures stand { IfOk result (λ f. AreFoundIn 0 (rows_of store.now) (found_rows f)) }
+    {
         let Some(term) = term else {
             return Ok(FoundRows::new(alloc));
         };
-        let found = find_in_store(alloc, term, store)?;
+        let found = find_in_rows(alloc, term, store, start, end)?;
         Ok(found)
     }
 
@@ -150,6 +233,25 @@ impl FoundRows {
         };
         let found = find_in_push(alloc, term, pending)?;
         Ok(found)
+    }
+
+    // These, where all stand in the rows of a text, and else what a term finds in those.
+    pub(crate) fn or_found(
+        self,
+        alloc: Global,
+        term: Option<Term<'_>>,
+        store: &Store,
+    ) -> Result<Self, AllocError>
+        requires { Ascend 0 (found_rows self) }
+        ensures found { IfOk result (λ f. found_rows self ≡ found_by (pattern_of term.entry) 0 (rows_of store.now)
+            → found_rows f ≡ found_by (pattern_of term.entry) 0 (rows_of store.now)) }
+        ensures stand { IfOk result (λ f. AreFoundIn 0 (rows_of store.now) (found_rows f)) }
+    {
+        if all_stand(alloc, store, self.rows.as_slice())? {
+            return Ok(self);
+        }
+        drop(self);
+        FoundRows::of_store(alloc, term, store)
     }
 
     // Makes room for others, so that these can take them in.

@@ -13,6 +13,7 @@ const ESCAPE: &str =
 const WORD: &str = "([\\w_]+)|([-?~@#!$%^&*()-+={}\\[\\]:;\\\\|'/?<>.,\"]+)|\\W";
 
 /// The pattern of escape sequences and that of the words of a query, built once for all searches.
+#[derive(Debug)]
 pub struct Patterns {
     pub(crate) escape: Regex,
     pub(crate) word: Regex,
