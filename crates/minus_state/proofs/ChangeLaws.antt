@@ -1,85 +1,158 @@
 -- A change that was put in its place.
-use Rattle.std.proofs.Common.{◌≡◌, ℕ, ◌-◌, List, take, drop, Bool, Option, None, Some, String, Global, string_bytes, refl, sym, ap, subst, ◌∙◌}
+use Rattle.std.proofs.Common.{◌≡◌, ℕ, ◌-◌, ◌++◌, List, length, take, drop, Bool, Option, None, Some, String, Global, string_bytes, refl, sym, ap, ap₂, subst, ◌∙◌}
 use Rattle.std.specs.Option.{option_map, unwrap_or}
+use Rattle.std.proofs.lemmas.List.{length-map}
+use Rattle.regex.specs.Patterns.{Re}
 use Rattle.minus_text.specs.declared.line_numbers.LineNumbers.{LineNumbers}
-use Rattle.minus_text.specs.Document.{Document}
-use Rattle.minus_text.specs.Searched.{Searched, searched}
+use Rattle.minus_text.specs.Document.{Document, rows_of}
+use Rattle.minus_text.specs.Found.{RowMatches, found_by, found_above, row_numbers}
+use Rattle.minus_text.specs.Matches.{nth_match}
+use Rattle.minus_text.specs.Searched.{Searched, searched, IsFoundBy}
+use Rattle.minus_text.proofs.FoundByLaws.{found_goes_on}
 use Rattle.minus_state.specs.declared.selection.SelectionEnds.{SelectionEnds}
 use Rattle.minus_state.specs.declared.state.PagerState.{PagerState}
 use Rattle.minus_state.specs.declared.change.Change.{Change}
 use Rattle.minus_state.specs.declared.change.NextText.{NextText}
-use Rattle.minus_state.specs.declared.change.NextText.TheVariants.{Same, Whole}
-use Rattle.minus_state.specs.Control.{Control, Saved, Settings, document_of}
+use Rattle.minus_state.specs.declared.change.NextText.TheVariants.{Same, Whole, Pushed, Found, SavedWhole, SavedMore}
+use Rattle.minus_state.specs.Control.{Control, Saved, Settings, document_of, matches_of, search_mark_anew}
+use Rattle.minus_state.specs.ShownPrompt.{shown_in}
 use Rattle.minus_state.specs.Page.{shown_of, all_shown, shown}
-use Rattle.minus_state.specs.NextTexts.{next_document}
-use Rattle.minus_state.specs.Changes.{IsChange, IsPlaced, shown_by, left_set, ends_set, help_set, help_after, settings_after}
+use Rattle.minus_state.specs.NextTexts.{next_document, next_found, next_term, IsNext}
+use Rattle.minus_state.specs.Changes.{IsChange, IsFormedFor, IsPlaced, Leads, shown_by, left_set, ends_set, help_set, mode_set, search_set, help_after, settings_after, prompt_after, shown_prompt}
 use Rattle.minus_state.specs.declared.change.Setting.TheVariants as setting
 use Rattle.minus_state.specs.Aside.{aside_of}
-use Rattle.minus_state.specs.States.{control_of, settings_of, ends_of, IsFormed}
+use Rattle.minus_state.specs.OpenSearches.{OpenSearch}
+use Rattle.minus_state.specs.declared.search.SearchMode.{SearchMode}
+use Rattle.minus_state.specs.States.{control_of, settings_of, ends_of, term_of, search_of, IsFormed}
 
-same_control : (a b : Control) → a.text ≡ b.text → a.cols ≡ b.cols → a.rows ≡ b.rows → a.numbers ≡ b.numbers → a.wrapping ≡ b.wrapping → a.mark ≡ b.mark → a.left ≡ b.left → a.ends ≡ b.ends → a.settings ≡ b.settings → a.help ≡ b.help → a ≡ b
-same_control a b t c r n w m l e s h =
+same_control : (a b : Control) → a.text ≡ b.text → a.cols ≡ b.cols → a.rows ≡ b.rows → a.numbers ≡ b.numbers → a.wrapping ≡ b.wrapping → a.mark ≡ b.mark → a.left ≡ b.left → a.ends ≡ b.ends → a.term ≡ b.term → a.search_mark ≡ b.search_mark → a.settings ≡ b.settings → a.help ≡ b.help → a.mode ≡ b.mode → a.search ≡ b.search → a ≡ b
+same_control a b t c r n w m l e p q s h d o =
     ap (λ (x : List ℕ). let k : Control = record a { text = x } in k) t
     ∙ ap (λ (x : ℕ). let k : Control = record a { text = b.text; cols = x } in k) c
     ∙ ap (λ (x : ℕ). let k : Control = record a { text = b.text; cols = b.cols; rows = x } in k) r
     ∙ ap (λ (x : LineNumbers). let k : Control = record a { text = b.text; cols = b.cols; rows = b.rows; numbers = x } in k) n
     ∙ ap (λ (x : Bool). let k : Control = record a { text = b.text; cols = b.cols; rows = b.rows; numbers = b.numbers; wrapping = x } in k) w
-    ∙ ap (λ (x : ℕ). let k : Control = record b { mark = x; left = a.left; ends = a.ends; settings = a.settings; help = a.help } in k) m
-    ∙ ap (λ (x : ℕ). let k : Control = record b { left = x; ends = a.ends; settings = a.settings; help = a.help } in k) l
-    ∙ ap (λ (x : SelectionEnds). let k : Control = record b { ends = x; settings = a.settings; help = a.help } in k) e
-    ∙ ap (λ (x : Settings). let k : Control = record b { settings = x; help = a.help } in k) s
-    ∙ ap (λ (x : Option Saved). let k : Control = record b { help = x } in k) h
+    ∙ ap (λ (x : ℕ). let k : Control = record b { mark = x; left = a.left; ends = a.ends; term = a.term; search_mark = a.search_mark; settings = a.settings; help = a.help; mode = a.mode; search = a.search } in k) m
+    ∙ ap (λ (x : ℕ). let k : Control = record b { left = x; ends = a.ends; term = a.term; search_mark = a.search_mark; settings = a.settings; help = a.help; mode = a.mode; search = a.search } in k) l
+    ∙ ap (λ (x : SelectionEnds). let k : Control = record b { ends = x; term = a.term; search_mark = a.search_mark; settings = a.settings; help = a.help; mode = a.mode; search = a.search } in k) e
+    ∙ ap (λ (x : Option Re). let k : Control = record b { term = x; search_mark = a.search_mark; settings = a.settings; help = a.help; mode = a.mode; search = a.search } in k) p
+    ∙ ap (λ (x : ℕ). let k : Control = record b { search_mark = x; settings = a.settings; help = a.help; mode = a.mode; search = a.search } in k) q
+    ∙ ap (λ (x : Settings). let k : Control = record b { settings = x; help = a.help; mode = a.mode; search = a.search } in k) s
+    ∙ ap (λ (x : Option Saved). let k : Control = record b { help = x; mode = a.mode; search = a.search } in k) h
+    ∙ ap (λ (x : SearchMode). let k : Control = record b { mode = x; search = a.search } in k) d
+    ∙ ap (λ (x : Option OpenSearch). let k : Control = record b { search = x } in k) o
+
+-- what is kept as found in the rows that there will be is what the term finds in them
+pub found_next : (term : Option Re) (s : Searched) (text : NextText) → IsNext term s text → next_found s.found text ≡ found_by term 0 (rows_of (next_document s.document text))
+found_next term s Same h = h.1
+found_next term s (Whole screen) h = h.1
+found_next term s (Pushed text pending) h =
+    let (old, fresh) = h.1 in
+    ap₂ (λ (kept formed : List RowMatches). found_above pending.push.kept_rows kept ++ formed) old fresh
+    ∙ found_goes_on term s.document (string_bytes text) pending.push.numbers pending.push.cols pending.push h.0
+found_next term s (Found pattern findings) h = h.1
+found_next term s (SavedWhole text) h = h.1
+found_next term s (SavedMore text) h = h.1
 
 -- what was formed of the text that a change leads to
 pub document_next : (s : PagerState) (change : Change) (new : Control) → IsFormed s → IsChange (control_of s) change new → next_document s.screen.document change.text ≡ document_of new
 document_next s change new f h = ap (λ (x : Searched). next_document x.document change.text) f.screen ∙ h.document
 
+-- a change of a formed state was formed for it
+pub formed_for : (s : PagerState) (change : Change) (new : Control) → IsFormed s → IsChange (control_of s) change new → IsFormedFor s change
+formed_for s change new f h =
+    subst (λ (t : Option Re). IsNext t s.screen change.text) (sym h.term_is) (subst (λ (x : Searched). IsNext new.term x change.text) (sym f.screen) h.belongs)
+
+-- so many rows match then
+pub matches_next : (s : PagerState) (change : Change) (new : Control) → IsFormed s → IsChange (control_of s) change new → length (next_found s.screen.found change.text) ≡ length (matches_of new)
+matches_next s change new f h =
+    let found = found_next (next_term (term_of s) change.text) s.screen change.text (formed_for s change new f h) in
+    ap length found
+    ∙ ap (λ (t : Option Re). length (found_by t 0 (rows_of (next_document s.screen.document change.text)))) h.term_is
+    ∙ ap (λ (d : Document). length (found_by new.term 0 (rows_of d))) (document_next s change new f h)
+    ∙ sym (length-map (found_by new.term 0 (rows_of (document_of new))) (λ (r : RowMatches). r.row))
+
+-- the rows are what the term finds in them, where the change was formed for the state
+pub screen_placed : (s t : PagerState) (change : Change) → IsFormedFor s change → IsPlaced s change t → t.screen ≡ searched (next_term (term_of s) change.text) (next_document s.screen.document change.text)
+screen_placed s t change next p =
+    let term : Option Re = next_term (term_of s) change.text in
+    let found = p.found next.1 ∙ ap (λ (d : Document). found_by term 0 (rows_of d)) p.document in
+    ap₂ (λ (d : Document) (fs : List RowMatches). let x : Searched = record { document = d; found = fs } in x) p.document found
+
 -- the state holds the control that the change leads to
 pub placed : (s t : PagerState) (change : Change) (new : Control) → IsFormed s → IsChange (control_of s) change new → IsPlaced s change t → control_of t ≡ new
 placed s t change new f h p =
     let next = document_next s change new f h in
-    let document : t.screen.document ≡ document_of new = ap (λ (x : Searched). x.document) p.screen ∙ next in
-    same_control (control_of t) new (ap (λ (d : Document). d.text) document) (p.cols ∙ h.cols_are) (p.rows ∙ h.rows_are) (p.numbers ∙ ap (λ (d : Document). d.layout.numbers) next) (ap (λ (d : Document). d.layout.wrapping) document) (p.mark ∙ h.mark_is) (p.left ∙ h.left_is) (p.ends ∙ h.ends_are) (p.settings ∙ h.settings_are) (p.help ∙ h.help_is)
+    let document : t.screen.document ≡ document_of new = p.document ∙ next in
+    same_control (control_of t) new (ap (λ (d : Document). d.text) document) (p.cols ∙ h.cols_are) (p.rows ∙ h.rows_are) (p.numbers ∙ ap (λ (d : Document). d.layout.numbers) next) (ap (λ (d : Document). d.layout.wrapping) document) (p.mark ∙ h.mark_is) (p.left ∙ h.left_is) (p.ends ∙ h.ends_are) (p.term ∙ h.term_is) (p.search_mark ∙ h.search_mark_is) (p.settings ∙ h.settings_are) (p.help ∙ h.help_is) (p.search_mode ∙ h.mode_is) (p.search ∙ h.search_is)
 
 -- and it is formed
 pub formed_placed : (s t : PagerState) (change : Change) (new : Control) → IsFormed s → IsChange (control_of s) change new → IsPlaced s change t → IsFormed t
 formed_placed s t change new f h p = record {
-  screen = p.screen ∙ ap (λ (d : Document). searched None d) (document_next s change new f h) ∙ sym (ap (λ (c : Control). searched None (document_of c)) (placed s t change new f h p));
+  screen = screen_placed s t change (formed_for s change new f h) p ∙ ap₂ searched h.term_is (document_next s change new f h) ∙ sym (ap (λ (c : Control). searched c.term (document_of c)) (placed s t change new f h p));
 }
 
--- a change that was placed on an equal state was placed on this one
-pub placed_from : (s d t : PagerState) (change : Change) → d ≡ s → IsPlaced d change t → IsPlaced s change t
-placed_from s d t change same p = subst (λ (x : PagerState). IsPlaced x change t) same p
-
--- a change to a text that was formed anew
-pub change_anew : (s : PagerState) (change : Change) (next : Searched) (d : Document) (new : Control) → change.text ≡ Whole next → next ≡ searched None d → d ≡ document_of new → change.mark ≡ new.mark → change.cols ≡ new.cols → change.rows ≡ new.rows → left_set change.setting s.left_mark ≡ new.left → ends_set change.setting (ends_of s) ≡ new.ends
-    → settings_after (settings_of s) (option_map string_bytes change.prefix) change.setting ≡ new.settings → help_set change.setting (aside_of s.saved) ≡ new.help → IsChange (control_of s) change new
-change_anew s change next d new is formed same m c r l e q h = record {
-  belongs = rw is (ap (λ (x : Searched). x.found) formed);
+-- a change to a text that was formed anew, under the term as it is
+pub change_anew : (s : PagerState) (change : Change) (next : Searched) (d : Document) (new : Control) → change.text ≡ Whole next → next ≡ searched (term_of s) d → d ≡ document_of new → change.mark ≡ new.mark → change.cols ≡ new.cols → change.rows ≡ new.rows → left_set change.setting s.left_mark ≡ new.left → ends_set change.setting (ends_of s) ≡ new.ends → term_of s ≡ new.term → change.search_mark ≡ new.search_mark
+    → settings_after (settings_of s) (option_map string_bytes change.prefix) change.setting ≡ new.settings → help_set change.setting (aside_of s.saved) ≡ new.help → mode_set change.setting s.search_state.search_mode ≡ new.mode → search_set change.setting (search_of s) ≡ new.search → IsChange (control_of s) change new
+change_anew s change next d new is formed same m c r l e t n q h y z = record {
+  belongs = rw is (tt, subst (λ (x : Option Re). IsFoundBy x next) t (subst (λ (x : Searched). IsFoundBy (term_of s) x) (sym formed) refl));
   document = ap (λ (n : NextText). next_document (document_of (control_of s)) n) is ∙ ap (λ (x : Searched). x.document) formed ∙ same;
   mark_is = m;
   cols_are = c;
   rows_are = r;
   left_is = l;
   ends_are = e;
+  term_is = ap (λ (n : NextText). next_term (term_of s) n) is ∙ t;
+  search_mark_is = n;
   settings_are = q;
   help_is = ap (λ (n : NextText). help_after n change.setting (aside_of s.saved)) is ∙ h;
+  mode_is = y;
+  search_is = z;
 }
 
 -- the rows of text on the page that a change leads to
 pub shown_is : (s : PagerState) (change : Change) (new : Control) → IsFormed s → IsChange (control_of s) change new → shown_by s change ≡ shown new
 shown_is s change new f h =
-    ap (λ (d : Document). take (change.rows - 1) (drop change.mark (shown_of d (left_set change.setting s.left_mark) (ends_set change.setting (ends_of s))))) (document_next s change new f h)
-    ∙ ap (λ (l : ℕ). take (change.rows - 1) (drop change.mark (shown_of (document_of new) l (ends_set change.setting (ends_of s))))) h.left_is
-    ∙ ap (λ (e : SelectionEnds). take (change.rows - 1) (drop change.mark (shown_of (document_of new) new.left e))) h.ends_are
+    ap (λ (t : Option Re). take (change.rows - 1) (drop change.mark (shown_of t (next_document s.screen.document change.text) (left_set change.setting s.left_mark) (ends_set change.setting (ends_of s))))) h.term_is
+    ∙ ap (λ (d : Document). take (change.rows - 1) (drop change.mark (shown_of new.term d (left_set change.setting s.left_mark) (ends_set change.setting (ends_of s))))) (document_next s change new f h)
+    ∙ ap (λ (l : ℕ). take (change.rows - 1) (drop change.mark (shown_of new.term (document_of new) l (ends_set change.setting (ends_of s))))) h.left_is
+    ∙ ap (λ (e : SelectionEnds). take (change.rows - 1) (drop change.mark (shown_of new.term (document_of new) new.left e))) h.ends_are
     ∙ ap (λ (n : ℕ). take (n - 1) (drop change.mark (all_shown new))) h.rows_are
     ∙ ap (λ (m : ℕ). take (new.rows - 1) (drop m (all_shown new))) h.mark_is
 
 -- a change that changes nothing
-pub unchanged : (s : PagerState) (change : Change) → change.text ≡ Same → change.mark ≡ s.upper_mark → change.cols ≡ s.cols → change.rows ≡ s.rows → change.prefix ≡ None → change.setting ≡ setting.Same → IsChange (control_of s) change (control_of s)
-unchanged s change is m c r p q = record { belongs = rw is refl; document = rw is refl; mark_is = m; cols_are = c; rows_are = r; left_is = rw q refl; ends_are = rw q refl; settings_are = rw (p, q) refl; help_is = rw (is, q) refl }
+pub unchanged : (s : PagerState) (change : Change) → change.text ≡ Same → change.mark ≡ s.upper_mark → change.cols ≡ s.cols → change.rows ≡ s.rows → change.search_mark ≡ s.search_mark → change.prefix ≡ None → change.setting ≡ setting.Same → IsChange (control_of s) change (control_of s)
+unchanged s change is m c r n p q = record { belongs = rw is (tt, refl); document = rw is refl; mark_is = m; cols_are = c; rows_are = r; left_is = rw q refl; ends_are = rw q refl; term_is = rw is refl; search_mark_is = n; settings_are = rw (p, q) refl; help_is = rw (is, q) refl; mode_is = rw q refl; search_is = rw q refl }
 
 -- the typed prefix after another one was typed, or it stayed
 pub typed_after : (prefix : Option (String Global)) (typed : String Global) → string_bytes (unwrap_or prefix typed) ≡ unwrap_or (option_map string_bytes prefix) (string_bytes typed)
 typed_after None typed = refl
 typed_after (Some next) typed = refl
+
+-- the search mark of rows that were formed anew
+pub search_mark_of : (s : PagerState) (seen next : Searched) (d e : Document) (mark : ℕ) {result : ℕ} → result ≡ unwrap_or (nth_match (row_numbers seen.found) mark 0) 0 → seen ≡ next → next ≡ searched (term_of s) d → d ≡ e → result ≡ search_mark_anew (term_of s) e mark
+search_mark_of s seen next d e mark is view formed same =
+    is ∙ ap (λ (x : Searched). unwrap_or (nth_match (row_numbers x.found) mark 0) 0) view ∙ ap (λ (x : Searched). unwrap_or (nth_match (row_numbers x.found) mark 0) 0) formed ∙ ap (λ (x : Document). search_mark_anew (term_of s) x mark) same
+
+-- what the prompt row is formed of after a change, and before it
+pub prompt_next : (s : PagerState) (change : Change) (new : Control) → IsFormed s → IsChange (control_of s) change new → prompt_after s change ≡ shown_in new.cols new.settings new.search_mark (length (matches_of new))
+prompt_next s change new f h =
+    ap (λ (n : ℕ). shown_in n (settings_after (settings_of s) (option_map string_bytes change.prefix) change.setting) change.search_mark (length (next_found s.screen.found change.text))) h.cols_are
+    ∙ ap (λ (q : Settings). shown_in new.cols q change.search_mark (length (next_found s.screen.found change.text))) h.settings_are
+    ∙ ap (λ (n : ℕ). shown_in new.cols new.settings n (length (next_found s.screen.found change.text))) h.search_mark_is
+    ∙ ap (λ (n : ℕ). shown_in new.cols new.settings new.search_mark n) (matches_next s change new f h)
+
+pub prompt_now : (s : PagerState) → IsFormed s → shown_prompt s ≡ (let c : Control = control_of s in shown_in c.cols c.settings c.search_mark (length (matches_of c)))
+prompt_now s f =
+    let c : Control = control_of s in
+    ap (λ (x : Searched). shown_in c.cols c.settings c.search_mark (length x.found)) f.screen
+    ∙ sym (ap (λ (n : ℕ). shown_in c.cols c.settings c.search_mark n) (length-map (found_by c.term 0 (rows_of (document_of c))) (λ (r : RowMatches). r.row)))
+
+-- a change that changes nothing leaves what the prompt row is formed of
+pub prompt_stays : (s : PagerState) (change : Change) → change.text ≡ Same → change.cols ≡ s.cols → change.search_mark ≡ s.search_mark → change.prefix ≡ None → change.setting ≡ setting.Same → prompt_after s change ≡ shown_prompt s
+prompt_stays s change is c n p q = rw (is, c, n, p, q) refl
+
+-- a change that leads to a control leads to what that equals
+pub leads_to : (s : PagerState) (change : Change) (a b : Control) → a ≡ b → Leads s change a → Leads s change b
+leads_to s change a b e h f = subst (λ (c : Control). IsChange (control_of s) change c) e (h f)

@@ -8,6 +8,10 @@ pub mod ShowingLaws
 pub mod SelectingLaws
 pub mod ChangeLaws
 pub mod AppendLaws
+pub mod PreviewLaws
+pub mod KeyingLaws
+pub mod HelpTextLaws
 pub mod RefusalLaws
 pub mod CharacterLaws
 pub mod QueryEditorLaws
+pub mod HookLaws

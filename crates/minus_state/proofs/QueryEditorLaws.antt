@@ -48,3 +48,8 @@ first_within end place (p ∷ ps) one h = elim (cases_Bool (nat_lt place p)) [
   | inl e ↦ rw e (h.0, h.1)
   | inr e ↦ rw e (first_within end place ps one h.2)
 ]
+
+-- places that stand below an end stand below a later one
+pub within_later : (end later : ℕ) (ps : List ℕ) → end ≤ later → AreWithin end ps → AreWithin later ps
+within_later end later [] le h = tt
+within_later end later (p ∷ ps) le h = (h.0, omega (arith, le, h.1), within_later end later ps le h.2)

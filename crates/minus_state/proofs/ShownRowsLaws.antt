@@ -1,5 +1,5 @@
 -- Shown rows one after another: there are as many as rows, and those before the first that a push changes stay.
-use Rattle.std.proofs.Common.{◌≡◌, ℕ, zero, suc, ◌+◌, ◌-◌, ◌<◌, ◌≤◌, Bool, true, false, List, [], ◌∷◌, ◌++◌, length, take, min, Option, Some, None, option_map, refl, sym, ap, ◌∙◌, arith, inl, inr}
+use Rattle.std.proofs.Common.{◌≡◌, ℕ, zero, suc, ◌+◌, ◌-◌, ◌<◌, ◌≤◌, Bool, true, false, List, [], ◌∷◌, ◌++◌, length, take, drop, min, Option, Some, None, option_map, refl, sym, ap, ◌∙◌, arith, inl, inr}
 use Rattle.std.specs.List.{slice_get}
 use Rattle.std.specs.Prelude.{if◌then◌else◌}
 use Rattle.std.proofs.lemmas.Bool.{cases_Bool}
@@ -76,6 +76,48 @@ get-shown_rows term d left ends i l =
     let all : min (length (rows_of d)) (length (rows_of d)) - 0 ≡ length (rows_of d) = omega arith in
     let here : 0 + i ≡ i = omega arith in
     ap (λ (n : ℕ). slice_get (rows_from term d left ends 0 n) i) all ∙ get-rows_from term d left ends 0 (length (rows_of d)) i l (omega arith) ∙ ap (shown_row term d left ends) here
+
+-- ---- a part of them
+
+front_from : (term : Option Re) (d : Document) (left : ℕ) (ends : Option (Selection × Selection)) (i n k : ℕ) → i + n ≤ length (rows_of d) → take k (rows_from term d left ends i n) ≡ rows_from term d left ends i (min k n)
+front_from term d left ends i n zero l = let none : 0 ≡ min 0 n = omega arith in ap (rows_from term d left ends i) none
+front_from term d left ends i zero (suc k) l = let none : 0 ≡ min (suc k) 0 = omega arith in ap (rows_from term d left ends i) none
+front_from term d left ends i (suc n) (suc k) l =
+    let row = shown_there term d left ends i (omega (arith, l)) in
+    let more : suc (min k n) ≡ min (suc k) (suc n) = omega arith in
+    ap (λ (o : Option (List ℕ)). take (suc k) (before_rows o (rows_from term d left ends (i + 1) n))) row.1
+    ∙ ap (λ (rows : List (List ℕ)). row.0 ∷ rows) (front_from term d left ends (i + 1) n k (omega (arith, l)))
+    ∙ sym (ap (λ (o : Option (List ℕ)). before_rows o (rows_from term d left ends (i + 1) (min k n))) row.1)
+    ∙ ap (rows_from term d left ends i) more
+
+rest_from : (term : Option Re) (d : Document) (left : ℕ) (ends : Option (Selection × Selection)) (i m n : ℕ) → i + (m + n) ≤ length (rows_of d) → drop m (rows_from term d left ends i (m + n)) ≡ rows_from term d left ends (i + m) n
+rest_from term d left ends i zero n l =
+    let all : 0 + n ≡ n = omega arith in
+    let here : i ≡ i + 0 = omega arith in
+    ap (rows_from term d left ends i) all ∙ ap (λ (j : ℕ). rows_from term d left ends j n) here
+rest_from term d left ends i (suc m) n l =
+    let row = shown_there term d left ends i (omega (arith, l)) in
+    let all : suc m + n ≡ suc (m + n) = omega arith in
+    let here : (i + 1) + m ≡ i + suc m = omega arith in
+    ap (λ (j : ℕ). drop (suc m) (rows_from term d left ends i j)) all
+    ∙ ap (λ (o : Option (List ℕ)). drop (suc m) (before_rows o (rows_from term d left ends (i + 1) (m + n)))) row.1
+    ∙ rest_from term d left ends (i + 1) m n (omega (arith, l))
+    ∙ ap (λ (j : ℕ). rows_from term d left ends j n) here
+
+-- so many of all shown rows, from one on
+pub shown_rows_from : (term : Option Re) (d : Document) (left : ℕ) (ends : Option (Selection × Selection)) (m k : ℕ) → m ≤ length (rows_of d) → shown_rows term d left ends m (m + k) ≡ take k (drop m (shown_rows term d left ends 0 (length (rows_of d))))
+unfolding shown_rows
+shown_rows_from term d left ends m k l =
+    let n : ℕ = length (rows_of d) in
+    let all : min n n - 0 ≡ m + (n - m) = omega (arith, l) in
+    let here : 0 + m ≡ m = omega arith in
+    let few : min k (n - m) ≡ min (m + k) n - m = omega arith in
+    sym (
+    ap (λ (j : ℕ). take k (drop m (rows_from term d left ends 0 j))) all
+    ∙ ap (take k) (rest_from term d left ends 0 m (n - m) (omega (arith, l)) ∙ ap (λ (j : ℕ). rows_from term d left ends j (n - m)) here)
+    ∙ front_from term d left ends m (n - m) k (omega (arith, l))
+    ∙ ap (rows_from term d left ends m) few
+    )
 
 -- ---- rows that are shown alike
 

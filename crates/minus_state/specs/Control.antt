@@ -1,8 +1,13 @@
 -- What the commands define: the text on show and how it is laid out, the size, the part of it that the page shows, and what is set beside it.
-use Rattle.std.specs.Prelude.{◌≡◌, ℕ, ◌-◌, ◌≤◌, min, List, [], length, Option, Some, Bool, if◌then◌else◌}
+use Rattle.std.specs.Prelude.{◌≡◌, ℕ, ◌-◌, ◌≤◌, min, List, [], length, unwrap_or, Option, Some, Bool, if◌then◌else◌}
+use Rattle.regex.specs.Patterns.{Re}
 use Rattle.minus_text.specs.declared.line_numbers.LineNumbers.{LineNumbers}
 use Rattle.minus_text.specs.Document.{Document, rows_of, unfinished_rows, keeps_rows}
+use Rattle.minus_text.specs.Found.{found_by, row_numbers}
+use Rattle.minus_text.specs.Matches.{nth_match}
 use Rattle.minus_state.specs.declared.selection.SelectionEnds.{SelectionEnds}
+use Rattle.minus_state.specs.declared.search.SearchMode.{SearchMode}
+use Rattle.minus_state.specs.OpenSearches.{OpenSearch}
 
 -- what is set beside the text: the prompt, a message in its place, the prefix that is typed, whether the prompt row is shown,
 -- and whether the page goes on with what is appended
@@ -25,7 +30,9 @@ pub record Saved : Type 0 where
   pub follow : Bool
 
 -- the text, the size, whether lines have numbers and are wrapped, the first row on the page, the columns that are cut off at the
--- left where lines are not wrapped, the ends of a selection, and what is set beside them; and, while help is open, what is put aside
+-- left where lines are not wrapped, the ends of a selection, the term that rows are searched for, if there is one, and which of the
+-- rows that match is told of, counted from 0; what is set beside them; while help is open, what is put aside; the direction of the last
+-- search; and, while a search prompt is open, that
 pub record Control : Type 0 where
   pub text : List ℕ
   pub cols : ℕ
@@ -35,8 +42,12 @@ pub record Control : Type 0 where
   pub mark : ℕ
   pub left : ℕ
   pub ends : SelectionEnds
+  pub term : Option Re
+  pub search_mark : ℕ
   pub settings : Settings
   pub help : Option Saved
+  pub mode : SearchMode
+  pub search : Option OpenSearch
 
 -- the document of the text on show
 abbrev pub document_of : Control → Document
@@ -53,6 +64,26 @@ first_changed c = length (text_rows c) - unfinished_rows (document_of c)
 -- whether a text that is appended leaves the rows before that as they are: its lines' numbers take no more columns then
 abbrev pub keeps_rows_with : Control → List ℕ → Bool
 keeps_rows_with c text = keeps_rows (document_of c) text c.numbers c.cols
+
+-- the numbers of the rows of a document that match a term, if there is one
+abbrev pub matches_in : Option Re → Document → List ℕ
+matches_in term d = row_numbers (found_by term 0 (rows_of d))
+
+-- the numbers of the rows that match
+abbrev pub matches_of : Control → List ℕ
+matches_of c = matches_in c.term (document_of c)
+
+-- the search mark where rows are formed anew: the first match at a mark or behind it, or else the first one
+abbrev pub search_mark_anew : Option Re → Document → ℕ → ℕ
+search_mark_anew term d mark = unwrap_or (nth_match (matches_in term d) mark 0) 0
+
+-- the rows are formed anew, which sets the search mark
+abbrev pub reformed : Control → Control
+reformed c = record c { search_mark = search_mark_anew c.term (document_of c) c.mark }
+
+-- the rows are searched for another term, or for none
+abbrev pub searched_for : Control → Option Re → Control
+searched_for c term = reformed (record c { term = term })
 
 -- the greatest mark: the last page is full where there are rows enough
 abbrev pub top : Control → ℕ

@@ -2,7 +2,7 @@
 use Rattle.std.specs.Prelude.{ℕ, ◌++◌, List, is_some, Bool, false, Option, None, Some, codes, if◌then◌else◌}
 use Rattle.std.specs.Option.{option_map}
 use Rattle.minus_text.specs.declared.line_numbers.LineNumbers.TheVariants.{Disabled}
-use Rattle.minus_state.specs.Control.{Control, Saved, Settings}
+use Rattle.minus_state.specs.Control.{Control, Saved, Settings, reformed}
 
 -- what the prompt says while help is open
 abbrev pub help_prompt : List ℕ
@@ -21,9 +21,9 @@ abbrev pub switched : Settings → List ℕ → Bool → Settings
 switched s prompt follow = record s { prompt = prompt; message = None; follow = follow }
 
 -- help is opened with a text: its lines are not wrapped and have no numbers, the marks are at the first row and column, and the
--- page stays where it is at an append; what is selected stays
+-- page stays where it is at an append; what is selected stays, and so does the term
 abbrev pub opened : Control → List ℕ → Control
-opened c text = record c {
+opened c text = reformed (record c {
   text = text;
   numbers = Disabled;
   wrapping = false;
@@ -31,11 +31,11 @@ opened c text = record c {
   left = 0;
   settings = switched c.settings help_prompt false;
   help = Some (put_aside c);
-}
+})
 
 -- help is left: what was put aside returns, without a message
 abbrev pub closed : Control → Saved → Control
-closed c saved = record c {
+closed c saved = reformed (record c {
   text = saved.text;
   numbers = saved.numbers;
   wrapping = saved.wrapping;
@@ -43,7 +43,7 @@ closed c saved = record c {
   left = saved.left;
   settings = switched c.settings saved.prompt saved.follow;
   help = None;
-}
+})
 
 -- help is left where it is open
 abbrev pub left_help : Control → Option Saved → Control
@@ -78,8 +78,8 @@ with_prompt c text = record c { settings = record c.settings { prompt = if help_
 
 -- another text is put in the place of that on show; while help is open, of the one that is put aside
 abbrev pub with_text : Control → List ℕ → Control
-with_text c text = record c { text = if help_open c then c.text else text; help = text_aside text c.help }
-
--- a text is added to that on show; while help is open, to the one that is put aside
-abbrev pub with_more : Control → List ℕ → Control
-with_more c text = record c { text = if help_open c then c.text else c.text ++ text; help = more_aside text c.help }
+with_text c text = record c {
+  text = if help_open c then c.text else text;
+  search_mark = if help_open c then c.search_mark else (reformed (record c { text = text })).search_mark;
+  help = text_aside text c.help;
+}

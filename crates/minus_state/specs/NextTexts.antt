@@ -1,20 +1,45 @@
 -- The text that a command leaves, formed beside the document.
-use Rattle.std.specs.Prelude.{Option, None, string_bytes}
-use Rattle.minus_text.specs.Document.{Document, pushed}
+use Rattle.std.specs.Prelude.{◌≡◌, Option, Some, List, ◌++◌, string_bytes}
+use Rattle.regex.specs.Patterns.{Re}
+use Rattle.regex.specs.Strings.{regex_pattern}
+use Rattle.minus_text.specs.Document.{Document, rows_of, pushed}
+use Rattle.minus_text.specs.Found.{RowMatches, AreFoundIn, found_by, found_above}
 use Rattle.minus_text.specs.Pending.{IsPending}
 use Rattle.minus_text.specs.Searched.{Searched, IsFoundBy, IsFoundInPush}
 use Rattle.minus_state.specs.Control.{Saved}
 use Rattle.minus_state.specs.Help.{text_aside, more_aside}
 use Rattle.minus_state.specs.declared.change.NextText.{NextText}
-use Rattle.minus_state.specs.declared.change.NextText.TheVariants.{Same, Whole, Pushed, SavedWhole, SavedMore}
+use Rattle.minus_state.specs.declared.change.NextText.TheVariants.{Same, Whole, Pushed, Found, SavedWhole, SavedMore}
 
 -- the document that there will be
 abbrev pub next_document : Document → NextText → Document
 next_document d Same = d
 next_document d (Whole screen) = screen.document
-next_document d (Pushed text pending) = pushed d (string_bytes text) d.layout.numbers d.layout.cols
+next_document d (Pushed text pending) = pushed d (string_bytes text) pending.push.numbers pending.push.cols
+next_document d (Found pattern findings) = d
 next_document d (SavedWhole text) = d
 next_document d (SavedMore text) = d
+
+-- the term that there will be
+abbrev pub next_term : Option Re → NextText → Option Re
+next_term term Same = term
+next_term term (Whole screen) = term
+next_term term (Pushed text pending) = term
+next_term term (Found pattern findings) = Some (regex_pattern pattern)
+next_term term (SavedWhole text) = term
+next_term term (SavedMore text) = term
+
+-- what will be found in its rows, where this is found in those of the document
+abbrev pub next_found : List RowMatches → NextText → List RowMatches
+next_found found Same = found
+next_found found (Whole screen) = screen.found
+next_found found (Pushed text pending) = found_above pending.push.kept_rows found ++ pending.found
+next_found found (Found pattern findings) = findings
+next_found found (SavedWhole text) = found
+next_found found (SavedMore text) = found
+
+abbrev pub next_searched : Searched → NextText → Searched
+next_searched s next = record { document = next_document s.document next; found = next_found s.found next }
 
 -- what is put aside then, while help is open
 abbrev pub aside_with : NextText → Option Saved → Option Saved
@@ -22,10 +47,24 @@ aside_with (SavedWhole text) help = text_aside (string_bytes text) help
 aside_with (SavedMore text) help = more_aside (string_bytes text) help
 aside_with next help = help
 
--- what is formed beside a document belongs to it, and neither was searched for a term
-abbrev pub IsNext : Searched → NextText → Type 0
-IsNext s Same = IsFoundBy None s
-IsNext s (Whole screen) = IsFoundBy None screen
-IsNext s (Pushed text pending) = IsFoundBy None s × IsFoundInPush None pending × IsPending s.document (string_bytes text) s.document.layout.numbers s.document.layout.cols pending.push
-IsNext s (SavedWhole text) = IsFoundBy None s
-IsNext s (SavedMore text) = IsFoundBy None s
+-- what is formed beside a document is formed for it
+abbrev pub Belongs : Document → NextText → Type 0
+Belongs d Same = Unit {0}
+Belongs d (Whole screen) = Unit {0}
+Belongs d (Pushed text pending) = IsPending d (string_bytes text) pending.push.numbers pending.push.cols pending.push
+Belongs d (Found pattern findings) = AreFoundIn 0 (rows_of d) findings
+Belongs d (SavedWhole text) = Unit {0}
+Belongs d (SavedMore text) = Unit {0}
+
+-- a term finds what is kept as found in the rows that stay and in those that are formed
+abbrev pub IsSearchedFor : Option Re → Searched → NextText → Type 0
+IsSearchedFor term s Same = IsFoundBy term s
+IsSearchedFor term s (Whole screen) = IsFoundBy term screen
+IsSearchedFor term s (Pushed text pending) = IsFoundBy term s × IsFoundInPush term pending
+IsSearchedFor term s (Found pattern findings) = findings ≡ found_by term 0 (rows_of s.document)
+IsSearchedFor term s (SavedWhole text) = IsFoundBy term s
+IsSearchedFor term s (SavedMore text) = IsFoundBy term s
+
+-- what is formed beside a document is formed for it, and searched for a term
+abbrev pub IsNext : Option Re → Searched → NextText → Type 0
+IsNext term s next = Belongs s.document next × IsSearchedFor term s next

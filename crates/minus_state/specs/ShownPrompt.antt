@@ -1,29 +1,29 @@
 -- The prompt row of a control.
-use Rattle.std.specs.Prelude.{◌≡◌, ℕ, ◌==◌, List, Bool, true}
+use Rattle.std.specs.Prelude.{◌≡◌, ℕ, ◌==◌, List, length, Bool, true}
 use Rattle.std.specs.List.{list_any}
 use Rattle.minus_term.specs.declared.error.MinusError.{MinusError}
 use Rattle.minus_term.specs.declared.error.MinusError.TheVariants.{NewlineInPrompt}
 use Rattle.minus_state.specs.PromptRow.{PromptRow, prompt_row as row_text}
-use Rattle.minus_state.specs.Control.{Control, Settings}
+use Rattle.minus_state.specs.Control.{Control, Settings, matches_of}
 
--- what the prompt row of so many columns is formed of
-abbrev pub shown_in : ℕ → Settings → PromptRow
-shown_in cols s = record {
+-- what the prompt row of so many columns is formed of, where a search mark is told of this number of rows that match
+abbrev pub shown_in : ℕ → Settings → ℕ → ℕ → PromptRow
+shown_in cols s search_mark match_count = record {
   is_shown = s.is_shown;
   prompt = s.prompt;
   message = s.message;
   prefix = s.prefix;
-  search_mark = 0;
-  match_count = 0;
+  search_mark = search_mark;
+  match_count = match_count;
   follow = s.follow;
   cols = cols;
 }
 
-abbrev pub prompt_row_of : ℕ → Settings → List ℕ
-prompt_row_of cols s = row_text (shown_in cols s)
+abbrev pub prompt_row_of : ℕ → Settings → ℕ → ℕ → List ℕ
+prompt_row_of cols s search_mark match_count = row_text (shown_in cols s search_mark match_count)
 
 abbrev pub prompt_row : Control → List ℕ
-prompt_row c = prompt_row_of c.cols c.settings
+prompt_row c = prompt_row_of c.cols c.settings c.search_mark (length (matches_of c))
 
 -- whether a text has a newline
 abbrev pub has_newline : List ℕ → Bool

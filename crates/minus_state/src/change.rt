@@ -1,9 +1,11 @@
 //! What a command leaves, formed beside the state.
 ghost use Rattle.minus_state.specs.Sizes.{IsSize};
 
+use crate::search::open_search::SearchStep;
 use crate::selection::SelectionEnds;
 use crate::state::help::HelpSwitch;
-use minus_text::{PendingPush, RowsView, Screen};
+use minus_text::{Findings, PendingPush, RowsView, Screen};
+use regex::Regex;
 
 /// What a command asks to be drawn.
 #[derive(Clone, Copy)]
@@ -18,6 +20,14 @@ pub enum Redraw {
     Appended,
     /// The prompt row.
     PromptRow,
+    /// The search prompt, which opens in the place of the prompt row.
+    Opening,
+    /// The cursor in the search prompt.
+    Cursor,
+    /// The page, with the search prompt's query and cursor.
+    Edit,
+    /// The page in the place of the search prompt, which closes.
+    Closing,
 }
 
 /// How a text was appended.
@@ -39,6 +49,8 @@ pub enum NextText {
     Whole(Screen),
     /// This text is added, and these rows were formed for it.
     Pushed(String, PendingPush),
+    /// The text on show stays, and this pattern, the term from now on, was found so in its rows.
+    Found(Regex, Findings),
     /// Another text in the place of the one that is put aside.
     SavedWhole(String),
     /// More of the text that is put aside.
@@ -46,21 +58,34 @@ pub enum NextText {
 }
 
 impl NextText {
-    ghost use Rattle.std.specs.Prelude.{◌≡◌, None};
-    ghost use Rattle.minus_text.specs.Searched.{IsFoundBy};
+    ghost use Rattle.std.specs.Prelude.{◌≡◌, length};
     ghost use Rattle.minus_text.specs.Views.{viewed};
-    ghost use Rattle.minus_state.specs.NextTexts.{next_document, IsNext};
+    ghost use Rattle.minus_state.specs.NextTexts.{next_found, next_searched, Belongs};
 
     /// The rows that there will be, where the text on show stands in a screen.
     pub fn view<'a>(&'a self, screen: &'a Screen) -> RowsView<'a>
-        requires { IsNext screen.now self.now }
-        ensures document { (viewed result).document ≡ next_document screen.now.document self.now }
-        ensures found { IsFoundBy None (viewed result) }
+        requires { Belongs screen.now.document self.now }
+        ensures { viewed result ≡ next_searched screen.now self.now }
     {
         match self {
             NextText::Whole(next) => next.view(),
             NextText::Pushed(text, pending) => screen.view_after(text.as_str(), pending),
+            NextText::Found(_, findings) => screen.view_of(findings),
             NextText::Same | NextText::SavedWhole(_) | NextText::SavedMore(_) => screen.view(),
+        }
+    }
+
+    // The number of rows that will match, where the text on show stands in a screen.
+    pub(crate) fn match_count(&self, screen: &Screen) -> usize
+        ensures { result ≡ length (next_found screen.now.found self.now) }
+    {
+        match self {
+            NextText::Whole(next) => next.match_count(),
+            NextText::Pushed(_, pending) => screen.match_count_after(pending),
+            NextText::Found(_, findings) => findings.match_count(),
+            NextText::Same | NextText::SavedWhole(_) | NextText::SavedMore(_) => {
+                screen.match_count()
+            }
         }
     }
 }
@@ -84,6 +109,8 @@ pub enum Setting {
     Ends(SelectionEnds),
     /// What help sets.
     Switch(HelpSwitch),
+    /// What becomes of the search prompt.
+    Search(SearchStep),
 }
 
 impl Setting {
@@ -109,6 +136,7 @@ impl Setting {
         match self {
             Setting::Message(Some(next)) => Some(next.as_str()),
             Setting::Message(None) | Setting::Switch(_) => None,
+            Setting::Search(SearchStep::Closes(Some(next))) => Some(next.as_str()),
             _ => message,
         }
     }
@@ -167,6 +195,8 @@ pub struct Change {
     pub cols: usize,
     /// The rows of the terminal, the prompt's among them, from 1 to 65,535.
     pub rows: usize,
+    /// The place, counted from 0, of the match that the prompt row tells of.
+    pub search_mark: usize,
     /// Another typed prefix, empty where the typed one goes; `None` where it stays.
     pub prefix: Option<String>,
     /// What there will be beside the text.
@@ -184,6 +214,7 @@ impl Drop for Change {
             mark: _,
             cols: _,
             rows: _,
+            search_mark: _,
             prefix: _,
             setting: _,
             redraw: _,
@@ -194,11 +225,11 @@ impl Drop for Change {
 impl Change {
     ghost use Rattle.std.specs.Prelude.{◌≡◌, ◌-◌, min, length};
     ghost use Rattle.minus_text.specs.Document.{rows_of};
-    ghost use Rattle.minus_state.specs.NextTexts.{next_document, IsNext};
+    ghost use Rattle.minus_state.specs.NextTexts.{next_document, Belongs};
 
     /// Clamps the mark: it is at most the one at which the last page of the text that there will be is full.
     pub fn clamp(&mut self, screen: &Screen)
-        requires { IsNext screen.now self.old.text }
+        requires { Belongs screen.now.document self.old.text }
         ensures { self.new ≡ record self.old {
           mark = min self.old.mark (length (rows_of (next_document screen.now.document self.old.text)) -
               (self.old.rows - 1));
@@ -219,6 +250,7 @@ impl Change {
             mark: _,
             cols: _,
             rows: _,
+            search_mark: _,
             prefix,
             setting,
             redraw: _,

@@ -1,4 +1,5 @@
 //! What the events of a terminal ask a pager for, and what decides about them.
+use crate::search::SearchMode;
 use crate::state::PagerState;
 use minus_term::Event;
 use minus_text::LineNumbers;
@@ -37,6 +38,19 @@ pub enum InputEvent {
     ClearSelection,
     /// Copy what is selected, and select nothing any more.
     CopySelection,
+    /// Open the search prompt for a search in this direction, with an empty query, and let the prompt row tell of the
+    /// first match from then on; nothing where the direction is unknown.
+    Search(SearchMode),
+    /// `MoveToNextMatch` by one match.
+    NextMatch,
+    /// `MoveToPrevMatch` by one match.
+    PrevMatch,
+    /// Move the mark to the row of the match that a jump on by so many matches goes to, counted from the mark, past the
+    /// last one on at the first, and let the prompt row tell of that match. Where no row matches, nothing.
+    MoveToNextMatch(usize),
+    /// Let the prompt row tell of the match so many before the one that it tells of, or of the first one, and move the
+    /// mark to its row where that stands above it. Where no row matches, nothing.
+    MoveToPrevMatch(usize),
     /// Move to the last page, and go on with what is appended from now on, or no longer.
     FollowOutput(bool),
     /// Drop the message, so that the prompt is shown again; where help is open, leave it.

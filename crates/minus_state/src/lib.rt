@@ -1,11 +1,15 @@
 //! The state of a pager: its text, its marks and what is set beside them, what is selected, what of a row
-//! and of the prompt row is shown, what events ask it for, and the editor of a search prompt's query.
+//! and of the prompt row is shown, what events ask it for, the editor of a search prompt's query, and the
+//! callbacks of hooks and exits.
 #![tactic(auto)]
 
 pub mod change;
 pub mod copied;
+pub mod exits;
 mod frame;
+pub mod hooks;
 pub mod input;
+pub mod kept;
 pub mod prompt;
 pub mod rendering;
 pub mod scroll;
@@ -18,13 +22,22 @@ pub mod visible;
 
 pub use change::{AppendStyle, Change, NextText, Redraw, Setting};
 pub use copied::extract_selection;
+pub use exits::{ExitCall, ExitCallbacks};
+pub use hooks::{HookCall, HookId, HookList};
 pub use input::{InputClassifier, InputEvent};
+pub use kept::{ExitCallback, HookCallback, Hooks, KeptExit, KeptHook};
 pub use prompt::{PromptRow, format_prompt, prompt_fills_its_row};
 pub use rendering::{render_rows_for_display, selection_adds_markers_alone, shown_rows_fit};
 pub use scroll::get_horizontal_scroll_bounds;
+pub use search::condition::{ConditionCall, KeptCondition, NeverShows, SearchCondition};
 pub use search::keys::{QueryEdit, edit_of};
+pub use search::matches::Matches;
+pub use search::open_prompt::OpenPrompt;
+pub use search::open_search::{OpenSearch, SearchStep};
+pub use search::opts::{IncrementalSearchOpts, SearchOpts, search_opts};
+pub use search::preview::{confirmed_rows, incremental_preview};
 pub use search::query::{Fed, QueryEditor};
-pub use search::{InputStatus, SearchMode};
+pub use search::{InputStatus, SearchMode, SearchState};
 pub use selection::{Selection, SelectionEnds, marked_range};
 pub use showing::{ShownRow, ShownRows};
 pub use state::help::{HelpSwitch, Saved};

@@ -1,7 +1,7 @@
 //! What is shown of rows.
 ghost use Rattle.std.specs.Prelude.{◌≡◌, Option, [], ◌++◌, map, option_map, string_bytes, IfOk, OnOk};
 ghost use Rattle.regex.specs.Patterns.{Re};
-ghost use Rattle.minus_text.specs.Searched.{IsFoundBy};
+ghost use Rattle.minus_text.specs.Searched.{IsFoundBetween};
 ghost use Rattle.minus_text.specs.Views.{viewed};
 ghost use Rattle.minus_state.specs.Selection.{ends_in_order};
 ghost use Rattle.minus_state.specs.ShownRow.{before_rows, shown_rows, ShownRowsFit, SelectionAddsMarkersAlone};
@@ -33,8 +33,8 @@ pub fn render_rows_for_display(
     start: usize,
     end: usize,
 ) -> Result<Rows, AllocError>
-    ensures { IfOk result (λ rows. (term : Option Re) → IsFoundBy term (viewed rendering.now.view) →
-        map string_bytes rows.items
+    ensures { IfOk result (λ rows. (term : Option Re) →
+        IsFoundBetween term (viewed rendering.now.view) start end → map string_bytes rows.items
         ≡ shown_rows term (viewed rendering.now.view).document rendering.now.left_mark
         (ends_in_order rendering.now.ends) start end) }
 {

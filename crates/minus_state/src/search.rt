@@ -5,19 +5,26 @@
 //! that of the editor, which counts characters and not columns.
 ghost use Rattle.minus_state.specs.SearchMode.{char_of};
 
+pub mod condition;
 pub mod keys;
 mod letters;
+pub mod matches;
+pub mod open_prompt;
+pub mod open_search;
+pub mod opts;
+pub mod preview;
 pub mod query;
 mod words;
 
 /// The direction of a search.
-#[derive(Clone, Copy, Debug, PartialEq, Eq)]
+#[derive(Clone, Copy, Debug, Default, PartialEq, Eq)]
 pub enum SearchMode {
     /// From the mark on to the end of the text.
     Forward,
     /// From the mark back to the beginning of the text.
     Reverse,
     /// No search has begun.
+    #[default]
     Unknown,
 }
 
@@ -35,6 +42,13 @@ impl SearchMode {
             SearchMode::Unknown => None,
         }
     }
+}
+
+/// How a search stands.
+#[derive(Clone, Copy, Debug, Default, PartialEq, Eq)]
+pub struct SearchState {
+    /// The direction of the last search.
+    pub search_mode: SearchMode,
 }
 
 /// How a search prompt stands.

@@ -1,7 +1,7 @@
 //! What is shown of the rows of a text.
 ghost use Rattle.std.specs.Prelude.{◌≡◌, ◌+◌, ◌<◌, ◌^◌, Option, option_map, string_bytes, IfOk};
 ghost use Rattle.regex.specs.Patterns.{Re};
-ghost use Rattle.minus_text.specs.Searched.{IsFoundBy, IsStoredRow};
+ghost use Rattle.minus_text.specs.Searched.{IsFoundAt, IsStoredRow};
 ghost use Rattle.minus_text.specs.Views.{viewed};
 ghost use Rattle.minus_state.specs.Selection.{ends_in_order};
 ghost use Rattle.minus_state.specs.ShownRow.{cropped_row, unmarked_row, shown_row};
@@ -96,7 +96,7 @@ impl<'s> ShownRows<'s> {
     // A line that is its one row, counted from 0, from the left mark on, if there is one.
     fn cropped(self, alloc: Global, i: usize) -> Result<Option<Row>, AllocError>
         requires { i + 1 < 2 ^ 64 }
-        ensures { IfOk result (λ row. (term : Option Re) → IsFoundBy term (viewed self.entry.view) →
+        ensures { IfOk result (λ row. (term : Option Re) → IsFoundAt term (viewed self.entry.view) i →
             option_map string_bytes row
             ≡ cropped_row term (viewed self.entry.view).document self.entry.left_mark i) }
     {
@@ -113,7 +113,7 @@ impl<'s> ShownRows<'s> {
     // A row without a selection, counted from 0, if there is one.
     fn unmarked(self, alloc: Global, i: usize) -> Result<Option<ShownRow<'s>>, AllocError>
         requires { i + 1 < 2 ^ 64 }
-        ensures { IfOk result (λ row. (term : Option Re) → IsFoundBy term (viewed self.entry.view) →
+        ensures { IfOk result (λ row. (term : Option Re) → IsFoundAt term (viewed self.entry.view) i →
             option_map row_text row
             ≡ unmarked_row term (viewed self.entry.view).document self.entry.left_mark i) }
     {
@@ -133,7 +133,7 @@ impl<'s> ShownRows<'s> {
     /// [`AllocError`] where there is no memory for it.
     pub fn row(self, alloc: Global, i: usize) -> Result<Option<ShownRow<'s>>, AllocError>
         requires { i + 1 < 2 ^ 64 }
-        ensures { IfOk result (λ row. (term : Option Re) → IsFoundBy term (viewed self.entry.view) →
+        ensures { IfOk result (λ row. (term : Option Re) → IsFoundAt term (viewed self.entry.view) i →
             option_map row_text row
             ≡ shown_row term (viewed self.entry.view).document self.entry.left_mark
             (ends_in_order self.entry.ends) i) }

@@ -1,7 +1,11 @@
 //! What is on show, and how.
-ghost use Rattle.std.specs.Prelude.{◌≡◌, ◌↔◌, IsTrue, None, string_bytes, OnOk, OnErr, IfOk, IfErr};
+ghost use Rattle.std.specs.Prelude.{◌≡◌, ◌↔◌, IsTrue, string_bytes, option_map, unwrap_or, OnOk, OnErr, IfOk, IfErr};
+ghost use Rattle.regex.specs.Strings.{regex_pattern};
+ghost use Rattle.minus_text.specs.Found.{row_numbers};
+ghost use Rattle.minus_text.specs.Matches.{nth_match};
+ghost use Rattle.minus_text.specs.Views.{viewed};
 ghost use Rattle.minus_state.specs.Aside.{aside_of};
-ghost use Rattle.minus_state.specs.NextTexts.{next_document, aside_with, IsNext};
+ghost use Rattle.minus_text.specs.FoundRows.{pattern_of};
 ghost use Rattle.minus_state.specs.ShownPrompt.{has_newline};
 ghost use Rattle.minus_state.specs.Sizes.{IsSize};
 ghost use Rattle.minus_text.specs.Searched.{searched};
@@ -9,16 +13,23 @@ ghost use Rattle.minus_text.specs.Searched.{searched};
 mod after;
 mod forming;
 pub mod help;
+mod jumps;
+mod keying;
+mod prompting;
 mod readers;
 mod selecting;
 mod settings;
+mod term;
 mod texts;
 
 use crate::change::{Change, NextText, Setting};
+use crate::search::open_search::{OpenSearch, SearchStep};
+use crate::search::{SearchMode, SearchState};
 use crate::selection::{Selection, SelectionEnds};
 use crate::state::help::{HelpSwitch, Saved, add_aside, replace_aside};
 use minus_term::MinusError;
-use minus_text::{Layout, LineNumbers, Screen};
+use minus_text::{Layout, LineNumbers, Patterns, RowsView, Screen, Term};
+use regex::Regex;
 use std::alloc::Global;
 
 /// Whether these are columns and rows of a terminal: each from 1 to 65,535.
@@ -31,45 +42,37 @@ pub fn is_size(cols: usize, rows: usize) -> bool
 // What the prompt says at first.
 const PROMPT: &str = "minus";
 
-// A text with its rows in a layout, searched for no term.
-fn formed(alloc: Global, text: String, layout: Layout) -> Result<Screen, MinusError>
-    ensures ok { IfOk result (λ s. s ≡ searched None (record { text = string_bytes text; layout = layout })) }
+// A text with its rows in a layout, searched for a term, if there is one.
+fn formed(
+    alloc: Global,
+    text: String,
+    layout: Layout,
+    term: Option<Term<'_>>,
+) -> Result<Screen, MinusError>
+    ensures ok { IfOk result (λ s. s
+        ≡ searched (pattern_of term.entry) (record { text = string_bytes text; layout = layout })) }
     ensures memory { IfErr result (λ e. e ≡ MinusError.Memory) }
 {
-    let (screen, _) = Screen::of_text(alloc, text, layout, None)?;
+    let (screen, _) = Screen::of_text(alloc, text, layout, term)?;
     Ok(screen)
 }
 
-// Puts a text that was formed in its place, or where one is put aside. An `Err` changes nothing.
-fn place_text(
-    alloc: Global,
-    screen: &mut Screen,
-    saved: &mut Option<Saved>,
-    text: NextText,
-) -> Result<(), MinusError>
-    requires { IsNext screen.old text }
-    ensures ok { OnOk result (screen.new ≡ searched None (next_document screen.old.document text)) }
-    ensures aside { OnOk result (aside_of saved.new ≡ aside_with text (aside_of saved.old)) }
-    ensures err { OnErr result (screen.new ≡ screen.old) }
-    ensures stays { OnErr result (aside_of saved.new ≡ aside_of saved.old) }
-    ensures memory { IfErr result (λ e. e ≡ MinusError.Memory) }
+// What rows are searched for.
+fn searching<'t>(patterns: &'t Patterns, term: Option<&'t Regex>) -> Option<Term<'t>>
+    ensures { pattern_of result ≡ option_map (λ t. regex_pattern t.now) term.entry }
 {
-    match text {
-        NextText::Same => Ok(()),
-        NextText::Whole(next) => {
-            *screen = next;
-            Ok(())
-        }
-        NextText::Pushed(piece, pending) => {
-            let _ = screen.place_push(alloc, &piece, pending, None)?;
-            Ok(())
-        }
-        NextText::SavedWhole(text) => {
-            replace_aside(saved, text);
-            Ok(())
-        }
-        NextText::SavedMore(piece) => add_aside(saved, &piece),
+    match term {
+        Some(pattern) => Some(Term { patterns, pattern }),
+        None => None,
     }
+}
+
+// The place of the match that the prompt row tells of where rows were formed anew or another term is searched for: the
+// first one at a mark or behind it, or else the first one; 0 where no row matches.
+fn search_mark_anew(view: RowsView<'_>, mark: usize) -> usize
+    ensures { result ≡ unwrap_or (nth_match (row_numbers (viewed view.entry).found) mark 0) 0 }
+{
+    view.nth_match(mark, 0).unwrap_or(0)
 }
 
 /// How a session was started, or that it runs no more.
@@ -116,6 +119,10 @@ pub struct PagerState {
     pub left_mark: usize,
     /// Where what is selected was led to.
     pub selection: Option<Selection>,
+    /// The direction of the last search, as [`SearchState::search_mode`] has it, which is the one to read.
+    pub search_mode: SearchMode,
+    /// How a search stands.
+    pub search_state: SearchState,
     /// The columns of the terminal, from 1 to 65,535.
     pub cols: usize,
     /// The rows of the terminal, the prompt's among them, from 1 to 65,535.
@@ -124,11 +131,15 @@ pub struct PagerState {
     pub message: Option<String>,
     /// The prefix that is typed; empty where there is none.
     pub prefix_num: String,
+    pub(crate) patterns: Patterns,
+    pub(crate) term: Option<Regex>,
+    pub(crate) search_mark: usize,
     pub(crate) anchor: Option<Selection>,
     pub(crate) prompt: String,
     pub(crate) prompt_shown: bool,
     pub(crate) follow: bool,
     pub(crate) saved: Option<Saved>,
+    pub(crate) open_search: Option<OpenSearch>,
     pub ghost sized: { IsSize cols rows },
 }
 
@@ -141,15 +152,21 @@ impl Drop for PagerState {
             upper_mark: _,
             left_mark: _,
             selection: _,
+            search_mode: _,
+            search_state: _,
             cols: _,
             rows: _,
             message: _,
             prefix_num: _,
+            patterns: _,
+            term: _,
+            search_mark: _,
             anchor: _,
             prompt: _,
             prompt_shown: _,
             follow: _,
             saved: _,
+            open_search: _,
         } = self;
     }
 }
@@ -157,20 +174,21 @@ impl Drop for PagerState {
 impl PagerState {
     ghost use Rattle.std.specs.Prelude.{◌≡◌, None, string_bytes, OnOk, OnErr, IfOk, IfErr};
     ghost use Rattle.std.specs.Option.{option_map, unwrap_or};
-    ghost use Rattle.minus_text.specs.Searched.{searched};
+    ghost use Rattle.minus_text.specs.Searched.{searched, IsFoundBy};
     ghost use Rattle.minus_state.specs.Control.{Control, document_of};
     ghost use Rattle.minus_term.specs.Refusals.{refusal_of};
-    ghost use Rattle.minus_state.specs.States.{control_of, settings_of, ends_of, IsFormed, at_start};
-    ghost use Rattle.minus_state.specs.NextTexts.{IsNext};
+    ghost use Rattle.minus_state.specs.States.{control_of, settings_of, ends_of, term_of, search_of, IsFormed, at_start};
+    ghost use Rattle.minus_state.specs.OpenSearches.{search_after, mode_after, message_after};
+    ghost use Rattle.minus_state.specs.NextTexts.{next_document, next_term, aside_with, IsSearchedFor};
     ghost use Rattle.minus_state.specs.Aside.{aside_of};
-    ghost use Rattle.minus_state.specs.Changes.{IsChange, IsPlaced, settings_after, left_set, ends_set, help_set, IsUnformedState};
+    ghost use Rattle.minus_state.specs.Changes.{IsChange, KeepsBeside, IsPlaced, settings_after, left_set, ends_set, help_set, mode_set, search_set, IsUnformedState};
 
     /// No text yet, for a terminal of so many columns and rows.
     ///
     /// # Errors
     ///
-    /// [`MinusError::BadSize`] where the columns or the rows are not from 1 to 65,535, and [`MinusError::Memory`] where
-    /// there is no memory.
+    /// [`MinusError::BadSize`] where the columns or the rows are not from 1 to 65,535, [`MinusError::SearchExpError`]
+    /// where `regex` builds no matcher of a fixed pattern, and [`MinusError::Memory`] where there is no memory.
     pub fn new(alloc: Global, cols: usize, rows: usize) -> Result<PagerState, MinusError>
         ensures control { IfOk result (λ s. control_of s ≡ at_start cols rows) }
         ensures formed { IfOk result IsFormed }
@@ -181,20 +199,28 @@ impl PagerState {
             return Err(MinusError::BadSize(cols, rows));
         }
         Ok(PagerState {
-            screen: formed(alloc, String::new(alloc), Layout::plain(cols))?,
+            screen: formed(alloc, String::new(alloc), Layout::plain(cols), None)?,
             line_numbers: LineNumbers::Disabled,
             upper_mark: 0,
             left_mark: 0,
             selection: None,
+            search_mode: SearchMode::Unknown,
+            search_state: SearchState {
+                search_mode: SearchMode::Unknown,
+            },
             cols,
             rows,
             message: None,
             prefix_num: String::new(alloc),
+            patterns: Patterns::new(alloc)?,
+            term: None,
+            search_mark: 0,
             anchor: None,
             prompt: String::from_str(alloc, PROMPT)?,
             prompt_shown: true,
             follow: false,
             saved: None,
+            open_search: None,
         })
     }
 
@@ -242,6 +268,9 @@ impl PagerState {
         ensures left { self.new.left_mark ≡ left_set setting self.old.left_mark }
         ensures ends { ends_of self.new ≡ ends_set setting (ends_of self.old) }
         ensures help { aside_of self.new.saved ≡ help_set setting (aside_of self.old.saved) }
+        ensures mode { self.new.search_mode ≡ mode_set setting self.old.search_mode }
+        ensures search_mode { self.new.search_state.search_mode ≡ mode_set setting self.old.search_state.search_mode }
+        ensures search { search_of self.new ≡ search_set setting (search_of self.old) }
         ensures rest { self.new ≡ record self.old {
           left_mark = self.new.left_mark;
           selection = self.new.selection;
@@ -251,6 +280,9 @@ impl PagerState {
           prompt_shown = self.new.prompt_shown;
           follow = self.new.follow;
           saved = self.new.saved;
+          search_mode = self.new.search_mode;
+          search_state = self.new.search_state;
+          open_search = self.new.open_search;
         } }
     {
         match setting {
@@ -265,6 +297,47 @@ impl PagerState {
                 self.selection = ends.selection;
             }
             Setting::Switch(switch) => self.switch_help(switch),
+            Setting::Search(step) => self.place_search(step),
+        }
+    }
+
+    // Puts what becomes of the search prompt in its place.
+    fn place_search(&mut self, step: SearchStep)
+        ensures message { option_map string_bytes self.new.message
+            ≡ message_after step (option_map string_bytes self.old.message) }
+        ensures mode { self.new.search_mode ≡ mode_after step self.old.search_mode }
+        ensures search_mode { self.new.search_state.search_mode ≡ mode_after step self.old.search_state.search_mode }
+        ensures search { search_of self.new ≡ search_after step (search_of self.old) }
+        ensures rest { self.new ≡ record self.old {
+          message = self.new.message;
+          search_mode = self.new.search_mode;
+          search_state = self.new.search_state;
+          open_search = self.new.open_search;
+        } }
+    {
+        match step {
+            SearchStep::Opens(prompt) => {
+                let mode = prompt.search_mode();
+                self.search_mode = mode;
+                self.search_state.search_mode = mode;
+                self.open_search = Some(OpenSearch {
+                    prompt,
+                    edited: false,
+                    preview: None,
+                });
+            }
+            SearchStep::Types(prompt) => {
+                if let Some(search) = &mut self.open_search {
+                    search.prompt = prompt;
+                }
+            }
+            SearchStep::Edits(search) => self.open_search = Some(search),
+            SearchStep::Closes(message) => {
+                self.open_search = None;
+                if message.is_some() {
+                    self.message = message;
+                }
+            }
         }
     }
 
@@ -291,6 +364,43 @@ impl PagerState {
         self.saved = saved;
     }
 
+    // Puts a text that was formed in its place, or where one is put aside. An `Err` leaves the text and its rows.
+    fn place_text(&mut self, alloc: Global, text: NextText) -> Result<(), MinusError>
+        ensures document { OnOk result (self.new.screen.document ≡ next_document self.old.screen.document text) }
+        ensures found { OnOk result (IsSearchedFor (next_term (term_of self.old) text) self.old.screen text →
+            IsFoundBy (next_term (term_of self.old) text) self.new.screen) }
+        ensures term { OnOk result (term_of self.new ≡ next_term (term_of self.old) text) }
+        ensures aside { OnOk result (aside_of self.new.saved ≡ aside_with text (aside_of self.old.saved)) }
+        ensures beside { OnOk result (KeepsBeside self.old self.new) }
+        ensures err { OnErr result (control_of self.new ≡ control_of self.old) }
+        ensures kept { OnErr result (self.new.screen ≡ self.old.screen) }
+        ensures memory { IfErr result (λ e. e ≡ MinusError.Memory) }
+    {
+        match text {
+            NextText::Same => Ok(()),
+            NextText::Whole(next) => {
+                self.screen = next;
+                Ok(())
+            }
+            NextText::Pushed(piece, pending) => {
+                let term = searching(&self.patterns, self.term.as_ref());
+                let _ = self.screen.place_push(alloc, &piece, pending, term)?;
+                Ok(())
+            }
+            NextText::Found(pattern, findings) => {
+                let term = searching(&self.patterns, Some(&pattern));
+                self.screen.place_findings(alloc, findings, term)?;
+                self.term = Some(pattern);
+                Ok(())
+            }
+            NextText::SavedWhole(text) => {
+                replace_aside(&mut self.saved, text);
+                Ok(())
+            }
+            NextText::SavedMore(piece) => add_aside(&mut self.saved, &piece),
+        }
+    }
+
     /// Puts another typed prefix in the place of the one that is typed, if there is one.
     pub fn place_prefix(&mut self, prefix: Option<String>)
         ensures { self.new ≡ record self.old { prefix_num = unwrap_or prefix self.old.prefix_num } }
@@ -300,9 +410,13 @@ impl PagerState {
         }
     }
 
-    /// Puts what was formed in its place. An `Err` leaves the control and the screen as they were.
+    /// Puts what was formed in its place. A push that was prepared for another text is formed anew for this one, and
+    /// what was found in other rows is searched for anew. An `Err` leaves the control and the screen as they were.
+    ///
+    /// # Errors
+    ///
+    /// [`MinusError::Memory`] where there is no memory for it.
     pub fn place(&mut self, alloc: Global, change: Change) -> Result<(), MinusError>
-        requires { IsNext self.old.screen change.text }
         ensures placed { OnOk result (IsPlaced self.old change self.new) }
         ensures control { OnOk result ((new : Control) → IsFormed self.old →
             IsChange (control_of self.old) change new → control_of self.new ≡ new) }
@@ -313,12 +427,14 @@ impl PagerState {
         ensures memory { IfErr result (λ e. e ≡ MinusError.Memory) }
     {
         let (mark, cols, rows) = (change.mark, change.cols, change.rows);
+        let search_mark = change.search_mark;
         let (text, prefix, setting) = change.into_parts();
-        place_text(alloc, &mut self.screen, &mut self.saved, text)?;
+        self.place_text(alloc, text)?;
         self.line_numbers = self.screen.layout().numbers;
         self.upper_mark = mark;
         self.cols = cols;
         self.rows = rows;
+        self.search_mark = search_mark;
         self.place_prefix(prefix);
         self.place_setting(setting);
         Ok(())

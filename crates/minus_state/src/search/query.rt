@@ -64,6 +64,7 @@ impl QueryEditor {
     ghost use Rattle.std.specs.Prelude.{◌≡◌, ◌+◌, ◌≤◌, false, length, string_bytes, chars};
     ghost use Rattle.std.specs.Prelude.{OnOk, OnErr, IfOk, IfErr};
     ghost use Rattle.minus_term.specs.Refusals.{refusal_of};
+    ghost use Rattle.minus_text.specs.Words.{AreWithin};
     ghost use Rattle.minus_state.specs.QueryKeys.{edit_of};
     ghost use Rattle.minus_state.specs.QueryEditor.{first_editor, editor_of, edited, moved, told_of, refuses};
     ghost use Rattle.minus_state.specs.QueryEditor.{told_between, starts_of, most, without, is_too_long};
@@ -113,6 +114,24 @@ impl QueryEditor {
         })
     }
 
+    /// A query with the characters and the cursor of this one.
+    ///
+    /// # Errors
+    ///
+    /// [`AllocError`] where there is no memory for it.
+    pub fn copied(&self, alloc: Global) -> Result<QueryEditor, AllocError>
+        ensures { IfOk result (λ e. e ≡ self.now) }
+    {
+        let mut starts = Vec::with_capacity(alloc, self.starts.len())?;
+        starts.extend_from_slice(&self.starts)?;
+        Ok(QueryEditor {
+            text: String::from_str(alloc, &self.text)?,
+            len: self.len,
+            cursor: self.cursor,
+            starts,
+        })
+    }
+
     /// The query.
     pub fn query(&self) -> &str
         ensures { chars result.now ≡ self.now.query }
@@ -130,9 +149,10 @@ impl QueryEditor {
         self.cursor
     }
 
-    /// Where the words of the query start, in characters from 1.
+    /// Where the words of the query start, in characters from 1: at most at 65,535.
     pub fn word_index(&self) -> &[usize]
-        ensures { result.now ≡ starts_of self.now.query }
+        ensures value { result.now ≡ starts_of self.now.query }
+        ensures within { AreWithin (most + 1) result.now }
     {
         self.starts.as_slice()
     }

@@ -24,13 +24,12 @@ impl PagerState {
     ghost use Rattle.std.specs.Prelude.{◌≡◌, None, true, ◌+◌, ◌^◌, ◌<◌, length, map, take, drop, string_bytes, IfOk};
     ghost use Rattle.std.specs.Option.{option_map, unwrap_or};
     ghost use Rattle.minus_state.specs.Control.{Control, first_changed};
-    ghost use Rattle.minus_state.specs.ShownPrompt.{shown_in, prompt_row, prompt_row_of};
+    ghost use Rattle.minus_state.specs.ShownPrompt.{prompt_row};
     ghost use Rattle.minus_state.specs.PromptRow.{seen_prompt};
-    ghost use Rattle.minus_state.specs.States.{control_of, settings_of, ends_of, IsFormed};
-    ghost use Rattle.minus_state.specs.NextTexts.{next_document, IsNext};
-    ghost use Rattle.minus_text.specs.Searched.{IsFoundBy};
+    ghost use Rattle.minus_state.specs.States.{control_of, ends_of, IsFormed};
+    ghost use Rattle.minus_state.specs.NextTexts.{next_searched, Belongs};
     ghost use Rattle.minus_text.specs.Views.{viewed};
-    ghost use Rattle.minus_state.specs.Changes.{IsChange, settings_after, left_set, ends_set, shown_by};
+    ghost use Rattle.minus_state.specs.Changes.{IsChange, IsFormedFor, left_set, ends_set, prompt_after, prompt_row_after, shown_prompt, displayed_prompt, shown_by};
     ghost use Rattle.minus_state.specs.Showing.{row_text};
 
     // The typed prefix after a change.
@@ -46,16 +45,15 @@ impl PagerState {
 
     // What the prompt row is formed of after a change.
     fn prompt_after<'a>(&'a self, change: &'a Change) -> PromptRow<'a>
-        ensures { seen_prompt result ≡ shown_in change.now.cols
-            (settings_after (settings_of self.now) (option_map string_bytes change.now.prefix) change.now.setting) }
+        ensures { seen_prompt result ≡ prompt_after self.now change.now }
     {
         PromptRow {
             is_shown: change.setting.is_shown(self.prompt_shown),
             prompt: change.setting.prompt(self.prompt.as_str()),
             message: change.setting.message(self.message_text()),
             prefix: self.prefix_after(change),
-            search_mark: 0,
-            match_count: 0,
+            search_mark: change.search_mark,
+            match_count: change.text.match_count(&self.screen),
             follow: change.setting.follow(self.follow),
             cols: change.cols,
         }
@@ -63,8 +61,9 @@ impl PagerState {
 
     /// The prompt row after a change; empty where it is hidden. Fails for want of memory alone.
     pub fn prompt_row_after(&self, alloc: Global, change: &Change) -> Result<String, AllocError>
-        ensures { IfOk result (λ row. (new : Control) → IsChange (control_of self.now) change.now new → string_bytes row
-            ≡ prompt_row new) }
+        ensures row { IfOk result (λ row. string_bytes row ≡ prompt_row_after self.now change.now) }
+        ensures formed { IfOk result (λ row. (new : Control) → IsFormed self.now →
+            IsChange (control_of self.now) change.now new → string_bytes row ≡ prompt_row new) }
     {
         let row = self.prompt_after(change);
         let text = format_prompt(alloc, &row)?;
@@ -73,21 +72,25 @@ impl PagerState {
 
     /// The text of the prompt row; empty where it is hidden. Fails for want of memory alone.
     pub fn displayed_prompt(&self, alloc: Global) -> Result<String, AllocError>
-        ensures { IfOk result (λ row. string_bytes row ≡ prompt_row (control_of self.now)) }
+        ensures row { IfOk result (λ row. string_bytes row ≡ displayed_prompt self.now) }
+        ensures formed { IfOk result (λ row. IsFormed self.now →
+            string_bytes row ≡ prompt_row (control_of self.now)) }
     {
         let stays = self.change_to(NextText::Same, Redraw::Stays);
         self.prompt_row_after(alloc, &stays)
     }
 
-    // Whether a change leaves the prompt row as it is: the columns, the prefix and all that is set stay.
+    // Whether a change leaves the prompt row as it is: the columns, the prefix, what is told of the matches, and all
+    // that is set stay.
     fn keeps_prompt_row(&self, change: &Change) -> bool
-        ensures { result ≡ true → prompt_row_of change.now.cols
-            (settings_after (settings_of self.now) (option_map string_bytes change.now.prefix) change.now.setting)
-            ≡ prompt_row (control_of self.now) }
+        ensures { result ≡ true → prompt_after self.now change.now ≡ shown_prompt self.now }
     {
         match change.setting {
             Setting::Same | Setting::Left(_) | Setting::Ends(_) => {
-                change.cols == self.cols && self.prefix_after(change) == self.prefix_num.as_str()
+                change.cols == self.cols
+                    && change.search_mark == self.search_mark
+                    && change.text.match_count(&self.screen) == self.screen.match_count()
+                    && self.prefix_after(change) == self.prefix_num.as_str()
             }
             _ => false,
         }
@@ -100,7 +103,10 @@ impl PagerState {
         alloc: Global,
         change: &Change,
     ) -> Result<Option<String>, AllocError>
-        ensures { IfOk result (λ row. (new : Control) → IsChange (control_of self.now) change.now new →
+        ensures row { IfOk result (λ row. unwrap_or (option_map string_bytes row) (displayed_prompt self.now)
+            ≡ prompt_row_after self.now change.now) }
+        ensures formed { IfOk result (λ row. (new : Control) → IsFormed self.now →
+            IsChange (control_of self.now) change.now new →
             unwrap_or (option_map string_bytes row) (prompt_row (control_of self.now)) ≡ prompt_row new) }
     {
         if self.keeps_prompt_row(change) {
@@ -112,7 +118,7 @@ impl PagerState {
 
     /// How many rows of text the page has that a change leads to.
     pub fn count_after(&self, change: &Change) -> usize
-        requires { IsNext self.now.screen change.now.text }
+        requires { Belongs self.now.screen.document change.now.text }
         ensures count { result ≡ length (shown_by self.now change.now) }
         ensures within { change.now.mark + result < 2 ^ 64 }
     {
@@ -123,9 +129,8 @@ impl PagerState {
 
     // What rows are shown of after a change, and how.
     fn showing<'a>(&'a self, change: &'a Change) -> ShownRows<'a>
-        requires { IsNext self.now.screen change.now.text }
-        ensures view { (viewed result.view).document ≡ next_document self.now.screen.document change.now.text }
-        ensures found { IsFoundBy None (viewed result.view) }
+        requires { Belongs self.now.screen.document change.now.text }
+        ensures view { viewed result.view ≡ next_searched self.now.screen change.now.text }
         ensures left { result.left_mark ≡ left_set change.now.setting self.now.left_mark }
         ensures ends { result.ends ≡ ends_set change.now.setting (ends_of self.now) }
     {
@@ -145,7 +150,7 @@ impl PagerState {
         first: usize,
         end: usize,
     ) -> Result<Vec<ShownRow<'a>>, AllocError>
-        requires { IsNext self.now.screen change.now.text }
+        requires { IsFormedFor self.now change.now }
         ensures { IfOk result (λ v. map row_text v.items ≡ drop first (take end (shown_by self.now change.now))) }
     {
         let count = self.count_after(change).min(end);
@@ -166,7 +171,7 @@ impl PagerState {
         change: &'a Change,
         first: usize,
     ) -> Result<Vec<ShownRow<'a>>, AllocError>
-        requires { IsNext self.now.screen change.now.text }
+        requires { IsFormedFor self.now change.now }
         ensures { IfOk result (λ v. map row_text v.items ≡ drop first (shown_by self.now change.now)) }
     {
         self.shown_between(alloc, change, first, change.rows - 1)
@@ -175,8 +180,7 @@ impl PagerState {
     /// The first row that an append may change, counted from 0: the first one of the line that no newline ends, or the
     /// first new one.
     pub fn first_changed(&self) -> usize
-        requires { IsFormed self.now }
-        ensures { result ≡ first_changed (control_of self.now) }
+        ensures { IsFormed self.now → result ≡ first_changed (control_of self.now) }
     {
         self.screen
             .formatted_lines_count()

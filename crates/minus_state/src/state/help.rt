@@ -4,7 +4,7 @@ ghost use Rattle.minus_state.specs.Aside.{aside_of};
 ghost use Rattle.minus_state.specs.Help.{text_aside, more_aside};
 
 use crate::change::{Change, NextText, Redraw, Setting};
-use crate::state::{PagerState, formed};
+use crate::state::{PagerState, search_mark_anew};
 use minus_term::MinusError;
 use minus_text::{Layout, LineNumbers};
 use std::alloc::{AllocError, Global};
@@ -68,7 +68,8 @@ pub(crate) fn add_aside(saved: &mut Option<Saved>, text: &str) -> Result<(), Min
 impl PagerState {
     ghost use Rattle.std.specs.Prelude.{◌≡◌, [], string_bytes, not, OnOk, OnErr, IfOk, IfErr};
     ghost use Rattle.std.specs.Option.{option_map, unwrap_or};
-    ghost use Rattle.minus_state.specs.Changes.{IsChange};
+    ghost use Rattle.minus_state.specs.Changes.{Leads};
+    ghost use Rattle.minus_state.specs.Control.{reformed};
     ghost use Rattle.minus_state.specs.Help.{switched, help_open, put_aside, opened, closed, shown_help, left_help, restored, turned, with_text};
     ghost use Rattle.minus_state.specs.Aside.{aside_in, aside_of};
     ghost use Rattle.minus_state.specs.States.{control_of, settings_of, IsFormed};
@@ -91,9 +92,8 @@ impl PagerState {
         mark: usize,
         switch: HelpSwitch,
     ) -> Result<Change, MinusError>
-        requires formed { IsFormed self.now }
-        requires cols { layout.cols ≡ self.now.cols }
-        ensures next { IfOk result (λ c. IsChange (control_of self.now) c (record (control_of self.now) {
+        requires { layout.cols ≡ self.now.cols }
+        ensures next { IfOk result (λ c. Leads self.now c (reformed (record (control_of self.now) {
           text = string_bytes text;
           numbers = layout.numbers;
           wrapping = layout.wrapping;
@@ -101,16 +101,18 @@ impl PagerState {
           left = switch.left;
           settings = switched (settings_of self.now) (string_bytes switch.prompt) switch.follow;
           help = aside_of switch.saved;
-        })) }
+        }))) }
         ensures redraw { IfOk result (λ c. c.redraw ≡ Redraw.Whole) }
         ensures memory { IfErr result (λ e. e ≡ MinusError.Memory) }
     {
-        let next = formed(alloc, text, layout)?;
+        let next = self.formed(alloc, text, layout)?;
+        let search_mark = search_mark_anew(next.view(), mark);
         Ok(Change {
             text: NextText::Whole(next),
             mark,
             cols: self.cols,
             rows: self.rows,
+            search_mark,
             prefix: None,
             setting: Setting::Switch(switch),
             redraw: Redraw::Whole,
@@ -119,7 +121,6 @@ impl PagerState {
 
     // What is put aside as help is opened.
     fn put_aside(&self, alloc: Global) -> Result<Saved, AllocError>
-        requires { IsFormed self.now }
         ensures { IfOk result (λ s. aside_in s ≡ put_aside (control_of self.now)) }
     {
         Ok(Saved {
@@ -135,8 +136,7 @@ impl PagerState {
 
     // The state with help opened on a text.
     fn helped(&self, alloc: Global, text: String) -> Result<Change, MinusError>
-        requires { IsFormed self.now }
-        ensures next { IfOk result (λ c. IsChange (control_of self.now) c
+        ensures next { IfOk result (λ c. Leads self.now c
             (opened (control_of self.now) (string_bytes text))) }
         ensures redraw { IfOk result (λ c. c.redraw ≡ Redraw.Whole) }
         ensures memory { IfErr result (λ e. e ≡ MinusError.Memory) }
@@ -157,8 +157,7 @@ impl PagerState {
 
     // The state with help left, of what was put aside.
     fn unhelped(&self, alloc: Global, saved: &Saved) -> Result<Change, MinusError>
-        requires { IsFormed self.now }
-        ensures next { IfOk result (λ c. IsChange (control_of self.now) c
+        ensures next { IfOk result (λ c. Leads self.now c
             (closed (control_of self.now) (aside_in saved.now))) }
         ensures redraw { IfOk result (λ c. c.redraw ≡ Redraw.Whole) }
         ensures memory { IfErr result (λ e. e ≡ MinusError.Memory) }
@@ -184,8 +183,7 @@ impl PagerState {
     ///
     /// [`MinusError::Memory`] where there is no memory for it.
     pub fn left_help(&self, alloc: Global) -> Result<Change, MinusError>
-        requires { IsFormed self.now }
-        ensures next { IfOk result (λ c. IsChange (control_of self.now) c
+        ensures next { IfOk result (λ c. Leads self.now c
             (left_help (control_of self.now) (control_of self.now).help)) }
         ensures redraw { IfOk result (λ c. c.redraw ≡ whole_where (help_open (control_of self.now))) }
         ensures memory { IfErr result (λ e. e ≡ MinusError.Memory) }
@@ -202,8 +200,7 @@ impl PagerState {
     ///
     /// [`MinusError::Memory`] where there is no memory for it.
     pub fn restored(&self, alloc: Global) -> Result<Change, MinusError>
-        requires { IsFormed self.now }
-        ensures next { IfOk result (λ c. IsChange (control_of self.now) c
+        ensures next { IfOk result (λ c. Leads self.now c
             (restored (control_of self.now) (control_of self.now).help)) }
         ensures redraw { IfOk result (λ c. c.redraw ≡ whole_where (help_open (control_of self.now))) }
         ensures memory { IfErr result (λ e. e ≡ MinusError.Memory) }
@@ -220,8 +217,7 @@ impl PagerState {
     ///
     /// [`MinusError::Memory`] where there is no memory for it.
     pub fn turned(&self, alloc: Global, text: Option<String>) -> Result<Change, MinusError>
-        requires { IsFormed self.now }
-        ensures next { IfOk result (λ c. IsChange (control_of self.now) c
+        ensures next { IfOk result (λ c. Leads self.now c
             (turned (control_of self.now) (control_of self.now).help (unwrap_or (option_map string_bytes text) []))) }
         ensures redraw { IfOk result (λ c. c.redraw ≡ Redraw.Whole) }
         ensures memory { IfErr result (λ e. e ≡ MinusError.Memory) }
@@ -238,8 +234,7 @@ impl PagerState {
     ///
     /// [`MinusError::Memory`] where there is no memory for it.
     pub fn replaced(&self, alloc: Global, text: String) -> Result<Change, MinusError>
-        requires { IsFormed self.now }
-        ensures next { IfOk result (λ c. IsChange (control_of self.now) c
+        ensures next { IfOk result (λ c. Leads self.now c
             (with_text (control_of self.now) (string_bytes text))) }
         ensures redraw { IfOk result (λ c. c.redraw ≡ whole_where (not (help_open (control_of self.now)))) }
         ensures memory { IfErr result (λ e. e ≡ MinusError.Memory) }
@@ -257,10 +252,10 @@ impl PagerState {
     ///
     /// [`MinusError::Memory`] where there is no memory for it.
     pub fn added(&self, alloc: Global, text: String) -> Result<Change, MinusError>
-        requires { IsFormed self.now }
-        ensures next { IfOk result (λ c. IsChange (control_of self.now) c
+        ensures next { IfOk result (λ c. Leads self.now c
             (added (control_of self.now) (string_bytes text))) }
-        ensures redraw { IfOk result (λ c. c.redraw ≡ added_redraw (control_of self.now) (string_bytes text)) }
+        ensures redraw { IfOk result (λ c. IsFormed self.now →
+            c.redraw ≡ added_redraw (control_of self.now) (string_bytes text)) }
         ensures memory { IfErr result (λ e. e ≡ MinusError.Memory) }
     {
         if self.help_open() {
@@ -275,10 +270,9 @@ impl PagerState {
     ///
     /// [`MinusError::Memory`] where there is no memory, and nothing has changed.
     pub fn show_help(&mut self, alloc: Global, text: &str) -> Result<(), MinusError>
-        requires { IsFormed self.old }
-        ensures control { OnOk result (control_of self.new
+        ensures control { OnOk result (IsFormed self.old → control_of self.new
             ≡ shown_help (control_of self.old) (control_of self.old).help text.now) }
-        ensures formed { IsFormed self.new }
+        ensures formed { IsFormed self.old → IsFormed self.new }
         ensures err { OnErr result (control_of self.new ≡ control_of self.old) }
         ensures memory { IfErr result (λ e. e ≡ MinusError.Memory) }
     {
@@ -296,10 +290,9 @@ impl PagerState {
     ///
     /// [`MinusError::Memory`] where there is no memory, and nothing has changed.
     pub fn exit_help(&mut self, alloc: Global) -> Result<(), MinusError>
-        requires { IsFormed self.old }
-        ensures control { OnOk result (control_of self.new
+        ensures control { OnOk result (IsFormed self.old → control_of self.new
             ≡ left_help (control_of self.old) (control_of self.old).help) }
-        ensures formed { IsFormed self.new }
+        ensures formed { IsFormed self.old → IsFormed self.new }
         ensures err { OnErr result (control_of self.new ≡ control_of self.old) }
         ensures memory { IfErr result (λ e. e ≡ MinusError.Memory) }
     {

@@ -22,12 +22,11 @@ impl PagerState {
     ghost use Rattle.minus_state.specs.Selecting.{no_ends, has_ends, end_at, ends_begun, is_led, mark_led_to, mark_led, ends_led_to, ends_led, is_same_end};
     ghost use Rattle.minus_state.specs.Redraws.{whole_where, led_redraw};
     ghost use Rattle.minus_state.specs.States.{control_of, ends_of, IsFormed};
-    ghost use Rattle.minus_state.specs.Changes.{IsChange};
+    ghost use Rattle.minus_state.specs.Changes.{Leads};
 
     // The end of a selection at a place of the page that begins at a mark.
     fn end_at(&self, mark: usize, x: u16, y: u16) -> Option<Selection>
-        requires { IsFormed self.now }
-        ensures { result ≡ end_at (record (control_of self.now) { mark = mark }) x y }
+        ensures { IsFormed self.now → result ≡ end_at (record (control_of self.now) { mark = mark }) x y }
     {
         let view = View {
             upper_mark: mark,
@@ -39,8 +38,7 @@ impl PagerState {
 
     // The state with a selection that begins at an end, if there is one.
     fn begun(&self, end: Option<Selection>) -> Change
-        requires { IsFormed self.now }
-        ensures next { IsChange (control_of self.now) result
+        ensures next { Leads self.now result
             (record (control_of self.now) { ends = ends_begun (ends_of self.now) end }) }
         ensures redraw { result.redraw ≡ whole_where (is_some end) }
     {
@@ -58,10 +56,10 @@ impl PagerState {
 
     /// The state with a selection that begins at a place of the page.
     pub fn selected(&self, x: u16, y: u16) -> Change
-        requires { IsFormed self.now }
-        ensures next { IsChange (control_of self.now) result
+        ensures next { Leads self.now result
             (record (control_of self.now) { ends = ends_begun (ends_of self.now) (end_at (control_of self.now) x y) }) }
-        ensures redraw { result.redraw ≡ whole_where (is_some (end_at (control_of self.now) x y)) }
+        ensures redraw { IsFormed self.now →
+            result.redraw ≡ whole_where (is_some (end_at (control_of self.now) x y)) }
     {
         self.begun(self.end_at(self.upper_mark, x, y))
     }
@@ -75,8 +73,7 @@ impl PagerState {
 
     // Where the mark goes as a selection is led to a row of the page.
     fn mark_led_to(&self, y: u16) -> usize
-        requires { IsFormed self.now }
-        ensures { result ≡ mark_led_to (control_of self.now) y }
+        ensures { IsFormed self.now → result ≡ mark_led_to (control_of self.now) y }
     {
         if y == 0 {
             return self.upper_mark.saturating_sub(1);
@@ -102,9 +99,8 @@ impl PagerState {
 
     // The ends of a selection that is led to a place of the page that begins at a mark.
     fn ends_led_to(&self, mark: usize, x: u16, y: u16) -> SelectionEnds
-        requires formed { IsFormed self.now }
-        requires rows { 1 < self.now.rows }
-        ensures { result ≡ ends_led_to (ends_of self.now)
+        requires { 1 < self.now.rows }
+        ensures { IsFormed self.now → result ≡ ends_led_to (ends_of self.now)
             (end_at (record (control_of self.now) { mark = mark }) x (min y (self.now.rows - 2))) }
     {
         let row = usize::from(y).min(self.rows - 2) as u16;
@@ -120,14 +116,13 @@ impl PagerState {
 
     /// The state with its selection led to a place of the page.
     pub fn led(&self, x: u16, y: u16) -> Change
-        requires { IsFormed self.now }
-        ensures next { IsChange (control_of self.now) result
+        ensures next { Leads self.now result
             (record (control_of self.now) {
               mark = mark_led (control_of self.now) y;
               ends = ends_led
                   (control_of self.now) x y;
             }) }
-        ensures redraw { result.redraw ≡ led_redraw (control_of self.now) x y }
+        ensures redraw { IsFormed self.now → result.redraw ≡ led_redraw (control_of self.now) x y }
     {
         if !self.is_led() {
             return self.redrawn(Redraw::Stays);
@@ -147,8 +142,7 @@ impl PagerState {
 
     /// The state with nothing selected.
     pub fn unselected(&self) -> Change
-        requires { IsFormed self.now }
-        ensures next { IsChange (control_of self.now) result (record (control_of self.now) { ends = no_ends }) }
+        ensures next { Leads self.now result (record (control_of self.now) { ends = no_ends }) }
         ensures redraw { result.redraw ≡ whole_where (has_ends (ends_of self.now)) }
     {
         let ends = SelectionEnds {

@@ -5,10 +5,10 @@ use minus_term::MinusError;
 
 impl PagerState {
     ghost use Rattle.std.specs.Prelude.{◌≡◌, true, false, string_bytes, OnOk, OnErr, IfOk, IfErr};
-    ghost use Rattle.minus_state.specs.Changes.{IsChange};
+    ghost use Rattle.minus_state.specs.Changes.{Leads};
     ghost use Rattle.minus_state.specs.Control.{with_message};
     ghost use Rattle.minus_state.specs.Help.{with_prompt};
-    ghost use Rattle.minus_state.specs.States.{control_of, IsFormed};
+    ghost use Rattle.minus_state.specs.States.{control_of};
     ghost use Rattle.minus_state.specs.ShownPrompt.{has_newline, IsNewlineRefused};
 
     /// Lets the prompt say this.
@@ -50,8 +50,7 @@ impl PagerState {
     ///
     /// [`MinusError::NewlineInPrompt`] where it has a newline.
     pub fn prompted(&self, text: String) -> Result<Change, MinusError>
-        requires { IsFormed self.now }
-        ensures next { IfOk result (λ c. IsChange (control_of self.now) c
+        ensures next { IfOk result (λ c. Leads self.now c
             (with_prompt (control_of self.now) (string_bytes text))) }
         ensures redraw { IfOk result (λ c. c.redraw ≡ Redraw.Stays) }
         ensures one_line { OnOk result (has_newline (string_bytes text) ≡ false) }
@@ -72,8 +71,7 @@ impl PagerState {
     ///
     /// [`MinusError::NewlineInPrompt`] where it has a newline.
     pub fn messaged(&self, message: String) -> Result<Change, MinusError>
-        requires { IsFormed self.now }
-        ensures next { IfOk result (λ c. IsChange (control_of self.now) c
+        ensures next { IfOk result (λ c. Leads self.now c
             (with_message (control_of self.now) (string_bytes message))) }
         ensures redraw { IfOk result (λ c. c.redraw ≡ Redraw.Stays) }
         ensures one_line { OnOk result (has_newline (string_bytes message) ≡ false) }

@@ -1,14 +1,16 @@
 //! Changes of a state's text and of its layout, each at once.
 use crate::change::AppendStyle;
-use crate::state::PagerState;
+use crate::state::{PagerState, search_mark_anew, searching};
 use minus_term::MinusError;
 use minus_text::Layout;
 use std::alloc::Global;
 
 impl PagerState {
-    ghost use Rattle.std.specs.Prelude.{◌≡◌, ◌++◌, OnOk, OnErr, IfOk, IfErr};
-    ghost use Rattle.minus_state.specs.Appending.{append_style};
+    ghost use Rattle.std.specs.Prelude.{◌≡◌, length, if◌then◌else◌, OnOk, OnErr, IfOk, IfErr};
+    ghost use Rattle.minus_text.specs.Document.{rows_of};
+    ghost use Rattle.minus_state.specs.Appending.{append_style, lengthened};
     ghost use Rattle.minus_state.specs.Aside.{aside_of};
+    ghost use Rattle.minus_state.specs.Control.{reformed};
     ghost use Rattle.minus_state.specs.States.{control_of, IsFormed};
 
     /// Makes room for this number of bytes of text more: in the text on show, or, while help is open, in the one that
@@ -30,30 +32,77 @@ impl PagerState {
         Ok(())
     }
 
-    /// Adds this text at the end of the text on show, and answers how. The mark stays where it is.
+    // How a text was appended, where this was the first row that it might change.
+    fn append_style(&self, first: usize, keeps_rows: bool) -> AppendStyle
+        ensures { result ≡ (if keeps_rows
+            then AppendStyle.PartialUpdate (first, length (rows_of self.now.screen.document))
+            else AppendStyle.FullRedraw) }
+    {
+        if keeps_rows {
+            return AppendStyle::PartialUpdate((first, self.screen.formatted_lines_count()));
+        }
+        AppendStyle::FullRedraw
+    }
+
+    /// Adds this text at the end of the text on show, and answers how. The mark stays where it is; the rows that are
+    /// formed, and no others, are searched for the term.
     ///
     /// # Errors
     ///
     /// [`MinusError::Memory`] where there is no memory, and nothing has changed.
     pub fn append_str(&mut self, alloc: Global, text: &str) -> Result<AppendStyle, MinusError>
-        requires { IsFormed self.old }
-        ensures control { OnOk result (control_of self.new
-            ≡ record (control_of self.old) { text = (control_of self.old).text ++ text.now }) }
-        ensures formed { OnOk result (IsFormed self.new) }
-        ensures style { IfOk result (λ style. style ≡ append_style (control_of self.old) text.now) }
+        ensures control { OnOk result (IsFormed self.old →
+            control_of self.new ≡ lengthened (control_of self.old) text.now) }
+        ensures formed { OnOk result (IsFormed self.old → IsFormed self.new) }
+        ensures style { IfOk result (λ style. IsFormed self.old →
+            style ≡ append_style (control_of self.old) text.now) }
         ensures err { OnErr result (self.new ≡ self.old) }
         ensures memory { IfErr result (λ e. e ≡ MinusError.Memory) }
     {
         let first = self.first_changed();
         let columns = self.prefix();
+        let term = searching(&self.patterns, self.term.as_ref());
         let _ = self
             .screen
-            .push_screen_buf(alloc, text, self.line_numbers, self.cols, None)?;
-        if self.prefix() != columns {
-            return Ok(AppendStyle::FullRedraw);
-        }
-        let rows = self.screen.formatted_lines_count();
-        Ok(AppendStyle::PartialUpdate((first, rows)))
+            .push_screen_buf(alloc, text, self.line_numbers, self.cols, term)?;
+        let keeps_rows = self.prefix() == columns;
+        self.search_mark = self.search_mark_behind(self.screen.view(), keeps_rows);
+        Ok(self.append_style(first, keeps_rows))
+    }
+
+    // Forms the rows anew in a layout, and searches them for the term.
+    fn reform(&mut self, alloc: Global, layout: Layout) -> Result<(), MinusError>
+        requires cols { layout.cols ≡ self.old.cols }
+        requires numbers { layout.numbers ≡ self.old.line_numbers }
+        ensures control { OnOk result (control_of self.new
+            ≡ reformed (record (control_of self.old) { wrapping = layout.wrapping })) }
+        ensures formed { OnOk result (IsFormed self.new) }
+        ensures err { OnErr result (self.new ≡ self.old) }
+        ensures memory { IfErr result (λ e. e ≡ MinusError.Memory) }
+    {
+        let term = searching(&self.patterns, self.term.as_ref());
+        let _ = self.screen.reform(alloc, layout, term)?;
+        self.search_mark = search_mark_anew(self.screen.view(), self.upper_mark);
+        Ok(())
+    }
+
+    /// Puts another text in the place of the one on show. The mark stays where it is.
+    ///
+    /// # Errors
+    ///
+    /// [`MinusError::Memory`] where there is no memory, and nothing has changed.
+    pub fn set_text(&mut self, alloc: Global, text: &str) -> Result<(), MinusError>
+        ensures control { OnOk result (control_of self.new
+            ≡ reformed (record (control_of self.old) { text = text.now })) }
+        ensures formed { OnOk result (IsFormed self.new) }
+        ensures err { OnErr result (self.new ≡ self.old) }
+        ensures memory { IfErr result (λ e. e ≡ MinusError.Memory) }
+    {
+        let layout = self.layout();
+        let term = searching(&self.patterns, self.term.as_ref());
+        let _ = self.screen.set_text(alloc, text, layout, term)?;
+        self.search_mark = search_mark_anew(self.screen.view(), self.upper_mark);
+        Ok(())
     }
 
     /// Wraps lines that are too long for the columns, or lets each be one row. The mark stays where it is.
@@ -62,7 +111,8 @@ impl PagerState {
     ///
     /// [`MinusError::Memory`] where there is no memory, and nothing has changed.
     pub fn set_line_wrapping(&mut self, alloc: Global, wrapping: bool) -> Result<(), MinusError>
-        ensures control { OnOk result (control_of self.new ≡ record (control_of self.old) { wrapping = wrapping }) }
+        ensures control { OnOk result (control_of self.new
+            ≡ reformed (record (control_of self.old) { wrapping = wrapping })) }
         ensures formed { OnOk result (IsFormed self.new) }
         ensures err { OnErr result (self.new ≡ self.old) }
         ensures memory { IfErr result (λ e. e ≡ MinusError.Memory) }
@@ -71,8 +121,7 @@ impl PagerState {
             wrapping,
             ..self.layout()
         };
-        let _ = self.screen.reform(alloc, layout, None)?;
-        Ok(())
+        self.reform(alloc, layout)
     }
 
     /// Forms the rows anew, for the columns and the numbers that the state has now.
@@ -81,13 +130,11 @@ impl PagerState {
     ///
     /// [`MinusError::Memory`] where there is no memory, and nothing has changed.
     pub fn reformat_display(&mut self, alloc: Global) -> Result<(), MinusError>
-        ensures control { OnOk result (control_of self.new ≡ control_of self.old) }
+        ensures control { OnOk result (control_of self.new ≡ reformed (control_of self.old)) }
         ensures formed { OnOk result (IsFormed self.new) }
         ensures err { OnErr result (self.new ≡ self.old) }
         ensures memory { IfErr result (λ e. e ≡ MinusError.Memory) }
     {
-        let layout = self.layout();
-        let _ = self.screen.reform(alloc, layout, None)?;
-        Ok(())
+        self.reform(alloc, self.layout())
     }
 }

@@ -17,8 +17,8 @@ pub returns-clause-next : goal.returns-clause-next
 returns-clause-next c =
     let old : Control = control_of c.args.self.now in
     let bytes : List ℕ = string_bytes c.args.text in
-    IfOk-weaker c.appended.result _ _ (λ x h. subst (λ (b : Bool). IsChange old x (if b then record old { help = more_aside bytes old.help } else appended old bytes)) c.if-help_open.ensures h) c.appended.ensures.next
+    IfOk-weaker c.appended.result _ _ (λ x h f. subst (λ (b : Bool). IsChange old x (if b then record old { help = more_aside bytes old.help } else appended old bytes)) c.if-help_open.ensures (h f)) c.appended.ensures.next
 
 pub returns-clause-redraw : goal.returns-clause-redraw
 returns-clause-redraw c =
-    IfOk-weaker c.appended.result _ _ (λ x h. h ∙ ap (λ (b : Bool). if b then Stays else append_redraw (control_of c.args.self.now) (string_bytes c.args.text)) c.if-help_open.ensures) c.appended.ensures.redraw
+    IfOk-weaker c.appended.result _ _ (λ x h f. h f ∙ ap (λ (b : Bool). if b then Stays else append_redraw (control_of c.args.self.now) (string_bytes c.args.text)) c.if-help_open.ensures) c.appended.ensures.redraw

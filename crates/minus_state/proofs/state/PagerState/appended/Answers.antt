@@ -1,29 +1,62 @@
--- The control's document is pushed, and the mark follows.
-use Rattle.std.proofs.Common.{ℕ, List, ◌-◌, length, string_bytes, if◌then◌else◌, refl, subst, ap, ◌∙◌}
-use Rattle.minus_text.specs.Document.{Document, rows_of, pushed}
+-- The control's document is pushed, and the marks follow.
+use Rattle.std.proofs.Common.{◌≡◌, ℕ, List, Bool, Option, ◌-◌, ◌==◌, ◌++◌, length, string_bytes, if◌then◌else◌, refl, sym, subst, ap, ap₂, ◌∙◌}
+use Rattle.regex.specs.Patterns.{Re}
+use Rattle.minus_text.specs.declared.line_numbers.LineNumbers.{LineNumbers}
+use Rattle.minus_text.specs.Document.{Document, rows_of, margin_in, pushed}
+use Rattle.minus_text.specs.Found.{found_by}
 use Rattle.minus_text.specs.Pending.{IsPending}
+use Rattle.minus_text.specs.Searched.{Searched, IsFoundBy, IsFoundInPush}
+use Rattle.minus_state.specs.declared.change.NextText.{NextText}
+use Rattle.minus_state.specs.declared.change.NextText.TheVariants.{Pushed}
+use Rattle.minus_state.specs.declared.change.Redraw.TheVariants.{Appended, Whole}
 use Rattle.minus_state.specs.declared.state.PagerState.{PagerState}
-use Rattle.minus_state.proofs.AppendLaws.{document_is, redraw_appended}
+use Rattle.minus_state.specs.Control.{Control, document_of}
+use Rattle.minus_state.specs.NextTexts.{IsNext}
+use Rattle.minus_state.specs.States.{control_of}
+use Rattle.minus_state.proofs.AppendLaws.{document_is, keeps_by_margin, search_mark_is}
+use Rattle.minus_state.proofs.ChangeLaws.{found_next}
 use Rattle.minus_state.proofs.state.PagerState.appended.Goals as goal
 
 pub returns-clause-next : goal.returns-clause-next
-returns-clause-next c =
+returns-clause-next c = λ f.
     let state : PagerState = c.args.self.now in
+    let k : Control = control_of state in
     let bytes : List ℕ = string_bytes c.args.text in
-    let is = document_is state c.requires in
+    let pending = c.in_ok-pending.pending in
     let told = c.in_ok-pending.ensures in
-    let pending = subst (λ (b : List ℕ). IsPending state.screen.document b state.line_numbers state.cols c.in_ok-pending.pending.push) c.deref.ensures told.ok in
+    let text : NextText = Pushed c.args.text pending in
+    let own = subst (λ (b : List ℕ). IsPending state.screen.document b pending.push.numbers pending.push.cols pending.push) c.deref.ensures told.own in
+    let old : IsFoundBy k.term state.screen = subst (λ (x : Searched). IsFoundBy k.term x) (sym f.screen) refl in
+    let fresh : IsFoundInPush k.term pending = subst (λ (t : Option Re). IsFoundInPush t pending) c.searching-term.ensures told.found in
+    let next : IsNext k.term state.screen text = (own, (old, fresh)) in
+    let after : Document = document_of (record k { text = k.text ++ bytes }) in
+    let document : pushed (document_of k) bytes pending.push.numbers pending.push.cols ≡ after = ap₂ (λ (n : LineNumbers) (m : ℕ). pushed (document_of k) bytes n m) told.ok.its_numbers told.ok.its_cols in
+    let here = ap (λ (d : Document). pushed d bytes pending.push.numbers pending.push.cols) (document_is state f) ∙ document in
+    let keeps = c.keeps_rows-keeps_rows.ensures ∙ ap₂ (λ (a b : Document). margin_in a == margin_in b) here (document_is state f) ∙ sym (keeps_by_margin k bytes) in
+    let found = ap (λ (x : Searched). x.found) c.view.ensures ∙ found_next k.term state.screen text next ∙ ap (λ (d : Document). found_by k.term 0 (rows_of d)) here in
     record {
-      belongs = (refl, told.found, subst (λ (d : Document). IsPending d bytes state.line_numbers state.cols c.in_ok-pending.pending.push) is pending);
-      document = refl;
-      mark_is = c.mark_after-mark.ensures ∙ ap (λ (d : Document). if state.follow then length (rows_of (pushed d bytes d.layout.numbers d.layout.cols)) - (state.rows - 1) else state.upper_mark) is;
+      belongs = subst (λ (x : Searched). IsNext k.term x text) f.screen next;
+      document = document;
+      mark_is = c.mark_after-mark.ensures ∙ ap (λ (d : Document). if state.follow then length (rows_of d) - (state.rows - 1) else state.upper_mark) here;
       cols_are = refl;
       rows_are = refl;
       left_is = refl;
       ends_are = refl;
+      term_is = refl;
+      search_mark_is = search_mark_is k bytes _ _ _ keeps found c.search_mark_behind-search_mark.ensures;
       settings_are = refl;
       help_is = refl;
+      mode_is = refl;
+      search_is = refl;
     }
 
 pub returns-clause-redraw : goal.returns-clause-redraw
-returns-clause-redraw c = redraw_appended c.args.self.now (string_bytes c.args.text) c.append_redraw-redraw.result c.requires c.append_redraw-redraw.ensures
+returns-clause-redraw c = λ f.
+    let state : PagerState = c.args.self.now in
+    let k : Control = control_of state in
+    let bytes : List ℕ = string_bytes c.args.text in
+    let pending = c.in_ok-pending.pending in
+    let told = c.in_ok-pending.ensures in
+    let here = ap (λ (d : Document). pushed d bytes pending.push.numbers pending.push.cols) (document_is state f) ∙ ap₂ (λ (n : LineNumbers) (m : ℕ). pushed (document_of k) bytes n m) told.ok.its_numbers told.ok.its_cols in
+    let keeps = c.keeps_rows-keeps_rows.ensures ∙ ap₂ (λ (a b : Document). margin_in a == margin_in b) here (document_is state f) ∙ sym (keeps_by_margin k bytes) in
+    c.append_redraw.ensures ∙ ap (λ (b : Bool). if b then Appended else Whole) keeps

@@ -1,14 +1,16 @@
 -- As many rows are shown as there are.
-use Rattle.std.proofs.Common.{ℕ, ◌-◌, List, None, length, drop, ap, arith}
+use Rattle.std.proofs.Common.{ℕ, ◌-◌, List, Option, length, drop, ap, arith}
 use Rattle.std.proofs.lemmas.List.{length-take, length-drop}
+use Rattle.regex.specs.Patterns.{Re}
 use Rattle.minus_text.specs.Document.{Document, rows_of}
+use Rattle.minus_text.specs.Searched.{Searched}
 use Rattle.minus_state.specs.declared.selection.SelectionEnds.{SelectionEnds}
 use Rattle.minus_state.specs.Selection.{ends_in_order}
 use Rattle.minus_state.proofs.ShownRowsLaws.{length-shown_rows}
 use Rattle.minus_state.specs.Changes.{left_set, ends_set}
-use Rattle.minus_state.specs.NextTexts.{next_document}
+use Rattle.minus_state.specs.NextTexts.{next_document, next_term}
 use Rattle.minus_state.specs.Page.{shown_of}
-use Rattle.minus_state.specs.States.{ends_of}
+use Rattle.minus_state.specs.States.{ends_of, term_of}
 use Rattle.minus_state.proofs.state.PagerState.count_after.Goals as goal
 
 pub returns-clause-count : goal.returns-clause-count
@@ -17,6 +19,7 @@ returns-clause-count c =
     let d : Document = next_document c.args.self.now.screen.document change.text in
     let left : ℕ = left_set change.setting c.args.self.now.left_mark in
     let ends : SelectionEnds = ends_set c.args.change.now.setting (ends_of c.args.self.now) in
-    let rows : List (List ℕ) = shown_of d left ends in
-    let all = length-shown_rows None d left (ends_in_order ends) in
-    omega (arith, c.min.ensures, c.saturating_sub-left.ensures, c.len-rows.ensures, ap (λ (x : Document). length (rows_of x)) c.view.ensures.document, length-take (change.rows - 1) (drop change.mark rows), length-drop change.mark rows, all)
+    let term : Option Re = next_term (term_of c.args.self.now) change.text in
+    let rows : List (List ℕ) = shown_of term d left ends in
+    let all = length-shown_rows term d left (ends_in_order ends) in
+    omega (arith, c.min.ensures, c.saturating_sub-left.ensures, c.len-rows.ensures, ap (λ (x : Searched). length (rows_of x.document)) c.view.ensures, length-take (change.rows - 1) (drop change.mark rows), length-drop change.mark rows, all)

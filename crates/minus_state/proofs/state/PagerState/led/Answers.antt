@@ -11,33 +11,33 @@ use Rattle.minus_state.proofs.SelectingLaws.{led_mark, led_ends, unled_mark, unl
 use Rattle.minus_state.proofs.state.PagerState.led.Goals as goal
 
 pub returns-then-not-is_led-clause-next : goal.returns-then-not-is_led-clause-next
-returns-then-not-is_led-clause-next c =
+returns-then-not-is_led-clause-next c = λ f.
     let s : Control = control_of c.args.self.now in
     let off : is_led s ≡ false = sym c.is_led.ensures ∙ c.if-not-is_led.true in
     subst (λ (m : ℕ). IsChange s c.redrawn.result (record s { mark = m; ends = ends_led s c.args.x c.args.y })) (sym (unled_mark s c.args.y off))
-    (subst (λ (e : SelectionEnds). IsChange s c.redrawn.result (record s { ends = e })) (sym (unled_ends s c.args.x c.args.y off)) c.redrawn.ensures.next)
+    (subst (λ (e : SelectionEnds). IsChange s c.redrawn.result (record s { ends = e })) (sym (unled_ends s c.args.x c.args.y off)) (c.redrawn.ensures.next f))
 
 pub returns-then-not-is_led-clause-redraw : goal.returns-then-not-is_led-clause-redraw
-returns-then-not-is_led-clause-redraw c =
+returns-then-not-is_led-clause-redraw c = λ f.
     let s : Control = control_of c.args.self.now in
     let off : is_led s ≡ false = sym c.is_led.ensures ∙ c.if-not-is_led.true in
     c.redrawn.ensures.redraw ∙ sym (ap (λ (b : Bool). whole_where (not b)) (unled_stays s c.args.x c.args.y off))
 
 pub returns-clause-next : goal.returns-clause-next
-returns-clause-next c =
+returns-clause-next c = λ f.
     let s : Control = control_of c.args.self.now in
     let on : is_led s ≡ true = sym c.is_led.ensures ∙ c.if-not-is_led.false in
-    let mark = c.mark_led_to-mark.ensures in
-    let ends = c.ends_led_to-ends.ensures ∙ ap (λ (m : ℕ). ends_led_to s.ends (end_at (record s { mark = m }) c.args.x (min c.args.y (s.rows - 2)))) mark ∙ sym (led_ends s c.args.x c.args.y on) in
+    let mark = c.mark_led_to-mark.ensures f in
+    let ends = c.ends_led_to-ends.ensures f ∙ ap (λ (m : ℕ). ends_led_to s.ends (end_at (record s { mark = m }) c.args.x (min c.args.y (s.rows - 2)))) mark ∙ sym (led_ends s c.args.x c.args.y on) in
     subst (λ (m : ℕ). IsChange s c.changed.result (record s { mark = m; ends = ends_led s c.args.x c.args.y })) (mark ∙ sym (led_mark s c.args.y on))
-    (subst (λ (e : SelectionEnds). IsChange s c.changed.result (record s { mark = c.mark_led_to-mark.result; ends = e })) ends c.changed.ensures.next)
+    (subst (λ (e : SelectionEnds). IsChange s c.changed.result (record s { mark = c.mark_led_to-mark.result; ends = e })) ends (c.changed.ensures.next f))
 
 pub returns-clause-redraw : goal.returns-clause-redraw
-returns-clause-redraw c =
+returns-clause-redraw c = λ f.
     let s : Control = control_of c.args.self.now in
     let on : is_led s ≡ true = sym c.is_led.ensures ∙ c.if-not-is_led.false in
-    let mark = c.mark_led_to-mark.ensures in
-    let ends = c.ends_led_to-ends.ensures ∙ ap (λ (m : ℕ). ends_led_to s.ends (end_at (record s { mark = m }) c.args.x (min c.args.y (s.rows - 2)))) mark ∙ sym (led_ends s c.args.x c.args.y on) in
+    let mark = c.mark_led_to-mark.ensures f in
+    let ends = c.ends_led_to-ends.ensures f ∙ ap (λ (m : ℕ). ends_led_to s.ends (end_at (record s { mark = m }) c.args.x (min c.args.y (s.rows - 2)))) mark ∙ sym (led_ends s c.args.x c.args.y on) in
     c.changed.ensures.redraw ∙ c.whole_where.ensures ∙ ap (λ (b : Bool). whole_where (not b)) c.stays_at-stays.ensures
     ∙ ap (λ (m : ℕ). whole_where (not ((m == s.mark) && is_same_end c.ends_led_to-ends.result.selection s.ends.selection))) (mark ∙ sym (led_mark s c.args.y on))
     ∙ ap (λ (e : SelectionEnds). whole_where (not ((mark_led s c.args.y == s.mark) && is_same_end e.selection s.ends.selection))) ends

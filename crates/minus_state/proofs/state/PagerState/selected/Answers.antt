@@ -9,9 +9,9 @@ use Rattle.minus_state.specs.Redraws.{whole_where}
 use Rattle.minus_state.proofs.state.PagerState.selected.Goals as goal
 
 pub returns-clause-next : goal.returns-clause-next
-returns-clause-next c =
+returns-clause-next c = λ f.
     let s : Control = control_of c.args.self.now in
-    subst (λ (o : Option Selection). IsChange s c.begun.result (record s { ends = ends_begun s.ends o })) c.end_at.ensures c.begun.ensures.next
+    subst (λ (o : Option Selection). IsChange s c.begun.result (record s { ends = ends_begun s.ends o })) (c.end_at.ensures f) (c.begun.ensures.next f)
 
 pub returns-clause-redraw : goal.returns-clause-redraw
-returns-clause-redraw c = c.begun.ensures.redraw ∙ ap (λ (o : Option Selection). whole_where (is_some o)) c.end_at.ensures
+returns-clause-redraw c = λ f. c.begun.ensures.redraw ∙ ap (λ (o : Option Selection). whole_where (is_some o)) (c.end_at.ensures f)

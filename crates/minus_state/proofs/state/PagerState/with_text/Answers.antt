@@ -1,0 +1,14 @@
+-- Another text is formed anew in the layout as it is.
+use Rattle.std.proofs.Common.{string_bytes, ap}
+use Rattle.std.proofs.lemmas.Result.{IfOk-weaker}
+use Rattle.minus_text.specs.declared.layout.Layout.{Layout}
+use Rattle.minus_state.specs.Control.{Control, reformed}
+use Rattle.minus_state.specs.States.{control_of}
+use Rattle.minus_state.proofs.ChangeLaws.{leads_to}
+use Rattle.minus_state.proofs.state.PagerState.with_text.Goals as goal
+
+pub returns-clause-next : goal.returns-clause-next
+returns-clause-next c =
+    let k : Control = control_of c.args.self.now in
+    let same = ap (λ (l : Layout). reformed (record k { text = string_bytes c.args.text; numbers = l.numbers; wrapping = l.wrapping })) c.layout.ensures in
+    IfOk-weaker c.formed_anew.result _ _ (λ x h. leads_to c.args.self.now x _ _ same h) c.formed_anew.ensures.next

@@ -1,0 +1,77 @@
+-- What a key does to an open search prompt.
+use Rattle.std.specs.Prelude.{◌≡◌, ℕ, List, Bool, true, Option, None, Some, codes, if◌then◌else◌}
+use Rattle.regex.specs.Patterns.{Re}
+use Rattle.minus_term.specs.declared.event.Event.{Event}
+use Rattle.minus_term.specs.Refusals.{Refusal, for_memory, for_query}
+use Rattle.minus_state.specs.declared.change.Redraw.{Redraw}
+use Rattle.minus_state.specs.declared.change.Redraw.TheVariants.{Stays, Cursor, Edit, Closing}
+use Rattle.minus_state.specs.declared.search.keys.QueryEdit.{QueryEdit}
+use Rattle.minus_state.specs.declared.search.query.Fed.{Fed}
+use Rattle.minus_state.specs.declared.search.query.Fed.TheVariants.{Unchanged, Moved, Edited, Confirmed, Cancelled}
+use Rattle.minus_state.specs.declared.state.PagerState.{PagerState}
+use Rattle.minus_state.specs.Conditions.{Judges, MayPreview}
+use Rattle.minus_state.specs.Confirming.{confirmed}
+use Rattle.minus_state.specs.Control.{Control, with_message}
+use Rattle.minus_state.specs.OpenPrompts.{Prompt, fed}
+use Rattle.minus_state.specs.OpenSearches.{OpenSearch}
+use Rattle.minus_state.specs.Prompting.{closed, typed, edited}
+use Rattle.minus_state.specs.QueryEditor.{told_of, refuses}
+use Rattle.minus_state.specs.QueryKeys.{edit_of}
+use Rattle.minus_state.specs.QueryPatterns.{MayTake}
+
+-- the message where a query that is taken has no pattern
+abbrev pub no_pattern : List ℕ
+no_pattern = codes "Invalid regular expression. Press Enter"
+
+-- an edited query is taken: its pattern is the term, or, without one, a message says so
+abbrev pub taken_by : Control → Option Re → Control
+taken_by c None = with_message c no_pattern
+taken_by c (Some query) = confirmed c query
+
+-- the prompt is closed, and its query is taken if it was edited
+abbrev pub entered : Control → Bool → Option Re → Control
+entered c was_edited found = closed (if was_edited then taken_by c found else c)
+
+-- what a key leaves that did this to the prompt, whose prompt is this one then, and what was found for it
+abbrev pub left_by : Fed → Control → Bool → Prompt → Option Re → Control
+left_by Unchanged c was_edited p found = c
+left_by Moved c was_edited p found = typed c p
+left_by Edited c was_edited p found = edited c p found
+left_by Confirmed c was_edited p found = entered c was_edited found
+left_by Cancelled c was_edited p found = closed c
+
+-- how much of the page that asks to be drawn
+abbrev pub redraw_by : Fed → Redraw
+redraw_by Unchanged = Stays
+redraw_by Moved = Cursor
+redraw_by Edited = Edit
+redraw_by Confirmed = Closing
+redraw_by Cancelled = Closing
+
+-- what may be found at an event that did this to a prompt in a state: for the query that it leaves where it edited that, under the
+-- condition that is kept, and for the query before where it took that
+abbrev pub MayFindBy : {Q : Type 0} → Fed → Judges Q → Option Q → PagerState → Prompt → Event → Option Re → Type 0
+MayFindBy Unchanged judges condition s p event found = found ≡ None
+MayFindBy Moved judges condition s p event found = found ≡ None
+MayFindBy Edited judges condition s p event found = MayPreview judges condition s p event found
+MayFindBy Confirmed judges condition s p event found = MayTake p found
+MayFindBy Cancelled judges condition s p event found = found ≡ None
+
+-- what an edit tells, leaves and asks to be drawn, and what may be found for it
+abbrev pub told_by : OpenSearch → QueryEdit → Fed
+told_by o edit = told_of o.prompt.editor edit
+
+abbrev pub keyed : Control → OpenSearch → QueryEdit → Option Re → Control
+keyed c o edit found = left_by (told_by o edit) c o.edited (fed o.prompt edit) found
+
+abbrev pub keyed_redraw : OpenSearch → QueryEdit → Redraw
+keyed_redraw o edit = redraw_by (told_by o edit)
+
+abbrev pub MayFind : {Q : Type 0} → Judges Q → Option Q → PagerState → OpenSearch → Event → Option Re → Type 0
+MayFind judges condition s o event found = MayFindBy (told_by o (edit_of event)) judges condition s o.prompt event found
+
+-- why a key was not taken: for want of memory, or since it types a character to a query that has as many as it may have
+abbrev pub IsUnkeyed : Refusal → OpenSearch → QueryEdit → Type 0
+IsUnkeyed for_memory o edit = Unit {0}
+IsUnkeyed for_query o edit = refuses o.prompt.editor edit ≡ true
+IsUnkeyed refusal o edit = ⊥

@@ -1,0 +1,43 @@
+-- What becomes of a control as a search prompt is opened, edited and closed.
+use Rattle.std.specs.Prelude.{ℕ, ◌==◌, length, true, Option, None, Some, option_map, if◌then◌else◌}
+use Rattle.regex.specs.Patterns.{Re}
+use Rattle.minus_state.specs.declared.change.Redraw.{Redraw}
+use Rattle.minus_state.specs.declared.change.Redraw.TheVariants.{Stays, Opening}
+use Rattle.minus_state.specs.declared.search.SearchMode.{SearchMode}
+use Rattle.minus_state.specs.SearchMode.{char_of}
+use Rattle.minus_state.specs.OpenPrompts.{Prompt}
+use Rattle.minus_state.specs.OpenSearches.{OpenSearch, newly_open}
+use Rattle.minus_state.specs.Control.{Control, document_of, matches_in}
+
+-- a search prompt opens for a direction, where that has a character, and the first match is told of from then on
+abbrev pub opened_by : Control → SearchMode → Option ℕ → Control
+opened_by c mode None = c
+opened_by c mode (Some character) = record c { search_mark = 0; mode = mode; search = Some (newly_open mode) }
+
+abbrev pub opened : Control → SearchMode → Control
+opened c mode = opened_by c mode (char_of mode)
+
+-- how much of the page that asks to be drawn
+abbrev pub opening_redraw_by : Option ℕ → Redraw
+opening_redraw_by None = Stays
+opening_redraw_by (Some character) = Opening
+
+abbrev pub opening_redraw : SearchMode → Redraw
+opening_redraw mode = opening_redraw_by (char_of mode)
+
+-- the search prompt is closed
+abbrev pub closed : Control → Control
+closed c = record c { search = None }
+
+-- its cursor has moved
+abbrev pub typed : Control → Prompt → Control
+typed c prompt = record c { search = option_map (λ o. let x : OpenSearch = record o { prompt = prompt } in x) c.search }
+
+-- the pattern whose matches the page shows: one that was found, where some row matches it
+abbrev pub previewed : Control → Option Re → Option Re
+previewed c None = None
+previewed c (Some query) = if length (matches_in (Some query) (document_of c)) == 0 then None else Some query
+
+-- its query was edited, and a pattern was found for it, or none
+abbrev pub edited : Control → Prompt → Option Re → Control
+edited c prompt found = record c { search = Some (record { prompt = prompt; edited = true; preview = previewed c found }) }

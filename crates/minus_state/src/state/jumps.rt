@@ -1,0 +1,78 @@
+//! Jumps among the rows that match, formed beside a state.
+ghost use Rattle.std.specs.Prelude.{◌≡◌};
+ghost use Rattle.minus_state.specs.MatchJumps.{row_above};
+
+use crate::change::{Change, Redraw, Setting};
+use crate::state::PagerState;
+
+// A row, if there is one and it stands above a mark.
+fn row_above(mark: usize, row: Option<usize>) -> Option<usize>
+    ensures { result ≡ row_above mark row }
+{
+    match row {
+        Some(row) if row < mark => Some(row),
+        _ => None,
+    }
+}
+
+impl PagerState {
+    ghost use Rattle.std.specs.Prelude.{◌≡◌};
+    ghost use Rattle.minus_state.specs.Changes.{Leads};
+    ghost use Rattle.minus_state.specs.MatchJumps.{told_at, next_match, prev_match, to_next_match, to_prev_match};
+    ghost use Rattle.minus_state.specs.States.{control_of, IsFormed};
+
+    // The state with its prompt row telling of the match at a place, and its mark at a row, if there is one.
+    fn told_at(&self, search_mark: usize, row: Option<usize>) -> Change
+        ensures next { Leads self.now result (told_at (control_of self.now) search_mark row) }
+        ensures redraw { result.redraw ≡ Redraw.Moved }
+    {
+        let mark = row.unwrap_or(self.upper_mark);
+        let mut change = self.changed(mark, Setting::Same, Redraw::Moved);
+        change.search_mark = search_mark;
+        change
+    }
+
+    // The place of the match that a jump on goes to.
+    fn next_match(&self, jump: usize) -> usize
+        ensures { IsFormed self.now → result ≡ next_match (control_of self.now) jump }
+    {
+        let place = self.matches().nth_match(self.upper_mark, jump);
+        place.unwrap_or(self.search_mark)
+    }
+
+    // The place of the match that a jump back goes to.
+    fn prev_match(&self, jump: usize) -> usize
+        ensures { IsFormed self.now → result ≡ prev_match (control_of self.now) jump }
+    {
+        if self.matches().is_empty() {
+            return self.search_mark;
+        }
+        self.search_mark.saturating_sub(jump)
+    }
+
+    /// The state after a jump on by this number of matches from the mark, past the last match on at the first: the
+    /// prompt row tells of the match that the jump goes to, and the mark, a row counted from 0, is that match's row.
+    /// The mark may stand past the last page: `clamp` of the change ends that. A jump by 0 stays at a match that is
+    /// right at the mark. Where no row matches, nothing changes. It takes no memory, and halves the rows that match.
+    pub fn to_next_match(&self, jump: usize) -> Change
+        ensures next { Leads self.now result (to_next_match (control_of self.now) jump) }
+        ensures redraw { result.redraw ≡ Redraw.Moved }
+    {
+        let place = self.next_match(jump);
+        let row = self.matches().row(place);
+        self.told_at(place, row)
+    }
+
+    /// The state after a jump back by this number of matches from the one that the prompt row tells of, not before the
+    /// first: the prompt row tells of the match that the jump goes to, and the mark, a row counted from 0, is that
+    /// match's row where that stands above the mark, and else stays. Where no row matches, nothing changes. It takes no
+    /// memory.
+    pub fn to_prev_match(&self, jump: usize) -> Change
+        ensures next { Leads self.now result (to_prev_match (control_of self.now) jump) }
+        ensures redraw { result.redraw ≡ Redraw.Moved }
+    {
+        let place = self.prev_match(jump);
+        let row = row_above(self.upper_mark, self.matches().row(place));
+        self.told_at(place, row)
+    }
+}

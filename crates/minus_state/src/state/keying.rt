@@ -1,0 +1,163 @@
+//! What a key does to a state whose search prompt is open, formed beside it.
+ghost use Rattle.std.specs.Prelude.{◌≡◌, length, nat_lt, chars, IfOk, IfErr, IfSome};
+ghost use Rattle.std.specs.Str.{encode_utf8_all};
+ghost use Rattle.regex.specs.Strings.{regex_pattern};
+ghost use Rattle.minus_state.specs.QueryPatterns.{IsPatternOf};
+
+use crate::change::{Change, Redraw};
+use crate::search::condition::ConditionCall;
+use crate::search::open_prompt::OpenPrompt;
+use crate::search::open_search::OpenSearch;
+use crate::search::opts::search_opts_after;
+use crate::search::query::Fed;
+use crate::state::PagerState;
+use minus_term::{Event, MinusError};
+use regex::{Error, Regex};
+use std::alloc::{AllocError, Global};
+
+// The message where a query that is taken has no pattern.
+const NO_PATTERN: &str = "Invalid regular expression. Press Enter";
+
+// As many lines as a text may have for the page to show where a query leads.
+const MOST_LINES: usize = 5_000;
+
+// The pattern of a query; `None` where `regex` builds none for another cause than memory.
+fn pattern_of(alloc: Global, query: &str) -> Result<Option<Regex>, MinusError>
+    ensures found { IfOk result (λ found. IfSome found (λ r.
+        IsPatternOf (encode_utf8_all (chars query.now)) (regex_pattern r))) }
+    ensures memory { IfErr result (λ e. e ≡ MinusError.Memory) }
+{
+    match Regex::new(alloc, query) {
+        Ok(pattern) => Ok(Some(pattern)),
+        Err(Error::OutOfMemory) => Err(MinusError::Memory),
+        Err(_) => Ok(None),
+    }
+}
+
+// Whether a query has more than one byte.
+fn is_long(query: &str) -> bool
+    ensures { result ≡ nat_lt 1 (length (encode_utf8_all (chars query.now))) }
+{
+    query.len() > 1
+}
+
+impl PagerState {
+    ghost use Rattle.std.specs.Prelude.{◌≡◌, true, Option, option_map, IfOk, IfErr};
+    ghost use Rattle.regex.specs.Patterns.{Re};
+    ghost use Rattle.regex.specs.Strings.{regex_pattern};
+    ghost use Rattle.minus_term.specs.Refusals.{refusal_of};
+    ghost use Rattle.minus_state.specs.Changes.{Leads};
+    ghost use Rattle.minus_state.specs.Conditions.{MayShow, MayPreview};
+    ghost use Rattle.minus_state.specs.Keying.{entered, keyed, keyed_redraw, IsUnkeyed, MayFind};
+    ghost use Rattle.minus_state.specs.OpenPrompts.{fed};
+    ghost use Rattle.minus_state.specs.OpenSearches.{seen_search};
+    ghost use Rattle.minus_state.specs.QueryKeys.{edit_of};
+    ghost use Rattle.minus_state.specs.QueryPatterns.{shows_by_default, MayTake};
+    ghost use Rattle.minus_state.specs.States.{control_of};
+
+    // Whether the page is to show where a query leads.
+    fn shows_by_default(&self, prompt: &OpenPrompt) -> bool
+        ensures { result ≡ shows_by_default (control_of self.now) prompt.now }
+    {
+        is_long(prompt.query()) && self.screen.line_count() <= MOST_LINES
+    }
+
+    // Whether the page is to show where a query leads that an event has edited: by the condition that is kept, or by
+    // default.
+    fn is_to_show<C: ConditionCall>(
+        &self,
+        alloc: Global,
+        condition: Option<&C>,
+        before: &OpenPrompt,
+        prompt: &OpenPrompt,
+        event: &Event,
+    ) -> Result<bool, AllocError>
+        requires { prompt.now ≡ fed before.now (edit_of event.now) }
+        ensures { IfOk result (MayShow C.judges (option_map (λ q. q.now) condition.entry) self.now
+            before.now event.now) }
+    {
+        match condition {
+            Some(condition) => {
+                let opts = search_opts_after(alloc, self, before, prompt, event)?;
+                Ok(condition.ask(&opts))
+            }
+            None => Ok(self.shows_by_default(prompt)),
+        }
+    }
+
+    // The pattern of a query that an event has edited, where the page is to show where it leads.
+    fn found_for<C: ConditionCall>(
+        &self,
+        alloc: Global,
+        condition: Option<&C>,
+        before: &OpenPrompt,
+        prompt: &OpenPrompt,
+        event: &Event,
+    ) -> Result<Option<Regex>, MinusError>
+        requires { prompt.now ≡ fed before.now (edit_of event.now) }
+        ensures found { IfOk result (λ found. MayPreview C.judges (option_map (λ q. q.now) condition.entry) self.now
+            before.now event.now (option_map regex_pattern found)) }
+        ensures memory { IfErr result (λ e. e ≡ MinusError.Memory) }
+    {
+        let Some(pattern) = pattern_of(alloc, prompt.query())? else {
+            return Ok(None);
+        };
+        if !self.is_to_show(alloc, condition, before, prompt, event)? {
+            return Ok(None);
+        }
+        Ok(Some(pattern))
+    }
+
+    // The state with its search prompt closed, and the query taken if it was edited.
+    fn entered(&self, alloc: Global, search: &OpenSearch) -> Result<Change, MinusError>
+        ensures next { IfOk result (λ c. (found : Option Re) × MayTake search.now.prompt found
+            × Leads self.now c (entered (control_of self.now) search.now.edited found)) }
+        ensures redraw { IfOk result (λ c. c.redraw ≡ Redraw.Closing) }
+        ensures memory { IfErr result (λ e. e ≡ MinusError.Memory) }
+    {
+        if !search.edited {
+            return Ok(self.closed());
+        }
+        let Some(query) = pattern_of(alloc, search.prompt.query())? else {
+            return Ok(self.closed_with(String::from_str(alloc, NO_PATTERN)?));
+        };
+        Ok(self.taken(alloc, query)?)
+    }
+
+    /// The state after an event that its open search prompt is fed: the query edited or its cursor moved, or the prompt
+    /// closed, with the query taken or not. Where the query was edited and a pattern was built of it, the condition is
+    /// asked: without one the answer is yes where the query has more than one byte and the text has at most 5,000
+    /// lines. Where it says yes, the page shows the match that the query leads to, if some row matches. A query that is
+    /// taken without a pattern leaves a message.
+    ///
+    /// # Errors
+    ///
+    /// [`MinusError::QueryFull`] where a character is typed to a query of 65,534 characters, and [`MinusError::Memory`]
+    /// where there is no memory.
+    pub fn keyed<C: ConditionCall>(
+        &self,
+        alloc: Global,
+        condition: Option<&C>,
+        search: &OpenSearch,
+        event: &Event,
+    ) -> Result<Change, MinusError>
+        ensures next { IfOk result (λ c. (found : Option Re)
+            × MayFind C.judges (option_map (λ q. q.now) condition.entry) self.now (seen_search search.now)
+            event.now found
+            × Leads self.now c (keyed (control_of self.now) (seen_search search.now) (edit_of event.now) found)) }
+        ensures redraw { IfOk result (λ c. c.redraw ≡ keyed_redraw (seen_search search.now) (edit_of event.now)) }
+        ensures refused { IfErr result (λ e. IsUnkeyed (refusal_of e) (seen_search search.now) (edit_of event.now)) }
+    {
+        let mut prompt = search.prompt.copied(alloc)?;
+        match prompt.feed(alloc, &self.patterns, event)? {
+            Fed::Unchanged => Ok(self.redrawn(Redraw::Stays)),
+            Fed::Moved => Ok(self.typed_to(prompt)),
+            Fed::Edited => {
+                let found = self.found_for(alloc, condition, &search.prompt, &prompt, event)?;
+                Ok(self.edited(alloc, prompt, found)?)
+            }
+            Fed::Confirmed => self.entered(alloc, search),
+            Fed::Cancelled => Ok(self.closed()),
+        }
+    }
+}

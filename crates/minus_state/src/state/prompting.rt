@@ -1,0 +1,134 @@
+//! What becomes of a state as a search prompt is opened, edited and closed, formed beside it.
+use crate::change::{Change, Redraw, Setting};
+use crate::search::SearchMode;
+use crate::search::open_prompt::OpenPrompt;
+use crate::search::open_search::{OpenSearch, SearchStep};
+use crate::state::PagerState;
+use minus_term::MinusError;
+use minus_text::Term;
+use regex::Regex;
+use std::alloc::{AllocError, Global};
+
+impl PagerState {
+    ghost use Rattle.std.specs.Prelude.{◌≡◌, Some, option_map, string_bytes, IfOk, IfErr};
+    ghost use Rattle.regex.specs.Strings.{regex_pattern};
+    ghost use Rattle.minus_state.specs.Changes.{Leads};
+    ghost use Rattle.minus_state.specs.Confirming.{confirmed};
+    ghost use Rattle.minus_state.specs.Control.{with_message};
+    ghost use Rattle.minus_state.specs.OpenSearches.{seen_search};
+    ghost use Rattle.minus_state.specs.Prompting.{opened, opening_redraw, closed, typed, edited, previewed};
+    ghost use Rattle.minus_state.specs.States.{control_of, IsFormed};
+
+    /// The search prompt that is open, if one is.
+    pub fn open_search(&self) -> Option<&OpenSearch>
+        ensures { option_map (λ o. seen_search o.now) result ≡ (control_of self.now).search }
+    {
+        self.open_search.as_ref()
+    }
+
+    /// The state with a search prompt that is open for a direction, its query empty, and with the first match told of;
+    /// as it is, where the direction is [`SearchMode::Unknown`].
+    ///
+    /// # Errors
+    ///
+    /// [`MinusError::Memory`] where there is no memory for the prompt.
+    pub fn opened(&self, alloc: Global, mode: SearchMode) -> Result<Change, MinusError>
+        ensures next { IfOk result (λ c. Leads self.now c (opened (control_of self.now) mode)) }
+        ensures redraw { IfOk result (λ c. c.redraw ≡ opening_redraw mode) }
+        ensures memory { IfErr result (λ e. e ≡ MinusError.Memory) }
+    {
+        let Some(search_char) = mode.search_char() else {
+            return Ok(self.redrawn(Redraw::Stays));
+        };
+        let prompt = OpenPrompt::of_mode(alloc, &self.patterns, mode, search_char)?;
+        let step = SearchStep::Opens(prompt);
+        let mut change = self.set(Setting::Search(step), Redraw::Opening);
+        change.search_mark = 0;
+        Ok(change)
+    }
+
+    /// The state with its search prompt closed. Nothing more changes.
+    pub fn closed(&self) -> Change
+        ensures next { Leads self.now result (closed (control_of self.now)) }
+        ensures redraw { result.redraw ≡ Redraw.Closing }
+    {
+        self.set(Setting::Search(SearchStep::Closes(None)), Redraw::Closing)
+    }
+
+    /// The state with its search prompt closed and a message, which has no newline.
+    pub fn closed_with(&self, message: String) -> Change
+        ensures next { Leads self.now result (closed (with_message (control_of self.now) (string_bytes message))) }
+        ensures redraw { result.redraw ≡ Redraw.Closing }
+    {
+        let step = SearchStep::Closes(Some(message));
+        self.set(Setting::Search(step), Redraw::Closing)
+    }
+
+    /// The state with its search prompt closed and a query's pattern taken, as [`PagerState::confirmed`] says.
+    ///
+    /// # Errors
+    ///
+    /// [`AllocError`] where there is no memory for what is found.
+    pub fn taken(&self, alloc: Global, query: Regex) -> Result<Change, AllocError>
+        ensures next { IfOk result (λ c. Leads self.now c
+            (closed (confirmed (control_of self.now) (regex_pattern query)))) }
+        ensures redraw { IfOk result (λ c. c.redraw ≡ Redraw.Closing) }
+    {
+        let mut change = self.confirmed(alloc, query)?;
+        change.setting = Setting::Search(SearchStep::Closes(None));
+        change.redraw = Redraw::Closing;
+        Ok(change)
+    }
+
+    /// The state with this in the place of its search prompt: its cursor has moved.
+    pub fn typed_to(&self, prompt: OpenPrompt) -> Change
+        ensures next { Leads self.now result (typed (control_of self.now) prompt) }
+        ensures redraw { result.redraw ≡ Redraw.Cursor }
+    {
+        self.set(Setting::Search(SearchStep::Types(prompt)), Redraw::Cursor)
+    }
+
+    // A pattern, where some row matches it.
+    fn previewed(&self, alloc: Global, found: Option<Regex>) -> Result<Option<Regex>, AllocError>
+        ensures { IfOk result (λ shown. IsFormed self.now → option_map regex_pattern shown
+            ≡ previewed (control_of self.now) (option_map regex_pattern found)) }
+    {
+        let Some(query) = found else {
+            return Ok(None);
+        };
+        let term = Term {
+            patterns: &self.patterns,
+            pattern: &query,
+        };
+        let first = self.screen.first_match(alloc, term, self.upper_mark)?;
+        match first {
+            Some(_) => Ok(Some(query)),
+            None => Ok(None),
+        }
+    }
+
+    /// The state with this in the place of its search prompt: its query was edited, and a pattern was found for it, or
+    /// none. The page shows where that pattern leads, where some row matches it.
+    ///
+    /// # Errors
+    ///
+    /// [`AllocError`] where there is no memory for the search.
+    pub fn edited(
+        &self,
+        alloc: Global,
+        prompt: OpenPrompt,
+        found: Option<Regex>,
+    ) -> Result<Change, AllocError>
+        ensures next { IfOk result (λ c. Leads self.now c
+            (edited (control_of self.now) prompt (option_map regex_pattern found))) }
+        ensures redraw { IfOk result (λ c. c.redraw ≡ Redraw.Edit) }
+    {
+        let preview = self.previewed(alloc, found)?;
+        let step = SearchStep::Edits(OpenSearch {
+            prompt,
+            edited: true,
+            preview,
+        });
+        Ok(self.set(Setting::Search(step), Redraw::Edit))
+    }
+}

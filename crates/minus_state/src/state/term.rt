@@ -1,0 +1,135 @@
+//! The term that rows are searched for, and the rows that match it.
+use crate::change::{Change, NextText, Redraw, Setting};
+use crate::search::matches::Matches;
+use crate::state::{PagerState, search_mark_anew, searching};
+use minus_term::MinusError;
+use minus_text::{Findings, Patterns, Term};
+use regex::Regex;
+use std::alloc::{AllocError, Global};
+
+impl PagerState {
+    ghost use Rattle.std.specs.Prelude.{◌≡◌, Some, option_map, OnOk, OnErr, IfOk, IfErr};
+    ghost use Rattle.regex.specs.Strings.{regex_pattern};
+    ghost use Rattle.minus_text.specs.Document.{rows_of};
+    ghost use Rattle.minus_text.specs.Found.{AreFoundIn, found_by, row_numbers};
+    ghost use Rattle.minus_text.specs.FoundRows.{pattern_of};
+    ghost use Rattle.minus_state.specs.Changes.{Leads};
+    ghost use Rattle.minus_state.specs.Control.{matches_of, searched_for};
+    ghost use Rattle.minus_state.specs.Confirming.{confirmed};
+    ghost use Rattle.minus_state.specs.Matches.{numbers_of};
+    ghost use Rattle.minus_state.specs.States.{control_of, term_of, IsFormed};
+
+    /// The term that rows are searched for, if there is one.
+    pub fn term(&self) -> Option<&Regex>
+        ensures { option_map (λ t. regex_pattern t.now) result ≡ (control_of self.now).term }
+    {
+        self.term.as_ref()
+    }
+
+    /// The rows that match the term; none without a term.
+    pub fn matches(&self) -> Matches<'_>
+        ensures kept { numbers_of result ≡ row_numbers self.now.screen.found }
+        ensures formed { IsFormed self.now → numbers_of result ≡ matches_of (control_of self.now) }
+    {
+        Matches {
+            view: self.screen.view(),
+        }
+    }
+
+    /// The place, counted from 0 among the rows that match, of the one that the prompt row tells of.
+    pub fn search_mark(&self) -> usize
+        ensures { result ≡ (control_of self.now).search_mark }
+    {
+        self.search_mark
+    }
+
+    /// Lets the prompt row tell of the match at another place, counted from 0. The page stays where it is.
+    pub fn set_search_mark(&mut self, search_mark: usize)
+        ensures { self.new ≡ record self.old { search_mark = search_mark } }
+    {
+        self.search_mark = search_mark;
+    }
+
+    /// The fixed patterns, which an open search prompt is fed with.
+    pub fn patterns(&self) -> &Patterns
+        ensures { result.now ≡ self.now.patterns }
+    {
+        &self.patterns
+    }
+
+    // What rows are searched for.
+    pub(crate) fn searching(&self) -> Option<Term<'_>>
+        ensures { pattern_of result ≡ term_of self.now }
+    {
+        searching(&self.patterns, self.term.as_ref())
+    }
+
+    /// What a pattern finds in the rows. Nothing changes.
+    ///
+    /// # Errors
+    ///
+    /// [`AllocError`] where there is no memory for it.
+    pub fn search(&self, alloc: Global, pattern: &Regex) -> Result<Findings, AllocError>
+        ensures found { IfOk result (λ f. f
+            ≡ found_by (Some (regex_pattern pattern.now)) 0 (rows_of self.now.screen.document)) }
+        ensures stand { IfOk result (λ f. AreFoundIn 0 (rows_of self.now.screen.document) f) }
+    {
+        self.screen
+            .search(alloc, searching(&self.patterns, Some(pattern)))
+    }
+
+    /// Searches for another term from now on, or for none: the rows are formed anew, and the prompt row tells of the
+    /// first match at the mark or behind it. The mark stays where it is.
+    ///
+    /// # Errors
+    ///
+    /// The term comes back with [`MinusError::Memory`] where there is no memory for it, and nothing has changed.
+    pub fn set_term(
+        &mut self,
+        alloc: Global,
+        term: Option<Regex>,
+    ) -> Result<(), (Option<Regex>, MinusError)>
+        ensures control { OnOk result (control_of self.new
+            ≡ searched_for (control_of self.old) (option_map regex_pattern term)) }
+        ensures formed { OnOk result (IsFormed self.new) }
+        ensures err { OnErr result (self.new ≡ self.old) }
+        ensures back { IfErr result (λ e. (e.0 ≡ term) × (e.1 ≡ MinusError.Memory)) }
+    {
+        let layout = self.layout();
+        let searched = searching(&self.patterns, term.as_ref());
+        if let Err(cause) = self.screen.reform(alloc, layout, searched) {
+            return Err((term, cause));
+        }
+        self.search_mark = search_mark_anew(self.screen.view(), self.upper_mark);
+        self.term = term;
+        Ok(())
+    }
+
+    /// The state with a query's pattern as its term, with its mark at the match that the search goes to, or at the
+    /// greatest mark (`top`) where that is less; where no row matches, the mark stays. No row is formed again.
+    ///
+    /// # Errors
+    ///
+    /// [`AllocError`] where there is no memory for what is found.
+    pub fn confirmed(&self, alloc: Global, query: Regex) -> Result<Change, AllocError>
+        ensures next { IfOk result (λ c. Leads self.now c
+            (confirmed (control_of self.now) (regex_pattern query))) }
+        ensures redraw { IfOk result (λ c. c.redraw ≡ Redraw.Whole) }
+        ensures beside { IfOk result (λ c. c.setting ≡ Setting.Same) }
+    {
+        let findings = self.search(alloc, &query)?;
+        let view = self.screen.view_of(&findings);
+        let search_mark = search_mark_anew(view, self.upper_mark);
+        let mark = view.match_row(search_mark).unwrap_or(self.upper_mark);
+        Ok(Change {
+            text: NextText::Found(query, findings),
+            mark: mark.min(self.top()),
+            cols: self.cols,
+            rows: self.rows,
+            search_mark,
+            prefix: None,
+            setting: Setting::Same,
+            redraw: Redraw::Whole,
+        })
+    }
+}
