@@ -9,6 +9,8 @@ use Rattle.minus_text.specs.Prefixes.{toggled}
 use Rattle.minus_text.specs.Document.{line_map}
 use Rattle.minus_state.specs.declared.input.InputEvent.{InputEvent}
 use Rattle.minus_state.specs.declared.input.InputEvent.TheVariants as asks
+use Rattle.minus_state.specs.declared.search.SearchMode.{SearchMode}
+use Rattle.minus_state.specs.declared.search.SearchMode.TheVariants.{Forward, Reverse, Unknown}
 use Rattle.minus_state.specs.declared.state.PagerState.{PagerState}
 use Rattle.minus_state.specs.Control.{Control}
 use Rattle.minus_state.specs.States.{control_of}
@@ -86,6 +88,17 @@ abbrev pub selection_update : Event → InputEvent
 selection_update (Mouse mouse) = asks.UpdateSelection mouse.column mouse.row
 selection_update event = asks.Ignore
 
+-- a jump in the direction of the last search, and one against it; where no search has begun, none
+abbrev pub next_match : SearchMode → ℕ → InputEvent
+next_match Forward jump = asks.MoveToNextMatch jump
+next_match Reverse jump = asks.MoveToPrevMatch jump
+next_match Unknown jump = asks.Ignore
+
+abbrev pub previous_match : SearchMode → ℕ → InputEvent
+previous_match Forward jump = asks.MoveToPrevMatch jump
+previous_match Reverse jump = asks.MoveToNextMatch jump
+previous_match Unknown jump = asks.Ignore
+
 -- a resize asks for the terminal's new size
 abbrev pub new_size : Event → InputEvent
 new_size (Resize cols rows) = asks.UpdateTermArea cols rows
@@ -107,10 +120,10 @@ default_answer action.PageDown event state = down_by state (page state)
 default_answer action.ToggleNumbers event state = asks.UpdateLineNumber (toggled (control_of state).numbers)
 default_answer action.Bottom event state = bottom
 default_answer action.Help event state = asks.ShowHelp
-default_answer action.SearchForward event state = asks.Ignore
-default_answer action.SearchBackward event state = asks.Ignore
-default_answer action.NextMatch event state = asks.Ignore
-default_answer action.PreviousMatch event state = asks.Ignore
+default_answer action.SearchForward event state = asks.Search Forward
+default_answer action.SearchBackward event state = asks.Search Reverse
+default_answer action.NextMatch event state = next_match state.search_state.search_mode (steps state)
+default_answer action.PreviousMatch event state = previous_match state.search_state.search_mode (steps state)
 default_answer action.WheelUp event state = up_by state 5
 default_answer action.WheelDown event state = down_by state 5
 default_answer action.StartSelection event state = selection_start event

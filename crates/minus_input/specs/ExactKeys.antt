@@ -10,6 +10,8 @@ use Rattle.minus_term.specs.declared.event.MouseEventKind.TheVariants.{ScrollUp,
 use Rattle.minus_text.specs.Prefixes.{toggled}
 use Rattle.minus_state.specs.declared.input.InputEvent.{InputEvent}
 use Rattle.minus_state.specs.declared.input.InputEvent.TheVariants as asks
+use Rattle.minus_state.specs.declared.search.SearchMode.{SearchMode}
+use Rattle.minus_state.specs.declared.search.SearchMode.TheVariants.{Forward, Reverse}
 use Rattle.minus_state.specs.declared.state.PagerState.{PagerState}
 use Rattle.minus_state.specs.States.{control_of}
 use Rattle.minus_input.specs.DefaultAnswers.{max, typed, steps, up_by, down_by, left_by, right_by, half_page, page, restore_or_down}
@@ -22,7 +24,16 @@ row_before number = if number - 1 == 0 then max else number - 1
 abbrev pub to_row : PagerState → InputEvent
 to_row state = asks.UpdateUpperMark (row_before (unwrap_or (typed state) max))
 
--- a character without modifiers that is no digit: `k`, `j`, `u`, `d`, `g`, `G`, the space, `q`, `h` and `l`
+-- a jump on among the matches, and one back; after a search back the other way round
+abbrev pub match_on : SearchMode → ℕ → InputEvent
+match_on Reverse jump = asks.MoveToPrevMatch jump
+match_on mode jump = asks.MoveToNextMatch jump
+
+abbrev pub match_back : SearchMode → ℕ → InputEvent
+match_back Reverse jump = asks.MoveToNextMatch jump
+match_back mode jump = asks.MoveToPrevMatch jump
+
+-- a character without modifiers that is no digit: `k`, `j`, `u`, `d`, `g`, `G`, the space, `q`, `h`, `l`, `/`, `?`, `n` and `p`
 abbrev pub plain_letter : ℕ → PagerState → Option InputEvent
 plain_letter c state =
     if c == 107 then Some (up_by state (steps state))
@@ -35,6 +46,10 @@ plain_letter c state =
     else if c == 113 then Some asks.Exit
     else if c == 104 then Some (asks.HorizontalScroll (not (control_of state).wrapping))
     else if c == 108 then Some (right_by state 1)
+    else if c == 47 then Some (asks.Search Forward)
+    else if c == 63 then Some (asks.Search Reverse)
+    else if c == 110 then Some (match_on state.search_state.search_mode (steps state))
+    else if c == 112 then Some (match_back state.search_state.search_mode (steps state))
     else None
 
 -- a character with CONTROL: `f`, `u`, `d`, `l` and `c`

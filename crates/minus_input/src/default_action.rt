@@ -34,13 +34,15 @@ pub enum DefaultAction {
     Bottom,
     /// Show the help table, or leave it.
     Help,
-    /// Search forward: nothing yet.
+    /// Open the search prompt for a search forward.
     SearchForward,
-    /// Search backward: nothing yet.
+    /// Open the search prompt for a search backward.
     SearchBackward,
-    /// Go to the next match: nothing yet.
+    /// Jump by as many matches as the typed prefix says, in the direction of the last search; nothing where no search
+    /// has begun.
     NextMatch,
-    /// Go to the previous match: nothing yet.
+    /// Jump by as many matches as the typed prefix says, against the direction of the last search; nothing where no
+    /// search has begun.
     PreviousMatch,
     /// Scroll up by five rows.
     WheelUp,

@@ -2,11 +2,11 @@
 ghost use Rattle.std.specs.Prelude.{◌≡◌};
 ghost use Rattle.minus_input.specs.DefaultAnswers.{typed, steps, up_by, down_by, left_by, right_by, half_page, page};
 ghost use Rattle.minus_input.specs.DefaultAnswers.{restore_or_down, row_of_line, to_line, typed_digit, selection_start};
-ghost use Rattle.minus_input.specs.DefaultAnswers.{selection_update, new_size, default_answer};
+ghost use Rattle.minus_input.specs.DefaultAnswers.{selection_update, next_match, previous_match, new_size, default_answer};
 
 use crate::default_action::DefaultAction;
 use crate::number::parse_usize;
-use minus_state::{InputEvent, PagerState};
+use minus_state::{InputEvent, PagerState, SearchMode};
 use minus_term::{Event, KeyCode, KeyModifiers};
 
 // The number that the typed prefix writes.
@@ -134,6 +134,28 @@ fn selection_update(event: &Event) -> InputEvent
     }
 }
 
+// A jump in the direction of the last search; where no search has begun, none.
+fn next_match(state: &PagerState) -> InputEvent
+    ensures { result ≡ next_match state.now.search_state.search_mode (steps state.now) }
+{
+    match state.search_state.search_mode {
+        SearchMode::Forward => InputEvent::MoveToNextMatch(steps(state)),
+        SearchMode::Reverse => InputEvent::MoveToPrevMatch(steps(state)),
+        SearchMode::Unknown => InputEvent::Ignore,
+    }
+}
+
+// A jump against the direction of the last search; where no search has begun, none.
+fn previous_match(state: &PagerState) -> InputEvent
+    ensures { result ≡ previous_match state.now.search_state.search_mode (steps state.now) }
+{
+    match state.search_state.search_mode {
+        SearchMode::Forward => InputEvent::MoveToPrevMatch(steps(state)),
+        SearchMode::Reverse => InputEvent::MoveToNextMatch(steps(state)),
+        SearchMode::Unknown => InputEvent::Ignore,
+    }
+}
+
 // A resize asks for the terminal's new size.
 fn new_size(event: &Event) -> InputEvent
     ensures { result ≡ new_size event.now }
@@ -166,10 +188,10 @@ impl DefaultAction {
             DefaultAction::ToggleNumbers => InputEvent::UpdateLineNumber(!state.line_numbers),
             DefaultAction::Bottom => InputEvent::UpdateUpperMark(usize::MAX - 1),
             DefaultAction::Help => InputEvent::ShowHelp,
-            DefaultAction::SearchForward
-            | DefaultAction::SearchBackward
-            | DefaultAction::NextMatch
-            | DefaultAction::PreviousMatch => InputEvent::Ignore,
+            DefaultAction::SearchForward => InputEvent::Search(SearchMode::Forward),
+            DefaultAction::SearchBackward => InputEvent::Search(SearchMode::Reverse),
+            DefaultAction::NextMatch => next_match(state),
+            DefaultAction::PreviousMatch => previous_match(state),
             DefaultAction::WheelUp => up_by(state, 5),
             DefaultAction::WheelDown => down_by(state, 5),
             DefaultAction::StartSelection => selection_start(event),

@@ -1,12 +1,13 @@
 //! The classifier that goes by exact codes and modifiers.
 ghost use Rattle.std.specs.Prelude.{◌≡◌};
-ghost use Rattle.minus_input.specs.ExactKeys.{to_row, plain_letter, control_letter, shift_letter, letter};
+ghost use Rattle.minus_input.specs.ExactKeys.{to_row, match_on, match_back, plain_letter, control_letter, shift_letter, letter};
+ghost use Rattle.minus_input.specs.DefaultAnswers.{steps};
 ghost use Rattle.minus_input.specs.ExactKeys.{named_key, exact_key, wheel};
 
 use crate::default_answers::{
     down_by, half_page, left_by, page, restore_or_down, right_by, steps, typed, up_by,
 };
-use minus_state::{InputClassifier, InputEvent, PagerState};
+use minus_state::{InputClassifier, InputEvent, PagerState, SearchMode};
 use minus_term::{Event, KeyCode, KeyModifiers, MouseEventKind};
 use std::alloc::{AllocError, Global};
 
@@ -16,6 +17,26 @@ fn to_row(state: &PagerState) -> InputEvent
 {
     let row = typed(state).unwrap_or(usize::MAX).saturating_sub(1);
     InputEvent::UpdateUpperMark(if row == 0 { usize::MAX } else { row })
+}
+
+// A jump on among the matches; after a search back, back.
+fn match_on(state: &PagerState) -> InputEvent
+    ensures { result ≡ match_on state.now.search_state.search_mode (steps state.now) }
+{
+    match state.search_state.search_mode {
+        SearchMode::Reverse => InputEvent::MoveToPrevMatch(steps(state)),
+        SearchMode::Forward | SearchMode::Unknown => InputEvent::MoveToNextMatch(steps(state)),
+    }
+}
+
+// A jump back among the matches; after a search back, on.
+fn match_back(state: &PagerState) -> InputEvent
+    ensures { result ≡ match_back state.now.search_state.search_mode (steps state.now) }
+{
+    match state.search_state.search_mode {
+        SearchMode::Reverse => InputEvent::MoveToNextMatch(steps(state)),
+        SearchMode::Forward | SearchMode::Unknown => InputEvent::MoveToPrevMatch(steps(state)),
+    }
 }
 
 // A character without modifiers that is no digit.
@@ -33,6 +54,10 @@ fn plain_letter(c: char, state: &PagerState) -> Option<InputEvent>
         'q' => Some(InputEvent::Exit),
         'h' => Some(InputEvent::HorizontalScroll(!state.line_wrapping())),
         'l' => Some(right_by(state, 1)),
+        '/' => Some(InputEvent::Search(SearchMode::Forward)),
+        '?' => Some(InputEvent::Search(SearchMode::Reverse)),
+        'n' => Some(match_on(state)),
+        'p' => Some(match_back(state)),
         _ => None,
     }
 }

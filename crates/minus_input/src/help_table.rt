@@ -105,7 +105,8 @@ fn read_entries<'a>(
 
 /// Adds a text, unless it is there.
 fn push_once<'a>(texts: &mut Vec<&'a str>, text: &'a str) -> Result<(), AllocError>
-    ensures { OnOk result (map (λ t. t.now) texts.new.items ≡ add_once (map (λ t. t.now) texts.old.items) text.now) }
+    ensures { OnOk result (map (λ t. t.now) texts.new.items
+        ≡ add_once (map (λ t. t.now) texts.old.items) text.now) }
 {
     if !texts.contains(&text) {
         texts.push(text)?;
@@ -133,7 +134,8 @@ fn names_of<'a>(
 
 /// The descriptions that are not empty.
 fn descriptions<'a>(alloc: Global, entries: &[Entry<'a>]) -> Result<Vec<&'a str>, AllocError>
-    ensures { IfOk result (λ texts. map (λ text. text.now) texts.items ≡ descriptions (map seen_entry entries.now)) }
+    ensures { IfOk result (λ texts. map (λ text. text.now) texts.items
+        ≡ descriptions (map seen_entry entries.now)) }
 {
     let mut texts = Vec::new(alloc);
     for entry in entries {
