@@ -1,5 +1,5 @@
 -- A page to which a text was appended.
-use Rattle.std.proofs.Common.{◌≡◌, ℕ, zero, suc, ◌+◌, ◌-◌, ◌<◌, ◌≤◌, min, max, leb, true, List, [], ◌∷◌, ◌++◌, length, take, drop, None, refl, sym, ap, subst, ◌∙◌, arith, inl, inr}
+use Rattle.std.proofs.Common.{◌≡◌, ℕ, zero, suc, ◌+◌, ◌-◌, ◌<◌, ◌≤◌, min, max, leb, true, List, [], ◌∷◌, ◌++◌, length, take, drop, refl, sym, ap, subst, ◌∙◌, arith, inl, inr}
 use Rattle.std.proofs.lemmas.Bool.{cases_Bool, leb-true, leb-false}
 use Rattle.std.proofs.lemmas.List.{length-take, length-drop, take-take, drop-take}
 use Rattle.minus_term.specs.Append.{append_ops, rows_anew}
@@ -17,10 +17,9 @@ use Rattle.minus.specs.declared.step_drawing.Drawing.{Drawing}
 use Rattle.minus.specs.declared.step_drawing.Drawing.TheVariants.{Nothing, Append, Prompt}
 use Rattle.minus_state.specs.Control.{Control, Settings, document_of, text_rows, first_changed, keeps_rows_with}
 use Rattle.minus.specs.Drawings.{append_from, ops_of_step, changed_prompt}
-use Rattle.minus.specs.Drawn.{IsDrawing}
-use Rattle.minus_state.specs.Page.{all_shown, shown, page}
+use Rattle.minus_state.specs.Page.{all_shown, shown}
 use Rattle.minus_state.specs.ShownPrompt.{prompt_row}
-use Rattle.minus.proofs.DrawnLaws.{shown_fits, page_size, next_prompt_shows, next_prompt_puts, next_prompt_clean, prompt_there, work_drawn}
+use Rattle.minus.proofs.DrawnLaws.{shown_fits, page_size, next_prompt_shows, next_prompt_puts, next_prompt_clean, prompt_there, plain, IsPlainDrawing}
 
 -- rows that agree up to one agree up to where it stands on the page
 agree_shown : {X : Type 0} (xs ys : List X) (k m n f : ℕ) → take k xs ≡ take k ys → f ≤ k - m → f ≤ n → take f (take n (drop m xs)) ≡ take f (take n (drop m ys))
@@ -37,11 +36,11 @@ agree_shown xs ys k m n f e l w = take-take f n (drop m xs) w ∙ shown_so ∙ s
 
 -- the rows before the first that an append changes stay
 rows_stay : (c : Control) (text : List ℕ) → keeps_rows_with c text ≡ true → take (first_changed c) (all_shown c) ≡ take (first_changed c) (all_shown (record c { text = c.text ++ text }))
-rows_stay c text keeps = shown_kept None (document_of c) text c.left (ends_in_order c.ends) keeps
+rows_stay c text keeps = shown_kept c.term (document_of c) text c.left (ends_in_order c.ends) keeps
 
 -- there are as many as rows
 pub all_there : (c : Control) → length (all_shown c) ≡ length (text_rows c)
-all_there c = length-shown_rows None (document_of c) c.left (ends_in_order c.ends)
+all_there c = length-shown_rows c.term (document_of c) c.left (ends_in_order c.ends)
 
 -- rows made blank put no more texts than they get, whatever is played after them
 puts_anew : (i : ℕ) (texts : List (List ℕ)) (blanks : ℕ) (rest : List Op) (s : PlayedScreen) → puts (rows_anew i texts blanks ++ rest) s ≤ length texts + puts rest (play_all (rows_anew i texts blanks) s)
@@ -53,9 +52,9 @@ puts_anew i (t ∷ ts) b rest s =
     omega (arith, one, more)
 
 -- the rows that an append has changed, and a prompt row that is another one than before, are its drawing
-pub append_draws : (c : Control) (text : List ℕ) (s : Settings) → keeps_rows_with c text ≡ true → 1 ≤ c.rows → (let new : Control = record c { text = c.text ++ text; settings = s } in (let drawing : Drawing = Append (first_changed c) (length (text_rows c)) in IsDrawing (ops_of_step drawing c new) c (work_drawn drawing new ∷ []) new))
-append_draws c text s keeps some =
-    let new : Control = record c { text = c.text ++ text; settings = s } in
+pub append_draws : (c : Control) (text : List ℕ) (search_mark : ℕ) (s : Settings) → keeps_rows_with c text ≡ true → 1 ≤ c.rows → (let new : Control = record c { text = c.text ++ text; search_mark = search_mark; settings = s } in (let drawing : Drawing = Append (first_changed c) (length (text_rows c)) in IsPlainDrawing (ops_of_step drawing c new) drawing c new))
+append_draws c text search_mark s keeps some =
+    let new : Control = record c { text = c.text ++ text; search_mark = search_mark; settings = s } in
     let drawing : Drawing = Append (first_changed c) (length (text_rows c)) in
     let n : ℕ = c.rows - 1 in
     let first : ℕ = min (first_changed c - c.mark) (length (shown new)) in
@@ -69,17 +68,17 @@ append_draws c text s keeps some =
     let near : rows ≡ append_from new (first_changed c) (length (text_rows c)) =
     append_near (first_changed c - c.mark) (length (shown c)) (shown new) past ∙ ap (λ (k : ℕ). append_ops (first_changed c - c.mark) k (shown new)) were in
     let prompt : List Op = changed_prompt c new in
-    let screen : PlayedScreen = screen_of (page c) in
-    let pages : List ShownPage = page c ∷ page new ∷ [] in
+    let screen : PlayedScreen = screen_of (plain c) in
+    let pages : List ShownPage = plain c ∷ plain new ∷ [] in
     let drawn = append_shows_lem c.rows first (shown c) (shown new) (prompt_row c) (shown_fits c some) (shown_fits new some) (omega arith) same in
     let then_prompt = next_prompt_shows c.rows (shown new) (prompt_row c) (prompt_row new) (shown_fits new some) in
-    let all : Shows (play_all prompt (play_all rows screen)) (page new) = draws_from prompt (page_of c.rows (shown new) (prompt_row c)) (page new) (play_all rows screen) then_prompt drawn in
+    let all : Shows (play_all prompt (play_all rows screen)) (plain new) = draws_from prompt (page_of c.rows (shown new) (prompt_row c)) (plain new) (play_all rows screen) then_prompt drawn in
     let none = next_prompt_puts c.rows (prompt_row c) (prompt_row new) (play_all rows screen) (length-play_all rows screen ∙ page_size c some) some in
     let few = puts_anew first (drop first (shown new)) (length (shown c) - max first (length (shown new))) prompt screen in
-    subst (λ (ops : List Op). IsDrawing (ops ++ prompt) c (work_drawn drawing new ∷ []) new) near record {
-      shows = subst (λ (s : PlayedScreen). Shows s (page new)) (sym (play_all-append rows prompt screen)) all;
+    subst (λ (ops : List Op). IsPlainDrawing (ops ++ prompt) drawing c new) near record {
+      shows = subst (λ (s : PlayedScreen). Shows s (plain new)) (sym (play_all-append rows prompt screen)) all;
       clean = IsClean-append pages rows prompt (IsClean-changed pages c.rows first (length (shown c)) (shown new) (prompt_row new) (1, omega arith, refl)) (next_prompt_clean pages c.rows (prompt_row c) (prompt_row new) (prompt_there c new));
       few = omega (arith, few, none, count, length-drop first (shown new));
-      asked = (λ e. absurd (let drawn : Append (first_changed c) (length (text_rows c)) ≡ Prompt = e in cc), tt);
-      none = λ q. absurd (let drawn : Append (first_changed c) (length (text_rows c)) ≡ Nothing = q.0 in cc);
+      asked = λ e. absurd (let drawn : Append (first_changed c) (length (text_rows c)) ≡ Prompt = e in cc);
+      none = λ q same. absurd (let drawn : Append (first_changed c) (length (text_rows c)) ≡ Nothing = q in cc);
     }

@@ -1,5 +1,5 @@
 -- What is drawn in a step, and at the start.
-use Rattle.std.proofs.Common.{◌≡◌, ℕ, ◌+◌, ◌-◌, ◌<◌, ◌≤◌, true, List, [], ◌∷◌, ◌++◌, length, map, drop, replicate, Option, Some, None, refl, sym, subst, ◌∙◌, arith, append_assoc, inl, inr}
+use Rattle.std.proofs.Common.{◌≡◌, ℕ, ◌+◌, ◌-◌, ◌<◌, ◌≤◌, ◌||◌, true, false, List, [], ◌∷◌, ◌++◌, length, map, drop, replicate, Option, Some, None, refl, sym, ap, subst, ◌∙◌, arith, append_assoc, inl, inr}
 use Rattle.std.specs.Prelude.{bytes_eq, if◌then◌else◌}
 use Rattle.std.specs.Io.KnownBytes.{Appends}
 use Rattle.std.proofs.lemmas.Bool.{cases_Bool}
@@ -8,7 +8,7 @@ use Rattle.std.proofs.lemmas.List.Elements.{Contains-push}
 use Rattle.std.proofs.lemmas.Slice.Eq.{bytes_eq-Decides}
 use Rattle.std.proofs.KnownBytes.{Appends-nil}
 use Rattle.minus_term.specs.Operations.{Op}
-use Rattle.minus_term.specs.PlayedScreen.{PlayedScreen, ShownPage, Draws, unknown_screen, screen_of}
+use Rattle.minus_term.specs.PlayedScreen.{PlayedScreen, ShownPage, Shows, Draws, play_all, unknown_screen, screen_of}
 use Rattle.minus_term.specs.Puts.{puts}
 use Rattle.minus_term.specs.Terminal.{setup_bytes}
 use Rattle.minus_term.specs.Written.{written_all, IsClean, IsRowOf}
@@ -18,13 +18,13 @@ use Rattle.minus_term.proofs.PutsLaws.{puts-prompt}
 use Rattle.minus_term.proofs.ScrollLaws.{scroll_shows_lem, scroll_puts_lem, IsClean-scroll}
 use Rattle.minus_term.proofs.FullRedrawLaws.{full_redraw_lem, IsClean-full, IsClean-prompt, play_prompt}
 use Rattle.minus_state.specs.Control.{Control, Saved, Settings}
-use Rattle.minus_state.specs.Page.{all_shown, shown, page}
+use Rattle.minus_state.specs.Page.{all_shown, shown, page, page_under, page_with}
 use Rattle.minus_state.specs.ShownPrompt.{prompt_row}
 use Rattle.minus.specs.declared.step_drawing.Drawing.{Drawing}
 use Rattle.minus.specs.declared.step_drawing.Drawing.TheVariants.{Nothing, Full, Scroll, Prompt}
-use Rattle.minus.specs.Works.{Work}
+use Rattle.minus.specs.Works.{Work, is_full, undrawn}
 use Rattle.minus.specs.Drawings.{whole_page, whole_prompt, changed_prompt, ops_of}
-use Rattle.minus.specs.Drawn.{IsDrawing, Drawn, IsWholeDrawing, Leaves, Begins}
+use Rattle.minus.specs.Drawn.{IsDrawing, Drawn, IsWholeDrawing, Leaves, Begins, HasPiece, IsWithin, most_of}
 
 pub length_page : (rows : ℕ) (texts : List (List ℕ)) (prompt : List ℕ) → length texts < rows → length (page_of rows texts prompt).texts ≡ rows
 length_page rows texts prompt l =
@@ -32,6 +32,40 @@ length_page rows texts prompt l =
 
 pub shown_fits : (c : Control) → 1 ≤ c.rows → length (shown c) < c.rows
 shown_fits c h = omega (arith, length-take (c.rows - 1) (drop c.mark (all_shown c)))
+
+-- a work, by how it is drawn
+abbrev pub work_drawn : Drawing → Control → Work
+work_drawn drawing c = record { drawing = drawing; left = c }
+
+-- ---- a page without a search prompt
+
+abbrev pub plain : Control → ShownPage
+plain c = page_with c (shown c)
+
+pub page_plain : (c : Control) → c.search ≡ None → page c ≡ plain c
+page_plain c e = ap (page_under c) e
+
+-- what is known of the screen before a drawing
+abbrev pub known_before : Drawing → ShownPage → ℕ → PlayedScreen
+known_before drawing page rows = if (is_full drawing || false) then unknown_screen rows else screen_of page
+
+-- a list of operations is the drawing of a work of this kind, from one such page to another
+pub record IsPlainDrawing (ops : List Op) (drawing : Drawing) (old new : Control) : Type 0 where
+  pub shows : Shows (play_all ops (known_before drawing (plain old) new.rows)) (plain new)
+  pub clean : IsClean (plain old ∷ plain new ∷ []) ops
+  pub few : IsWithin (puts ops (known_before drawing (plain old) new.rows)) (most_of drawing new)
+  pub asked : drawing ≡ Prompt → HasPiece ops (whole_prompt new)
+  pub none : drawing ≡ Nothing → prompt_row new ≡ prompt_row old → ops ≡ []
+
+-- where no search prompt is open, it is the drawing of that work
+pub plain_draws : (ops : List Op) (drawing : Drawing) (old new : Control) → page old ≡ plain old → page new ≡ plain new → IsPlainDrawing ops drawing old new → IsDrawing ops old (work_drawn drawing new ∷ []) new
+plain_draws ops drawing old new e f h = record {
+  shows = subst (λ (p : ShownPage). Shows (play_all ops (known_before drawing p new.rows)) (page new)) (sym e) (subst (λ (p : ShownPage). Shows (play_all ops (known_before drawing (plain old) new.rows)) p) (sym f) h.shows);
+  clean = subst (λ (p : ShownPage). IsClean (p ∷ page new ∷ []) ops) (sym e) (subst (λ (p : ShownPage). IsClean (plain old ∷ p ∷ []) ops) (sym f) h.clean);
+  few = subst (λ (p : ShownPage). IsWithin (puts ops (known_before drawing p new.rows)) (most_of drawing new)) (sym e) h.few;
+  asked = (h.asked, tt);
+  none = λ q. h.none q.0 q.1;
+}
 
 -- ---- a page whose rows of text stay
 
@@ -68,70 +102,89 @@ next_prompt_clean pages rows old new h = elim (cases_Bool (bytes_eq new old)) [
 ]
 
 -- the prompt row is a row of the page
-pub prompt_there : (c new : Control) → IsRowOf (page c ∷ page new ∷ []) (prompt_row new)
-prompt_there c new = (page new, (1, omega arith, refl), Contains-push (shown new ++ replicate (new.rows - 1 - length (shown new)) []) (prompt_row new))
+pub prompt_there : (c new : Control) → IsRowOf (plain c ∷ plain new ∷ []) (prompt_row new)
+prompt_there c new = (plain new, (1, omega arith, refl), Contains-push (shown new ++ replicate (new.rows - 1 - length (shown new)) []) (prompt_row new))
 
-pub page_size : (c : Control) → 1 ≤ c.rows → length (screen_of (page c)).texts ≡ c.rows
-page_size c some = length-map (page c).texts Some ∙ length_page c.rows (shown c) (prompt_row c) (shown_fits c some)
+pub page_size : (c : Control) → 1 ≤ c.rows → length (screen_of (plain c)).texts ≡ c.rows
+page_size c some = length-map (plain c).texts Some ∙ length_page c.rows (shown c) (prompt_row c) (shown_fits c some)
 
--- ---- a work, by how it is drawn
+-- ---- a drawing, by its kind
 
-abbrev pub work_drawn : Drawing → Control → Work
-work_drawn drawing c = record { drawing = drawing; left = c }
-
--- a page drawn whole is the drawing of a work that is drawn in full
-pub whole_draws : (old new : Control) → 1 ≤ new.rows → IsDrawing (whole_page new) old (work_drawn Full new ∷ []) new
+-- a page drawn whole is drawn in full
+pub whole_draws : (old new : Control) → 1 ≤ new.rows → IsPlainDrawing (whole_page new) Full old new
 whole_draws old new some = record {
   shows = full_redraw_lem new.rows (shown new) (prompt_row new) (unknown_screen new.rows) (length-replicate {A = Option (List ℕ)} new.rows None) (shown_fits new some);
-  clean = IsClean-full (page old ∷ page new ∷ []) new.rows (shown new) (prompt_row new) (1, omega arith, refl);
+  clean = IsClean-full (plain old ∷ plain new ∷ []) new.rows (shown new) (prompt_row new) (1, omega arith, refl);
   few = tt;
-  asked = (λ e. absurd (let drawn : Full ≡ Prompt = e in cc), tt);
-  none = λ q. absurd (let drawn : Full ≡ Nothing = q.0 in cc);
+  asked = λ e. absurd (let drawn : Full ≡ Prompt = e in cc);
+  none = λ q same. absurd (let drawn : Full ≡ Nothing = q in cc);
 }
 
--- a prompt row that is another one than before is the drawing of a work that is not drawn, whatever is put aside
-pub aside_draws : (c : Control) (s : Settings) (help : Option Saved) → 1 ≤ c.rows → (let new : Control = record c { settings = s; help = help } in IsDrawing (changed_prompt c new) c (work_drawn Nothing new ∷ []) new)
-aside_draws c s help some =
-    let new : Control = record c { settings = s; help = help } in
+-- a prompt row that is another one than before is drawn where nothing is asked for, whatever match is told of and whatever is put
+-- aside
+pub aside_draws : (c : Control) (search_mark : ℕ) (s : Settings) (help : Option Saved) → 1 ≤ c.rows → (let new : Control = record c { search_mark = search_mark; settings = s; help = help } in IsPlainDrawing (changed_prompt c new) Nothing c new)
+aside_draws c search_mark s help some =
+    let new : Control = record c { search_mark = search_mark; settings = s; help = help } in
     record {
       shows = next_prompt_shows c.rows (shown c) (prompt_row c) (prompt_row new) (shown_fits c some);
-      clean = next_prompt_clean (page c ∷ page new ∷ []) c.rows (prompt_row c) (prompt_row new) (prompt_there c new);
-      few = omega (arith, next_prompt_puts c.rows (prompt_row c) (prompt_row new) (screen_of (page c)) (page_size c some) some);
-      asked = (λ e. absurd (let drawn : Nothing ≡ Prompt = e in cc), tt);
-      none = λ q. (let same : bytes_eq (prompt_row new) (prompt_row c) ≡ true = (bytes_eq-Decides (prompt_row new) (prompt_row c)).1 q.1 in rw same refl);
+      clean = next_prompt_clean (plain c ∷ plain new ∷ []) c.rows (prompt_row c) (prompt_row new) (prompt_there c new);
+      few = omega (arith, next_prompt_puts c.rows (prompt_row c) (prompt_row new) (screen_of (plain c)) (page_size c some) some);
+      asked = λ e. absurd (let drawn : Nothing ≡ Prompt = e in cc);
+      none = λ q is. (let same : bytes_eq (prompt_row new) (prompt_row c) ≡ true = (bytes_eq-Decides (prompt_row new) (prompt_row c)).1 is in rw same refl);
     }
 
-pub quiet_draws : (c : Control) (s : Settings) → 1 ≤ c.rows → (let new : Control = record c { settings = s } in IsDrawing (changed_prompt c new) c (work_drawn Nothing new ∷ []) new)
-quiet_draws c s some = aside_draws c s c.help some
+pub quiet_draws : (c : Control) (search_mark : ℕ) (s : Settings) → 1 ≤ c.rows → (let new : Control = record c { search_mark = search_mark; settings = s } in IsPlainDrawing (changed_prompt c new) Nothing c new)
+quiet_draws c search_mark s some = aside_draws c search_mark s c.help some
 
--- the prompt row is the drawing of a work that draws it
-pub prompt_draws : (c : Control) (s : Settings) → 1 ≤ c.rows → (let new : Control = record c { settings = s } in IsDrawing (whole_prompt new) c (work_drawn Prompt new ∷ []) new)
+-- the prompt row is drawn where it is asked for
+pub prompt_draws : (c : Control) (s : Settings) → 1 ≤ c.rows → (let new : Control = record c { settings = s } in IsPlainDrawing (whole_prompt new) Prompt c new)
 prompt_draws c s some =
     let new : Control = record c { settings = s } in
     record {
       shows = prompt_shows c.rows (shown c) (prompt_row c) (prompt_row new) (shown_fits c some);
-      clean = IsClean-prompt (page c ∷ page new ∷ []) c.rows (prompt_row new) (prompt_there c new);
-      few = omega (arith, puts-prompt c.rows (prompt_row new) (screen_of (page c)) (page_size c some) some);
-      asked = (λ e. ([], [], sym (append-nil (whole_prompt new))), tt);
-      none = λ q. absurd (let drawn : Prompt ≡ Nothing = q.0 in cc);
+      clean = IsClean-prompt (plain c ∷ plain new ∷ []) c.rows (prompt_row new) (prompt_there c new);
+      few = omega (arith, puts-prompt c.rows (prompt_row new) (screen_of (plain c)) (page_size c some) some);
+      asked = λ e. ([], [], sym (append-nil (whole_prompt new)));
+      none = λ q same. absurd (let drawn : Prompt ≡ Nothing = q in cc);
     }
 
--- the way from one mark to another is the drawing of a work that moves it
-pub scroll_draws : (c : Control) (s : Settings) (mark : ℕ) → 1 ≤ c.rows → (let new : Control = record c { mark = mark; settings = s } in IsDrawing (ops_of (Scroll c.mark mark) new) c (work_drawn (Scroll c.mark mark) new ∷ []) new)
-scroll_draws c s mark some =
-    let new : Control = record c { mark = mark; settings = s } in
+-- the way from one mark to another
+pub scroll_draws : (c : Control) (search_mark : ℕ) (s : Settings) (mark : ℕ) → 1 ≤ c.rows → (let new : Control = record c { mark = mark; search_mark = search_mark; settings = s } in IsPlainDrawing (ops_of (Scroll c.mark mark) new) (Scroll c.mark mark) c new)
+scroll_draws c search_mark s mark some =
+    let new : Control = record c { mark = mark; search_mark = search_mark; settings = s } in
     record {
       shows = scroll_shows_lem c.rows c.mark mark (all_shown c) (prompt_row c) (prompt_row new) some;
-      clean = IsClean-scroll (page c ∷ page new ∷ []) c.rows c.mark mark (shown new) (prompt_row new) (1, omega arith, refl);
-      few = scroll_puts_lem c.rows c.mark mark (all_shown c) (prompt_row new) (screen_of (page c)) some (page_size c some);
-      asked = (λ e. absurd (let drawn : Scroll c.mark mark ≡ Prompt = e in cc), tt);
-      none = λ q. absurd (let drawn : Scroll c.mark mark ≡ Nothing = q.0 in cc);
+      clean = IsClean-scroll (plain c ∷ plain new ∷ []) c.rows c.mark mark (shown new) (prompt_row new) (1, omega arith, refl);
+      few = scroll_puts_lem c.rows c.mark mark (all_shown c) (prompt_row new) (screen_of (plain c)) some (page_size c some);
+      asked = λ e. absurd (let drawn : Scroll c.mark mark ≡ Prompt = e in cc);
+      none = λ q same. absurd (let drawn : Scroll c.mark mark ≡ Nothing = q in cc);
     }
+
+-- a page is shown by what it makes known
+pub shows_itself : (p : ShownPage) → Shows (screen_of p) p
+shows_itself p = own p.texts p.cursor
+  where
+    own : (texts : List (List ℕ)) (cursor : Option ℕ) → (let q : ShownPage = record { texts = texts; cursor = cursor } in Shows (screen_of q) q)
+    own texts None = record { texts = refl; cursor = tt }
+    own texts (Some x) = record { texts = refl; cursor = (refl, refl) }
+
+-- nothing is drawn of what leaves all as it was
+pub undrawn_draws : (c : Control) → IsDrawing [] c (undrawn c ∷ []) c
+undrawn_draws c = record {
+  shows = shows_itself (page c);
+  clean = tt;
+  few = omega arith;
+  asked = (λ e. absurd (let drawn : Nothing ≡ Prompt = e in cc), tt);
+  none = λ q. refl;
+}
+
+pub undrawn_drawn : (a : Option (List ℕ)) (c : Control) → Drawn a a c (undrawn c ∷ []) c
+undrawn_drawn a c = ([], subst (λ (bytes : List ℕ). Appends a a bytes) (sym written_all-nil) (Appends-nil a), undrawn_draws c)
 
 -- no operation is the drawing of no work
 no_work : (c : Control) → IsDrawing [] c [] c
 no_work c = record {
-  shows = record { texts = refl; cursor = tt };
+  shows = shows_itself (page c);
   clean = tt;
   few = omega arith;
   asked = tt;
@@ -143,16 +196,18 @@ pub nothing_drawn : (a : Option (List ℕ)) (c : Control) → Drawn a a c [] c
 nothing_drawn a c = ([], subst (λ (bytes : List ℕ). Appends a a bytes) (sym written_all-nil) (Appends-nil a), no_work c)
 
 -- a page drawn whole is drawn from every screen of its size
-pub whole_shows : (c : Control) → 1 ≤ c.rows → IsWholeDrawing (whole_page c) (c ∷ []) c
-whole_shows c some = record {
-  here = (0, omega arith, refl);
-  shows = full_redraw_lem c.rows (shown c) (prompt_row c) (unknown_screen c.rows) (length-replicate {A = Option (List ℕ)} c.rows None) (shown_fits c some);
-  clean = IsClean-full (page c ∷ []) c.rows (shown c) (prompt_row c) (0, omega arith, refl);
-}
+pub whole_shows : (c : Control) → c.search ≡ None → 1 ≤ c.rows → IsWholeDrawing (whole_page c) (c ∷ []) c
+whole_shows c closed some =
+    let is : plain c ≡ page c = sym (page_plain c closed) in
+    record {
+      here = (0, omega arith, refl);
+      shows = subst (λ (p : ShownPage). Shows (play_all (whole_page c) (unknown_screen c.rows)) p) is (full_redraw_lem c.rows (shown c) (prompt_row c) (unknown_screen c.rows) (length-replicate {A = Option (List ℕ)} c.rows None) (shown_fits c some));
+      clean = subst (λ (p : ShownPage). IsClean (p ∷ []) (whole_page c)) is (IsClean-full (plain c ∷ []) c.rows (shown c) (prompt_row c) (0, omega arith, refl));
+    }
 
 -- the first drawing, after the setup
-pub first_drawn : (a b : Option (List ℕ)) (bytes drawing : List ℕ) (c : Control) → 1 ≤ c.rows → bytes ≡ drawing → drawing ≡ written_all (whole_page c) → Appends a b (setup_bytes ++ bytes) → Begins a b c
-first_drawn a b bytes drawing c some e g h = (whole_page c, subst (λ (x : List ℕ). Appends a b (setup_bytes ++ x)) (e ∙ g) h, whole_shows c some)
+pub first_drawn : (a b : Option (List ℕ)) (bytes drawing : List ℕ) (c : Control) → c.search ≡ None → 1 ≤ c.rows → bytes ≡ drawing → drawing ≡ written_all (whole_page c) → Appends a b (setup_bytes ++ bytes) → Begins a b c
+first_drawn a b bytes drawing c closed some e g h = (whole_page c, subst (λ (x : List ℕ). Appends a b (setup_bytes ++ x)) (e ∙ g) h, whole_shows c closed some)
 
 -- what a start drew stands at the end of the sink's bytes
 pub start_leaves : (bytes : List ℕ) (new_bytes : Option (List ℕ)) (c : Control) → Begins (Some bytes) new_bytes c → Leaves new_bytes (c ∷ []) c

@@ -13,7 +13,7 @@ use Rattle.minus_state.specs.Control.{Control}
 use Rattle.minus_state.specs.Page.{page}
 use Rattle.minus_state.specs.ShownPrompt.{prompt_row}
 use Rattle.minus.specs.Works.{Work, is_full, some_full, IsQuiet, passed_in, reached}
-use Rattle.minus.specs.declared.step_drawing.Drawing.TheVariants.{Nothing, Full, Scroll, Append, Prompt}
+use Rattle.minus.specs.declared.step_drawing.Drawing.TheVariants.{Nothing, Full, Scroll, Append, Prompt, Opening, Cursor, Edit, Closing}
 use Rattle.minus.proofs.LeavesLaws.{head_there, tail_there, pages_before, pages_after}
 use Rattle.minus_term.specs.Written.{IsClean}
 use Rattle.minus_term.proofs.WrittenLaws.{IsClean-append, IsClean-more}
@@ -67,14 +67,22 @@ no_bound (w ∷ []) e = alone w.drawing e
     alone (Scroll from to) f = absurd (cc)
     alone (Append at count) f = absurd (cc)
     alone Prompt f = absurd (cc)
+    alone Opening f = absurd (cc)
+    alone Cursor f = absurd (cc)
+    alone Edit f = refl
+    alone Closing f = refl
 no_bound (w ∷ v ∷ works) e = first (no_bound (v ∷ works)) w.drawing e
   where
     first : (some_full (v ∷ works) ≡ true → most_puts (v ∷ works) ≡ None) → (d : Drawing) → (is_full d || some_full (v ∷ works)) ≡ true → then_most (most_of d w.left) (most_puts (v ∷ works)) ≡ None
     first more Full f = refl
+    first more Edit f = refl
+    first more Closing f = refl
     first more Nothing f = let none : most_puts (v ∷ works) ≡ None = more f in rw none refl
     first more (Scroll from to) f = let none : most_puts (v ∷ works) ≡ None = more f in rw none refl
     first more (Append at count) f = let none : most_puts (v ∷ works) ≡ None = more f in rw none refl
     first more Prompt f = let none : most_puts (v ∷ works) ≡ None = more f in rw none refl
+    first more Opening f = let none : most_puts (v ∷ works) ≡ None = more f in rw none refl
+    first more Cursor f = let none : most_puts (v ∷ works) ≡ None = more f in rw none refl
 
 -- the drawing of works, after which the drawing of others, is the drawing of them all, without one in full among them
 pub partial_drawings : (a b c : Control) (w v : Work) (ws vs : List Work) (xs ys : List Op) → some_full (w ∷ ws) ≡ false → some_full (v ∷ vs) ≡ false → IsDrawing xs a (w ∷ ws) b → IsDrawing ys b (v ∷ vs) c
@@ -132,16 +140,16 @@ full_then_partial a b c ws vs xs ys fw fv rows h k =
     first_true false y f = absurd (cc)
 
 -- works that draw nothing and leave the prompt row, in two parts
-quiet_parts : (c : Control) (ws vs : List Work) → IsQuiet c (ws ++ vs) → IsQuiet c ws × IsQuiet c vs
+pub quiet_parts : (c : Control) (ws vs : List Work) → IsQuiet c (ws ++ vs) → IsQuiet c ws × IsQuiet c vs
 quiet_parts c [] vs q = (tt, q)
 quiet_parts c (w ∷ ws) vs q = let more = quiet_parts c ws vs q.2 in ((q.0, q.1, more.0), more.1)
 
 -- they reach a control with that prompt row
-quiet_reached : (c d : Control) (ws : List Work) → prompt_row d ≡ prompt_row c → IsQuiet c ws → prompt_row (reached d ws) ≡ prompt_row c
+pub quiet_reached : (c d : Control) (ws : List Work) → prompt_row d ≡ prompt_row c → IsQuiet c ws → prompt_row (reached d ws) ≡ prompt_row c
 quiet_reached c d [] same q = same
 quiet_reached c d (w ∷ ws) same q = quiet_reached c w.left ws q.1 q.2
 
-quiet_from : (c d : Control) (ws : List Work) → prompt_row d ≡ prompt_row c → IsQuiet c ws → IsQuiet d ws
+pub quiet_from : (c d : Control) (ws : List Work) → prompt_row d ≡ prompt_row c → IsQuiet c ws → IsQuiet d ws
 quiet_from c d [] same q = tt
 quiet_from c d (w ∷ ws) same q = (q.0, q.1 ∙ sym same, quiet_from c d ws same q.2)
 
@@ -159,7 +167,7 @@ prompts_join ops [] vs p q = q
 prompts_join ops (w ∷ ws) vs p q = (p.0, prompts_join ops ws vs p.1 q)
 
 -- the drawings of works after others are the drawings of them all
-some_join : (a b c : Control) (w v : Work) (ws vs : List Work) (xs ys : List Op) → (some_full (v ∷ vs) ≡ false → b.rows ≡ c.rows) → b ≡ reached a (w ∷ ws) → Contains (a ∷ passed_in (w ∷ ws)) b → IsDrawing xs a (w ∷ ws) b → IsDrawing ys b (v ∷ vs) c → IsDrawing (xs ++ ys) a ((w ∷ ws) ++ v ∷ vs) c
+pub some_join : (a b c : Control) (w v : Work) (ws vs : List Work) (xs ys : List Op) → (some_full (v ∷ vs) ≡ false → b.rows ≡ c.rows) → b ≡ reached a (w ∷ ws) → Contains (a ∷ passed_in (w ∷ ws)) b → IsDrawing xs a (w ∷ ws) b → IsDrawing ys b (v ∷ vs) c → IsDrawing (xs ++ ys) a ((w ∷ ws) ++ v ∷ vs) c
 some_join a b c w v ws vs xs ys rows is there h k =
     record {
       shows = by_full.0;

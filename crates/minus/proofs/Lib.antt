@@ -4,11 +4,17 @@ pub mod TableLaws
 pub mod OutcomeLaws
 pub mod HelpLaws
 pub mod DrawnLaws
+pub mod PageLaws
+pub mod KeyedLaws
+pub mod KeyLaws
 pub mod PromptLaws
 pub mod AppendLaws
 pub mod CommandLaws
 pub mod LeavesLaws
 pub mod JoinLaws
+pub mod WorksLaws
+pub mod LoopLaws
+pub mod WaitLaws
 pub mod StepLaws
 pub mod StartLaws
 pub mod RunLaws

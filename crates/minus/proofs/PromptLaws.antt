@@ -9,7 +9,7 @@ use Rattle.minus_state.specs.Control.{Control}
 use Rattle.minus.specs.Drawings.{changed_prompt, draws_prompt, ops_of, ops_of_step}
 use Rattle.minus.specs.declared.step_drawing.Drawing.{Drawing}
 use Rattle.minus_state.specs.ShownPrompt.{prompt_row}
-use Rattle.minus.specs.declared.step_drawing.Drawing.TheVariants.{Nothing, Full, Scroll, Append, Prompt}
+use Rattle.minus.specs.declared.step_drawing.Drawing.TheVariants.{Nothing, Full, Scroll, Append, Prompt, Opening, Cursor, Edit, Closing}
 use Rattle.minus_term.proofs.WrittenLaws.{ops_added}
 
 pub changed_prompt_is : (out bytes : List ℕ) (old new : Control) (rows : ℕ) (prompt before : List ℕ) → rows ≡ new.rows → prompt ≡ prompt_row new → before ≡ prompt_row old → bytes ≡ out ++ written_all (if bytes_eq prompt before then [] else prompt_ops rows prompt) → bytes ≡ out ++ written_all (changed_prompt old new)
@@ -26,6 +26,10 @@ all_of_step Full old new e = refl
 all_of_step (Scroll from to) old new e = refl
 all_of_step (Append first old_count) old new e = absurd (cc)
 all_of_step Prompt old new e = refl
+all_of_step Opening old new e = refl
+all_of_step Cursor old new e = refl
+all_of_step Edit old new e = refl
+all_of_step Closing old new e = refl
 
 -- one that does not is followed by the prompt row, where that is another one
 pub more_of_step : (drawing : Drawing) (old new : Control) → draws_prompt drawing ≡ false → ops_of_step drawing old new ≡ ops_of drawing new ++ changed_prompt old new
@@ -34,6 +38,10 @@ more_of_step Full old new e = absurd (cc)
 more_of_step (Scroll from to) old new e = absurd (cc)
 more_of_step (Append first old_count) old new e = refl
 more_of_step Prompt old new e = absurd (cc)
+more_of_step Opening old new e = absurd (cc)
+more_of_step Cursor old new e = absurd (cc)
+more_of_step Edit old new e = absurd (cc)
+more_of_step Closing old new e = absurd (cc)
 
 pub drawn_with_prompt : (drawing : Drawing) (old new : Control) (out bytes : List ℕ) → draws_prompt drawing ≡ true → bytes ≡ out ++ written_all (ops_of drawing new) → bytes ≡ out ++ written_all (ops_of_step drawing old new)
 drawn_with_prompt drawing old new out bytes d e = e ∙ ap (λ (ops : List Op). out ++ written_all ops) (sym (all_of_step drawing old new d))

@@ -1,5 +1,5 @@
 -- A run, one step more.
-use Rattle.std.proofs.Common.{◌≡◌, ℕ, ◌+◌, true, false, List, [], ◌∷◌, ◌++◌, length, map, reverse, Option, Some, None, refl, sym, ap, subst, ◌∙◌, arith, append_assoc}
+use Rattle.std.proofs.Common.{◌≡◌, ℕ, ◌+◌, true, false, List, [], ◌∷◌, ◌++◌, length, map, reverse, Option, Some, None, refl, sym, ap, subst, ◌∙◌, arith, append_assoc, inl, inr}
 use Rattle.std.specs.List.{last_or}
 use Rattle.std.proofs.lemmas.List.{append-nil, reverse-append, length_push, map_push}
 use Rattle.minus_term.specs.declared.error.MinusError.{MinusError}
@@ -7,20 +7,20 @@ use Rattle.minus_term.specs.Refusals.{Refusal, refusal_of, for_memory, for_newli
 use Rattle.minus.specs.declared.answer.Answer.{Answer}
 use Rattle.minus.specs.declared.status.Status.TheVariants as status
 use Rattle.minus.specs.Answers.{ends_run}
-use Rattle.minus_state.specs.Classifying.{Classifies}
+use Rattle.minus.specs.Says.{Says}
 use Rattle.minus_state.specs.Control.{Control}
 use Rattle.minus.specs.Reads.{Told}
 use Rattle.minus.specs.Works.{passed_in}
 use Rattle.minus.specs.Drawn.{Leaves}
 use Rattle.minus.specs.Seen.{Seen}
-use Rattle.minus.specs.Steps.{IsStep, Steps, none, more, Refuses}
+use Rattle.minus.specs.Steps.{IsStep, Steps, none, more, IsUntouched, Refuses}
 use Rattle.minus.specs.Runs.{StopsSo, StopsAfter, IsRun}
 
-passed_as : {K : Type 0} {says : Classifies K} {a b : Seen K} {ts : List (Told K)} {answers : List Answer} {x y : Option (List ℕ)} (ps qs : List Control) → ps ≡ qs → Steps says a ts ps answers b x y → Steps says a ts qs answers b x y
-passed_as {K = K} {says = says} {a = a} {b = b} {ts = ts} {answers = answers} {x = x} {y = y} ps qs e h = subst (λ (cs : List Control). Steps {K = K} says a ts cs answers b x y) e h
+passed_as : {Q K : Type 0} {says : Says Q K} {a b : Seen Q K} {ts : List (Told Q K)} {answers : List Answer} {x y : Option (List ℕ)} (ps qs : List Control) → ps ≡ qs → Steps says a ts ps answers b x y → Steps says a ts qs answers b x y
+passed_as {Q = Q} {K = K} {says = says} {a = a} {b = b} {ts = ts} {answers = answers} {x = x} {y = y} ps qs e h = subst (λ (cs : List Control). Steps {Q = Q} {K = K} says a ts cs answers b x y) e h
 
 -- steps, and one more
-pub Steps-snoc : {K : Type 0} {says : Classifies K} {a b c : Seen K} {ts : List (Told K)} {cs : List Control} {answers : List Answer} {x y z : Option (List ℕ)} (t : Told K) (answer : Answer) → Steps says a ts cs answers b x y → (s : IsStep says b t c answer y z) → Steps says a (ts ++ t ∷ []) (cs ++ passed_in s.works) (answers ++ answer ∷ []) c x z
+pub Steps-snoc : {Q K : Type 0} {says : Says Q K} {a b c : Seen Q K} {ts : List (Told Q K)} {cs : List Control} {answers : List Answer} {x y z : Option (List ℕ)} (t : Told Q K) (answer : Answer) → Steps says a ts cs answers b x y → (s : IsStep says b t c answer y z) → Steps says a (ts ++ t ∷ []) (cs ++ passed_in s.works) (answers ++ answer ∷ []) c x z
 Steps-snoc t answer none s = passed_as (passed_in s.works ++ []) (passed_in s.works) (append-nil (passed_in s.works)) (more s none)
 Steps-snoc t answer (more {cs = cs} r rs) s = passed_as (passed_in r.works ++ (cs ++ passed_in s.works)) ((passed_in r.works ++ cs) ++ passed_in s.works) (sym (append_assoc (passed_in r.works) cs (passed_in s.works))) (more r (Steps-snoc t answer rs s))
 
@@ -63,31 +63,38 @@ last_or-push o (y ∷ ys) x = last_or-push (Some y) ys x
 
 -- ---- what the page is after a refusal
 
-stays_running : {K : Type 0} (reached new : Seen K) → new ≡ reached → new.status ≡ status.Running → reached.status ≡ status.Running
-stays_running reached new e r = ap (λ (x : Seen _). x.status) (sym e) ∙ r
+stays_running : {Q K : Type 0} (reached new : Seen Q K) → new ≡ reached → new.status ≡ status.Running → reached.status ≡ status.Running
+stays_running reached new e r = ap (λ (x : Seen _ _). x.status) (sym e) ∙ r
+
+-- a session that failed does not run
+not_failed : {Q K X : Type 0} (last new : Seen Q K) → new ≡ record last { status = status.Failed } → new.status ≡ status.Running → X
+not_failed last new e r = absurd (let both : status.Failed ≡ status.Running = sym (ap (λ (x : Seen _ _). x.status) e) ∙ r in cc)
+
+untouched : {Q K : Type 0} (a b : Option (List ℕ)) (reached new : Seen Q K) (passed : List Control) → IsUntouched reached new a b → (reached.status ≡ status.Running → Leaves a passed reached.control) → new.status ≡ status.Running → Leaves b passed new.control
+untouched a b reached new passed h k r = let (stays, same) = h in let on = stays_running reached new stays r in rw (same, stays) (k on)
 
 -- what a refused step leaves of the page
-leaves_refused : {K : Type 0} (says : Classifies K) (refusal : Refusal) (a b : Option (List ℕ)) (reached new : Seen K) (told : Told K) (passed : List Control) → Refuses says refusal reached told new a b → (reached.status ≡ status.Running → Leaves a passed reached.control) → new.status ≡ status.Running → Leaves b passed new.control
-leaves_refused says for_memory a b reached new told passed h k r = let stays = h.1.0 in let same = h.1.1 in let on = stays_running reached new stays r in rw (same, stays) (k on)
-leaves_refused says for_newline a b reached new told passed h k r = let stays = h.2.0 in let same = h.2.1 in let on = stays_running reached new stays r in rw (same, stays) (k on)
-leaves_refused says (for_size c d) a b reached new told passed h k r = let stays = h.2.0 in let same = h.2.1 in let on = stays_running reached new stays r in rw (same, stays) (k on)
-leaves_refused says after_failure a b reached new told passed h k r = let stays = h.1.0 in let same = h.1.1 in let on = stays_running reached new stays r in rw (same, stays) (k on)
-leaves_refused says after_exit a b reached new told passed h k r = let stays = h.1.0 in let same = h.1.1 in let on = stays_running reached new stays r in rw (same, stays) (k on)
-leaves_refused says (at_cleanup cause) a b reached new told passed h k r = let both : status.Failed ≡ status.Running = sym (ap (λ (x : Seen _). x.status) h.1.failed) ∙ r in cc
-leaves_refused says at_drawing a b reached new told passed h k r = let both : status.Failed ≡ status.Running = sym (ap (λ (x : Seen _). x.status) h.1.failed) ∙ r in cc
+leaves_refused : {Q K : Type 0} (says : Says Q K) (refusal : Refusal) (a b : Option (List ℕ)) (reached new : Seen Q K) (told : Told Q K) (passed : List Control) → Refuses says refusal reached told new a b → (reached.status ≡ status.Running → Leaves a passed reached.control) → new.status ≡ status.Running → Leaves b passed new.control
+leaves_refused says for_memory a b reached new told passed h k r = elim h.1 [ inl same ↦ untouched a b reached new passed same k r | inr late ↦ not_failed (record late.last { waiting = late.rest }) new late.failed r ]
+leaves_refused says for_newline a b reached new told passed h k r = untouched a b reached new passed h.2 k r
+leaves_refused says (for_size c d) a b reached new told passed h k r = untouched a b reached new passed h.2 k r
+leaves_refused says after_failure a b reached new told passed h k r = untouched a b reached new passed h.1 k r
+leaves_refused says after_exit a b reached new told passed h k r = untouched a b reached new passed h.1 k r
+leaves_refused says (at_cleanup cause) a b reached new told passed h k r = let both : status.Failed ≡ status.Running = sym (ap (λ (x : Seen _ _). x.status) h.1.failed) ∙ r in cc
+leaves_refused says at_drawing a b reached new told passed h k r = let both : status.Failed ≡ status.Running = sym (ap (λ (x : Seen _ _). x.status) h.1.failed) ∙ r in cc
 leaves_refused says for_mode a b reached new told passed h k r = absurd h
 leaves_refused says (at_setup cause) a b reached new told passed h k r = absurd h
 leaves_refused says (for_hook_id hook id) a b reached new told passed h k r = absurd h
 leaves_refused says for_free_hook_id a b reached new told passed h k r = absurd h
 leaves_refused says (for_description place cause) a b reached new told passed h k r = absurd h
 leaves_refused says (for_binding place) a b reached new told passed h k r = absurd h
-leaves_refused says for_query a b reached new told passed h k r = absurd h
+leaves_refused says for_query a b reached new told passed h k r = untouched a b reached new passed h.2 k r
 leaves_refused says for_pattern a b reached new told passed h k r = absurd h
 leaves_refused says of_no_call a b reached new told passed h k r = absurd h
 
 -- ---- a run so far
 
-pub record RunSoFar {A K : Type 0} (says : Classifies K) (told : A → Told K) (old now : Seen K) (inputs left : List A) (done : ℕ) (last : Option Answer) (old_bytes bytes : Option (List ℕ)) : Type 0 where
+pub record RunSoFar {A Q K : Type 0} (says : Says Q K) (told : A → Told Q K) (old now : Seen Q K) (inputs left : List A) (done : ℕ) (last : Option Answer) (old_bytes bytes : Option (List ℕ)) : Type 0 where
   pub taken : List A
   pub passed : List Control
   pub answers : List Answer
@@ -98,15 +105,15 @@ pub record RunSoFar {A K : Type 0} (says : Classifies K) (told : A → Told K) (
   pub on : GoOn answers
   pub leaves : (before : List Control) → Leaves old_bytes before old.control → now.status ≡ status.Running → Leaves bytes (before ++ passed) now.control
 
-pub not_yet : {A K : Type 0} (says : Classifies K) (told : A → Told K) (old : Seen K) (left : List A) (bytes : Option (List ℕ)) → RunSoFar says told old old (reverse left) left 0 None bytes bytes
+pub not_yet : {A Q K : Type 0} (says : Says Q K) (told : A → Told Q K) (old : Seen Q K) (left : List A) (bytes : Option (List ℕ)) → RunSoFar says told old old (reverse left) left 0 None bytes bytes
 not_yet says told old left bytes = record { taken = []; passed = []; answers = []; all = refl; count = refl; steps = none; answer = refl; on = tt; leaves = λ before h r. rw (append-nil before) h }
 
-leaves_one : {A K : Type 0} (says : Classifies K) (told : A → Told K) (old now new : Seen K) (inputs left : List A) (x : A) (done : ℕ) (last : Option Answer) (answer : Answer) (first a b : Option (List ℕ)) → (h : RunSoFar says told old now inputs left done last first a) → (s : IsStep says now (told x) new answer a b) → (before : List Control) → Leaves first before old.control → new.status ≡ status.Running
+leaves_one : {A Q K : Type 0} (says : Says Q K) (told : A → Told Q K) (old now new : Seen Q K) (inputs left : List A) (x : A) (done : ℕ) (last : Option Answer) (answer : Answer) (first a b : Option (List ℕ)) → (h : RunSoFar says told old now inputs left done last first a) → (s : IsStep says now (told x) new answer a b) → (before : List Control) → Leaves first before old.control → new.status ≡ status.Running
     → Leaves b (before ++ (h.passed ++ passed_in s.works)) new.control
 leaves_one says told old now new inputs left x done last answer first a b h s before k running = rw (← append_assoc before h.passed (passed_in s.works)) (s.leaves (before ++ h.passed) (h.leaves before k s.running) running)
 
 -- one more step, after which the run goes on
-pub one_step : {A K : Type 0} (says : Classifies K) (told : A → Told K) (old now new : Seen K) (inputs left rest : List A) (x : A) (done : ℕ) (last : Option Answer) (answer : Answer) (first a b : Option (List ℕ)) → RunSoFar says told old now inputs left done last first a → left ≡ rest ++ x ∷ [] → IsStep says now (told x) new answer a b → ends_run answer ≡ false
+pub one_step : {A Q K : Type 0} (says : Says Q K) (told : A → Told Q K) (old now new : Seen Q K) (inputs left rest : List A) (x : A) (done : ℕ) (last : Option Answer) (answer : Answer) (first a b : Option (List ℕ)) → RunSoFar says told old now inputs left done last first a → left ≡ rest ++ x ∷ [] → IsStep says now (told x) new answer a b → ends_run answer ≡ false
     → RunSoFar says told old new inputs rest (done + 1) (Some answer) first b
 one_step says told old now new inputs left rest x done last answer first a b h e s on = record {
   taken = h.taken ++ x ∷ [];
@@ -125,7 +132,7 @@ is_empty [] e = refl
 is_empty (x ∷ xs) e = absurd (omega arith)
 
 -- a run that came to the end of its inputs
-pub run_over : {A K : Type 0} (says : Classifies K) (told : A → Told K) (old now : Seen K) (inputs left rest : List A) (done : ℕ) (last : Option Answer) (first a : Option (List ℕ)) → RunSoFar says told old now inputs left done last first a → left ≡ rest ++ [] → length rest ≡ 0 → IsRun says told old now inputs done last None (reverse rest) first a
+pub run_over : {A Q K : Type 0} (says : Says Q K) (told : A → Told Q K) (old now : Seen Q K) (inputs left rest : List A) (done : ℕ) (last : Option Answer) (first a : Option (List ℕ)) → RunSoFar says told old now inputs left done last first a → left ≡ rest ++ [] → length rest ≡ 0 → IsRun says told old now inputs done last None (reverse rest) first a
 run_over says told old now inputs left rest done last first a h e empty = record {
   taken = h.taken;
   refused = [];
@@ -143,7 +150,7 @@ run_over says told old now inputs left rest done last first a h e empty = record
 }
 
 -- a run that a step ended
-pub run_ended : {A K : Type 0} (says : Classifies K) (told : A → Told K) (old now new : Seen K) (inputs left rest : List A) (x : A) (done : ℕ) (last : Option Answer) (answer : Answer) (first a b : Option (List ℕ)) → RunSoFar says told old now inputs left done last first a → left ≡ rest ++ x ∷ [] → IsStep says now (told x) new answer a b → ends_run answer ≡ true
+pub run_ended : {A Q K : Type 0} (says : Says Q K) (told : A → Told Q K) (old now new : Seen Q K) (inputs left rest : List A) (x : A) (done : ℕ) (last : Option Answer) (answer : Answer) (first a b : Option (List ℕ)) → RunSoFar says told old now inputs left done last first a → left ≡ rest ++ x ∷ [] → IsStep says now (told x) new answer a b → ends_run answer ≡ true
     → IsRun says told old new inputs (done + 1) (Some answer) None (reverse rest) first b
 run_ended says told old now new inputs left rest x done last answer first a b h e s ends = record {
   taken = h.taken ++ x ∷ [];
@@ -162,7 +169,7 @@ run_ended says told old now new inputs left rest x done last answer first a b h 
 }
 
 -- a run that a refusal stopped
-pub run_stopped : {A K : Type 0} (says : Classifies K) (told : A → Told K) (old now new : Seen K) (inputs left rest : List A) (x : A) (done : ℕ) (last : Option Answer) (e : MinusError) (first a b : Option (List ℕ)) → RunSoFar says told old now inputs left done last first a → left ≡ rest ++ x ∷ []
+pub run_stopped : {A Q K : Type 0} (says : Says Q K) (told : A → Told Q K) (old now new : Seen Q K) (inputs left rest : List A) (x : A) (done : ℕ) (last : Option Answer) (e : MinusError) (first a b : Option (List ℕ)) → RunSoFar says told old now inputs left done last first a → left ≡ rest ++ x ∷ []
     → Refuses says (refusal_of e) now (told x) new a b → IsRun says told old new inputs done last (Some e) (reverse rest) first b
 run_stopped says told old now new inputs left rest x done last e first a b h f r = record {
   taken = h.taken;

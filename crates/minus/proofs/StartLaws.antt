@@ -1,6 +1,5 @@
 -- A start that was broken off.
-use Rattle.std.proofs.Common.{◌≡◌, ℕ, ◌≤◌, List, [], ◌∷◌, ◌++◌, map, ap, Bool, Option, Some, None, arith, Result, Ok, Err, OnOk, OnErr, IfOk, inl, inr, refl, subst, ◌∙◌}
-use Rattle.std.proofs.lemmas.List.{map-append}
+use Rattle.std.proofs.Common.{◌≡◌, ℕ, ◌≤◌, List, map, Bool, Option, Some, None, arith, Result, Ok, Err, OnOk, OnErr, IfOk, inl, inr, refl, subst, ◌∙◌}
 use Rattle.std.specs.Io.KnownBytes.{Appends}
 use Rattle.minus_term.specs.declared.error.CleanupError.{CleanupError}
 use Rattle.minus_term.specs.declared.error.MinusError.{MinusError}
@@ -14,29 +13,27 @@ use Rattle.minus.specs.declared.pager.PagerOf.{PagerOf}
 use Rattle.minus.specs.Reads.{wanted_of}
 use Rattle.minus.specs.SessionStarts.{IsStart, IsFirstStart, IsRefusedStart}
 use Rattle.minus.specs.declared.session.Core.{Core}
-use Rattle.minus.specs.declared.commands.CommandOf.{CommandOf}
-use Rattle.minus.specs.Table.{Wanted, kept_after}
-use Rattle.minus.specs.Starts.{first_control, classifier_taken, CanStart, IsFormRefused, IsStartFault, IsStartRefused, IsEarly, IsShowRefused, CleansUp, DrawingBreaksOff, ShowBreaksOff, StartBreaksOff}
+use Rattle.minus.specs.Starts.{first_control, CanStart, IsFormRefused, IsStartFault, IsStartRefused, IsEarly, IsShowRefused, CleansUp, DrawingBreaksOff, ShowBreaksOff, StartBreaksOff}
 use Rattle.minus.specs.Drawings.{whole_page}
 use Rattle.minus.proofs.DrawnLaws.{whole_shows}
 
-pub start_broken : (refusal : Refusal) (a b : Option (List ℕ)) (m n : Option ℕ) (bytes drawing : List ℕ) (terminal : Bool) (c : Control) → 1 ≤ c.rows → bytes ≡ drawing → drawing ≡ written_all (whole_page c) → IsShowRefused refusal terminal → ShowBreaksOff refusal a b m n bytes → StartBreaksOff refusal a b m n c
-start_broken (at_setup cause) a b m n bytes drawing terminal c some e g r h = h
-start_broken at_drawing a b m n bytes drawing terminal c some e g r h = (whole_page c, subst (λ (x : List ℕ). DrawingBreaksOff a b m n x) (e ∙ g) h, whole_shows c some)
-start_broken for_memory a b m n bytes drawing terminal c some e g r h = absurd h
-start_broken for_newline a b m n bytes drawing terminal c some e g r h = absurd h
-start_broken (for_size cols rows) a b m n bytes drawing terminal c some e g r h = absurd h
-start_broken for_mode a b m n bytes drawing terminal c some e g r h = absurd h
-start_broken after_failure a b m n bytes drawing terminal c some e g r h = absurd h
-start_broken after_exit a b m n bytes drawing terminal c some e g r h = absurd h
-start_broken (at_cleanup cause) a b m n bytes drawing terminal c some e g r h = absurd h
-start_broken (for_hook_id hook id) a b m n bytes drawing terminal c some e g r h = absurd h
-start_broken for_free_hook_id a b m n bytes drawing terminal c some e g r h = absurd h
-start_broken (for_description place cause) a b m n bytes drawing terminal c some e g r h = absurd h
-start_broken (for_binding place) a b m n bytes drawing terminal c some e g r h = absurd h
-start_broken for_query a b m n bytes drawing terminal c some e g r h = absurd h
-start_broken for_pattern a b m n bytes drawing terminal c some e g r h = absurd h
-start_broken of_no_call a b m n bytes drawing terminal c some e g r h = absurd h
+pub start_broken : (refusal : Refusal) (a b : Option (List ℕ)) (m n : Option ℕ) (bytes drawing : List ℕ) (terminal : Bool) (c : Control) → c.search ≡ None → 1 ≤ c.rows → bytes ≡ drawing → drawing ≡ written_all (whole_page c) → IsShowRefused refusal terminal → ShowBreaksOff refusal a b m n bytes → StartBreaksOff refusal a b m n c
+start_broken (at_setup cause) a b m n bytes drawing terminal c closed some e g r h = h
+start_broken at_drawing a b m n bytes drawing terminal c closed some e g r h = (whole_page c, subst (λ (x : List ℕ). DrawingBreaksOff a b m n x) (e ∙ g) h, whole_shows c closed some)
+start_broken for_memory a b m n bytes drawing terminal c closed some e g r h = absurd h
+start_broken for_newline a b m n bytes drawing terminal c closed some e g r h = absurd h
+start_broken (for_size cols rows) a b m n bytes drawing terminal c closed some e g r h = absurd h
+start_broken for_mode a b m n bytes drawing terminal c closed some e g r h = absurd h
+start_broken after_failure a b m n bytes drawing terminal c closed some e g r h = absurd h
+start_broken after_exit a b m n bytes drawing terminal c closed some e g r h = absurd h
+start_broken (at_cleanup cause) a b m n bytes drawing terminal c closed some e g r h = absurd h
+start_broken (for_hook_id hook id) a b m n bytes drawing terminal c closed some e g r h = absurd h
+start_broken for_free_hook_id a b m n bytes drawing terminal c closed some e g r h = absurd h
+start_broken (for_description place cause) a b m n bytes drawing terminal c closed some e g r h = absurd h
+start_broken (for_binding place) a b m n bytes drawing terminal c closed some e g r h = absurd h
+start_broken for_query a b m n bytes drawing terminal c closed some e g r h = absurd h
+start_broken for_pattern a b m n bytes drawing terminal c closed some e g r h = absurd h
+start_broken of_no_call a b m n bytes drawing terminal c closed some e g r h = absurd h
 
 -- what is refused at a terminal is refused of a start that can be, and not before the terminal was asked for anything
 pub shown_at_start : (refusal : Refusal) (mode : RunMode) (cols rows : ℕ) (terminal : Bool) → CanStart mode cols rows → IsShowRefused refusal terminal → IsStartRefused refusal mode cols rows terminal × (IsEarly refusal → ⊥)
@@ -94,11 +91,11 @@ form_refused after_exit mode cols rows terminal bytes count first h = absurd h
 form_refused (at_setup cause) mode cols rows terminal bytes count first h = absurd h
 form_refused (at_cleanup cause) mode cols rows terminal bytes count first h = absurd h
 form_refused at_drawing mode cols rows terminal bytes count first h = absurd h
-form_refused for_pattern mode cols rows terminal bytes count first h = absurd h
+form_refused for_pattern mode cols rows terminal bytes count first h = (h, tt, refl, λ fault. fault)
 form_refused of_no_call mode cols rows terminal bytes count first h = absurd h
 
 -- a start that was refused before its sink was asked for anything: the pager and the sink come back as they were
-pub refused_early : {S P K : Type 0} (seen : S → SinkSeen) (pager : PagerOf P K) (mode : RunMode) (cols rows : ℕ) (sink : S) (cause : MinusError) → IsFormRefused (refusal_of cause) mode cols rows →
+pub refused_early : {S P Q K : Type 0} (seen : S → SinkSeen) (pager : PagerOf P Q K) (mode : RunMode) (cols rows : ℕ) (sink : S) (cause : MinusError) → IsFormRefused (refusal_of cause) mode cols rows →
     IsRefusedStart seen pager mode cols rows sink (record { sink = sink; pager = Some pager; cause = cause })
 refused_early seen pager mode cols rows sink cause h =
     let at = form_refused (refusal_of cause) mode cols rows (seen sink).terminal (seen sink).bytes (seen sink).refusals (first_control cols rows (map wanted_of pager.queue.items)) h in
@@ -111,20 +108,8 @@ refused_early seen pager mode cols rows sink cause h =
       untouched = λ none. refl;
     }
 
--- the last command that waits sets the first classifier, or those before it do
-pub classifier_taken-more : {K : Type 0} (classifier : K) (ws : List (Wanted K)) (w : Wanted K) → classifier_taken classifier (ws ++ w ∷ []) ≡ kept_after (classifier_taken classifier ws) w
-classifier_taken-more classifier [] w = refl
-classifier_taken-more classifier (v ∷ ws) w = classifier_taken-more (kept_after classifier v) ws w
-
--- one command is taken from the end of those that wait
-pub classifier_popped : {P K : Type 0} (classifier : K) (left rest : List (CommandOf P K)) (command : CommandOf P K) → left ≡ rest ++ command ∷ [] →
-    classifier_taken classifier (map wanted_of left) ≡ kept_after (classifier_taken classifier (map wanted_of rest)) (wanted_of command)
-classifier_popped classifier left rest command is =
-    ap (λ l. classifier_taken classifier (map wanted_of l)) is ∙ ap (classifier_taken classifier) (map-append wanted_of rest (command ∷ []))
-    ∙ classifier_taken-more classifier (map wanted_of rest) (wanted_of command)
-
 -- a start with a classifier of the session's own at first
-pub first_start : {S P K E : Type 0} (IsFirst : K → Type 0) (seen : S → SinkSeen) (pager : PagerOf P K) (mode : RunMode) (cols rows : ℕ) (sink : S) (classifier : K) (r : Result (Core S P K) E) → IsFirst classifier →
+pub first_start : {S P Q K E : Type 0} (IsFirst : K → Type 0) (seen : S → SinkSeen) (pager : PagerOf P Q K) (mode : RunMode) (cols rows : ℕ) (sink : S) (classifier : K) (r : Result (Core S P Q K) E) → IsFirst classifier →
     IfOk r (λ s. IsStart seen pager mode cols rows classifier sink s) → IfOk r (λ s. IsFirstStart IsFirst seen pager mode cols rows sink s)
 first_start IsFirst seen pager mode cols rows sink classifier (Ok s) first start = record { classifier = classifier; first = first; start = start }
 first_start IsFirst seen pager mode cols rows sink classifier (Err e) first start = tt

@@ -14,7 +14,7 @@ use Rattle.minus_state.specs.Page.{page}
 use Rattle.minus.specs.Drawings.{whole_prompt}
 use Rattle.minus.specs.Works.{Work, passed_in, reached, some_full, IsQuiet}
 use Rattle.minus.specs.declared.step_drawing.Drawing.{Drawing}
-use Rattle.minus.specs.declared.step_drawing.Drawing.TheVariants.{Nothing, Full, Scroll, Append, Prompt}
+use Rattle.minus.specs.declared.step_drawing.Drawing.TheVariants.{Nothing, Full, Scroll, Append, Prompt, Opening, Cursor, Edit, Closing}
 
 -- what is known of the terminal's screen before works are drawn: nothing where one of them is drawn in full, as each change
 -- of size is; otherwise it shows the page of the old control
@@ -29,6 +29,10 @@ most_of Full new = None
 most_of (Scroll from to) new = Some (min (distance from to) (new.rows - 1))
 most_of (Append first old_count) new = Some (length (text_rows new) - first)
 most_of Prompt new = Some 0
+most_of Opening new = Some 0
+most_of Cursor new = Some 0
+most_of Edit new = None
+most_of Closing new = None
 
 -- one drawing after another: the last text of the first, which is not counted where it is the last of all, is one more
 abbrev pub then_most : Option ℕ → Option ℕ → Option ℕ

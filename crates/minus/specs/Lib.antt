@@ -1,4 +1,6 @@
 -- What the contracts cite.
+pub mod Previews
+pub mod Says
 pub mod Seen
 pub mod Table
 pub mod Asked
@@ -6,6 +8,7 @@ pub mod DefaultKeys
 pub mod Works
 pub mod Drawings
 pub mod Drawn
+pub mod Keyed
 pub mod Outcomes
 pub mod Reads
 pub mod Steps

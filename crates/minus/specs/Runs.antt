@@ -5,7 +5,7 @@ use Rattle.minus_term.specs.declared.error.MinusError.{MinusError}
 use Rattle.minus_term.specs.Refusals.{refusal_of}
 use Rattle.minus.specs.declared.answer.Answer.{Answer}
 use Rattle.minus.specs.declared.status.Status.TheVariants as status
-use Rattle.minus_state.specs.Classifying.{Classifies}
+use Rattle.minus.specs.Says.{Says}
 use Rattle.minus_state.specs.Control.{Control}
 use Rattle.minus.specs.Reads.{Told}
 use Rattle.minus.specs.Seen.{Seen}
@@ -14,7 +14,7 @@ use Rattle.minus.specs.Answers.{ends_run}
 use Rattle.minus.specs.Drawn.{Leaves}
 
 -- how a run stopped: at the end of its inputs or after a step, or at an input that was refused
-abbrev pub Stops : {A K : Type 0} → Classifies K → (A → Told K) → Option MinusError → List A → Seen K → Seen K → Option (List ℕ) → Option (List ℕ) → Type 0
+abbrev pub Stops : {A Q K : Type 0} → Says Q K → (A → Told Q K) → Option MinusError → List A → Seen Q K → Seen Q K → Option (List ℕ) → Option (List ℕ) → Type 0
 Stops says told None [] reached new bytes new_bytes = (new ≡ reached) × (new_bytes ≡ bytes)
 Stops says told (Some e) (x ∷ []) reached new bytes new_bytes = Refuses says (refusal_of e) reached (told x) new bytes new_bytes
 Stops says told stopped refused reached new bytes new_bytes = ⊥
@@ -33,12 +33,12 @@ StopsAfter (answer ∷ next ∷ answers) stopped rest = (ends_run answer ≡ fal
 -- a run: the inputs that were done, in order, the one that was refused, if any, and the rest; the steps of those done, the
 -- controls that they passed, their answers and what they reached; and, where the sink's bytes ended with a list of
 -- operations that takes every screen to the page, they still do as long as the session runs
-pub record IsRun {A K : Type 0} (says : Classifies K) (told : A → Told K) (old new : Seen K) (inputs : List A) (done : ℕ) (last : Option Answer) (stopped : Option MinusError) (rest : List A) (old_bytes new_bytes : Option (List ℕ)) : Type 0 where
+pub record IsRun {A Q K : Type 0} (says : Says Q K) (told : A → Told Q K) (old new : Seen Q K) (inputs : List A) (done : ℕ) (last : Option Answer) (stopped : Option MinusError) (rest : List A) (old_bytes new_bytes : Option (List ℕ)) : Type 0 where
   pub taken : List A
   pub refused : List A
   pub passed : List Control
   pub answers : List Answer
-  pub reached : Seen K
+  pub reached : Seen Q K
   pub bytes : Option (List ℕ)
   pub all : inputs ≡ taken ++ (refused ++ rest)
   pub count : done ≡ length taken

@@ -1,12 +1,12 @@
 -- Steps, and what a refusal leaves.
-use Rattle.std.specs.Prelude.{◌≡◌, ℕ, List, [], ◌∷◌, ◌++◌, Option, None, Some}
+use Rattle.std.specs.Prelude.{◌≡◌, ℕ, List, [], ◌∷◌, ◌++◌, Bool, true, false, Option, None, Some, ◌⊎◌}
 use Rattle.std.specs.Io.KnownBytes.{Appends}
-use Rattle.minus_term.specs.Refusals.{Refusal, for_memory, for_newline, for_size, after_failure, after_exit, at_cleanup, at_drawing}
+use Rattle.minus_term.specs.Refusals.{Refusal, for_memory, for_newline, for_size, for_query, after_failure, after_exit, at_cleanup, at_drawing}
 use Rattle.minus_term.specs.Terminal.{cleanup_bytes, CleanupBreaksOff}
 use Rattle.minus_term.specs.declared.error.CleanupError.{CleanupError}
 use Rattle.minus_state.specs.declared.state.RunMode.{RunMode}
 use Rattle.minus_state.specs.declared.state.RunMode.TheVariants as run_mode
-use Rattle.minus_state.specs.Classifying.{Classifies}
+use Rattle.minus.specs.Says.{Says}
 use Rattle.minus_state.specs.Control.{Control}
 use Rattle.minus.specs.declared.answer.Answer.{Answer}
 use Rattle.minus.specs.declared.status.Status.{Status}
@@ -17,18 +17,18 @@ use Rattle.minus.specs.Drawn.{Drawn, BrokenOff, Leaves}
 use Rattle.minus.specs.Reads.{Told}
 use Rattle.minus.specs.Seen.{Seen}
 use Rattle.minus.specs.Table.{Exit}
-use Rattle.minus.specs.Works.{Work, Exits, IsUnfit, Worked, Comes, passed_in}
+use Rattle.minus.specs.Works.{Work, Takes, Exits, IsUnfit, IsOverfull, Worked, Comes, IsNext, IsAtRest, passed_in}
 
 -- how a session stands after a step: it goes on, but for an exit
 abbrev pub status_after : Option Exit → Status
 status_after None = status.Running
 status_after (Some exit) = status.Ended
 
--- how the works of a step end, by the exit if there is one: with the last of them, or with an input that exits
-abbrev pub Ends : {K : Type 0} → Classifies K → Option Exit → Seen K → Told K → List Work → List Refusal → Option (List ℕ) → Seen K → Seen K → Type 0
-Ends says None old told works refused copied last new = Worked says old told works refused copied last × (new ≡ last)
+-- how the works of a step end, by the exit if there is one: at rest, or with an input that exits, after which nothing waits
+abbrev pub Ends : {Q K : Type 0} → Says Q K → Option Exit → Seen Q K → Told Q K → List Work → List Refusal → Option (List ℕ) → Seen Q K → Seen Q K → Type 0
+Ends says None old told works refused copied last new = Worked says old told works refused copied last × IsAtRest last × (new ≡ last)
 Ends says (Some exit) old told works refused copied last new =
-    (next : Told _) × (exits : Exits says last next exit) × Comes says old told works refused copied last next × (new ≡ record (taken last next exits.wanted) { status = status.Ended })
+    (next : Told _ _) × (exits : Exits says last next exit) × Comes says old told works refused copied last next × (new ≡ record (taken last next exits.wanted) { waiting = []; status = status.Ended })
 
 -- what is written: one list of operations that draws the works, and at an exit what cleans the terminal up after it
 abbrev pub Writes : Option Exit → Control → List Work → Control → Option (List ℕ) → Option (List ℕ) → Type 0
@@ -38,12 +38,12 @@ Writes (Some exit) old works last old_bytes new_bytes = (drawn : Option (List �
 -- a step that ends well: the works that were done, the refusals of what was passed over, the text that was copied last, the exit, and
 -- the session before that; its answer and what it writes; and that the page which the sink's bytes left is left by them still, as long
 -- as the session runs
-pub record IsStep {K : Type 0} (says : Classifies K) (old : Seen K) (told : Told K) (new : Seen K) (answer : Answer) (old_bytes new_bytes : Option (List ℕ)) : Type 0 where
+pub record IsStep {Q K : Type 0} (says : Says Q K) (old : Seen Q K) (told : Told Q K) (new : Seen Q K) (answer : Answer) (old_bytes new_bytes : Option (List ℕ)) : Type 0 where
   pub works : List Work
   pub refused : List Refusal
   pub copied : Option (List ℕ)
   pub exit : Option Exit
-  pub last : Seen K
+  pub last : Seen Q K
   pub running : old.status ≡ status.Running
   pub ends : Ends says exit old told works refused copied last new
   pub stands : new.status ≡ status_after exit
@@ -52,27 +52,27 @@ pub record IsStep {K : Type 0} (says : Classifies K) (old : Seen K) (told : Told
   pub leaves : (before : List Control) → Leaves old_bytes before old.control → new.status ≡ status.Running → Leaves new_bytes (before ++ passed_in works) new.control
 
 -- steps that end well, one after another, with the controls that they pass, their answers and what they write
-pub data Steps {K : Type 0} (says : Classifies K) : Seen K → List (Told K) → List Control → List Answer → Seen K → Option (List ℕ) → Option (List ℕ) → Type 0 where
-  none : {a : Seen K} {x : Option (List ℕ)} → Steps says a [] [] [] a x x
-  more : {a b c : Seen K} {t : Told K} {ts : List (Told K)} {cs : List Control} {answer : Answer} {answers : List Answer} {x y z : Option (List ℕ)} → (s : IsStep says a t b answer x y) → Steps says b ts cs answers c y z → Steps says a (t ∷ ts) (passed_in s.works ++ cs) (answer ∷ answers) c x z
+pub data Steps {Q K : Type 0} (says : Says Q K) : Seen Q K → List (Told Q K) → List Control → List Answer → Seen Q K → Option (List ℕ) → Option (List ℕ) → Type 0 where
+  none : {a : Seen Q K} {x : Option (List ℕ)} → Steps says a [] [] [] a x x
+  more : {a b c : Seen Q K} {t : Told Q K} {ts : List (Told Q K)} {cs : List Control} {answer : Answer} {answers : List Answer} {x y z : Option (List ℕ)} → (s : IsStep says a t b answer x y) → Steps says b ts cs answers c y z → Steps says a (t ∷ ts) (passed_in s.works ++ cs) (answer ∷ answers) c x z
 
 -- a step whose last drawing was refused, of which a beginning was written: the session has failed
-pub record IsBrokenStep {K : Type 0} (says : Classifies K) (old : Seen K) (told : Told K) (new : Seen K) (old_bytes new_bytes : Option (List ℕ)) : Type 0 where
+pub record IsBrokenStep {Q K : Type 0} (says : Says Q K) (old : Seen Q K) (told : Told Q K) (new : Seen Q K) (old_bytes new_bytes : Option (List ℕ)) : Type 0 where
   pub works : List Work
   pub refused : List Refusal
   pub copied : Option (List ℕ)
-  pub last : Seen K
+  pub last : Seen Q K
   pub worked : Worked says old told works refused copied last
   pub broken : BrokenOff old_bytes new_bytes old.control works last.control
   pub failed : new ≡ record last { status = status.Failed }
 
 -- a step in which the cleanup of an exit was refused, of which a beginning was written: the session has failed
-pub record IsBrokenExit {K : Type 0} (says : Classifies K) (cause : CleanupError) (old : Seen K) (told : Told K) (new : Seen K) (old_bytes new_bytes : Option (List ℕ)) : Type 0 where
+pub record IsBrokenExit {Q K : Type 0} (says : Says Q K) (cause : CleanupError) (old : Seen Q K) (told : Told Q K) (new : Seen Q K) (old_bytes new_bytes : Option (List ℕ)) : Type 0 where
   pub works : List Work
   pub refused : List Refusal
   pub copied : Option (List ℕ)
-  pub last : Seen K
-  pub next : Told K
+  pub last : Seen Q K
+  pub next : Told Q K
   pub exit : Exit
   pub drawn : Option (List ℕ)
   pub comes : Comes says old told works refused copied last next
@@ -81,16 +81,32 @@ pub record IsBrokenExit {K : Type 0} (says : Classifies K) (cause : CleanupError
   pub broken : CleanupBreaksOff cause drawn new_bytes
   pub failed : new ≡ record (taken last next exits.wanted) { status = status.Failed }
 
+-- memory was wanted at an input that waited, after some works that were drawn: to work it off, or to keep its refusal. The session has
+-- failed, with what waited behind that input
+pub record IsLate {Q K : Type 0} (says : Says Q K) (old : Seen Q K) (told : Told Q K) (new : Seen Q K) (old_bytes new_bytes : Option (List ℕ)) : Type 0 where
+  pub works : List Work
+  pub refused : List Refusal
+  pub copied : Option (List ℕ)
+  pub last : Seen Q K
+  pub next : Told Q K
+  pub rest : List (Told Q K)
+  pub worked : Worked says old told works refused copied last
+  pub waits : IsNext last next rest
+  pub drawn : Drawn old_bytes new_bytes old.control works last.control
+  pub failed : new ≡ record last { waiting = rest; status = status.Failed }
+
 -- nothing has changed, and nothing was written
-abbrev pub IsUntouched : {K : Type 0} → Seen K → Seen K → Option (List ℕ) → Option (List ℕ) → Type 0
+abbrev pub IsUntouched : {Q K : Type 0} → Seen Q K → Seen Q K → Option (List ℕ) → Option (List ℕ) → Type 0
 IsUntouched old new old_bytes new_bytes = (new ≡ old) × (new_bytes ≡ old_bytes)
 
--- when a step is refused, and what it leaves: all as it was, where memory ran out, what was asked for cannot be done, or the session had
--- exited or failed before; where the sink refused, a session that has failed
-abbrev pub Refuses : {K : Type 0} → Classifies K → Refusal → Seen K → Told K → Seen K → Option (List ℕ) → Option (List ℕ) → Type 0
-Refuses says for_memory old told new old_bytes new_bytes = (old.status ≡ status.Running) × IsUntouched old new old_bytes new_bytes
+-- when a step is refused, and what it leaves: all as it was, where memory ran out for the input that it is told, what was asked for
+-- cannot be done, or the session had exited or failed before; where the sink refused, or memory ran out for an input that waited, a
+-- session that has failed
+abbrev pub Refuses : {Q K : Type 0} → Says Q K → Refusal → Seen Q K → Told Q K → Seen Q K → Option (List ℕ) → Option (List ℕ) → Type 0
+Refuses says for_memory old told new old_bytes new_bytes = (old.status ≡ status.Running) × (IsUntouched old new old_bytes new_bytes ⊎ IsLate says old told new old_bytes new_bytes)
 Refuses says for_newline old told new old_bytes new_bytes = (old.status ≡ status.Running) × IsUnfit says old told for_newline × IsUntouched old new old_bytes new_bytes
 Refuses says (for_size cols rows) old told new old_bytes new_bytes = (old.status ≡ status.Running) × IsUnfit says old told (for_size cols rows) × IsUntouched old new old_bytes new_bytes
+Refuses says for_query old told new old_bytes new_bytes = (old.status ≡ status.Running) × IsOverfull old told × IsUntouched old new old_bytes new_bytes
 Refuses says after_failure old told new old_bytes new_bytes = (old.status ≡ status.Failed) × IsUntouched old new old_bytes new_bytes
 Refuses says after_exit old told new old_bytes new_bytes = (old.status ≡ status.Ended) × IsUntouched old new old_bytes new_bytes
 Refuses says (at_cleanup cause) old told new old_bytes new_bytes = (old.status ≡ status.Running) × IsBrokenExit says cause old told new old_bytes new_bytes
@@ -102,6 +118,30 @@ abbrev pub IsSinkFault : Refusal → Type 0
 IsSinkFault (at_cleanup cause) = Unit {0}
 IsSinkFault at_drawing = Unit {0}
 IsSinkFault refusal = ⊥
+
+-- what an input that waited is passed over for, while the step goes on
+abbrev pub is_passed : Refusal → Bool
+is_passed for_newline = true
+is_passed (for_size cols rows) = true
+is_passed refusal = false
+
+-- one input was taken: its work was drawn; or it exits
+abbrev pub Took : {Q K : Type 0} → Says Q K → Option Exit → Seen Q K → Told Q K → Option (List ℕ) → Seen Q K → Option (List ℕ) → Option (List ℕ) → Type 0
+Took says None old told copied new old_bytes new_bytes = (work : Work) × Takes says old told work copied new × Drawn old_bytes new_bytes old.control (work ∷ []) new.control
+Took says (Some exit) old told copied new old_bytes new_bytes =
+    (exits : Exits says old told exit) × (copied ≡ None) × (new ≡ record (taken old told exits.wanted) { waiting = []; status = status.Ended }) × Appends old_bytes new_bytes cleanup_bytes
+
+-- one input was not taken: nothing has changed, or the sink refused its drawing or its cleanup
+abbrev pub Fails : {Q K : Type 0} → Says Q K → Refusal → Seen Q K → Told Q K → Seen Q K → Option (List ℕ) → Option (List ℕ) → Type 0
+Fails says for_memory old told new old_bytes new_bytes = IsUntouched old new old_bytes new_bytes
+Fails says for_newline old told new old_bytes new_bytes = IsUnfit says old told for_newline × IsUntouched old new old_bytes new_bytes
+Fails says (for_size cols rows) old told new old_bytes new_bytes = IsUnfit says old told (for_size cols rows) × IsUntouched old new old_bytes new_bytes
+Fails says for_query old told new old_bytes new_bytes = IsOverfull old told × IsUntouched old new old_bytes new_bytes
+Fails says (at_cleanup cause) old told new old_bytes new_bytes =
+    (exit : Exit) × (exits : Exits says old told exit) × CleanupBreaksOff cause old_bytes new_bytes × (new ≡ record (taken old told exits.wanted) { status = status.Failed })
+Fails says at_drawing old told new old_bytes new_bytes =
+    (work : Work) × (copied : Option (List ℕ)) × (last : Seen _ _) × Takes says old told work copied last × BrokenOff old_bytes new_bytes old.control (work ∷ []) last.control × (new ≡ record last { status = status.Failed })
+Fails says refusal old told new old_bytes new_bytes = ⊥
 
 -- what is still to be cleaned up: nothing after an exit
 abbrev pub cleanup_after : Status → List ℕ
@@ -115,5 +155,5 @@ mode_when status.Ended mode = run_mode.Uninitialized
 mode_when status.Failed mode = run_mode.Uninitialized
 
 -- the mode that a session tells: that of its start as long as it runs
-abbrev pub mode_told : {K : Type 0} → Seen K → RunMode
+abbrev pub mode_told : {Q K : Type 0} → Seen Q K → RunMode
 mode_told seen = mode_when seen.status seen.mode

@@ -6,46 +6,55 @@ use Rattle.minus_text.specs.declared.line_numbers.LineNumbers.{LineNumbers}
 use Rattle.minus_state.specs.Copied.{copied}
 use Rattle.minus_state.specs.Selection.{ends_in_order}
 use Rattle.minus.specs.declared.step_drawing.Drawing.{Drawing}
-use Rattle.minus.specs.declared.step_drawing.Drawing.TheVariants.{Nothing, Full, Scroll, Append, Prompt}
+use Rattle.minus.specs.declared.step_drawing.Drawing.TheVariants.{Nothing, Full, Scroll, Append, Prompt, Opening, Cursor, Edit, Closing}
 use Rattle.minus_state.specs.declared.change.Redraw.{Redraw}
+use Rattle.minus_state.specs.declared.change.Redraw.TheVariants as redraws
 use Rattle.minus_state.specs.declared.change.Redraw.TheVariants.{Stays, Whole, Moved, Appended, PromptRow}
+use Rattle.minus_state.specs.declared.search.SearchMode.{SearchMode}
 use Rattle.minus_state.specs.declared.state.ExitStrategy.{ExitStrategy}
 use Rattle.minus_state.specs.declared.state.ExitStrategy.TheVariants.{ProcessQuit}
 use Rattle.minus_state.specs.Sizes.{IsSize}
-use Rattle.minus_state.specs.Appending.{followed}
+use Rattle.minus_state.specs.Appending.{followed, with_more}
 use Rattle.minus_state.specs.Redraws.{append_redraw, added_redraw, shift_redraw, whole_where, led_redraw}
 use Rattle.minus_state.specs.Shifting.{left_after}
+use Rattle.minus_state.specs.MatchJumps.{next_match, next_match_row, prev_match, prev_match_row}
+use Rattle.minus_state.specs.Prompting.{opened, opening_redraw}
 use Rattle.minus_state.specs.ShownPrompt.{has_newline}
 use Rattle.minus_state.specs.Selecting.{no_ends, has_ends, end_at, ends_begun, mark_led, ends_led}
-use Rattle.minus_state.specs.Control.{Control, Settings, document_of, text_rows, first_changed, with_message, with_prefix, clamp, top}
-use Rattle.minus_state.specs.Help.{help_open, left_help, restored, turned, with_prompt, with_text, with_more}
+use Rattle.minus_state.specs.Control.{Control, Settings, document_of, text_rows, first_changed, with_message, with_prefix, reformed, clamp, top}
+use Rattle.minus_state.specs.Help.{help_open, left_help, restored, turned, with_prompt, with_text}
 
--- a request, as values alone; a classifier is a value of the kind that the session keeps, and help has the text that it is opened
--- with: none where the classifier gives none, or where help is open
-pub data Wanted (K : Type 0) : Type 0 where
-  sets_data : List ℕ → Wanted K
-  appends_data : List ℕ → Wanted K
-  moves_mark : ℕ → Wanted K
-  resizes : (cols rows : ℕ) → Wanted K
-  exits : Wanted K
-  ignores : Wanted K
-  sets_prompt : List ℕ → Wanted K
-  sends_message : List ℕ → Wanted K
-  shows_prompt : Bool → Wanted K
-  follows : Bool → Wanted K
-  types : ℕ → Wanted K
-  restores_prompt : Wanted K
-  redraws_prompt : Wanted K
-  redraws_page : Wanted K
-  sets_classifier : K → Wanted K
-  sets_numbers : LineNumbers → Wanted K
-  sets_wrapping : Bool → Wanted K
-  shifts : ℕ → Wanted K
-  starts_selection : (x y : ℕ) → Wanted K
-  updates_selection : (x y : ℕ) → Wanted K
-  clears_selection : Wanted K
-  copies_selection : Wanted K
-  shows_help : Option (List ℕ) → Wanted K
+-- a request, as values alone; a condition and a classifier are values of the kinds that the session keeps, and help has the text that
+-- it is opened with: none where the classifier gives none, or where help is open
+pub data Wanted (Q K : Type 0) : Type 0 where
+  sets_data : List ℕ → Wanted Q K
+  appends_data : List ℕ → Wanted Q K
+  moves_mark : ℕ → Wanted Q K
+  resizes : (cols rows : ℕ) → Wanted Q K
+  exits : Wanted Q K
+  ignores : Wanted Q K
+  sets_prompt : List ℕ → Wanted Q K
+  sends_message : List ℕ → Wanted Q K
+  shows_prompt : Bool → Wanted Q K
+  follows : Bool → Wanted Q K
+  types : ℕ → Wanted Q K
+  restores_prompt : Wanted Q K
+  redraws_prompt : Wanted Q K
+  redraws_page : Wanted Q K
+  sets_classifier : K → Wanted Q K
+  sets_condition : Q → Wanted Q K
+  sets_numbers : LineNumbers → Wanted Q K
+  sets_wrapping : Bool → Wanted Q K
+  shifts : ℕ → Wanted Q K
+  starts_selection : (x y : ℕ) → Wanted Q K
+  updates_selection : (x y : ℕ) → Wanted Q K
+  clears_selection : Wanted Q K
+  copies_selection : Wanted Q K
+  shows_help : Option (List ℕ) → Wanted Q K
+  moves_to_next_match : ℕ → Wanted Q K
+  moves_to_prev_match : ℕ → Wanted Q K
+  searches : SearchMode → Wanted Q K
+  fetches_query : Wanted Q K
 
 -- an exit: how the program is to go on, and the code that it ends with if it is to end
 abbrev pub Exit : Type 0
@@ -83,11 +92,19 @@ adds_text c text = record (appends c text) {
 abbrev pub unselects : Control → Effect
 unselects c = changes (record c { ends = no_ends }) (whole_where (has_ends c.ends))
 
-abbrev pub effect : {K : Type 0} → Control → Wanted K → Effect
+-- the search prompt opens for a search in a direction
+abbrev pub opens_search : Control → SearchMode → Effect
+opens_search c mode = changes (opened c mode) (opening_redraw mode)
+
+-- a match is told of in the prompt row, and the mark moves to a row, if there is one
+abbrev pub tells_match : Control → ℕ → Option ℕ → Effect
+tells_match c search_mark row = record (changes (record c { search_mark = search_mark }) Moved) { moves_to = row }
+
+abbrev pub effect : {Q K : Type 0} → Control → Wanted Q K → Effect
 effect c (sets_data text) = changes (with_text c text) (whole_where (not (help_open c)))
 effect c (appends_data text) = adds_text c text
 effect c (moves_mark mark) = record (changes c Moved) { moves_to = Some mark }
-effect c (resizes cols rows) = changes (record c { cols = cols; rows = rows }) Whole
+effect c (resizes cols rows) = changes (reformed (record c { cols = cols; rows = rows })) Whole
 effect c exits = record (changes (left_help c c.help) (whole_where (help_open c))) { exits_by = if help_open c then None else Some (ProcessQuit, 0) }
 effect c ignores = changes c Stays
 effect c (sets_prompt text) = changes (with_prompt c text) Stays
@@ -99,44 +116,63 @@ effect c restores_prompt = changes (restored c c.help) (whole_where (help_open c
 effect c redraws_prompt = changes c PromptRow
 effect c redraws_page = changes c Whole
 effect c (sets_classifier k) = changes c Stays
-effect c (sets_numbers numbers) = changes (record c { numbers = numbers }) Whole
-effect c (sets_wrapping wrapping) = changes (record c { wrapping = wrapping }) Whole
+effect c (sets_condition q) = changes c Stays
+effect c (sets_numbers numbers) = changes (reformed (record c { numbers = numbers })) Whole
+effect c (sets_wrapping wrapping) = changes (reformed (record c { wrapping = wrapping })) Whole
 effect c (shifts left) = changes (record c { left = left_after c left }) (shift_redraw c left)
 effect c (starts_selection x y) = changes (record c { ends = ends_begun c.ends (end_at c x y) }) (whole_where (is_some (end_at c x y)))
 effect c (updates_selection x y) = changes (record c { mark = mark_led c y; ends = ends_led c x y }) (led_redraw c x y)
 effect c clears_selection = unselects c
 effect c copies_selection = record (unselects c) { copies = copied (document_of c) (ends_in_order c.ends) }
 effect c (shows_help text) = changes (turned c c.help (unwrap_or text [])) Whole
+effect c (moves_to_next_match jump) = tells_match c (next_match c jump) (next_match_row c jump)
+effect c (moves_to_prev_match jump) = tells_match c (prev_match c jump) (prev_match_row c jump)
+effect c (searches mode) = opens_search c mode
+effect c fetches_query = opens_search c c.mode
 
 -- the classifier that a command hands over to be kept, if it does
-abbrev pub handed : {K : Type 0} → Wanted K → Option K
+abbrev pub handed : {Q K : Type 0} → Wanted Q K → Option K
 handed (sets_classifier k) = Some k
 handed w = None
 
 -- the classifier that is kept after a command
-abbrev pub kept_after : {K : Type 0} → K → Wanted K → K
+abbrev pub kept_after : {Q K : Type 0} → K → Wanted Q K → K
 kept_after k w = unwrap_or (handed w) k
 
+-- the condition that a command hands over to be kept, if it does
+abbrev pub handed_condition : {Q K : Type 0} → Wanted Q K → Option Q
+handed_condition (sets_condition q) = Some q
+handed_condition w = None
+
+-- the condition that is put in the place of the one before, if there is one
+abbrev pub condition_kept : {Q : Type 0} → Option Q → Option Q → Option Q
+condition_kept kept None = kept
+condition_kept kept (Some q) = Some q
+
+-- the condition that is kept after a command, if one is
+abbrev pub condition_after : {Q K : Type 0} → Option Q → Wanted Q K → Option Q
+condition_after kept w = condition_kept kept (handed_condition w)
+
 -- whether it types no character to the prefix
-abbrev pub types_nothing : {K : Type 0} → Wanted K → Bool
+abbrev pub types_nothing : {Q K : Type 0} → Wanted Q K → Bool
 types_nothing (types character) = false
 types_nothing w = true
 
 -- it can be done: a size is one of a terminal, and a prompt or a message has no newline
-abbrev pub IsPossible : {K : Type 0} → Wanted K → Type 0
+abbrev pub IsPossible : {Q K : Type 0} → Wanted Q K → Type 0
 IsPossible (resizes cols rows) = IsSize cols rows
 IsPossible (sets_prompt text) = has_newline text ≡ false
 IsPossible (sends_message text) = has_newline text ≡ false
 IsPossible w = Unit {0}
 
 -- a prompt or a message that has a newline
-abbrev pub HasNewline : {K : Type 0} → Wanted K → Type 0
+abbrev pub HasNewline : {Q K : Type 0} → Wanted Q K → Type 0
 HasNewline (sets_prompt text) = has_newline text ≡ true
 HasNewline (sends_message text) = has_newline text ≡ true
 HasNewline w = ⊥
 
 -- why it cannot be done: for a newline, or for a size that is none of a terminal
-abbrev pub IsFault : {K : Type 0} → Refusal → Wanted K → Type 0
+abbrev pub IsFault : {Q K : Type 0} → Refusal → Wanted Q K → Type 0
 IsFault for_newline w = HasNewline w
 IsFault (for_size cols rows) w = (w ≡ resizes cols rows) × (IsSize cols rows → ⊥)
 IsFault refusal w = ⊥
@@ -162,7 +198,11 @@ drawing_by Whole old mark = Full
 drawing_by Moved old mark = if mark == old.mark then Nothing else Scroll old.mark mark
 drawing_by Appended old mark = if mark == old.mark then Append (first_changed old) (length (text_rows old)) else Full
 drawing_by PromptRow old mark = Prompt
+drawing_by redraws.Opening old mark = Opening
+drawing_by redraws.Cursor old mark = Cursor
+drawing_by redraws.Edit old mark = Edit
+drawing_by redraws.Closing old mark = Closing
 
 -- how what comes of a request is drawn
-abbrev pub drawing_of : {K : Type 0} → Control → Wanted K → Drawing
+abbrev pub drawing_of : {Q K : Type 0} → Control → Wanted Q K → Drawing
 drawing_of c w = drawing_by (effect c w).redraw c (changed_by (effect c w)).mark

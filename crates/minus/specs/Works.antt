@@ -1,23 +1,32 @@
 -- Inputs that are worked off.
-use Rattle.std.specs.Prelude.{◌≡◌, ℕ, List, [], ◌∷◌, map, Option, None, Some, Bool, true, false}
+use Rattle.std.specs.Prelude.{◌≡◌, ℕ, List, [], ◌∷◌, ◌++◌, map, Option, None, Some, Bool, true, false}
 use Rattle.std.specs.List.{list_any}
+use Rattle.regex.specs.Patterns.{Re}
 use Rattle.minus_term.specs.Refusals.{Refusal}
+use Rattle.minus_term.specs.declared.event.Event.{Event}
 use Rattle.minus.specs.declared.step_drawing.Drawing.{Drawing}
-use Rattle.minus.specs.declared.step_drawing.Drawing.TheVariants.{Nothing, Full}
-use Rattle.minus_state.specs.Classifying.{Classifies}
+use Rattle.minus.specs.declared.step_drawing.Drawing.TheVariants.{Nothing, Full, Edit, Closing}
+use Rattle.minus_state.specs.declared.search.keys.QueryEdit.{QueryEdit}
+use Rattle.minus.specs.Says.{Says}
+use Rattle.minus_state.specs.declared.state.PagerState.{PagerState}
+use Rattle.minus_state.specs.Keying.{keyed, keyed_redraw, MayFind}
+use Rattle.minus_state.specs.QueryEditor.{refuses}
+use Rattle.minus_state.specs.QueryKeys.{edit_of}
 use Rattle.minus_state.specs.ShownPrompt.{prompt_row}
-use Rattle.minus_state.specs.Control.{Control, IsClamped, SameSize}
-use Rattle.minus.specs.Asked.{Asks, taken}
-use Rattle.minus.specs.Reads.{Told}
+use Rattle.minus_state.specs.States.{control_of, IsFormed}
+use Rattle.minus_state.specs.Control.{Control, reformed, IsClamped, SameSize}
+use Rattle.minus.specs.Asked.{Asks, Wants, checked_as, taken}
+use Rattle.minus.specs.Reads.{Told, an_event}
+use Rattle.minus_state.specs.OpenSearches.{OpenSearch}
 use Rattle.minus.specs.Seen.{Seen}
-use Rattle.minus.specs.Table.{Wanted, exits, restores_prompt, shows_help, Exit, effect, kept_after, changed_by, drawing_of, IsPossible, IsFault}
+use Rattle.minus.specs.Table.{Wanted, exits, restores_prompt, shows_help, Exit, effect, kept_after, condition_after, changed_by, drawing_by, drawing_of, IsPossible, IsFault}
 
 -- a work: how what comes of it is drawn, and the control that it leaves
 pub record Work : Type 0 where
   pub drawing : Drawing
   pub left : Control
 
-abbrev pub work_of : {K : Type 0} → Control → Wanted K → Work
+abbrev pub work_of : {Q K : Type 0} → Control → Wanted Q K → Work
 work_of c w = record { drawing = drawing_of c w; left = changed_by (effect c w) }
 
 -- the controls that works pass
@@ -30,35 +39,93 @@ reached c [] = c
 reached c (w ∷ works) = reached w.left works
 
 -- what a session is seen as after a request
-abbrev pub after : {K : Type 0} → Seen K → Wanted K → Seen K
-after seen w = record seen { control = changed_by (effect seen.control w); classifier = kept_after seen.classifier w }
+abbrev pub after : {Q K : Type 0} → Seen Q K → Wanted Q K → Seen Q K
+after seen w = record seen { control = changed_by (effect seen.control w); classifier = kept_after seen.classifier w; condition = condition_after seen.condition w }
 
--- an input that does not exit is taken: its work, the text that it copies, if it copies one, and what it leaves
-pub data Takes {K : Type 0} (says : Classifies K) (s : Seen K) : Told K → Work → Option (List ℕ) → Seen K → Type 0 where
-  worked : {told : Told K} (w : Wanted K) → Asks says s told w → IsPossible w → (effect (taken s told w).control w).exits_by ≡ None
+-- what is left undrawn, and as it was
+abbrev pub undrawn : Control → Work
+undrawn c = record { drawing = Nothing; left = c }
+
+-- what an edit of the query comes to, with what was found for it
+abbrev pub key_work : Control → OpenSearch → QueryEdit → Option Re → Work
+key_work c o edit found = record { drawing = drawing_by (keyed_redraw o edit) c (keyed c o edit found).mark; left = keyed c o edit found }
+
+-- an input that does not exit is taken: its work, the text that it copies, if it copies one, and what it leaves. With no search prompt
+-- open it is worked off; with one open a command or a new size waits, and any other event is a key of that prompt: what is found for the
+-- query is free but for its pattern and for what the condition that is kept may answer, which is asked in a formed state with the control
+pub data Takes {Q K : Type 0} (says : Says Q K) (s : Seen Q K) : Told Q K → Work → Option (List ℕ) → Seen Q K → Type 0 where
+  worked : {told : Told Q K} (w : Wanted Q K) → s.control.search ≡ None → Asks says s told w → IsPossible w → (effect (taken s told w).control w).exits_by ≡ None
       → Takes says s told (work_of (taken s told w).control w) (effect (taken s told w).control w).copies (after (taken s told w) w)
+  waited : {told : Told Q K} (o : OpenSearch) (w : Wanted Q K) → s.control.search ≡ Some o → checked_as told ≡ Some w → IsPossible w → Takes says s told (undrawn s.control) None (record s { waiting = s.waiting ++ told ∷ [] })
+  edits : {event : Event} (o : OpenSearch) → s.control.search ≡ Some o → checked_as {Q = Q} {K = K} (an_event event) ≡ None → (state : PagerState) → IsFormed state → control_of state ≡ s.control → (found : Option Re) → MayFind says.condition s.condition state o event found
+      → Takes says s (an_event event) (key_work s.control o (edit_of event) found) None (record s { control = keyed s.control o (edit_of event) found })
 
--- an input that exits
-pub record Exits {K : Type 0} (says : Classifies K) (s : Seen K) (told : Told K) (exit : Exit) : Type 0 where
-  pub wanted : Wanted K
+-- an input that exits: no search prompt is open
+pub record Exits {Q K : Type 0} (says : Says Q K) (s : Seen Q K) (told : Told Q K) (exit : Exit) : Type 0 where
+  pub wanted : Wanted Q K
+  pub closed : s.control.search ≡ None
   pub asked : Asks says s told wanted
   pub exits : (effect (taken s told wanted).control wanted).exits_by ≡ Some exit
 
--- an input that cannot be done
-abbrev pub IsUnfit : {K : Type 0} → Classifies K → Seen K → Told K → Refusal → Type 0
-IsUnfit says s told refusal = (wanted : Wanted _) × Asks says s told wanted × IsFault refusal wanted
+-- an input that cannot be done, or could not be done if it waited
+abbrev pub IsUnfit : {Q K : Type 0} → Says Q K → Seen Q K → Told Q K → Refusal → Type 0
+IsUnfit says s told refusal = (wanted : Wanted _ _) × Wants says s s.control.search told wanted × IsFault refusal wanted
 
--- the inputs that a step takes, which do not exit: their works, the refusals of those that were passed over, the text that was copied
--- last, and what they leave. A step takes the input that it is told
-pub data Worked {K : Type 0} (says : Classifies K) (old : Seen K) (told : Told K) : List Work → List Refusal → Option (List ℕ) → Seen K → Type 0 where
-  first : {work : Work} {copied : Option (List ℕ)} {new : Seen K} → Takes says old told work copied new → Worked says old told (work ∷ []) [] copied new
+-- a key that types a character to the query of the open search prompt, which has as many as it may have
+pub record IsOverfull {Q K : Type 0} (s : Seen Q K) (told : Told Q K) : Type 0 where
+  pub search : OpenSearch
+  pub event : Event
+  pub opened : s.control.search ≡ Some search
+  pub key : told ≡ an_event event
+  pub full : refuses search.prompt.editor (edit_of event) ≡ true
 
--- the input that comes next in a step, after those that it has taken: the one that it is told
-pub data Comes {K : Type 0} (says : Classifies K) (old : Seen K) (told : Told K) : List Work → List Refusal → Option (List ℕ) → Seen K → Told K → Type 0 where
+-- the text that was copied last
+abbrev pub last_copied : Option (List ℕ) → Option (List ℕ) → Option (List ℕ)
+last_copied before None = before
+last_copied before (Some text) = Some text
+
+-- with no search prompt open, this input is the next of those that wait, and these are the rest
+abbrev pub IsNext : {Q K : Type 0} → Seen Q K → Told Q K → List (Told Q K) → Type 0
+IsNext s told rest = (s.control.search ≡ None) × (s.waiting ≡ told ∷ rest)
+
+-- what a session is seen as once the next of those that wait was taken from them
+abbrev pub leaving : {Q K : Type 0} → Seen Q K → List (Told Q K) → Seen Q K
+leaving s rest = record s { waiting = rest }
+
+-- the inputs that a step takes, which do not exit: the one that it is told, and after it some of those that wait, in their order; their
+-- works, the refusals of those that were passed over, the text that was copied last, and what they leave
+pub data Worked {Q K : Type 0} (says : Says Q K) (old : Seen Q K) (told : Told Q K) : List Work → List Refusal → Option (List ℕ) → Seen Q K → Type 0 where
+  first : {work : Work} {copied : Option (List ℕ)} {new : Seen Q K} → Takes says old told work copied new → Worked says old told (work ∷ []) [] copied new
+  more : {works : List Work} {refused : List Refusal} {copied : Option (List ℕ)} {s new : Seen Q K} {next : Told Q K} {rest : List (Told Q K)} {work : Work} {text : Option (List ℕ)} → Worked says old told works refused copied s → IsNext s next rest → Takes says (leaving s rest) next work text new
+      → Worked says old told (works ++ work ∷ []) refused (last_copied copied text) new
+  passed : {works : List Work} {refused : List Refusal} {copied : Option (List ℕ)} {s : Seen Q K} {next : Told Q K} {rest : List (Told Q K)} (refusal : Refusal) → Worked says old told works refused copied s → IsNext s next rest → IsUnfit says (leaving s rest) next refusal
+      → Worked says old told works (refused ++ refusal ∷ []) copied (leaving s rest)
+
+-- the input that comes next in a step, after those that it has taken: the one that it is told, or after it the next of those that wait
+pub data Comes {Q K : Type 0} (says : Says Q K) (old : Seen Q K) (told : Told Q K) : List Work → List Refusal → Option (List ℕ) → Seen Q K → Told Q K → Type 0 where
   at_once : Comes says old told [] [] None old told
+  later : {works : List Work} {refused : List Refusal} {copied : Option (List ℕ)} {s : Seen Q K} {next : Told Q K} {rest : List (Told Q K)} → Worked says old told works refused copied s → IsNext s next rest → Comes says old told works refused copied (leaving s rest) next
 
+-- nothing more is worked off: the search prompt is open, or nothing waits
+abbrev pub IsAtRest : {Q K : Type 0} → Seen Q K → Type 0
+IsAtRest s = s.control.search ≡ None → s.waiting ≡ []
+
+-- no search prompt is open, and nothing waits
+pub record IsReady {Q K : Type 0} (s : Seen Q K) : Type 0 where
+  pub closed : s.control.search ≡ None
+  pub none_waits : s.waiting ≡ []
+
+-- with no search prompt open, and while nothing waits, an input is worked off alone
+abbrev pub AloneWithNoPrompt : {Q K : Type 0} → Says Q K → Type 0
+AloneWithNoPrompt {Q = Q} {K = K} says =
+    (old s : Seen Q K) (told : Told Q K) (works : List Work) (refused : List Refusal) (copied : Option (List ℕ)) → IsReady old → Worked says old told works refused copied s
+    → (work : Work) × (works ≡ work ∷ []) × (refused ≡ []) × Takes says old told work copied s
+
+-- whether a drawing shows its page whatever the screen showed before
 abbrev pub is_full : Drawing → Bool
 is_full Full = true
+is_full Edit = true
+is_full Closing = true
 is_full drawing = false
 
 -- whether one of the works is drawn in full
@@ -71,17 +138,19 @@ IsQuiet old [] = Unit {0}
 IsQuiet old (w ∷ works) = (w.drawing ≡ Nothing) × (prompt_row w.left ≡ prompt_row old) × IsQuiet old works
 
 -- what is not drawn in full keeps the size
-abbrev pub ResizesAreFull : Type 0 → Type 0
-ResizesAreFull K = (c : Control) (w : Wanted K) → is_full (drawing_of c w) ≡ false → SameSize c (changed_by (effect c w))
+abbrev pub ResizesAreFull : Type 0 → Type 0 → Type 0
+ResizesAreFull Q K = (c : Control) (w : Wanted Q K) → is_full (drawing_of c w) ≡ false → SameSize c (changed_by (effect c w))
 
 -- what leaves help where it is open
-pub data LeavesHelp {K : Type 0} : Wanted K → Type 0 where
+pub data LeavesHelp {Q K : Type 0} : Wanted Q K → Type 0 where
   by_prompt : LeavesHelp restores_prompt
   by_help : {text : Option (List ℕ)} → LeavesHelp (shows_help text)
   by_exit : LeavesHelp exits
 
--- help that is opened and left at once leaves all as it was, but for the message, which is gone
-abbrev pub HelpLeavesNoTrace : Type 0 → Type 0
-HelpLeavesNoTrace K =
-    (c : Control) (text : Option (List ℕ)) (leaving : Wanted K) → c.help ≡ None → IsClamped c → LeavesHelp leaving
-    → changed_by (effect (changed_by (effect {K = K} c (shows_help text))) leaving) ≡ record c { settings = record c.settings { message = None } }
+-- help that is opened and left at once leaves no trace: the text, its layout, the size, both marks, what is selected, the term, the
+-- prompt and whether the page goes on with what is appended are as they were; the message is gone, and the search mark is that of
+-- rows formed anew
+abbrev pub HelpLeavesNoTrace : Type 0 → Type 0 → Type 0
+HelpLeavesNoTrace Q K =
+    (c : Control) (text : Option (List ℕ)) (leaving : Wanted Q K) → c.help ≡ None → IsClamped c → LeavesHelp leaving
+    → changed_by (effect (changed_by (effect {Q = Q} {K = K} c (shows_help text))) leaving) ≡ reformed (record c { settings = record c.settings { message = None } })

@@ -1,7 +1,6 @@
 //! What a step answers.
 use crate::state::ExitStrategy;
 use minus_term::MinusError;
-use std::alloc::Global;
 
 /// What a step answers.
 #[derive(Debug, Drop)]
@@ -15,21 +14,22 @@ pub struct Answer {
 }
 
 impl Answer {
-    ghost use Rattle.std.specs.Prelude.{◌≡◌, [], option_map, string_bytes};
+    ghost use Rattle.std.specs.Prelude.{◌≡◌, map, option_map, string_bytes};
+    ghost use Rattle.minus_term.specs.Refusals.{refusal_of};
     ghost use Rattle.minus.specs.Answers.{IsAnswer, ends_run};
 
-    // The answer of a step that exits so, or goes on, and has copied a text, or none.
+    // The answer of a step that exits so, or goes on, has copied a text last, or none, and passed these items over.
     pub(crate) fn of_step(
-        alloc: Global,
         exited: Option<(ExitStrategy, u8)>,
         copied: Option<String>,
+        refused: Vec<MinusError>,
     ) -> Answer
-        ensures { IsAnswer exited (option_map string_bytes copied) [] result }
+        ensures { IsAnswer exited (option_map string_bytes copied) (map refusal_of refused.items) result }
     {
         Answer {
             exited,
             copied,
-            refused: Vec::new(alloc),
+            refused,
         }
     }
 

@@ -16,9 +16,12 @@ pub enum IoCommand {
     DrawAppendedText(usize, usize, AppendStyle),
     /// Move the mark, the first row of text on the page, to this row, counted from 0.
     SetUpperMark(usize),
+    /// Open the search prompt for a search in the direction of the last one; nothing where no search has begun.
+    FetchSearchQuery,
 }
 
-/// A command, over the kinds of what a session keeps. Two that hand over a classifier are equal, whatever it is.
+/// A command, over the kinds of what a session keeps. Two that hand over a classifier are equal, whatever it is, and so
+/// are two that hand over a condition.
 #[derive(Drop)]
 #[derive_where(Debug, PartialEq, Eq)]
 pub enum CommandOf<P: Parts> {
@@ -42,11 +45,13 @@ pub enum CommandOf<P: Parts> {
     UserInput(InputEvent),
     /// Draw.
     Io(IoCommand),
+    /// Keep this condition: from now on it is asked whether the page shows where a query leads.
+    IncrementalSearchCondition(#[derive_where(skip)] P::Condition),
     /// Keep this classifier: it decides about the events after it.
     SetInputClassifier(#[derive_where(skip)] P::Classifier),
 }
 
-/// A command to a session that keeps a register of bindings, or a classifier in a box.
+/// A command to a session that keeps what its caller boxes, or a register of bindings.
 pub type Command = CommandOf<Boxes>;
 
 /// What a session is given, over the kinds of what it keeps.
@@ -59,5 +64,5 @@ pub enum InputOf<P: Parts> {
     Event(Event),
 }
 
-/// What a session is given that keeps a register of bindings, or a classifier in a box.
+/// What a session is given that keeps what its caller boxes, or a register of bindings.
 pub type Input = InputOf<Boxes>;

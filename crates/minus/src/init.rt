@@ -1,5 +1,5 @@
 //! The start of a session.
-ghost use Rattle.std.specs.Prelude.{◌≡◌, ◌++◌, true, map, string_bytes, OnOk, OnErr, IfOk, IfErr};
+ghost use Rattle.std.specs.Prelude.{◌≡◌, ◌++◌, true, None, map, string_bytes, OnOk, OnErr, IfOk, IfErr};
 ghost use Rattle.std.specs.Io.KnownBytes.{Appends};
 ghost use Rattle.minus_term.specs.Counts.{Stays, Rises};
 ghost use Rattle.minus_term.specs.Refusals.{refusal_of};
@@ -9,16 +9,17 @@ ghost use Rattle.minus_state.specs.Changes.{IsUnformedState};
 ghost use Rattle.minus_state.specs.Control.{IsClamped};
 ghost use Rattle.minus.specs.Drawings.{whole_page};
 ghost use Rattle.minus.specs.Drawn.{StartLeavesItsPage};
-ghost use Rattle.minus_state.specs.ShownPrompt.{prompt_row_of};
-ghost use Rattle.minus_state.specs.States.{IsFormed, control_of, settings_of};
+ghost use Rattle.minus_state.specs.ShownPrompt.{prompt_row as row_shown};
+ghost use Rattle.minus_state.specs.States.{IsFormed, control_of};
 ghost use Rattle.minus_input.specs.DefaultBindings.{default_register};
 ghost use Rattle.minus_input.specs.DefaultClassifier.{IsDefault};
 ghost use Rattle.minus_input.specs.EventTables.{register_of};
 ghost use Rattle.minus.specs.Reads.{wanted_of};
-ghost use Rattle.minus.specs.Table.{handed};
+ghost use Rattle.minus.specs.Table.{kept_after, condition_after};
 ghost use Rattle.minus.specs.SessionStarts.{IsStart, IsFirstStart, IsRefusedStart};
 ghost use Rattle.minus_state.specs.Sizes.{IsSize};
-ghost use Rattle.minus.specs.Starts.{taken, taken_all, first_control, classifier_taken, CanStart, IsFormRefused, IsShowRefused};
+ghost use Rattle.minus.specs.Starts.{taken, taken_all, first_control, classifier_taken, condition_taken};
+ghost use Rattle.minus.specs.Starts.{CanStart, IsFormRefused, IsShowRefused};
 ghost use Rattle.minus.specs.Starts.{ShowBreaksOff, IsStartFault};
 
 use crate::commands::CommandOf;
@@ -33,6 +34,7 @@ use minus_state::change::{NextText, Redraw};
 use minus_state::is_size;
 use minus_term::{MinusError, OutputSink, cleanup, draw_bytes, setup};
 use std::alloc::Global;
+use std::collections::VecDeque;
 
 /// A start that was refused, over the kinds of what the session would keep.
 #[derive(Drop)]
@@ -46,7 +48,7 @@ pub struct StartErrorOf<S, P: Parts> {
     pub cause: MinusError,
 }
 
-/// A refused start of a session that keeps a register of bindings, or a classifier in a box.
+/// A refused start of a session that keeps what its caller boxes, or a register of bindings.
 pub type StartError<S> = StartErrorOf<S, Boxes>;
 
 /// Why a start was refused; the sink and the pager are let go.
@@ -71,11 +73,7 @@ pub(crate) fn take_text<P: Parts>(
     ensures memory { IfErr result (λ e. e ≡ MinusError.Memory) }
 {
     match command {
-        CommandOf::SetData(text) => {
-            let layout = state.layout();
-            let _ = state.screen.set_text(alloc, text, layout, None)?;
-            Ok(())
-        }
+        CommandOf::SetData(text) => state.set_text(alloc, text),
         CommandOf::AppendData(text) => {
             let _ = state.append_str(alloc, text)?;
             Ok(())
@@ -91,7 +89,8 @@ fn take_waiting<P: Parts>(
     queue: &[CommandOf<P>],
 ) -> Result<(), MinusError>
     requires { IsFormed state.old }
-    ensures control { OnOk result (control_of state.new ≡ taken_all (control_of state.old) (map wanted_of queue.now)) }
+    ensures control { OnOk result (control_of state.new
+        ≡ taken_all (control_of state.old) (map wanted_of queue.now)) }
     ensures formed { OnOk result (IsFormed state.new) }
     ensures memory { IfErr result (λ e. e ≡ MinusError.Memory) }
 {
@@ -109,7 +108,7 @@ struct First {
     drawing: Vec<u8>,
     ghost formed: { IsFormed state },
     ghost clamped: { IsClamped (control_of state) },
-    ghost prompted: { string_bytes prompt_row ≡ prompt_row_of state.cols (settings_of state) },
+    ghost prompted: { string_bytes prompt_row ≡ row_shown (control_of state) },
     ghost drawn: { drawing.items ≡ written_all (whole_page (control_of state)) },
 }
 
@@ -119,7 +118,8 @@ fn first_state<P: Parts>(
     cols: usize,
     rows: usize,
 ) -> Result<PagerState, MinusError>
-    ensures control { IfOk result (λ s. control_of s ≡ first_control cols rows (map wanted_of pager.now.queue.items)) }
+    ensures control { IfOk result (λ s. control_of s
+        ≡ first_control cols rows (map wanted_of pager.now.queue.items)) }
     ensures formed { IfOk result IsFormed }
     ensures clamped { IfOk result (λ s. IsClamped (control_of s)) }
     ensures size { OnOk result (IsSize cols rows) }
@@ -167,30 +167,39 @@ fn show<S: OutputSink>(sink: &mut S, drawing: &[u8]) -> Result<(), MinusError>
     Ok(())
 }
 
-// The classifier that a command sets, if it sets one.
-fn handed<P: Parts>(command: CommandOf<P>) -> Option<P::Classifier>
-    ensures { result ≡ handed (wanted_of command) }
+// What a session keeps of its caller's at first.
+#[derive(Drop)]
+struct FirstKept<P: Parts> {
+    classifier: P::Classifier,
+    condition: Option<P::Condition>,
+}
+
+// Takes over what a command hands over to be kept.
+fn keep_handed<P: Parts>(kept: &mut FirstKept<P>, command: CommandOf<P>)
+    ensures classifier { kept.new.classifier ≡ kept_after kept.old.classifier (wanted_of command) }
+    ensures condition { kept.new.condition ≡ condition_after kept.old.condition (wanted_of command) }
 {
     match command {
-        CommandOf::SetInputClassifier(classifier) => Some(classifier),
-        _ => None,
+        CommandOf::SetInputClassifier(classifier) => kept.classifier = classifier,
+        CommandOf::IncrementalSearchCondition(condition) => kept.condition = Some(condition),
+        _ => {}
     }
 }
 
-// The classifier that a session keeps at first: the last one among the commands that wait, or else this one.
-fn first_classifier<P: Parts>(
-    waiting: Vec<CommandOf<P>>,
-    classifier: P::Classifier,
-) -> P::Classifier
-    ensures { result ≡ classifier_taken classifier (map wanted_of waiting.items) }
+// What a session keeps at first: the last classifier among the commands that wait, or else this one, and the last
+// condition among them, if there is one.
+fn first_kept<P: Parts>(waiting: Vec<CommandOf<P>>, classifier: P::Classifier) -> FirstKept<P>
+    ensures classifier { result.classifier ≡ classifier_taken classifier (map wanted_of waiting.items) }
+    ensures condition { result.condition ≡ condition_taken None (map wanted_of waiting.items) }
 {
-    let mut waiting = waiting;
-    while let Some(command) = waiting.pop() {
-        if let Some(last) = handed(command) {
-            return last;
-        }
+    let mut kept = FirstKept {
+        classifier,
+        condition: None,
+    };
+    for command in waiting {
+        keep_handed(&mut kept, command);
     }
-    classifier
+    kept
 }
 
 // The session of a pager whose first page was formed.
@@ -204,7 +213,8 @@ fn begin<S: OutputSink + Drop, P: Parts>(
     requires runs { mode ≡ RunMode.Uninitialized → ⊥ }
     requires control { control_of first.state
         ≡ first_control first.state.cols first.state.rows (map wanted_of pager.queue.items) }
-    ensures started { IfOk result (λ s. IsStart S.seen pager mode first.state.cols first.state.rows classifier sink s) }
+    ensures started { IfOk result (λ s.
+        IsStart S.seen pager mode first.state.cols first.state.rows classifier sink s) }
     ensures refused { IfErr result (λ e. IsRefusedStart S.seen pager mode first.state.cols first.state.rows sink e) }
 {
     let mut sink = sink;
@@ -221,30 +231,37 @@ fn begin<S: OutputSink + Drop, P: Parts>(
         drawing,
     } = first;
     let PagerOf { alloc, queue } = pager;
-    let classifier = first_classifier(queue, classifier);
+    let FirstKept {
+        classifier,
+        condition,
+    } = first_kept(queue, classifier);
+    let waiting = VecDeque::new(alloc);
     Ok(Core {
         alloc,
         sink,
         state,
         classifier,
+        condition,
         prompt_row,
         drawing,
+        waiting,
         mode,
         status: Status::Running,
     })
 }
 
 /// Starts a pager over a sink, for a terminal of so many columns and rows, with a classifier of the caller's: takes
-/// over the texts that wait in it, and the classifier that was set last in place of the caller's, sets the terminal up,
-/// and draws the first page.
+/// over the texts that wait in it, the classifier that was set last in place of the caller's, and the condition that
+/// was set last, sets the terminal up, and draws the first page.
 ///
 /// # Errors
 ///
 /// The sink comes back in each. The pager too, and nothing was written, with [`MinusError::BadMode`] where the mode is
-/// `Uninitialized`, [`MinusError::BadSize`] where the columns or the rows are not from 1 to 65,535, and
-/// [`MinusError::Memory`] where there is no memory. [`MinusError::Setup`] where the sink is no terminal, or refused to
-/// set it up: a beginning of the setup was written. [`MinusError::Draw`] where the sink refused the first page: a
-/// beginning of it was written after the setup, and the cleanup as far as the sink took it.
+/// `Uninitialized`, [`MinusError::BadSize`] where the columns or the rows are not from 1 to 65,535,
+/// [`MinusError::SearchExpError`] where `regex` builds no matcher of a fixed pattern, and [`MinusError::Memory`] where
+/// there is no memory. [`MinusError::Setup`] where the sink is no terminal, or refused to set it up: a beginning of the
+/// setup was written. [`MinusError::Draw`] where the sink refused the first page: a beginning of it was written after
+/// the setup, and the cleanup as far as the sink took it.
 pub fn init_core_with<S: OutputSink + Drop, P: Parts>(
     pager: PagerOf<P>,
     mode: RunMode,
@@ -274,9 +291,10 @@ pub fn init_core_with<S: OutputSink + Drop, P: Parts>(
 }
 
 // Whether these are columns and rows of a terminal.
-fn check_size(cols: usize, rows: usize) -> Result<(), MinusError>
+pub(crate) fn check_size(cols: usize, rows: usize) -> Result<(), MinusError>
     ensures size { OnOk result (IsSize cols rows) }
     ensures refused { IfErr result (λ e. IsUnformedState (refusal_of e) cols rows) }
+    ensures cause { IfErr result (λ e. (e ≡ MinusError.BadSize cols rows) × (IsSize cols rows → ⊥)) }
 {
     if !is_size(cols, rows) {
         return Err(MinusError::BadSize(cols, rows));

@@ -1,16 +1,19 @@
 //! Laws over the definitions of steps.
 ghost use Rattle.minus.specs.Drawn.{DrawingsJoin};
-ghost use Rattle.minus.specs.Works.{ResizesAreFull, HelpLeavesNoTrace};
+ghost use Rattle.minus.specs.Keyed.{KeysAreDrawn};
+ghost use Rattle.minus.specs.Says.{says_of};
+ghost use Rattle.minus.specs.Works.{AloneWithNoPrompt, ResizesAreFull, HelpLeavesNoTrace};
 ghost use Rattle.minus.specs.Core.{seen_of};
 ghost use Rattle.minus.specs.DefaultKeys.{EventsAskByTheTable, JMovesByThePrefix};
 ghost use Rattle.minus_input.specs.DefaultClassifier.{IsDefault};
 
 use crate::input::{Classifier, InputClassifier, KeptAction};
+use crate::search::{ConditionCall, KeptCondition};
 use crate::session::Session;
 
 /// A law: what changes the size of the terminal is drawn in full.
-pub fn resizes_are_full<K>()
-    ensures { ResizesAreFull K }
+pub fn resizes_are_full<Q, K>()
+    ensures { ResizesAreFull Q K }
 {}
 
 /// A law: the drawings of some works, and after them those of others, are the drawings of them all.
@@ -18,19 +21,32 @@ pub fn drawings_join()
     ensures { DrawingsJoin }
 {}
 
+/// A law: what a key of the open search prompt does, a moved cursor, an edited query or a prompt that closes, is drawn
+/// by some operations as its kind of drawing says.
+pub fn keys_are_drawn()
+    ensures { KeysAreDrawn }
+{}
+
 /// A law: help that is opened and left at once leaves all as it was, but for the message, which is gone.
-pub fn help_leaves_no_trace<K>()
-    ensures { HelpLeavesNoTrace K }
+pub fn help_leaves_no_trace<Q, K>()
+    ensures { HelpLeavesNoTrace Q K }
+{}
+
+/// A law: with no search prompt open, and while nothing waits, an input is worked off alone.
+pub fn an_input_is_alone_with_no_prompt<Q: ConditionCall, K: InputClassifier>()
+    ensures { AloneWithNoPrompt (says_of Q.judges K.says) }
 {}
 
 /// A law: as long as a session's classifier is a register of the default bindings, an event asks for what their table
 /// has for it, and for nothing else.
 pub fn events_ask_by_the_table<S>(session: &Session<S>)
-    ensures { EventsAskByTheTable ⟦<Classifier<KeptAction> as InputClassifier>⟧.says IsDefault (seen_of session.now) }
+    ensures { EventsAskByTheTable (says_of ⟦<KeptCondition as ConditionCall>⟧.judges
+        ⟦<Classifier<KeptAction> as InputClassifier>⟧.says) IsDefault (seen_of session.now) }
 {}
 
 /// A law: as long as a session's classifier is a register of the default bindings, the key `j` moves the mark down by
 /// as many rows as the typed prefix says, by one where it says none.
 pub fn j_moves_by_the_prefix<S>(session: &Session<S>)
-    ensures { JMovesByThePrefix ⟦<Classifier<KeptAction> as InputClassifier>⟧.says IsDefault (seen_of session.now) }
+    ensures { JMovesByThePrefix (says_of ⟦<KeptCondition as ConditionCall>⟧.judges
+        ⟦<Classifier<KeptAction> as InputClassifier>⟧.says) IsDefault (seen_of session.now) }
 {}

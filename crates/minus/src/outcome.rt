@@ -2,12 +2,12 @@
 ghost use Rattle.std.specs.Prelude.{◌≡◌, true, string_bytes, IfOk, IfErr, OnOk};
 ghost use Rattle.std.specs.Option.{option_map};
 ghost use Rattle.minus_term.specs.Refusals.{refusal_of};
-ghost use Rattle.minus_state.specs.Changes.{IsChange};
+ghost use Rattle.minus_state.specs.Changes.{Leads};
 ghost use Rattle.minus_state.specs.Control.{cleared};
 ghost use Rattle.minus_state.specs.States.{control_of, IsFormed};
 ghost use Rattle.minus.specs.Outcomes.{IsOutcome, IsUnformed};
 ghost use Rattle.minus.specs.Reads.{wanted_by};
-ghost use Rattle.minus.specs.Table.{effect, handed, moved_by, types_nothing, IsPossible};
+ghost use Rattle.minus.specs.Table.{effect, handed, handed_condition, moved_by, types_nothing, IsPossible};
 
 use crate::parts::Parts;
 use crate::request::Request;
@@ -17,11 +17,12 @@ use minus_state::extract_selection;
 use minus_term::MinusError;
 use std::alloc::Global;
 
-// What comes of a request: a change, the classifier that is kept from now on, if it is another one, the text that is
-// copied, if one is, and the exit, if it is one.
+// What comes of a request: a change, the classifier and the condition that are kept from now on, if they are others,
+// the text that is copied, if one is, and the exit, if it is one.
 pub(crate) struct Outcome<P: Parts> {
     pub(crate) change: Change,
     pub(crate) classifier: Option<P::Classifier>,
+    pub(crate) condition: Option<P::Condition>,
     pub(crate) copied: Option<String>,
     pub(crate) exit: Option<(ExitStrategy, u8)>,
 }
@@ -32,6 +33,7 @@ impl<P: Parts> Drop for Outcome<P> {
         let Outcome {
             change: _,
             classifier: _,
+            condition: _,
             copied: _,
             exit: _,
         } = self;
@@ -42,33 +44,44 @@ impl<P: Parts> Outcome<P> {
     ghost use Rattle.std.specs.Prelude.{◌≡◌, None};
 
     // A change alone.
-    fn of(change: Change) -> Outcome<P>
+    pub(crate) fn of(change: Change) -> Outcome<P>
         ensures change { result.change ≡ change }
         ensures classifier { result.classifier ≡ None }
+        ensures condition { result.condition ≡ None }
         ensures copied { result.copied ≡ None }
         ensures exit { result.exit ≡ None }
     {
         Outcome {
             change,
             classifier: None,
+            condition: None,
             copied: None,
             exit: None,
         }
     }
 
-    // The change, the classifier and the text.
-    pub(crate) fn into_parts(self) -> (Change, Option<P::Classifier>, Option<String>)
+    // The change, the classifier, the condition and the text.
+    pub(crate) fn into_parts(
+        self,
+    ) -> (
+        Change,
+        Option<P::Classifier>,
+        Option<P::Condition>,
+        Option<String>,
+    )
         ensures change { result.0 ≡ self.change }
         ensures classifier { result.1 ≡ self.classifier }
-        ensures copied { result.2 ≡ self.copied }
+        ensures condition { result.2 ≡ self.condition }
+        ensures copied { result.3 ≡ self.copied }
     {
         let Outcome {
             change,
             classifier,
+            condition,
             copied,
             exit: _,
         } = self;
-        (change, classifier, copied)
+        (change, classifier, condition, copied)
     }
 }
 
@@ -78,12 +91,13 @@ fn form<P: Parts>(
     alloc: Global,
     request: Request<P>,
 ) -> Result<Outcome<P>, MinusError>
-    requires { IsFormed state.now }
-    ensures leads { IfOk result (λ o. IsChange (control_of state.now) o.change
+    ensures leads { IfOk result (λ o. Leads state.now o.change
         (moved_by (effect (control_of state.now) (wanted_by request)))) }
-    ensures redraw { IfOk result (λ o. o.change.redraw ≡ (effect (control_of state.now) (wanted_by request)).redraw) }
+    ensures redraw { IfOk result (λ o. IsFormed state.now →
+        o.change.redraw ≡ (effect (control_of state.now) (wanted_by request)).redraw) }
     ensures handed { IfOk result (λ o. o.classifier ≡ handed (wanted_by request)) }
-    ensures copied { IfOk result (λ o. option_map string_bytes o.copied
+    ensures condition { IfOk result (λ o. o.condition ≡ handed_condition (wanted_by request)) }
+    ensures copied { IfOk result (λ o. IsFormed state.now → option_map string_bytes o.copied
         ≡ (effect (control_of state.now) (wanted_by request)).copies) }
     ensures exits { IfOk result (λ o. o.exit ≡ (effect (control_of state.now) (wanted_by request)).exits_by) }
     ensures possible { OnOk result (IsPossible (wanted_by request)) }
@@ -102,6 +116,7 @@ fn form<P: Parts>(
             Ok(Outcome {
                 change,
                 classifier: None,
+                condition: None,
                 copied: None,
                 exit: Some((ExitStrategy::ProcessQuit, 0)),
             })
@@ -124,6 +139,14 @@ fn form<P: Parts>(
         Request::SetClassifier(classifier) => Ok(Outcome {
             change: state.redrawn(Redraw::Stays),
             classifier: Some(classifier),
+            condition: None,
+            copied: None,
+            exit: None,
+        }),
+        Request::SetCondition(condition) => Ok(Outcome {
+            change: state.redrawn(Redraw::Stays),
+            classifier: None,
+            condition: Some(condition),
             copied: None,
             exit: None,
         }),
@@ -138,11 +161,19 @@ fn form<P: Parts>(
             Ok(Outcome {
                 change: state.unselected(),
                 classifier: None,
+                condition: None,
                 copied,
                 exit: None,
             })
         }
         Request::ShowHelp(text) => Ok(Outcome::of(state.turned(alloc, text)?)),
+        Request::MoveToNextMatch(jump) => Ok(Outcome::of(state.to_next_match(jump))),
+        Request::MoveToPrevMatch(jump) => Ok(Outcome::of(state.to_prev_match(jump))),
+        Request::Search(mode) => Ok(Outcome::of(state.opened(alloc, mode)?)),
+        Request::FetchSearchQuery => Ok(Outcome::of(state.opened(
+            alloc,
+            state.search_state.search_mode,
+        )?)),
     }
 }
 

@@ -1,13 +1,16 @@
 //! The page, as texts.
 ghost use Rattle.std.specs.Prelude.{◌≡◌, ◌<◌, ◌++◌, [], length, replicate, map, string_bytes, OnOk, IfOk};
-ghost use Rattle.minus_state.specs.Page.{page_with};
-ghost use Rattle.minus_state.specs.States.{control_of};
+ghost use Rattle.minus_term.specs.FullRedraw.{page_of};
 ghost use Rattle.minus_state.specs.Showing.{row_text};
 
+use crate::prompt_drawing::shown_texts;
+use crate::search::OpenPrompt;
 use crate::state::PagerState;
 use minus_state::change::Change;
+use minus_state::confirmed_rows;
 use minus_state::showing::ShownRow;
 use minus_term::MinusError;
+use regex::Regex;
 use std::alloc::{AllocError, Global};
 
 // Adds copies of texts.
@@ -35,20 +38,21 @@ fn push_blanks(alloc: Global, rows: &mut Vec<String>, count: usize) -> Result<()
     Ok(())
 }
 
-// The texts of the page of a state that has these rows of text at its top.
+// The texts of a page of so many rows that has these rows of text at its top, and this in its last row.
 fn page_rows(
     alloc: Global,
-    state: &PagerState,
+    rows: usize,
     shown: &[ShownRow<'_>],
+    last: String,
 ) -> Result<Vec<String>, AllocError>
-    requires { length shown.now < state.now.rows }
+    requires { length shown.now < rows }
     ensures { IfOk result (λ p. map string_bytes p.items
-        ≡ (page_with (control_of state.now) (map row_text shown.now)).texts) }
+        ≡ (page_of rows (map row_text shown.now) (string_bytes last)).texts) }
 {
     let mut page = Vec::new(alloc);
     push_copies(alloc, &mut page, shown)?;
-    push_blanks(alloc, &mut page, state.rows - 1 - shown.len())?;
-    page.push(state.displayed_prompt(alloc)?)?;
+    push_blanks(alloc, &mut page, rows - 1 - shown.len())?;
+    page.push(last)?;
     Ok(page)
 }
 
@@ -63,24 +67,81 @@ pub struct Page {
 
 impl Page {
     ghost use Rattle.std.specs.Prelude.{◌≡◌, ◌<◌, length, map, string_bytes, IfOk, IfErr};
-    ghost use Rattle.minus_state.specs.Changes.{shown_by};
-    ghost use Rattle.minus_state.specs.NextTexts.{IsNext};
-    ghost use Rattle.minus_state.specs.Page.{page_with};
-    ghost use Rattle.minus_state.specs.States.{control_of};
+    ghost use Rattle.minus_state.specs.Changes.{shown_by, IsFormedFor};
+    ghost use Rattle.minus_term.specs.SearchPrompt.{typed_page};
+    ghost use Rattle.minus_state.specs.OpenSearches.{typed_in};
+    ghost use Rattle.regex.specs.Strings.{regex_pattern};
+    ghost use Rattle.minus_state.specs.Confirming.{confirmed};
+    ghost use Rattle.minus_state.specs.Page.{page_with, shown};
+    ghost use Rattle.minus_state.specs.States.{control_of, IsFormed};
     ghost use Rattle.minus_state.specs.Showing.{row_text};
 
     // The page of a state that has these rows of text at its top.
     fn form(alloc: Global, state: &PagerState, shown: &[ShownRow<'_>]) -> Result<Page, MinusError>
-        requires { length shown.now < state.now.rows }
+        requires formed { IsFormed state.now }
+        requires few { length shown.now < state.now.rows }
         ensures rows { IfOk result (λ p. map string_bytes p.rows.items
             ≡ (page_with (control_of state.now) (map row_text shown.now)).texts) }
         ensures cursor { IfOk result (λ p. p.cursor
             ≡ (page_with (control_of state.now) (map row_text shown.now)).cursor) }
         ensures memory { IfErr result (λ e. e ≡ MinusError.Memory) }
     {
+        let last = state.displayed_prompt(alloc)?;
         Ok(Page {
-            rows: page_rows(alloc, state, shown)?,
+            rows: page_rows(alloc, state.rows, shown, last)?,
             cursor: None,
+        })
+    }
+
+    // The page of a state with this search prompt, of whose rows of text a change leaves those that are shown.
+    pub(crate) fn with_prompt(
+        alloc: Global,
+        state: &PagerState,
+        change: &Change,
+        prompt: &OpenPrompt,
+    ) -> Result<Page, MinusError>
+        requires belongs { IsFormedFor state.now change.now }
+        requires rows { change.now.rows ≡ state.now.rows }
+        ensures rows { IfOk result (λ p. map string_bytes p.rows.items
+            ≡ (typed_page state.now.rows (shown_by state.now change.now) (typed_in prompt.now)
+            prompt.now.editor.cursor).texts) }
+        ensures cursor { IfOk result (λ p. p.cursor
+            ≡ (typed_page state.now.rows (shown_by state.now change.now) (typed_in prompt.now)
+            prompt.now.editor.cursor).cursor) }
+        ensures memory { IfErr result (λ e. e ≡ MinusError.Memory) }
+    {
+        let shown = state.shown_after(alloc, change, 0)?;
+        let last = prompt.displayed(alloc)?;
+        let cursor = prompt.cursor() as u16;
+        Ok(Page {
+            rows: page_rows(alloc, state.rows, &shown, last)?,
+            cursor: Some(cursor),
+        })
+    }
+
+    // The page of a state with this search prompt, which shows where a pattern leads.
+    pub(crate) fn with_preview(
+        alloc: Global,
+        state: &PagerState,
+        pattern: &Regex,
+        prompt: &OpenPrompt,
+    ) -> Result<Page, MinusError>
+        requires { IsFormed state.now }
+        ensures rows { IfOk result (λ p. map string_bytes p.rows.items
+            ≡ (typed_page state.now.rows (shown (confirmed (control_of state.now) (regex_pattern pattern.now)))
+            (typed_in prompt.now) prompt.now.editor.cursor).texts) }
+        ensures cursor { IfOk result (λ p. p.cursor
+            ≡ (typed_page state.now.rows (shown (confirmed (control_of state.now) (regex_pattern pattern.now)))
+            (typed_in prompt.now) prompt.now.editor.cursor).cursor) }
+        ensures memory { IfErr result (λ e. e ≡ MinusError.Memory) }
+    {
+        let found = confirmed_rows(alloc, state, pattern)?;
+        let texts = shown_texts(alloc, &found)?;
+        let last = prompt.displayed(alloc)?;
+        let cursor = prompt.cursor() as u16;
+        Ok(Page {
+            rows: page_rows(alloc, state.rows, &texts, last)?,
+            cursor: Some(cursor),
         })
     }
 
@@ -90,7 +151,8 @@ impl Page {
         state: &PagerState,
         change: &Change,
     ) -> Result<Page, MinusError>
-        requires belongs { IsNext state.now.screen change.now.text }
+        requires formed { IsFormed state.now }
+        requires belongs { IsFormedFor state.now change.now }
         requires rows { change.now.rows ≡ state.now.rows }
         ensures rows { IfOk result (λ p. map string_bytes p.rows.items
             ≡ (page_with (control_of state.now) (shown_by state.now change.now)).texts) }

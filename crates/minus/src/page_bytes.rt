@@ -7,6 +7,7 @@ ghost use Rattle.minus_term.specs.Operations.{GoTo, ClearRow, Put};
 ghost use Rattle.minus_term.specs.Written.{written_all};
 ghost use Rattle.minus_term.specs.FullRedraw.{full_ops, prompt_ops, row_ops};
 ghost use Rattle.minus_term.specs.Scroll.{down_ops, up_ops};
+ghost use Rattle.minus_term.specs.SearchPrompt.{closing_ops};
 ghost use Rattle.minus_state.specs.Showing.{row_text};
 
 use minus_state::showing::ShownRow;
@@ -100,6 +101,26 @@ pub(crate) fn push_page(
     Ok(())
 }
 
+// Adds what closes the search prompt: its row is cleared and the cursor hidden, and the whole page is drawn.
+pub(crate) fn push_closing(
+    alloc: Global,
+    out: &mut Vec<u8>,
+    rows: u16,
+    shown: &[ShownRow<'_>],
+    prompt: &str,
+) -> Result<(), AllocError>
+    ensures { OnOk result (out.new.items
+        ≡ out.old.items ++ written_all (closing_ops rows (map row_text shown.now) prompt.now)) }
+{
+    write_ops(
+        alloc,
+        out,
+        &[DrawOp::GoTo(0, rows), DrawOp::ClearRow, DrawOp::HideCursor],
+    )?;
+    push_page(alloc, out, rows, shown, prompt)?;
+    Ok(())
+}
+
 // Adds a move of the page's rows up by k: its last k rows of text, which these are, and the prompt row are put.
 pub(crate) fn push_scroll_down(
     alloc: Global,
@@ -173,7 +194,8 @@ fn push_texts_anew(
     texts: &[ShownRow<'_>],
 ) -> Result<(), AllocError>
     requires { first + length texts.now < 2 ^ 16 }
-    ensures { OnOk result (out.new.items ≡ out.old.items ++ written_all (rows_anew first (map row_text texts.now) 0)) }
+    ensures { OnOk result (out.new.items
+        ≡ out.old.items ++ written_all (rows_anew first (map row_text texts.now) 0)) }
 {
     for (i, text) in texts.iter().enumerate() {
         push_row_anew(alloc, out, first + i as u16, text)?;

@@ -1,7 +1,7 @@
 //! A pager that is not yet on show.
 ghost use Rattle.std.specs.Prelude.{◌≡◌, ◌++◌, ◌∷◌, [], map, OnOk, OnErr, IfErr, IfOk};
 ghost use Rattle.minus.specs.Reads.{wanted_of};
-ghost use Rattle.minus.specs.Table.{sets_data, appends_data, sets_classifier};
+ghost use Rattle.minus.specs.Table.{sets_data, appends_data, sets_classifier, sets_condition};
 
 use crate::commands::CommandOf;
 use crate::parts::{Boxes, Parts};
@@ -17,7 +17,7 @@ pub struct PagerOf<P: Parts> {
     pub(crate) queue: Vec<CommandOf<P>>,
 }
 
-/// A pager whose session keeps a register of bindings, or a classifier in a box.
+/// A pager whose session keeps what its caller boxes, or a register of bindings.
 pub type Pager = PagerOf<Boxes>;
 
 impl<P: Parts> PagerOf<P> {
@@ -85,6 +85,24 @@ impl<P: Parts> PagerOf<P> {
         ensures memory { IfErr result (λ e. e ≡ MinusError.Memory) }
     {
         self.queue(CommandOf::SetInputClassifier(classifier))?;
+        Ok(())
+    }
+
+    /// Lets this condition say whether the page of the session shows where a query leads.
+    ///
+    /// # Errors
+    ///
+    /// [`MinusError::Memory`] where memory ran out, nothing has changed, and the condition is dropped.
+    pub fn set_incremental_search_condition(
+        &mut self,
+        condition: P::Condition,
+    ) -> Result<(), MinusError>
+        ensures ok { OnOk result (map wanted_of self.new.queue.items
+            ≡ map wanted_of self.old.queue.items ++ sets_condition condition ∷ []) }
+        ensures err { OnErr result (self.new.queue.items ≡ self.old.queue.items) }
+        ensures memory { IfErr result (λ e. e ≡ MinusError.Memory) }
+    {
+        self.queue(CommandOf::IncrementalSearchCondition(condition))?;
         Ok(())
     }
 }

@@ -2,6 +2,7 @@
 use crate::commands::{CommandOf, IoCommand};
 use crate::input::InputEvent;
 use crate::parts::Parts;
+use crate::search::SearchMode;
 use minus_text::LineNumbers;
 
 // What is asked for: a line each of the table of commands (`Wanted` of `specs/Table`), in its order.
@@ -22,6 +23,7 @@ pub(crate) enum Request<P: Parts> {
     RedrawPrompt,
     RedrawPage,
     SetClassifier(P::Classifier),
+    SetCondition(P::Condition),
     SetNumbers(LineNumbers),
     SetWrapping(bool),
     ShiftLeft(usize),
@@ -30,6 +32,10 @@ pub(crate) enum Request<P: Parts> {
     ClearSelection,
     CopySelection,
     ShowHelp(Option<String>),
+    MoveToNextMatch(usize),
+    MoveToPrevMatch(usize),
+    Search(SearchMode),
+    FetchSearchQuery,
 }
 
 impl<P: Parts> Request<P> {
@@ -50,6 +56,11 @@ impl<P: Parts> Request<P> {
             InputEvent::UpdateSelection { x, y } => Request::UpdateSelection { x, y },
             InputEvent::ClearSelection => Request::ClearSelection,
             InputEvent::CopySelection => Request::CopySelection,
+            InputEvent::Search(mode) => Request::Search(mode),
+            InputEvent::NextMatch => Request::MoveToNextMatch(1),
+            InputEvent::PrevMatch => Request::MoveToPrevMatch(1),
+            InputEvent::MoveToNextMatch(jump) => Request::MoveToNextMatch(jump),
+            InputEvent::MoveToPrevMatch(jump) => Request::MoveToPrevMatch(jump),
             InputEvent::FollowOutput(follow) => Request::Follow(follow),
             InputEvent::RestorePrompt => Request::RestorePrompt,
             InputEvent::ShowHelp => Request::ShowHelp(None),
@@ -67,6 +78,7 @@ impl<P: Parts> Request<P> {
             IoCommand::RedrawPrompt => Request::RedrawPrompt,
             IoCommand::RedrawDisplay | IoCommand::DrawAppendedText(..) => Request::RedrawPage,
             IoCommand::SetUpperMark(mark) => Request::MoveMark(mark),
+            IoCommand::FetchSearchQuery => Request::FetchSearchQuery,
         }
     }
 
@@ -85,6 +97,7 @@ impl<P: Parts> Request<P> {
             CommandOf::FollowOutput(follow) => Request::Follow(follow),
             CommandOf::UserInput(event) => Request::of_event(event),
             CommandOf::Io(command) => Request::of_io(command),
+            CommandOf::IncrementalSearchCondition(condition) => Request::SetCondition(condition),
             CommandOf::SetInputClassifier(classifier) => Request::SetClassifier(classifier),
         }
     }

@@ -1,4 +1,11 @@
-//! Search in texts, and the editor of a query.
+//! Search in texts, the editor of a query, and where a query leads.
+pub use minus_state::search::condition::{
+    ConditionCall, KeptCondition, NeverShows, SearchCondition,
+};
+pub use minus_state::search::matches::Matches;
+pub use minus_state::search::open_prompt::OpenPrompt;
+pub use minus_state::search::opts::{IncrementalSearchOpts, SearchOpts, search_opts};
+pub use minus_state::search::preview::incremental_preview;
 pub use minus_state::search::{InputStatus, SearchMode};
 pub use minus_text::search::{
     HighlightMatchesArgs, Patterns, Term, found_rows_go_on, highlight_line_matches,

@@ -2,8 +2,9 @@
 ghost use Rattle.std.specs.Prelude.{◌≡◌, string_bytes};
 ghost use Rattle.std.specs.Option.{option_map, unwrap_or};
 ghost use Rattle.minus_state.specs.Control.{IsClamped};
-ghost use Rattle.minus_state.specs.ShownPrompt.{prompt_row_of};
+ghost use Rattle.minus_state.specs.ShownPrompt.{prompt_row as row_shown};
 ghost use Rattle.minus_state.specs.States.{control_of, settings_of, IsFormed};
+ghost use Rattle.minus.specs.Table.{condition_kept};
 ghost use Rattle.minus.specs.declared.status.Status.TheVariants as stands;
 
 use crate::answer::Answer;
@@ -16,9 +17,12 @@ use crate::request::Request;
 use crate::state::{ExitStrategy, PagerState, RunMode};
 use crate::status::Status;
 use crate::step_drawing::{Drawing, push_step};
+use crate::taken::Taken;
+use crate::waiting::{fed_event, last_of};
 use minus_state::change::{Change, NextText, Redraw};
-use minus_term::{CleanupError, MinusError, OutputSink, cleanup, draw_bytes};
+use minus_term::{CleanupError, Event, MinusError, OutputSink, cleanup, draw_bytes};
 use std::alloc::Global;
+use std::collections::VecDeque;
 
 /// A pager over a sink, generic in what it keeps of its caller's.
 pub struct Core<S, P: Parts> {
@@ -26,14 +30,16 @@ pub struct Core<S, P: Parts> {
     pub(crate) sink: S,
     pub(crate) state: PagerState,
     pub(crate) classifier: P::Classifier,
+    pub(crate) condition: Option<P::Condition>,
     pub(crate) prompt_row: String,
     pub(crate) drawing: Vec<u8>,
+    pub(crate) waiting: VecDeque<InputOf<P>>,
     pub(crate) mode: RunMode,
     pub(crate) status: Status,
     ghost formed: { IsFormed state },
     ghost clamped: { IsClamped (control_of state) },
     ghost prompted: { status ≡ stands.Running → string_bytes prompt_row
-        ≡ prompt_row_of state.cols (settings_of state) },
+        ≡ row_shown (control_of state) },
 }
 
 // By hand: a derived drop would stand anew in the proof of each function that lets one go.
@@ -44,15 +50,17 @@ impl<S: Drop, P: Parts> Drop for Core<S, P> {
             sink: _,
             state: _,
             classifier: _,
+            condition: _,
             prompt_row: _,
             drawing: _,
+            waiting: _,
             mode: _,
             status: _,
         } = self;
     }
 }
 
-/// A pager over a sink that keeps a register of bindings, the default one at first, or a classifier in a box.
+/// A pager over a sink that keeps what its caller boxes, or a register of bindings, the default one at first.
 pub type Session<S> = Core<S, Boxes>;
 
 // The prompt row: a new one, or the one that is kept.
@@ -74,21 +82,30 @@ fn keep<T: Drop>(kept: &mut T, new: Option<T>)
     }
 }
 
+// Puts a condition in the place of the one that is kept, if there is one.
+fn keep_condition<Q: Drop>(kept: &mut Option<Q>, new: Option<Q>)
+    ensures { kept.new ≡ condition_kept kept.old new }
+{
+    if let Some(new) = new {
+        *kept = Some(new);
+    }
+}
+
 impl<S, P: Parts> Core<S, P> {
     ghost use Rattle.std.specs.Prelude.{◌≡◌, map, OnOk, OnErr, IfOk, IfErr, string_bytes};
     ghost use Rattle.std.specs.Option.{option_map, unwrap_or};
-    ghost use Rattle.minus_state.specs.Changes.{IsChange};
+    ghost use Rattle.minus_state.specs.Changes.{IsChange, IsFormedFor};
     ghost use Rattle.minus_state.specs.Control.{Control};
-    ghost use Rattle.minus_state.specs.NextTexts.{IsNext};
     ghost use Rattle.minus_state.specs.Page.{page};
     ghost use Rattle.minus_state.specs.ShownPrompt.{prompt_row};
     ghost use Rattle.minus_state.specs.Sizes.{IsSize};
     ghost use Rattle.minus_state.specs.States.{control_of};
     ghost use Rattle.minus.specs.Core.{seen_of};
+    ghost use Rattle.minus.specs.Drawings.{IsDrawable};
     ghost use Rattle.minus.specs.Outcomes.{LeadsClamped};
     ghost use Rattle.minus.specs.SessionDrawings.{DrawsBetween};
     ghost use Rattle.minus.specs.Steps.{mode_told};
-    ghost use Rattle.minus.specs.Table.{drawing_by};
+    ghost use Rattle.minus.specs.Table.{condition_kept, drawing_by};
 
     /// The state: what its screen answers is the document of the text on show.
     pub fn state(&self) -> &PagerState
@@ -119,7 +136,15 @@ impl<S, P: Parts> Core<S, P> {
         ensures memory { IfErr result (λ e. e ≡ MinusError.Memory) }
     {
         let change = self.state.change_to(NextText::Same, Redraw::Stays);
-        Page::of_change(self.alloc, &self.state, &change)
+        match self.state.open_search() {
+            Some(search) => match &search.preview {
+                Some(pattern) => {
+                    Page::with_preview(self.alloc, &self.state, pattern, &search.prompt)
+                }
+                None => Page::with_prompt(self.alloc, &self.state, &change, &search.prompt),
+            },
+            None => Page::of_change(self.alloc, &self.state, &change),
+        }
     }
 
     /// Makes room for this number of bytes of text more, so that a program that knows how much it appends takes the
@@ -141,9 +166,11 @@ impl<S, P: Parts> Core<S, P> {
     // Draws the page that a change leads to into the buffer of drawings: its prompt row is this one, or else the one
     // drawn last.
     fn draw(&mut self, change: &Change, row: &Option<String>) -> Result<(), MinusError>
-        requires belongs { IsNext self.old.state.screen change.now.text }
+        requires belongs { IsFormedFor self.old.state change.now }
         requires running { self.old.status ≡ Status.Running }
         ensures drawn { OnOk result ((new : Control) → IsChange (control_of self.old.state) change.now new →
+            IsDrawable (drawing_by change.now.redraw (control_of self.old.state) change.now.mark)
+            (control_of self.old.state) new →
             unwrap_or (option_map string_bytes row.now) (prompt_row (control_of self.old.state)) ≡ prompt_row new →
             DrawsBetween self.new (drawing_by change.now.redraw (control_of self.old.state) change.now.mark)
             (control_of self.old.state) new) }
@@ -173,42 +200,52 @@ impl<S, P: Parts> Core<S, P> {
         requires running { self.old.status ≡ Status.Running }
         requires leads { LeadsClamped (control_of self.old.state) outcome.change }
         ensures done { OnOk result ((new : Control) → IsChange (control_of self.old.state) outcome.change new →
-            seen_of self.new ≡ record (seen_of self.old)
-            { control = new; classifier = unwrap_or outcome.classifier self.old.classifier }) }
+            seen_of self.new ≡ record (seen_of self.old) {
+              control = new;
+              classifier = unwrap_or outcome.classifier self.old.classifier;
+              condition = condition_kept self.old.condition outcome.condition;
+            }) }
         ensures drawn { OnOk result ((new : Control) → IsChange (control_of self.old.state) outcome.change new →
+            IsDrawable (drawing_by outcome.change.redraw (control_of self.old.state) outcome.change.mark)
+            (control_of self.old.state) new →
             DrawsBetween self.new (drawing_by outcome.change.redraw (control_of self.old.state) outcome.change.mark)
             (control_of self.old.state) new) }
         ensures copied { IfOk result (λ text. text ≡ outcome.copied) }
         ensures size { OnOk result (IsSize self.new.state.cols self.new.state.rows) }
         ensures sink { self.new.sink ≡ self.old.sink }
+        ensures waiting { self.new.waiting ≡ self.old.waiting }
         ensures err { OnErr result (seen_of self.new ≡ seen_of self.old) }
         ensures memory { IfErr result (λ e. e ≡ MinusError.Memory) }
     {
-        let (change, classifier, copied) = outcome.into_parts();
+        let (change, classifier, condition, copied) = outcome.into_parts();
         let row = self.state.new_prompt_row(self.alloc, &change)?;
         self.draw(&change, &row)?;
         self.state.place(self.alloc, change)?;
         keep(&mut self.prompt_row, row);
         keep(&mut self.classifier, classifier);
+        keep_condition(&mut self.condition, condition);
         Ok(copied)
     }
 }
 
 impl<S: OutputSink + Drop, P: Calls> Core<S, P> {
-    ghost use Rattle.std.specs.Prelude.{◌≡◌, ◌↔◌, true, map, option_map, string_bytes, None, Some, OnOk, OnErr, IfOk, IfErr, IsOk, IsErrOf};
+    ghost use Rattle.std.specs.Prelude.{◌≡◌, ◌≤◌, ◌↔◌, is_some, true, map, option_map, string_bytes, None, Some, OnOk, OnErr, IfOk, IfErr, IsOk, IsErrOf};
+    ghost use Rattle.std.specs.VecDeque.{deque_len};
     ghost use Rattle.std.specs.Io.KnownBytes.{Appends};
     ghost use Rattle.minus_term.specs.Counts.{Stays, Rises};
     ghost use Rattle.minus_term.specs.Refusals.{refusal_of};
     ghost use Rattle.minus_term.specs.Terminal.{CleanupBreaksOff};
     ghost use Rattle.minus_state.specs.States.{control_of};
-    ghost use Rattle.minus.specs.Asked.{Asks, taken};
+    ghost use Rattle.minus.specs.Asked.{Asks, taken, checked_as};
     ghost use Rattle.minus.specs.Core.{seen_of};
-    ghost use Rattle.minus.specs.Outcomes.{IsOutcome, LeadsClamped, ExitsWith};
-    ghost use Rattle.minus.specs.Reads.{Told, told_of, event_wanted, wanted_of, wanted_by};
-    ghost use Rattle.minus.specs.SessionSteps.{IsAsked, IsStepOf, IsRefusedStepOf};
+    ghost use Rattle.minus.specs.Outcomes.{LeadsClamped, IsTakenBy, ExitsWith};
+    ghost use Rattle.minus.specs.Reads.{Told, an_event, told_of, event_wanted, wanted_of, wanted_by};
+    ghost use Rattle.minus.specs.Says.{says_of};
+    ghost use Rattle.minus.specs.SessionSteps.{IsAsked, IsTakenOf, IsUntakenOf, IsStepOf, IsRefusedStepOf};
     ghost use Rattle.minus.specs.Steps.{cleanup_after};
     ghost use Rattle.minus.specs.Table.{Wanted, Exit, types_nothing};
     ghost use Rattle.minus.specs.Asked.{IsRequest, IsHelpText};
+    ghost use Rattle.minus.specs.Works.{Work};
 
     // The text that help is opened with, if there is one: the classifier's; while help is open, the classifier is not
     // asked.
@@ -226,7 +263,8 @@ impl<S: OutputSink + Drop, P: Calls> Core<S, P> {
 
     // A request as it is worked off: help has its text.
     fn with_help(&self, request: Request<P>) -> Result<Request<P>, MinusError>
-        ensures ok { IfOk result (λ r. IsRequest P.Classifier.says (seen_of self.now) (wanted_by request)
+        ensures ok { IfOk result (λ r.
+            IsRequest (says_of P.Condition.judges P.Classifier.says) (seen_of self.now) (wanted_by request)
             (wanted_by r)) }
         ensures memory { IfErr result (λ e. e ≡ MinusError.Memory) }
     {
@@ -238,7 +276,8 @@ impl<S: OutputSink + Drop, P: Calls> Core<S, P> {
 
     // The request that an input is, for an event by the classifier's answer, and whether the typed prefix goes with it.
     fn resolve(&self, input: InputOf<P>) -> Result<(Request<P>, bool), MinusError>
-        ensures asked { IfOk result (λ r. IsAsked P.Classifier.says self.now (told_of input) (wanted_by r.0) r.1) }
+        ensures asked { IfOk result (λ r.
+            IsAsked (says_of P.Condition.judges P.Classifier.says) self.now (told_of input) (wanted_by r.0) r.1) }
         ensures typed { IfOk result (λ r. r.1 ≡ true → types_nothing (wanted_by r.0) ≡ true) }
         ensures memory { IfErr result (λ e. e ≡ MinusError.Memory) }
     {
@@ -256,50 +295,51 @@ impl<S: OutputSink + Drop, P: Calls> Core<S, P> {
         }
     }
 
-    // Applies what comes of a request that is no exit, and writes what was drawn. A refusal of the sink fails the
+    // Applies what comes of an input that does not exit, and writes what was drawn. A refusal of the sink fails the
     // session.
-    fn change(&mut self, outcome: Outcome<P>) -> Result<Answer, MinusError>
+    fn change(&mut self, outcome: Outcome<P>) -> Result<Taken, MinusError>
         requires running { self.old.status ≡ stands.Running }
         requires leads { LeadsClamped (control_of self.old.state) outcome.change }
-        ensures step { IfOk result (λ a. (told : Told P.Classifier) → (w : Wanted P.Classifier) →
-            Asks P.Classifier.says (seen_of self.old) told w →
-            IsOutcome (control_of self.old.state) (taken (seen_of self.old) told w).control w outcome →
-            outcome.exit ≡ None →
-            IsStepOf S.seen P.Classifier.says self.old told self.new a) }
-        ensures refused { IfErr result (λ e. (told : Told P.Classifier) → (w : Wanted P.Classifier) →
-            Asks P.Classifier.says (seen_of self.old) told w →
-            IsOutcome (control_of self.old.state) (taken (seen_of self.old) told w).control w outcome →
-            outcome.exit ≡ None →
-            IsRefusedStepOf S.seen P.Classifier.says self.old told self.new e) }
+        ensures taken { IfOk result (λ t. (told : Told P.Condition P.Classifier) → (work : Work) →
+            IsTakenBy (says_of P.Condition.judges P.Classifier.says) (seen_of self.old) told outcome work →
+            IsTakenOf S.seen (says_of P.Condition.judges P.Classifier.says) self.old told self.new t) }
+        ensures refused { IfErr result (λ e. (told : Told P.Condition P.Classifier) → (work : Work) →
+            IsTakenBy (says_of P.Condition.judges P.Classifier.says) (seen_of self.old) told outcome work →
+            IsUntakenOf S.seen (says_of P.Condition.judges P.Classifier.says) self.old told self.new e) }
+        ensures waiting { self.new.waiting ≡ self.old.waiting }
     {
         let copied = self.apply(outcome)?;
-        let answer = Answer::of_step(self.alloc, None, copied);
+        let taken = Taken { exit: None, copied };
         if self.drawing.is_empty() {
-            return Ok(answer);
+            return Ok(taken);
         }
         if let Err(cause) = draw_bytes(&mut self.sink, &self.drawing) {
             self.status = Status::Failed;
             return Err(MinusError::Draw(cause));
         }
-        Ok(answer)
+        Ok(taken)
     }
 
-    // Cleans the terminal up, and ends the session by an exit; the typed prefix goes, or stays. A refusal fails the
-    // session.
+    // Cleans the terminal up, and ends the session by an exit; the typed prefix goes, or stays, and nothing waits any
+    // more. A refusal fails the session.
     fn exit(
         &mut self,
         prefix: Option<String>,
         exit: (ExitStrategy, u8),
-    ) -> Result<Answer, MinusError>
+    ) -> Result<Taken, MinusError>
         requires running { self.old.status ≡ stands.Running }
-        ensures step { IfOk result (λ a. (told : Told P.Classifier) → (w : Wanted P.Classifier) →
-            Asks P.Classifier.says (seen_of self.old) told w →
+        requires closed { (control_of self.old.state).search ≡ None }
+        ensures taken { IfOk result (λ t.
+            (told : Told P.Condition P.Classifier) → (w : Wanted P.Condition P.Classifier) →
+            Asks (says_of P.Condition.judges P.Classifier.says) (seen_of self.old) told w →
             ExitsWith (seen_of self.old) told w exit (option_map string_bytes prefix) →
-            IsStepOf S.seen P.Classifier.says self.old told self.new a) }
-        ensures refused { IfErr result (λ e. (told : Told P.Classifier) → (w : Wanted P.Classifier) →
-            Asks P.Classifier.says (seen_of self.old) told w →
+            IsTakenOf S.seen (says_of P.Condition.judges P.Classifier.says) self.old told self.new t) }
+        ensures refused { IfErr result (λ e.
+            (told : Told P.Condition P.Classifier) → (w : Wanted P.Condition P.Classifier) →
+            Asks (says_of P.Condition.judges P.Classifier.says) (seen_of self.old) told w →
             ExitsWith (seen_of self.old) told w exit (option_map string_bytes prefix) →
-            IsRefusedStepOf S.seen P.Classifier.says self.old told self.new e) }
+            IsUntakenOf S.seen (says_of P.Condition.judges P.Classifier.says) self.old told self.new e) }
+        ensures fewer { deque_len self.new.waiting ≤ deque_len self.old.waiting }
     {
         self.state.place_prefix(prefix);
         if let Err(cause) = cleanup(&mut self.sink, true) {
@@ -307,19 +347,25 @@ impl<S: OutputSink + Drop, P: Calls> Core<S, P> {
             return Err(MinusError::Cleanup(cause));
         }
         self.status = Status::Ended;
-        Ok(Answer::of_step(self.alloc, Some(exit), None))
+        self.let_none_wait();
+        Ok(Taken {
+            exit: Some(exit),
+            copied: None,
+        })
     }
 
     // Works a request off: forms what comes of it, and applies that, or exits. The typed prefix goes first, or stays.
-    fn execute(&mut self, request: Request<P>, clears_prefix: bool) -> Result<Answer, MinusError>
+    fn execute(&mut self, request: Request<P>, clears_prefix: bool) -> Result<Taken, MinusError>
         requires running { self.old.status ≡ stands.Running }
+        requires closed { (control_of self.old.state).search ≡ None }
         requires typed { clears_prefix ≡ true → types_nothing (wanted_by request) ≡ true }
-        ensures step { IfOk result (λ a. (told : Told P.Classifier) →
-            IsAsked P.Classifier.says self.old told (wanted_by request) clears_prefix →
-            IsStepOf S.seen P.Classifier.says self.old told self.new a) }
-        ensures refused { IfErr result (λ e. (told : Told P.Classifier) →
-            IsAsked P.Classifier.says self.old told (wanted_by request) clears_prefix →
-            IsRefusedStepOf S.seen P.Classifier.says self.old told self.new e) }
+        ensures taken { IfOk result (λ t. (told : Told P.Condition P.Classifier) →
+            IsAsked (says_of P.Condition.judges P.Classifier.says) self.old told (wanted_by request) clears_prefix →
+            IsTakenOf S.seen (says_of P.Condition.judges P.Classifier.says) self.old told self.new t) }
+        ensures refused { IfErr result (λ e. (told : Told P.Condition P.Classifier) →
+            IsAsked (says_of P.Condition.judges P.Classifier.says) self.old told (wanted_by request) clears_prefix →
+            IsUntakenOf S.seen (says_of P.Condition.judges P.Classifier.says) self.old told self.new e) }
+        ensures fewer { deque_len self.new.waiting ≤ deque_len self.old.waiting }
     {
         let mut outcome = outcome_of(&self.state, self.alloc, request, clears_prefix)?;
         match outcome.exit {
@@ -328,22 +374,110 @@ impl<S: OutputSink + Drop, P: Calls> Core<S, P> {
         }
     }
 
+    // Works an input off, with no search prompt open.
+    fn work_off(&mut self, input: InputOf<P>) -> Result<Taken, MinusError>
+        requires running { self.old.status ≡ stands.Running }
+        requires closed { (control_of self.old.state).search ≡ None }
+        ensures taken { IfOk result (λ t.
+            IsTakenOf S.seen (says_of P.Condition.judges P.Classifier.says) self.old (told_of input) self.new t) }
+        ensures refused { IfErr result (λ e.
+            IsUntakenOf S.seen (says_of P.Condition.judges P.Classifier.says) self.old (told_of input) self.new e) }
+        ensures fewer { deque_len self.new.waiting ≤ deque_len self.old.waiting }
+    {
+        let (request, clears_prefix) = self.resolve(input)?;
+        let taken = self.execute(request, clears_prefix)?;
+        Ok(taken)
+    }
+
+    // What comes of a key of the search prompt that is open.
+    fn keyed(&self, event: &Event) -> Result<Outcome<P>, MinusError>
+        requires searching { is_some (control_of self.now.state).search ≡ true }
+        requires fed { checked_as {Q = P.Condition} {K = P.Classifier} (an_event event.now) ≡ None }
+        ensures leads { IfOk result (λ o. LeadsClamped (control_of self.now.state) o.change) }
+        ensures taken { IfOk result (λ o. (work : Work) × IsTakenBy (says_of P.Condition.judges P.Classifier.says)
+            (seen_of self.now) (an_event event.now) o work) }
+        ensures refused { IfErr result (λ e. IsUntakenOf S.seen (says_of P.Condition.judges P.Classifier.says)
+            self.now (an_event event.now) self.now e) }
+    {
+        let Some(search) = self.state.open_search() else {
+            return Ok(Outcome::of(self.state.redrawn(Redraw::Stays)));
+        };
+        let condition = self.condition.as_ref();
+        let change = self.state.keyed(self.alloc, condition, search, event)?;
+        let outcome = Outcome::of(change);
+        Ok(outcome)
+    }
+
+    // Edits the query of the open search prompt by an event, or closes the prompt, and draws what has changed.
+    fn edit(&mut self, event: Event) -> Result<Taken, MinusError>
+        requires running { self.old.status ≡ stands.Running }
+        requires searching { is_some (control_of self.old.state).search ≡ true }
+        requires fed { checked_as {Q = P.Condition} {K = P.Classifier} (an_event event) ≡ None }
+        ensures taken { IfOk result (λ t.
+            IsTakenOf S.seen (says_of P.Condition.judges P.Classifier.says) self.old (an_event event) self.new t) }
+        ensures refused { IfErr result (λ e.
+            IsUntakenOf S.seen (says_of P.Condition.judges P.Classifier.says) self.old (an_event event) self.new e) }
+    {
+        let outcome = self.keyed(&event)?;
+        self.change(outcome)
+    }
+
+    // Takes an input while the search prompt is open: its editor has it, or it waits.
+    fn take_searching(&mut self, input: InputOf<P>) -> Result<Taken, MinusError>
+        requires running { self.old.status ≡ stands.Running }
+        requires searching { is_some (control_of self.old.state).search ≡ true }
+        ensures taken { IfOk result (λ t.
+            IsTakenOf S.seen (says_of P.Condition.judges P.Classifier.says) self.old (told_of input) self.new t) }
+        ensures refused { IfErr result (λ e.
+            IsUntakenOf S.seen (says_of P.Condition.judges P.Classifier.says) self.old (told_of input) self.new e) }
+    {
+        match fed_event(&input) {
+            Some(event) => self.edit(event),
+            None => self.wait(input),
+        }
+    }
+
+    // Takes one input: with no search prompt open it is worked off.
+    fn take(&mut self, input: InputOf<P>) -> Result<Taken, MinusError>
+        requires running { self.old.status ≡ stands.Running }
+        ensures taken { IfOk result (λ t.
+            IsTakenOf S.seen (says_of P.Condition.judges P.Classifier.says) self.old (told_of input) self.new t) }
+        ensures refused { IfErr result (λ e.
+            IsUntakenOf S.seen (says_of P.Condition.judges P.Classifier.says) self.old (told_of input) self.new e) }
+        ensures fewer { (control_of self.old.state).search ≡ None →
+            deque_len self.new.waiting ≤ deque_len self.old.waiting }
+    {
+        if self.is_searching() {
+            return self.take_searching(input);
+        }
+        self.work_off(input)
+    }
+
     /// Works an input off, and draws what has changed. An event that types nothing lets the typed prefix go first; a
     /// command leaves it. A prompt row that is another one than before is drawn after what the command asks for.
+    ///
+    /// While the search prompt is open each other event is a key of it: it edits the query or moves its cursor, and the
+    /// page shows where the query leads, or it closes the prompt, with the query taken or not. A command, or a new
+    /// size, waits. Once the prompt is closed, what waits is worked off in its order, until a prompt is open again or
+    /// the session exits, which lets the rest go. What cannot be done does not wait; where it cannot be done once it is
+    /// worked off, it is passed over, and its refusal is answered.
     ///
     /// # Errors
     ///
     /// [`MinusError::Failed`] where the sink refused before, and [`MinusError::Ended`] where the session has exited.
     /// [`MinusError::NewlineInPrompt`] where a prompt or a message has a newline, [`MinusError::BadSize`] where a size
-    /// is asked for whose columns or rows are not from 1 to 65,535, and [`MinusError::Memory`] where there is no
-    /// memory: nothing has changed then, and nothing was written. [`MinusError::Draw`] and, at an exit,
-    /// [`MinusError::Cleanup`] where the sink refuses a write or the flush, or takes nothing: a beginning of the bytes
-    /// was written, and the session has failed.
+    /// is asked for whose columns or rows are not from 1 to 65,535, [`MinusError::QueryFull`] where a key types a
+    /// character to a query of 65,534 characters, and [`MinusError::Memory`] where there is no memory: nothing has
+    /// changed then, and nothing was written. Where there is no memory for an input that waited, or for its refusal,
+    /// the session has failed. [`MinusError::Draw`] and, at an exit, [`MinusError::Cleanup`] where the sink refuses a
+    /// write or the flush, or takes nothing: a beginning of the bytes was written, and the session has failed.
     pub fn step(&mut self, input: InputOf<P>) -> Result<Answer, MinusError>
-        ensures step { IfOk result (λ a. IsStepOf S.seen P.Classifier.says self.old (told_of input) self.new a) }
+        ensures step { IfOk result (λ a.
+            IsStepOf S.seen (says_of P.Condition.judges P.Classifier.says) self.old (told_of input) self.new a) }
 
         // A refusal: what it leaves, and when it comes.
-        ensures refused { IfErr result (λ e. IsRefusedStepOf S.seen P.Classifier.says self.old
+        ensures refused { IfErr result (λ e.
+            IsRefusedStepOf S.seen (says_of P.Condition.judges P.Classifier.says) self.old
             (told_of input) self.new e) }
         ensures failed { IsErrOf result MinusError.Failed ↔ ((seen_of self.old).status ≡ stands.Failed) }
         ensures ended { IsErrOf result MinusError.Ended ↔ ((seen_of self.old).status ≡ stands.Ended) }
@@ -353,9 +487,31 @@ impl<S: OutputSink + Drop, P: Calls> Core<S, P> {
             Status::Ended => return Err(MinusError::Ended),
             Status::Failed => return Err(MinusError::Failed),
         }
-        let (request, clears_prefix) = self.resolve(input)?;
-        let answer = self.execute(request, clears_prefix)?;
-        Ok(answer)
+        let first = match self.take(input) {
+            Ok(first) => first,
+            Err(refusal) => return Err(refusal),
+        };
+        let mut refused = Vec::new(self.alloc);
+        if first.exit.is_some() {
+            return Ok(Answer::of_step(first.exit, None, refused));
+        }
+        let mut copied = first.copied;
+        while let Some(next) = self.next_waiting() {
+            match self.take(next) {
+                Ok(taken) => {
+                    if taken.exit.is_some() {
+                        return Ok(Answer::of_step(taken.exit, copied, refused));
+                    }
+                    copied = last_of(copied, taken.copied);
+                }
+                Err(refusal) => {
+                    if let Err(refusal) = self.pass_over(&mut refused, refusal) {
+                        return Err(refusal);
+                    }
+                }
+            }
+        }
+        Ok(Answer::of_step(None, copied, refused))
     }
 
     /// Ends the session and hands its sink back. Unless it has exited, the terminal is cleaned up first, also where the
@@ -378,8 +534,10 @@ impl<S: OutputSink + Drop, P: Calls> Core<S, P> {
             mut sink,
             state: _,
             classifier: _,
+            condition: _,
             prompt_row: _,
             drawing: _,
+            waiting: _,
             mode: _,
             status: _,
         } = self;

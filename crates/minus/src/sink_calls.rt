@@ -7,9 +7,8 @@ ghost use Rattle.minus_term.specs.FullRedraw.{prompt_ops, row_ops};
 ghost use Rattle.minus_term.specs.Writes.{WriteRefuses};
 ghost use Rattle.minus_term.specs.Written.{written_all};
 ghost use Rattle.minus_state.specs.Control.{Control, clamp, moved_to};
-ghost use Rattle.minus_state.specs.Changes.{IsChange, shown_by};
+ghost use Rattle.minus_state.specs.Changes.{IsChange, IsFormedFor, shown_by};
 ghost use Rattle.minus.specs.Drawings.{whole_page, page_rows, append_from, scroll_to};
-ghost use Rattle.minus_state.specs.NextTexts.{IsNext};
 ghost use Rattle.minus_state.specs.States.{IsFormed, control_of};
 
 use crate::page_bytes::{push_prompt, push_rows};
@@ -159,7 +158,7 @@ pub fn draw_append_text<W: OutputSink>(
 
 // The bytes that put the rows of text on the page that a change of a state leads to.
 fn written_page(alloc: Global, state: &PagerState, change: &Change) -> Result<Vec<u8>, AllocError>
-    requires { IsNext state.now.screen change.now.text }
+    requires { IsFormedFor state.now change.now }
     ensures { IfOk result (λ bytes. bytes.items ≡ written_all (flat_map row_ops (shown_by state.now change.now))) }
 {
     let shown = state.shown_after(alloc, change, 0)?;

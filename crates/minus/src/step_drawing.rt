@@ -6,14 +6,15 @@ ghost use Rattle.minus_state.specs.ShownPrompt.{prompt_row};
 ghost use Rattle.minus_term.specs.Append.{append_ops};
 ghost use Rattle.minus_term.specs.Scroll.{scroll_ops};
 ghost use Rattle.minus_term.specs.Written.{written_all};
-ghost use Rattle.minus.specs.Drawings.{append_from, ops_of, ops_of_step};
+ghost use Rattle.minus.specs.Drawings.{append_from, ops_of, ops_of_step, IsDrawable};
 ghost use Rattle.minus_state.specs.States.{control_of, IsFormed};
-ghost use Rattle.minus_state.specs.NextTexts.{IsNext};
-ghost use Rattle.minus_state.specs.Changes.{IsChange, shown_by};
+ghost use Rattle.minus_state.specs.Changes.{IsChange, IsFormedFor, shown_by};
 
 use crate::page_bytes::{
-    push_changed_prompt, push_page, push_prompt, push_rows_anew, push_scroll_down, push_scroll_up,
+    push_changed_prompt, push_closing, push_page, push_prompt, push_rows_anew, push_scroll_down,
+    push_scroll_up,
 };
+use crate::prompt_drawing::{push_cursor, push_edit, push_opening};
 use crate::state::PagerState;
 use minus_state::change::{Change, Redraw};
 use std::alloc::{AllocError, Global};
@@ -42,6 +43,14 @@ pub(crate) enum Drawing {
     },
     // The prompt row.
     Prompt,
+    // The search prompt, which opens in the place of the prompt row.
+    Opening,
+    // The cursor in the search prompt.
+    Cursor,
+    // The page with the search prompt, whose query was edited.
+    Edit,
+    // The page in the place of the search prompt, which closes.
+    Closing,
 }
 
 impl Drawing {
@@ -67,16 +76,21 @@ impl Drawing {
             },
             Redraw::Appended => Drawing::Full,
             Redraw::PromptRow => Drawing::Prompt,
+            Redraw::Opening => Drawing::Opening,
+            Redraw::Cursor => Drawing::Cursor,
+            Redraw::Edit => Drawing::Edit,
+            Redraw::Closing => Drawing::Closing,
         }
     }
 
-    // Whether it draws the prompt row.
+    // Whether it draws the prompt row, or what stands in its place.
     fn draws_prompt(self) -> bool
         ensures { result ≡ draws_prompt self }
     {
         match self {
             Drawing::Nothing | Drawing::Append { .. } => false,
             Drawing::Full | Drawing::Scroll { .. } | Drawing::Prompt => true,
+            Drawing::Opening | Drawing::Cursor | Drawing::Edit | Drawing::Closing => true,
         }
     }
 }
@@ -91,7 +105,7 @@ fn push_scroll<'a>(
     to: usize,
     prompt: &str,
 ) -> Result<(), AllocError>
-    requires { IsNext state.now.screen change.now.text }
+    requires { IsFormedFor state.now change.now }
     ensures { OnOk result (out.new.items ≡ out.old.items ++ written_all
         (scroll_ops change.now.rows from to (shown_by state.now change.now) prompt.now)) }
 {
@@ -115,7 +129,7 @@ fn push_rows_after<'a>(
     first: usize,
     were: usize,
 ) -> Result<(), AllocError>
-    requires belongs { IsNext state.now.screen change.now.text }
+    requires belongs { IsFormedFor state.now change.now }
     requires few { were < 2 ^ 16 }
     ensures { OnOk result (out.new.items
         ≡ out.old.items ++ written_all (append_ops first were (shown_by state.now change.now))) }
@@ -138,7 +152,7 @@ pub(crate) fn push_append<'a>(
     old_count: usize,
 ) -> Result<(), AllocError>
     requires formed { IsFormed state.now }
-    requires belongs { IsNext state.now.screen change.now.text }
+    requires belongs { IsFormedFor state.now change.now }
     ensures { OnOk result ((new : Control) → IsChange (control_of state.now) change.now new →
         out.new.items ≡ out.old.items ++ written_all (append_from new first old_count)) }
 {
@@ -158,9 +172,9 @@ fn push_drawing<'a>(
     prompt: &str,
 ) -> Result<(), AllocError>
     requires formed { IsFormed state.now }
-    requires belongs { IsNext state.now.screen change.now.text }
-    ensures { OnOk result ((new : Control) → IsChange (control_of state.now) change.now new → prompt.now
-        ≡ prompt_row new →
+    requires belongs { IsFormedFor state.now change.now }
+    ensures { OnOk result ((new : Control) → IsChange (control_of state.now) change.now new →
+        IsDrawable drawing (control_of state.now) new → prompt.now ≡ prompt_row new →
         out.new.items ≡ out.old.items ++ written_all (ops_of drawing new)) }
 {
     match drawing {
@@ -174,6 +188,13 @@ fn push_drawing<'a>(
             state, alloc, out, change, first, old_count,
         ),
         Drawing::Prompt => push_prompt(alloc, out, change.rows as u16, prompt),
+        Drawing::Opening => push_opening(state, alloc, out, change),
+        Drawing::Cursor => push_cursor(state, alloc, out, change),
+        Drawing::Edit => push_edit(state, alloc, out, change),
+        Drawing::Closing => {
+            let shown = state.shown_after(alloc, change, 0)?;
+            push_closing(alloc, out, change.rows as u16, &shown, prompt)
+        }
     }
 }
 
@@ -188,10 +209,10 @@ pub(crate) fn push_step<'a>(
     before: &str,
 ) -> Result<(), AllocError>
     requires formed { IsFormed state.now }
-    requires belongs { IsNext state.now.screen change.now.text }
+    requires belongs { IsFormedFor state.now change.now }
     requires before { before.now ≡ prompt_row (control_of state.now) }
-    ensures { OnOk result ((new : Control) → IsChange (control_of state.now) change.now new → prompt.now
-        ≡ prompt_row new →
+    ensures { OnOk result ((new : Control) → IsChange (control_of state.now) change.now new →
+        IsDrawable drawing (control_of state.now) new → prompt.now ≡ prompt_row new →
         out.new.items ≡ out.old.items ++ written_all (ops_of_step drawing (control_of state.now) new)) }
 {
     push_drawing(state, alloc, out, drawing, change, prompt)?;
@@ -210,10 +231,11 @@ pub(crate) fn draw_page(
     change: &Change,
 ) -> Result<(String, Vec<u8>), AllocError>
     requires formed { IsFormed state.now }
-    requires belongs { IsNext state.now.screen change.now.text }
+    requires belongs { IsFormedFor state.now change.now }
     ensures prompt { IfOk result (λ d. (new : Control) → IsChange (control_of state.now) change.now new →
         string_bytes d.0 ≡ prompt_row new) }
     ensures bytes { IfOk result (λ d. (new : Control) → IsChange (control_of state.now) change.now new →
+        IsDrawable drawing (control_of state.now) new →
         d.1.items ≡ written_all (ops_of drawing new)) }
 {
     let prompt = state.prompt_row_after(alloc, change)?;

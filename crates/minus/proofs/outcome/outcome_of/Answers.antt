@@ -13,18 +13,18 @@ returns-then-not-clears_prefix-clause-ok g c =
     let old : Control = control_of c.args.state.now in
     let formed = c.in_ok-outcome.ensures in
     let left : Control = clamp (moved_by (effect old (wanted_by c.args.request))) in
-    let clamped = clamped_change c.args.state.now c.in_ok-outcome.outcome.change c.clamp.new.self (moved_by (effect old (wanted_by c.args.request))) c.requires.formed formed.leads c.clamp.ensures in
+    let clamped = clamped_change c.args.state.now c.in_ok-outcome.outcome.change c.clamp.new.self (moved_by (effect old (wanted_by c.args.request))) c.requires.formed (formed.leads c.requires.formed) c.clamp.ensures in
     let stays = subst (λ (b : Bool). IsChange old c.clamp.new.self (cleared b left)) (sym c.if-not-clears_prefix.true) clamped in
-    finished old c.args.clears_prefix (wanted_by c.args.request) c.in_ok-outcome.outcome _ c.requires.typed formed.possible formed.redraw formed.handed formed.copied formed.exits (rw c.clamp.ensures refl) refl refl refl stays
+    finished old c.args.clears_prefix (wanted_by c.args.request) c.in_ok-outcome.outcome _ c.requires.typed formed.possible (formed.redraw c.requires.formed) formed.handed formed.condition (formed.copied c.requires.formed) formed.exits (rw c.clamp.ensures refl) refl refl refl refl stays
 
 pub returns-clause-ok : goal.returns-clause-ok
 returns-clause-ok g c =
     let old : Control = control_of c.args.state.now in
     let formed = c.in_ok-outcome.ensures in
     let left : Control = clamp (moved_by (effect old (wanted_by c.args.request))) in
-    let clamped = clamped_change c.args.state.now c.in_ok-outcome.outcome.change c.clamp.new.self (moved_by (effect old (wanted_by c.args.request))) c.requires.formed formed.leads c.clamp.ensures in
+    let clamped = clamped_change c.args.state.now c.in_ok-outcome.outcome.change c.clamp.new.self (moved_by (effect old (wanted_by c.args.request))) c.requires.formed (formed.leads c.requires.formed) c.clamp.ensures in
     let on : c.args.clears_prefix ≡ true = c.if-not-clears_prefix.false in
-    finished old c.args.clears_prefix (wanted_by c.args.request) c.in_ok-outcome.outcome _ c.requires.typed formed.possible formed.redraw formed.handed formed.copied formed.exits (rw c.clamp.ensures refl) refl refl refl
+    finished old c.args.clears_prefix (wanted_by c.args.request) c.in_ok-outcome.outcome _ c.requires.typed formed.possible (formed.redraw c.requires.formed) formed.handed formed.condition (formed.copied c.requires.formed) formed.exits (rw c.clamp.ensures refl) refl refl refl refl
     (rw on (record {
       belongs = clamped.belongs;
       document = clamped.document;
@@ -33,6 +33,10 @@ returns-clause-ok g c =
       rows_are = clamped.rows_are;
       left_is = clamped.left_is;
       ends_are = clamped.ends_are;
+      term_is = clamped.term_is;
+      search_mark_is = clamped.search_mark_is;
       settings_are = cleared_settings old.settings c.clamp.new.self left.settings c.new.result c.new.ensures.bytes clamped.settings_are;
       help_is = clamped.help_is;
+      mode_is = clamped.mode_is;
+      search_is = clamped.search_is;
     }))

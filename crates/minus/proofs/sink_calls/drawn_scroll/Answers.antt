@@ -1,10 +1,12 @@
 -- The rows that the moved mark brings onto the page.
-use Rattle.std.proofs.Common.{ap, ◌∙◌}
+use Rattle.std.proofs.Common.{sym, ap, subst, ◌∙◌}
 use Rattle.minus_term.specs.Written.{written_all}
 use Rattle.minus_state.specs.Control.{Control, moved_to}
 use Rattle.minus_state.specs.States.{control_of}
 use Rattle.minus_state.specs.declared.change.Redraw.TheVariants.{Moved}
-use Rattle.minus.specs.Drawings.{ops_of}
+use Rattle.minus.specs.Drawings.{ops_of, IsDrawable}
+use Rattle.minus.specs.declared.step_drawing.Drawing.{Drawing}
+use Rattle.minus.proofs.KeyedLaws.{moved_drawable}
 use Rattle.minus.specs.Table.{drawing_by}
 use Rattle.minus.proofs.sink_calls.drawn_scroll.Goals as goal
 
@@ -12,5 +14,7 @@ pub returns-clause-bytes : goal.returns-clause-bytes
 returns-clause-bytes c =
     let old : Control = control_of c.args.state.now in
     let is = c.moved_to-change.ensures in
-    let drawing = c.of-drawing.ensures ∙ ap (λ r. drawing_by r old c.moved_to-change.result.mark) is.redraw ∙ ap (λ m. drawing_by Moved old m) is.next.mark_is in
-    c.in_ok-bytes.ensures.bytes _ is.next ∙ ap (λ d. written_all (ops_of d (moved_to old c.args.mark))) drawing
+    let drawing = c.of-drawing.ensures ∙ ap (λ r. drawing_by r old c.moved_to-change.result.mark) is.redraw ∙ ap (λ m. drawing_by Moved old m) (is.next c.requires).mark_is in
+    let new : Control = moved_to old c.args.mark in
+    let can = subst (λ (d : Drawing). IsDrawable d old new) (sym drawing) (moved_drawable old new new.mark) in
+    c.in_ok-bytes.ensures.bytes _ (is.next c.requires) can ∙ ap (λ d. written_all (ops_of d (moved_to old c.args.mark))) drawing

@@ -7,4 +7,4 @@ use Rattle.minus_state.proofs.ChangeLaws.{shown_is}
 use Rattle.minus.proofs.sink_calls.written_rows.Goals as goal
 
 pub returns-clause-bytes : goal.returns-clause-bytes
-returns-clause-bytes c = c.in_ok-bytes.ensures ∙ ap (λ texts. written_all (flat_map row_ops texts)) (shown_is c.args.state.now c.moved_to-change.result _ c.requires c.moved_to-change.ensures.next)
+returns-clause-bytes c = c.in_ok-bytes.ensures ∙ ap (λ texts. written_all (flat_map row_ops texts)) (shown_is c.args.state.now c.moved_to-change.result _ c.requires (c.moved_to-change.ensures.next c.requires))

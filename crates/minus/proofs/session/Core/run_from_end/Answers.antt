@@ -1,7 +1,6 @@
 -- How far the list was worked off, at each end.
-use Rattle.std.proofs.Common.{length, reverse, sym, ap, subst, ◌∙◌, arith}
+use Rattle.std.proofs.Common.{length, reverse, sym, ap, ◌∙◌, arith}
 use Rattle.std.proofs.lemmas.List.{length-append, length-reverse}
-use Rattle.minus_term.specs.Counts.{Stays}
 use Rattle.minus_term.proofs.SinkLaws.{Stays-trans}
 use Rattle.minus.specs.Reads.{told_of}
 use Rattle.minus.specs.Core.{seen_of}
@@ -39,7 +38,7 @@ returns-in-Err g c =
     let refused = c.in-Err.ensures.refused in
     record {
       run = run_stopped _ told_of (seen_of c.args.self.now) (seen_of c.loop-input.self) (seen_of c.step.new.self) (reverse c.args.left.now.items) c.loop-input.left.items c.pop.new.self.items c.in-Some.input c.loop-input.done _ c.in-Err.refusal _ _ _ c.loop-input.invariant.1 c.in-Some.ensures.items refused.refuses;
-      stays = λ well. subst (λ (x : _). Stays (g.S.OutputSink.seen c.args.self.now.sink).refusals (g.S.OutputSink.seen x).refusals) (sym (refused.untouched well)) c.loop-input.invariant.0;
+      stays = λ well. Stays-trans _ _ _ c.loop-input.invariant.0 (refused.stays well);
       rises = λ fault. Stays-rises _ _ _ c.loop-input.invariant.0 (refused.rises fault);
     }
 

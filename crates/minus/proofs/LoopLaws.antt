@@ -1,0 +1,361 @@
+-- A step, from the inputs that it takes.
+use Rattle.std.proofs.Common.{◌≡◌, ℕ, ◌+◌, ◌≤◌, take, true, false, List, [], ◌∷◌, ◌++◌, length, Option, None, Some, is_some, refl, sym, ap, subst, ◌∙◌, arith, inl, inr, ◌⊎◌, ◌↔◌, Result, Ok, Err}
+use Rattle.std.specs.Io.KnownBytes.{Appends}
+use Rattle.std.proofs.KnownBytes.{Appends-trans}
+use Rattle.std.proofs.Math.Seq.{take-append-add}
+use Rattle.std.proofs.lemmas.List.{length-append}
+use Rattle.minus_term.specs.Counts.{AppendsFront, Stays, Rises}
+use Rattle.minus_term.specs.Operations.{Op}
+use Rattle.minus_term.specs.Refusals.{Refusal, for_memory, for_newline, for_hook_id, for_free_hook_id, for_size, for_description, for_binding, for_query, for_mode, after_failure, after_exit, at_setup, at_cleanup, at_drawing, for_pattern, of_no_call, refusal_of}
+use Rattle.minus_term.specs.declared.error.MinusError.{MinusError}
+use Rattle.minus_term.specs.declared.error.MinusError.TheVariants.{Memory, Failed, Ended}
+use Rattle.minus_term.specs.Written.{written_all}
+use Rattle.minus_term.proofs.WrittenLaws.{written_all-append}
+use Rattle.minus.specs.Says.{Says}
+use Rattle.minus_state.specs.Control.{Control}
+use Rattle.minus_state.specs.ShownPrompt.{prompt_row}
+use Rattle.minus.specs.declared.answer.Answer.{Answer}
+use Rattle.minus.specs.declared.status.Status.{Status}
+use Rattle.minus.specs.declared.status.Status.TheVariants as status
+use Rattle.minus.specs.Answers.{IsAnswer}
+use Rattle.minus.specs.Asked.{taken}
+use Rattle.minus.specs.Drawn.{IsDrawing, Drawn, BrokenOff}
+use Rattle.minus.specs.Reads.{Told}
+use Rattle.minus.specs.Seen.{Seen}
+use Rattle.minus.specs.Steps.{Took, Fails, IsStep, IsUntouched, Refuses, IsSinkFault, is_passed}
+use Rattle.minus.specs.Table.{Exit}
+use Rattle.minus.specs.Works.{Work, Takes, IsUnfit, Worked, first, more, passed, at_once, later, IsNext, IsAtRest, leaving, last_copied, is_full, passed_in}
+use Rattle.minus.proofs.DrawnLaws.{nothing_drawn}
+use Rattle.minus.proofs.JoinLaws.{some_join, quiet_parts, quiet_reached, quiet_from}
+use Rattle.minus.proofs.LeavesLaws.{tail_there, leaves_more}
+use Rattle.minus.proofs.StartLaws.{Stays-rises}
+use Rattle.minus.proofs.WorksLaws.{takes_rows, some_works, last_passed, works_reach, status_kept, rows_kept, not_left}
+
+-- the works so far, and what they were drawn by
+abbrev pub SoFar : {Q K : Type 0} → Says Q K → Seen Q K → Told Q K → Option (List ℕ) → Option (List ℕ) → Seen Q K → List Refusal → Option (List ℕ) → Type 0
+SoFar says old told a b s refused copied = (works : List Work) × Worked says old told works refused copied s × Drawn a b old.control works s.control
+
+-- the drawing of some works, and of one more after them
+drawing_more : {Q K : Type 0} (says : Says Q K) (old : Seen Q K) (told : Told Q K) (s new : Seen Q K) (next : Told Q K) (rest : List (Told Q K)) (works : List Work) (refused : List Refusal) (copied text : Option (List ℕ)) (work : Work) (xs ys : List Op) → Worked says old told works refused copied s → Takes says (leaving s rest) next work text new
+    → IsDrawing xs old.control works s.control → IsDrawing ys s.control (work ∷ []) new.control → IsDrawing (xs ++ ys) old.control (works ++ work ∷ []) new.control
+drawing_more {Q = Q} {K = K} says old told s new next rest works refused copied text work xs ys h t d e = joined works h d
+  where
+    joined : (vs : List Work) → Worked says old told vs refused copied s → IsDrawing xs old.control vs s.control → IsDrawing (xs ++ ys) old.control (vs ++ work ∷ []) new.control
+    joined [] k f = absurd (let some : 1 ≤ length {A = Work} [] = some_works says old told s [] refused copied k in omega (arith, some))
+    joined (v ∷ vs) k f =
+        some_join old.control s.control new.control v work vs [] xs ys (λ part. takes_rows says (leaving s rest) new next work text t (not_left (is_full work.drawing) false part)) (works_reach says old told s (v ∷ vs) refused copied k)
+        (tail_there old.control (passed_in (v ∷ vs)) s.control (last_passed says old told s (v ∷ vs) refused copied k)) f e
+
+-- ---- the loop
+
+-- the first input
+pub begun : {Q K : Type 0} (says : Says Q K) (old new : Seen Q K) (told : Told Q K) (text a b : Option (List ℕ)) → Took says None old told text new a b → SoFar says old told a b new [] text
+begun says old new told text a b t = (t.0 ∷ [], first t.1, t.2)
+
+-- one more of those that wait
+pub one_more : {Q K : Type 0} (says : Says Q K) (old : Seen Q K) (told : Told Q K) (s new : Seen Q K) (next : Told Q K) (rest : List (Told Q K)) (refused : List Refusal) (copied text a b c : Option (List ℕ)) → SoFar says old told a b s refused copied → IsNext s next rest → Took says None (leaving s rest) next text new b c
+    → SoFar says old told a c new refused (last_copied copied text)
+one_more says old told s new next rest refused copied text a b c (works, h, d) n (work, t, e) = (
+  works ++ work ∷ [],
+  more h n t,
+  (
+    d.0 ++ e.0,
+    subst (λ (x : List ℕ). Appends a c x) (sym (written_all-append d.0 e.0)) (Appends-trans a b c (written_all d.0) (written_all e.0) d.1 e.1),
+    drawing_more says old told s new next rest works refused copied text work d.0 e.0 h t d.2 e.2,
+  ),
+)
+
+-- what was drawn before an untouched session
+drawn_to : {Q K : Type 0} (a b c : Option (List ℕ)) (old : Control) (works : List Work) (s new : Seen Q K) (rest : List (Told Q K)) → IsUntouched (leaving s rest) new b c → Drawn a b old works s.control → Drawn a c old works new.control
+drawn_to a b c old works s new rest k d = subst (λ (x : Option (List ℕ)). Drawn a x old works new.control) (sym k.1) (subst (λ (x : Control). Drawn a b old works x) (sym (ap (λ (x : Seen _ _). x.control) k.0)) d)
+
+-- what is passed over could not be done, and has changed nothing
+pub passed_unfit : {Q K : Type 0} (says : Says Q K) (refusal : Refusal) (s : Seen Q K) (told : Told Q K) (new : Seen Q K) (a b : Option (List ℕ)) → Fails says refusal s told new a b → is_passed refusal ≡ true → IsUnfit says s told refusal × IsUntouched s new a b
+passed_unfit says for_newline s told new a b f p = f
+passed_unfit says (for_size cols rows) s told new a b f p = f
+passed_unfit says for_memory s told new a b f p = absurd (cc)
+passed_unfit says (at_cleanup cause) s told new a b f p = absurd (cc)
+passed_unfit says at_drawing s told new a b f p = absurd (cc)
+passed_unfit says for_mode s told new a b f p = absurd f
+passed_unfit says (at_setup cause) s told new a b f p = absurd f
+passed_unfit says (for_hook_id hook id) s told new a b f p = absurd f
+passed_unfit says for_free_hook_id s told new a b f p = absurd f
+passed_unfit says (for_description place cause) s told new a b f p = absurd f
+passed_unfit says (for_binding place) s told new a b f p = absurd f
+passed_unfit says for_query s told new a b f p = absurd (cc)
+passed_unfit says for_pattern s told new a b f p = absurd f
+passed_unfit says after_failure s told new a b f p = absurd f
+passed_unfit says after_exit s told new a b f p = absurd f
+passed_unfit says of_no_call s told new a b f p = absurd f
+
+-- one that is passed over
+pub passed_over : {Q K : Type 0} (says : Says Q K) (old : Seen Q K) (told : Told Q K) (s new : Seen Q K) (next : Told Q K) (rest : List (Told Q K)) (refused : List Refusal) (refusal : Refusal) (copied a b c : Option (List ℕ)) → SoFar says old told a b s refused copied → IsNext s next rest → Fails says refusal (leaving s rest) next new b c
+    → is_passed refusal ≡ true → SoFar says old told a c new (refused ++ refusal ∷ []) copied
+passed_over says old told s new next rest refused refusal copied a b c (works, h, d) n f p =
+    let (unfit, same) = passed_unfit says refusal (leaving s rest) next new b c f p in
+    (works, subst (λ (x : Seen _ _). Worked says old told works (refused ++ refusal ∷ []) copied x) (sym same.0) (passed refusal h n unfit), drawn_to a b c old.control works s new rest same d)
+
+-- ---- how a step ends
+
+not_running : {X : Type 0} (x : Status) → x ≡ status.Ended → x ≡ status.Running → X
+not_running x ended running = absurd (let both : status.Ended ≡ status.Running = sym ended ∙ running in cc)
+
+-- at rest
+pub step_rests : {Q K : Type 0} (says : Says Q K) (old s : Seen Q K) (told : Told Q K) (answer : Answer) (refused : List Refusal) (copied a b : Option (List ℕ)) → old.status ≡ status.Running → SoFar says old told a b s refused copied → IsAtRest s → IsAnswer None copied refused answer → IsStep says old told s answer a b
+step_rests says old s told answer refused copied a b running (works, h, d) rests answers = record {
+  works = works;
+  refused = refused;
+  copied = copied;
+  exit = None;
+  last = s;
+  running = running;
+  ends = (h, rests, refl);
+  stands = status_kept says old told s works refused copied h ∙ running;
+  answers = answers;
+  writes = d;
+  leaves = λ before k on. leaves_more a b old.control s.control works before (λ part. rows_kept says old told s works refused copied h part) (tail_there old.control (passed_in works) s.control (last_passed says old told s works refused copied h)) d k;
+}
+
+-- with an exit
+pub step_exits : {Q K : Type 0} (says : Says Q K) (old new : Seen Q K) (told : Told Q K) (exit : Exit) (answer : Answer) (text a b : Option (List ℕ)) → old.status ≡ status.Running → Took says (Some exit) old told text new a b → IsAnswer (Some exit) None [] answer → IsStep says old told new answer a b
+step_exits says old new told exit answer text a b running (x, none, is, h) answers = record {
+  works = [];
+  refused = [];
+  copied = None;
+  exit = Some exit;
+  last = old;
+  running = running;
+  ends = (told, x, at_once, is);
+  stands = ap (λ (s : Seen _ _). s.status) is;
+  answers = answers;
+  writes = (a, nothing_drawn a old.control, h);
+  leaves = λ before k on. not_running new.status (ap (λ (s : Seen _ _). s.status) is) on;
+}
+
+-- with an exit among those that wait
+pub step_exits_later : {Q K : Type 0} (says : Says Q K) (old s new : Seen Q K) (told next : Told Q K) (rest : List (Told Q K)) (exit : Exit) (answer : Answer) (refused : List Refusal) (copied text a b c : Option (List ℕ)) → old.status ≡ status.Running → SoFar says old told a b s refused copied → IsNext s next rest → Took says (Some exit) (leaving s rest) next text new b c
+    → IsAnswer (Some exit) copied refused answer → IsStep says old told new answer a c
+step_exits_later says old s new told next rest exit answer refused copied text a b c running (works, h, d) n (x, none, is, e) answers = record {
+  works = works;
+  refused = refused;
+  copied = copied;
+  exit = Some exit;
+  last = leaving s rest;
+  running = running;
+  ends = (next, x, later h n, is);
+  stands = ap (λ (s : Seen _ _). s.status) is;
+  answers = answers;
+  writes = (b, d, e);
+  leaves = λ before k on. not_running new.status (ap (λ (s : Seen _ _). s.status) is) on;
+}
+
+-- ---- how a step is refused
+
+-- a session that fails, after another one or again
+fails_after : {Q K : Type 0} (last mid new : Seen Q K) → mid ≡ last → new ≡ record mid { status = status.Failed } → new ≡ record last { status = status.Failed }
+fails_after last mid new e f = f ∙ ap (λ (x : Seen _ _). let r : Seen _ _ = record x { status = status.Failed } in r) e
+
+fails_again : {Q K : Type 0} (last mid new : Seen Q K) → mid ≡ record last { status = status.Failed } → new ≡ record mid { status = status.Failed } → new ≡ record last { status = status.Failed }
+fails_again last mid new e f = fails_after (record last { status = status.Failed }) mid new e f
+
+front_join : (a b c : Option (List ℕ)) (xs ys : List ℕ) → Appends a b xs → AppendsFront b c ys → AppendsFront a c (xs ++ ys)
+front_join a b c xs ys h (k, l, e) = (length xs + k, (let n = length-append xs ys in omega (arith, n, l)), subst (λ (z : List ℕ). Appends a c z) (sym (take-append-add xs ys k)) (Appends-trans a b c xs (take k ys) h e))
+
+-- one drawing after others broken off
+broken_more : {Q K : Type 0} (says : Says Q K) (old : Seen Q K) (told : Told Q K) (s new : Seen Q K) (next : Told Q K) (rest : List (Told Q K)) (refused : List Refusal) (copied text a b c : Option (List ℕ)) (work : Work) (works : List Work) → Worked says old told works refused copied s → Drawn a b old.control works s.control → Takes says (leaving s rest) next work text new
+    → BrokenOff b c s.control (work ∷ []) new.control → BrokenOff a c old.control (works ++ work ∷ []) new.control
+broken_more says old told s new next rest refused copied text a b c work works h d t (ops, front, draws, some) = (
+  d.0 ++ ops,
+  subst (λ (x : List ℕ). AppendsFront a c x) (sym (written_all-append d.0 ops)) (front_join a b c (written_all d.0) (written_all ops) d.1 front),
+  drawing_more says old told s new next rest works refused copied text work d.0 ops h t d.2 draws,
+  λ q. (
+      let parts = quiet_parts old.control works (work ∷ []) q in
+      let same : prompt_row s.control ≡ prompt_row old.control = ap prompt_row (works_reach says old told s works refused copied h) ∙ quiet_reached old.control old.control works refl parts.0 in
+      some (quiet_from old.control s.control (work ∷ []) same parts.1)
+      ),
+)
+
+-- by the input that it is told
+pub refused_at_once : {Q K : Type 0} (says : Says Q K) (refusal : Refusal) (old : Seen Q K) (told : Told Q K) (new : Seen Q K) (a b : Option (List ℕ)) → old.status ≡ status.Running → Fails says refusal old told new a b → Refuses says refusal old told new a b
+refused_at_once says for_memory old told new a b running h = (running, inl h)
+refused_at_once says for_newline old told new a b running h = (running, h.0, h.1)
+refused_at_once says (for_size cols rows) old told new a b running h = (running, h.0, h.1)
+refused_at_once says (at_cleanup cause) old told new a b running (exit, x, broken, fails) = (running, record { works = []; refused = []; copied = None; last = old; next = told; exit = exit; drawn = a; comes = at_once; exits = x; draws = nothing_drawn a old.control; broken = broken; failed = fails })
+refused_at_once says at_drawing old told new a b running (work, text, last, t, broken, fails) = (running, record { works = work ∷ []; refused = []; copied = text; last = last; worked = first t; broken = broken; failed = fails })
+refused_at_once says for_mode old told new a b running h = absurd h
+refused_at_once says (at_setup cause) old told new a b running h = absurd h
+refused_at_once says (for_hook_id hook id) old told new a b running h = absurd h
+refused_at_once says for_free_hook_id old told new a b running h = absurd h
+refused_at_once says (for_description place cause) old told new a b running h = absurd h
+refused_at_once says (for_binding place) old told new a b running h = absurd h
+refused_at_once says for_query old told new a b running h = (running, h.0, h.1)
+refused_at_once says for_pattern old told new a b running h = absurd h
+refused_at_once says after_failure old told new a b running h = absurd h
+refused_at_once says after_exit old told new a b running h = absurd h
+refused_at_once says of_no_call old told new a b running h = absurd h
+
+-- by one of those that wait, so that the session fails
+pub refused_later : {Q K : Type 0} (says : Says Q K) (refusal : Refusal) (old : Seen Q K) (told : Told Q K) (s mid new : Seen Q K) (next : Told Q K) (rest : List (Told Q K)) (refused : List Refusal) (copied a b c : Option (List ℕ)) → old.status ≡ status.Running → SoFar says old told a b s refused copied → IsNext s next rest → Fails says refusal (leaving s rest) next mid b c
+    → is_passed refusal ≡ false → new ≡ record mid { status = status.Failed } → Refuses says refusal old told new a c
+refused_later says for_memory old told s mid new next rest refused copied a b c running (works, h, d) n f p is = (
+  running,
+  inr (record {
+    works = works;
+    refused = refused;
+    copied = copied;
+    last = s;
+    next = next;
+    rest = rest;
+    worked = h;
+    waits = n;
+    drawn = subst (λ (x : Option (List ℕ)). Drawn a x old.control works s.control) (sym f.1) d;
+    failed = fails_after (leaving s rest) mid new f.0 is;
+  }),
+)
+refused_later says (at_cleanup cause) old told s mid new next rest refused copied a b c running (works, h, d) n (exit, x, broken, fails) p is = (
+  running,
+  record { works = works; refused = refused; copied = copied; last = leaving s rest; next = next; exit = exit; drawn = b; comes = later h n; exits = x; draws = d; broken = broken; failed = fails_again (taken (leaving s rest) next x.wanted) mid new fails is },
+)
+refused_later says at_drawing old told s mid new next rest refused copied a b c running (works, h, d) n (work, text, last, t, broken, fails) p is = (
+  running,
+  record {
+    works = works ++ work ∷ [];
+    refused = refused;
+    copied = last_copied copied text;
+    last = last;
+    worked = more h n t;
+    broken = broken_more says old told s last next rest refused copied text a b c work works h d t broken;
+    failed = fails_again last mid new fails is;
+  },
+)
+refused_later says for_newline old told s mid new next rest refused copied a b c running so n f p is = absurd (cc)
+refused_later says (for_size cols rows) old told s mid new next rest refused copied a b c running so n f p is = absurd (cc)
+refused_later says for_mode old told s mid new next rest refused copied a b c running so n f p is = absurd f
+refused_later says (at_setup cause) old told s mid new next rest refused copied a b c running so n f p is = absurd f
+refused_later says (for_hook_id hook id) old told s mid new next rest refused copied a b c running so n f p is = absurd f
+refused_later says for_free_hook_id old told s mid new next rest refused copied a b c running so n f p is = absurd f
+refused_later says (for_description place cause) old told s mid new next rest refused copied a b c running so n f p is = absurd f
+refused_later says (for_binding place) old told s mid new next rest refused copied a b c running so n f p is = absurd f
+refused_later says for_query old told s mid new next rest refused copied a b c running so n f p is = absurd (let both : None ≡ Some f.0.search = sym n.0 ∙ f.0.opened in cc)
+refused_later says for_pattern old told s mid new next rest refused copied a b c running so n f p is = absurd f
+refused_later says after_failure old told s mid new next rest refused copied a b c running so n f p is = absurd f
+refused_later says after_exit old told s mid new next rest refused copied a b c running so n f p is = absurd f
+refused_later says of_no_call old told s mid new next rest refused copied a b c running so n f p is = absurd f
+
+-- by want of memory to keep the refusal of one that is passed over: as where it was wanted at that one
+late_memory : {Q K : Type 0} (says : Says Q K) (refusal : Refusal) (old : Seen Q K) (told : Told Q K) (s mid new : Seen Q K) (next : Told Q K) (rest : List (Told Q K)) (refused : List Refusal) (copied a b c : Option (List ℕ)) → old.status ≡ status.Running → SoFar says old told a b s refused copied → IsNext s next rest → Fails says refusal (leaving s rest) next mid b c
+    → is_passed refusal ≡ true → new ≡ record mid { status = status.Failed } → Refuses says for_memory old told new a c
+late_memory says refusal old told s mid new next rest refused copied a b c running so n f p is = refused_later says for_memory old told s mid new next rest refused copied a b c running so n (passed_unfit says refusal (leaving s rest) next mid b c f p).1 refl is
+
+-- ---- what a call ensures of a session that an equal one stands for
+
+pub took_as : {Q K : Type 0} (says : Says Q K) (exit : Option Exit) (m : Seen Q K) (told : Told Q K) (text : Option (List ℕ)) (new s : Seen Q K) (b c d : Option (List ℕ)) → m ≡ s → b ≡ d → Took says exit m told text new b c → Took says exit s told text new d c
+took_as says exit m told text new s b c d e f h = subst (λ (x : Seen _ _). Took says exit x told text new d c) e (subst (λ (x : Option (List ℕ)). Took says exit m told text new x c) f h)
+
+pub fails_as : {Q K : Type 0} (says : Says Q K) (refusal : Refusal) (m : Seen Q K) (told : Told Q K) (new s : Seen Q K) (b c d : Option (List ℕ)) → m ≡ s → b ≡ d → Fails says refusal m told new b c → Fails says refusal s told new d c
+fails_as says refusal m told new s b c d x f h = subst (λ (y : Seen _ _). Fails says refusal y told new d c) x (subst (λ (y : Option (List ℕ)). Fails says refusal m told new y c) f h)
+
+-- one of those that wait was refused, and the session failed: by that refusal, or by memory for keeping it
+pub refused_so : {Q K : Type 0} (says : Says Q K) (old : Seen Q K) (told : Told Q K) (s m mid new : Seen Q K) (next : Told Q K) (refused : List Refusal) (copied a b d c e : Option (List ℕ)) (of out : Refusal) → old.status ≡ status.Running → SoFar says old told a b s refused copied → IsNext s next m.waiting → m ≡ leaving s m.waiting → d ≡ b → Fails says of m next mid d c
+    → new ≡ record mid { status = status.Failed } → e ≡ c → ((out ≡ of) × (is_passed of ≡ false)) ⊎ ((out ≡ for_memory) × (is_passed of ≡ true)) → Refuses says out old told new a e
+refused_so says old told s m mid new next refused copied a b d c e of out running so n seen same f is bytes why =
+    let fails : Fails says of (leaving s m.waiting) next mid b c = fails_as says of m next mid (leaving s m.waiting) d c b seen same f in
+    subst (λ (x : Option (List ℕ)). Refuses says out old told new a x) (sym bytes) (elim why [
+      | inl h ↦ subst (λ (x : Refusal). Refuses says x old told new a c) (sym h.0) (refused_later says of old told s mid new next m.waiting refused copied a b c running so n fails h.1 is)
+      | inr h ↦ subst (λ (x : Refusal). Refuses says x old told new a c) (sym h.0) (late_memory says of old told s mid new next m.waiting refused copied a b c running so n fails h.1 is)
+    ])
+
+-- what is passed over is no fault of the sink
+pub passed_no_fault : (refusal : Refusal) → is_passed refusal ≡ true → IsSinkFault refusal → ⊥
+passed_no_fault for_memory p x = x
+passed_no_fault for_newline p x = x
+passed_no_fault (for_size cols rows) p x = x
+passed_no_fault (at_cleanup cause) p x = absurd (cc)
+passed_no_fault at_drawing p x = absurd (cc)
+passed_no_fault for_mode p x = x
+passed_no_fault (at_setup cause) p x = x
+passed_no_fault (for_hook_id hook id) p x = x
+passed_no_fault for_free_hook_id p x = x
+passed_no_fault (for_description place cause) p x = x
+passed_no_fault (for_binding place) p x = x
+passed_no_fault for_query p x = x
+passed_no_fault for_pattern p x = x
+passed_no_fault after_failure p x = x
+passed_no_fault after_exit p x = x
+passed_no_fault of_no_call p x = x
+
+-- the sink refused where that is said of a step that was refused late, and nothing where it is not
+pub late_rises : (of out : Refusal) (x y z : Option ℕ) → ((out ≡ of) × (is_passed of ≡ false)) ⊎ ((out ≡ for_memory) × (is_passed of ≡ true)) → Stays x y → (IsSinkFault of → Rises y z) → IsSinkFault out → Rises x z
+late_rises of out x y z (inl h) stays rises fault = Stays-rises x y z stays (rises (subst IsSinkFault h.0 fault))
+late_rises of out x y z (inr h) stays rises fault = absurd (subst IsSinkFault h.0 fault)
+
+pub late_stays : (of out : Refusal) (x y z : Option ℕ) → ((out ≡ of) × (is_passed of ≡ false)) ⊎ ((out ≡ for_memory) × (is_passed of ≡ true)) → Stays x y → ((IsSinkFault of → ⊥) → z ≡ y) → (IsSinkFault out → ⊥) → Stays x z
+late_stays of out x y z (inl h) stays same well = subst (λ (n : Option ℕ). Stays x n) (sym (same (λ fault. well (subst IsSinkFault (sym h.0) fault)))) stays
+late_stays of out x y z (inr h) stays same well = subst (λ (n : Option ℕ). Stays x n) (sym (same (passed_no_fault of h.1))) stays
+
+-- a step that was refused late has changed the session, which ran
+pub has_changed : {Q K X : Type 0} (old mid new : Seen Q K) → old.status ≡ status.Running → new ≡ record mid { status = status.Failed } → new ≡ old → X
+has_changed old mid new running failed same = absurd (let both : status.Failed ≡ status.Running = sym (ap (λ (x : Seen _ _). x.status) failed) ∙ ap (λ (x : Seen _ _). x.status) same ∙ running in cc)
+
+-- no input is refused for what came before the step
+abbrev pub IsOfStep : Refusal → Type 0
+IsOfStep after_failure = ⊥
+IsOfStep after_exit = ⊥
+IsOfStep refusal = Unit {0}
+
+pub refused_by : {Q K : Type 0} (says : Says Q K) (refusal : Refusal) (s : Seen Q K) (told : Told Q K) (new : Seen Q K) (a b : Option (List ℕ)) → Fails says refusal s told new a b → IsOfStep refusal
+refused_by says after_failure s told new a b f = f
+refused_by says after_exit s told new a b f = f
+refused_by says for_memory s told new a b f = tt
+refused_by says for_newline s told new a b f = tt
+refused_by says (for_size cols rows) s told new a b f = tt
+refused_by says for_mode s told new a b f = tt
+refused_by says (at_setup cause) s told new a b f = tt
+refused_by says (for_hook_id hook id) s told new a b f = tt
+refused_by says for_free_hook_id s told new a b f = tt
+refused_by says (for_description place cause) s told new a b f = tt
+refused_by says (for_binding place) s told new a b f = tt
+refused_by says for_query s told new a b f = tt
+refused_by says for_pattern s told new a b f = tt
+refused_by says (at_cleanup cause) s told new a b f = tt
+refused_by says at_drawing s told new a b f = tt
+refused_by says of_no_call s told new a b f = tt
+
+-- so the step is refused for neither
+pub failed_never : (e of : MinusError) (now : Status) → now ≡ status.Running → IsOfStep (refusal_of of) → ((e ≡ of) × (is_passed (refusal_of of) ≡ false)) ⊎ ((e ≡ Memory) × (is_passed (refusal_of of) ≡ true)) → (e ≡ Failed) ↔ (now ≡ status.Failed)
+failed_never e of now running so why = (
+  λ is. elim why [
+    | inl h ↦ absurd (subst (λ (x : MinusError). IsOfStep (refusal_of x)) (sym h.0 ∙ is) so)
+    | inr h ↦ absurd (let both : Memory ≡ Failed = sym h.0 ∙ is in cc)
+  ],
+  λ failed. absurd (let both : status.Running ≡ status.Failed = sym running ∙ failed in cc),
+)
+
+pub ended_never : (e of : MinusError) (now : Status) → now ≡ status.Running → IsOfStep (refusal_of of) → ((e ≡ of) × (is_passed (refusal_of of) ≡ false)) ⊎ ((e ≡ Memory) × (is_passed (refusal_of of) ≡ true)) → (e ≡ Ended) ↔ (now ≡ status.Ended)
+ended_never e of now running so why = (
+  λ is. elim why [
+    | inl h ↦ absurd (subst (λ (x : MinusError). IsOfStep (refusal_of x)) (sym h.0 ∙ is) so)
+    | inr h ↦ absurd (let both : Memory ≡ Ended = sym h.0 ∙ is in cc)
+  ],
+  λ ended. absurd (let both : status.Running ≡ status.Ended = sym running ∙ ended in cc),
+)
+
+error_in : {A : Type 0} → MinusError → Result A MinusError → MinusError
+error_in e (Ok a) = e
+error_in e (Err f) = f
+
+pub err_only : {A : Type 0} (e x : MinusError) (now s : Status) → (e ≡ x) ↔ (now ≡ s) → (◌≡◌ {A = Result A MinusError} (Err e) (Err x)) ↔ (now ≡ s)
+unfolding error_in
+err_only {A = A} e x now s h = (λ is. h.0 (ap (error_in {A = A} e) is), λ on. ap (λ (f : MinusError). let r : Result A MinusError = Err f in r) (h.1 on))
+
+-- what is worked off leaves a session running that ran
+pub runs_on : {Q K : Type 0} (says : Says Q K) (old : Seen Q K) (told : Told Q K) (a b : Option (List ℕ)) (s : Seen Q K) (refused : List Refusal) (copied : Option (List ℕ)) → old.status ≡ status.Running → SoFar says old told a b s refused copied → s.status ≡ status.Running
+runs_on says old told a b s refused copied running (works, h, d) = status_kept says old told s works refused copied h ∙ running
+
+pub some_of : {X : Type 0} (x : Option X) → is_some x ≡ true → (y : X) × (x ≡ Some y)
+some_of None e = absurd (cc)
+some_of (Some y) e = (y, refl)
+
+pub none_of : {X : Type 0} (x : Option X) → is_some x ≡ false → x ≡ None
+none_of None e = refl
+none_of (Some y) e = absurd (cc)

@@ -1,0 +1,76 @@
+-- Inputs that wait, or could not.
+use Rattle.std.proofs.Common.{◌≡◌, ℕ, true, List, ◌∷◌, ◌++◌, [], Option, None, Some, is_some, string_bytes, String, Global, refl, sym, subst, inl, inr}
+use Rattle.std.specs.Option.{option_map}
+use Rattle.minus_term.specs.Counts.{SinkSeen, Stays}
+use Rattle.minus_term.specs.Refusals.{Refusal, refusal_of, for_memory, for_newline, for_hook_id, for_free_hook_id, for_size, for_description, for_binding, for_query, for_mode, after_failure, after_exit, at_setup, at_cleanup, at_drawing, for_pattern, of_no_call}
+use Rattle.minus_term.specs.declared.error.MinusError.{MinusError}
+use Rattle.minus.specs.Says.{Says}
+use Rattle.minus.specs.declared.session.Core.{Core}
+use Rattle.minus.specs.declared.taken.Taken.{Taken}
+use Rattle.minus.specs.Asked.{Wants, checked_as}
+use Rattle.minus.specs.Core.{seen_of}
+use Rattle.minus.specs.Reads.{Told}
+use Rattle.minus_state.specs.OpenSearches.{OpenSearch}
+use Rattle.minus.specs.Seen.{Seen}
+use Rattle.minus.specs.SessionSteps.{IsTakenOf, IsUntakenOf, IsKept, IsUnkept, IsNotKept}
+use Rattle.minus.specs.Steps.{Took, Fails, IsSinkFault}
+use Rattle.minus.specs.Table.{Wanted, Exit, IsFault}
+use Rattle.minus.specs.Works.{undrawn, waited}
+use Rattle.minus.proofs.DrawnLaws.{undrawn_drawn}
+use Rattle.minus.proofs.LoopLaws.{some_of}
+use Rattle.minus.proofs.StartLaws.{Stays-refl}
+
+-- an input that waits was taken
+pub kept_take : {S P Q K : Type 0} (sink : S → SinkSeen) (says : Says Q K) (old new : Core S P Q K) (told : Told Q K) (of : Taken) → is_some ((seen_of old).control.search) ≡ true → is_some (checked_as told) ≡ true → IsKept old told new of → IsTakenOf sink says old told new of
+kept_take sink says old new told of searching waits h =
+    let s : Seen _ _ = seen_of old in
+    let (o, open_search) = some_of s.control.search searching in
+    let (w, checked) = some_of (checked_as told) waits in
+    let a : Option (List ℕ) = (sink old.sink).bytes in
+    let next : Seen _ _ = record s { waiting = s.waiting ++ told ∷ [] } in
+    let drawn : Took says None s told None next a a = (undrawn s.control, waited o w open_search checked (h.possible w checked), undrawn_drawn a s.control) in
+    let exits : Took says of.exit s told None next a a = subst (λ (x : Option Exit). Took says x s told None next a a) (sym h.exit) drawn in
+    let copies : Took says of.exit s told (option_map string_bytes of.copied) next a a = subst (λ (x : Option (String Global)). Took says of.exit s told (option_map string_bytes x) next a a) (sym h.copied) exits in
+    let left : Took says of.exit s told (option_map string_bytes of.copied) (seen_of new) a a = subst (λ (x : Seen _ _). Took says of.exit s told (option_map string_bytes of.copied) x a a) (sym h.seen) copies in
+    record {
+      took = subst (λ (x : _). Took says of.exit s told (option_map string_bytes of.copied) (seen_of new) a (sink x).bytes) (sym h.sink) left;
+      stays = subst (λ (x : _). Stays (sink old.sink).refusals (sink x).refusals) (sym h.sink) (Stays-refl (sink old.sink).refusals);
+    }
+
+-- one that could not wait was not taken, and the sink is not at fault
+faulty : {Q K : Type 0} (says : Says Q K) (refusal : Refusal) (s : Seen Q K) (told : Told Q K) (a : Option (List ℕ)) (w : Wanted Q K) → Wants says s s.control.search told w → IsFault refusal w → Fails says refusal s told s a a × (IsSinkFault refusal → ⊥)
+faulty says for_newline s told a w wants fault = (((w, wants, fault), (refl, refl)), λ sink. sink)
+faulty says (for_size cols rows) s told a w wants fault = (((w, wants, fault), (refl, refl)), λ sink. sink)
+faulty says for_mode s told a w wants fault = absurd fault
+faulty says (at_setup cause) s told a w wants fault = absurd fault
+faulty says (for_hook_id hook id) s told a w wants fault = absurd fault
+faulty says for_free_hook_id s told a w wants fault = absurd fault
+faulty says (for_description place cause) s told a w wants fault = absurd fault
+faulty says (for_binding place) s told a w wants fault = absurd fault
+faulty says for_query s told a w wants fault = absurd fault
+faulty says for_pattern s told a w wants fault = absurd fault
+faulty says after_failure s told a w wants fault = absurd fault
+faulty says after_exit s told a w wants fault = absurd fault
+faulty says of_no_call s told a w wants fault = absurd fault
+faulty says (at_cleanup cause) s told a w wants fault = absurd fault
+faulty says at_drawing s told a w wants fault = absurd fault
+faulty says for_memory s told a w wants fault = absurd fault
+
+unkept : {Q K : Type 0} (says : Says Q K) (refusal : Refusal) (s : Seen Q K) (told : Told Q K) (a : Option (List ℕ)) (w : Wanted Q K) → Wants says s s.control.search told w → checked_as told ≡ Some w → IsUnkept refusal told → Fails says refusal s told s a a × (IsSinkFault refusal → ⊥)
+unkept says refusal s told a w wants checked (inl memory) = rw memory ((refl, refl), λ fault. fault)
+unkept says refusal s told a w wants checked (inr why) = faulty says refusal s told a w wants (why w checked)
+
+pub unkept_take : {S P Q K : Type 0} (sink : S → SinkSeen) (says : Says Q K) (old new : Core S P Q K) (told : Told Q K) (e : MinusError) → is_some ((seen_of old).control.search) ≡ true → is_some (checked_as told) ≡ true → IsNotKept old told new e → IsUntakenOf sink says old told new e
+unkept_take sink says old new told e searching waits h =
+    let s : Seen _ _ = seen_of old in
+    let (o, open_search) = some_of s.control.search searching in
+    let (w, checked) = some_of (checked_as told) waits in
+    let a : Option (List ℕ) = (sink old.sink).bytes in
+    let wants : Wants says s s.control.search told w = subst (λ (x : Option OpenSearch). Wants says s x told w) (sym open_search) checked in
+    let (fails, no_fault) = unkept says (refusal_of e) s told a w wants checked h.why in
+    let left : Fails says (refusal_of e) s told (seen_of new) a a = subst (λ (x : Seen _ _). Fails says (refusal_of e) s told x a a) (sym h.seen) fails in
+    record {
+      fails = subst (λ (x : _). Fails says (refusal_of e) s told (seen_of new) a (sink x).bytes) (sym h.sink) left;
+      rises = λ fault. absurd (no_fault fault);
+      untouched = λ well. h.sink;
+    }

@@ -1,0 +1,189 @@
+//! The drawings of an open search prompt, in a buffer.
+ghost use Rattle.std.specs.Prelude.{◌≡◌, ◌∷◌, ◌++◌, map, option_map, string_bytes, OnOk, IfOk};
+ghost use Rattle.regex.specs.Strings.{regex_pattern};
+ghost use Rattle.minus_term.specs.FullRedraw.{full_ops};
+ghost use Rattle.minus_term.specs.Written.{written_all};
+ghost use Rattle.minus_state.specs.Changes.{IsChange, IsFormedFor, search_set};
+ghost use Rattle.minus_state.specs.Confirming.{confirmed, confirmed_by};
+ghost use Rattle.minus_state.specs.Control.{Control};
+ghost use Rattle.minus_state.specs.OpenSearches.{seen_search};
+ghost use Rattle.minus_state.specs.Page.{shown};
+ghost use Rattle.minus_state.specs.Showing.{row_text};
+ghost use Rattle.minus_state.specs.States.{control_of, IsFormed};
+ghost use Rattle.minus.specs.Drawings.{opening_under, cursor_under, edit_under, EditsAlone};
+ghost use Rattle.minus.specs.Previews.{view_seen};
+
+use crate::page_bytes::push_page;
+use crate::search::OpenPrompt;
+use crate::state::PagerState;
+use minus_state::change::{Change, Setting};
+use minus_state::showing::ShownRow;
+use minus_state::{OpenSearch, SearchStep, confirmed_rows};
+use minus_term::{write_search_cursor, write_search_opening};
+use regex::Regex;
+use std::alloc::{AllocError, Global};
+
+// A search prompt that is open: its direction and its query, whether that was edited, and the pattern whose matches the
+// page shows.
+#[derive(Clone, Copy)]
+struct OpenView<'a> {
+    prompt: &'a OpenPrompt,
+    edited: bool,
+    preview: Option<&'a Regex>,
+}
+
+// One that is kept.
+fn view_of(search: &OpenSearch) -> OpenView<'_>
+    ensures { view_seen result ≡ seen_search search.now }
+{
+    OpenView {
+        prompt: &search.prompt,
+        edited: search.edited,
+        preview: search.preview.as_ref(),
+    }
+}
+
+// The one that is open in a state, if one is.
+fn open_in(state: &PagerState) -> Option<OpenView<'_>>
+    ensures { option_map view_seen result ≡ (control_of state.now).search }
+{
+    match state.open_search() {
+        Some(search) => Some(view_of(search)),
+        None => None,
+    }
+}
+
+// The one that is open after a change, if one is.
+fn open_after<'a>(state: &'a PagerState, change: &'a Change) -> Option<OpenView<'a>>
+    ensures { option_map view_seen result ≡ search_set change.now.setting (control_of state.now).search }
+{
+    match &change.setting {
+        Setting::Search(SearchStep::Opens(prompt)) => Some(OpenView {
+            prompt,
+            edited: false,
+            preview: None,
+        }),
+        Setting::Search(SearchStep::Types(prompt)) => match open_in(state) {
+            Some(view) => Some(OpenView {
+                prompt,
+                edited: view.edited,
+                preview: view.preview,
+            }),
+            None => None,
+        },
+        Setting::Search(SearchStep::Edits(search)) => Some(view_of(search)),
+        Setting::Search(SearchStep::Closes(_)) => None,
+        _ => open_in(state),
+    }
+}
+
+// Adds the search prompt that a change opens, if it opens one: its row, and the cursor behind its mark.
+pub(crate) fn push_opening(
+    state: &PagerState,
+    alloc: Global,
+    out: &mut Vec<u8>,
+    change: &Change,
+) -> Result<(), AllocError>
+    ensures { OnOk result ((new : Control) → IsChange (control_of state.now) change.now new →
+        out.new.items ≡ out.old.items ++ written_all (opening_under new.rows new.search)) }
+{
+    let Some(view) = open_after(state, change) else {
+        return Ok(());
+    };
+    let row = view.prompt.displayed(alloc)?;
+    write_search_opening(alloc, out, change.rows as u16, row.as_str())
+}
+
+// Adds the cursor of the search prompt that is open after a change, if one is.
+pub(crate) fn push_cursor(
+    state: &PagerState,
+    alloc: Global,
+    out: &mut Vec<u8>,
+    change: &Change,
+) -> Result<(), AllocError>
+    ensures { OnOk result ((new : Control) → IsChange (control_of state.now) change.now new →
+        out.new.items ≡ out.old.items ++ written_all (cursor_under new.rows new.search)) }
+{
+    let Some(view) = open_after(state, change) else {
+        return Ok(());
+    };
+    let cursor = view.prompt.cursor() as u16;
+    write_search_cursor(alloc, out, change.rows as u16, cursor)
+}
+
+// Rows of text as what is shown of them.
+pub(crate) fn shown_texts(alloc: Global, rows: &[String]) -> Result<Vec<ShownRow<'_>>, AllocError>
+    ensures { IfOk result (λ v. map row_text v.items ≡ map string_bytes rows.now) }
+{
+    let mut shown = Vec::new(alloc);
+    for row in rows {
+        shown.push(ShownRow::Own(row.as_str()))?;
+    }
+    Ok(shown)
+}
+
+// Adds the page of a state that shows where a pattern leads, with this in its last row.
+fn push_preview(
+    state: &PagerState,
+    alloc: Global,
+    out: &mut Vec<u8>,
+    rows: u16,
+    pattern: &Regex,
+    typed: &str,
+) -> Result<(), AllocError>
+    requires { IsFormed state.now }
+    ensures { OnOk result (out.new.items ≡ out.old.items ++ written_all
+        (full_ops rows (shown (confirmed (control_of state.now) (regex_pattern pattern.now))) typed.now)) }
+{
+    let found = confirmed_rows(alloc, state, pattern)?;
+    let texts = shown_texts(alloc, &found)?;
+    push_page(alloc, out, rows, &texts, typed)
+}
+
+// Adds the page that a change of the search prompt alone leads to, with this in its last row, where it shows where a
+// pattern leads, or shows no preview.
+fn push_previewed(
+    state: &PagerState,
+    alloc: Global,
+    out: &mut Vec<u8>,
+    change: &Change,
+    preview: Option<&Regex>,
+    typed: &str,
+) -> Result<(), AllocError>
+    requires formed { IsFormed state.now }
+    requires belongs { IsFormedFor state.now change.now }
+    ensures { OnOk result ((new : Control) → IsChange (control_of state.now) change.now new →
+        new ≡ record (control_of state.now) { search = new.search } →
+        out.new.items ≡ out.old.items ++ written_all
+        (full_ops new.rows (shown (confirmed_by new (option_map (λ r. regex_pattern r.now) preview.entry))) typed.now)) }
+{
+    let rows = change.rows as u16;
+    match preview {
+        Some(pattern) => push_preview(state, alloc, out, rows, pattern, typed),
+        None => {
+            let texts = state.shown_after(alloc, change, 0)?;
+            push_page(alloc, out, rows, &texts, typed)
+        }
+    }
+}
+
+// Adds the page with the search prompt that is open after an edit of its query, if one is, and its cursor.
+pub(crate) fn push_edit(
+    state: &PagerState,
+    alloc: Global,
+    out: &mut Vec<u8>,
+    change: &Change,
+) -> Result<(), AllocError>
+    requires formed { IsFormed state.now }
+    requires belongs { IsFormedFor state.now change.now }
+    ensures { OnOk result ((new : Control) → IsChange (control_of state.now) change.now new →
+        EditsAlone (control_of state.now) new →
+        out.new.items ≡ out.old.items ++ written_all (edit_under new new.search)) }
+{
+    let Some(view) = open_after(state, change) else {
+        return Ok(());
+    };
+    let row = view.prompt.displayed(alloc)?;
+    push_previewed(state, alloc, out, change, view.preview, row.as_str())?;
+    push_cursor(state, alloc, out, change)
+}

@@ -1,0 +1,173 @@
+//! Inputs that wait while the search prompt is open, and their refusals.
+ghost use Rattle.std.specs.Prelude.{◌≡◌, false, true, is_some, Some, None, option_map, string_bytes, OnOk, IfErr, IfSome, IfNone};
+ghost use Rattle.minus_state.specs.ShownPrompt.{has_newline, IsNewlineRefused};
+ghost use Rattle.minus_term.specs.Refusals.{refusal_of};
+ghost use Rattle.minus.specs.Asked.{checked_as};
+ghost use Rattle.minus.specs.Reads.{an_event, told_of, wanted_of};
+ghost use Rattle.minus.specs.declared.status.Status.TheVariants as stands;
+ghost use Rattle.minus.specs.Table.{Wanted, IsPossible, IsFault};
+ghost use Rattle.minus.specs.Works.{last_copied};
+
+use crate::commands::{CommandOf, InputOf};
+use crate::init::check_size;
+use crate::input::InputEvent;
+use crate::parts::Parts;
+use crate::session::Core;
+use crate::status::Status;
+use crate::taken::Taken;
+use minus_state::has_newline;
+use minus_term::{Event, MinusError};
+
+// The text that was copied last.
+pub(crate) fn last_of(before: Option<String>, text: Option<String>) -> Option<String>
+    ensures { option_map string_bytes result
+        ≡ last_copied (option_map string_bytes before) (option_map string_bytes text) }
+{
+    match text {
+        Some(text) => Some(text),
+        None => before,
+    }
+}
+
+// Whether the prompt row can say this.
+fn check_line(text: &str) -> Result<(), MinusError>
+    ensures ok { OnOk result (has_newline text.now ≡ false) }
+    ensures err { IfErr result (λ e. IsNewlineRefused e text.now) }
+{
+    if has_newline(text) {
+        return Err(MinusError::NewlineInPrompt);
+    }
+    Ok(())
+}
+
+// Whether a command can be done.
+fn check_command<P: Parts>(command: &CommandOf<P>) -> Result<(), MinusError>
+    ensures ok { OnOk result (IsPossible (wanted_of command.now)) }
+    ensures err { IfErr result (λ e. IsFault (refusal_of e) (wanted_of command.now)) }
+{
+    match command {
+        CommandOf::SetPrompt(text) | CommandOf::SendMessage(text) => check_line(text),
+        CommandOf::UserInput(InputEvent::UpdateTermArea(cols, rows)) => check_size(*cols, *rows),
+        _ => Ok(()),
+    }
+}
+
+// Whether an input that is to wait can be done.
+fn check<P: Parts>(input: &InputOf<P>) -> Result<(), MinusError>
+    ensures ok { OnOk result ((wanted : Wanted P.Condition P.Classifier) →
+        checked_as (told_of input.now) ≡ Some wanted → IsPossible wanted) }
+    ensures err { IfErr result (λ e. (wanted : Wanted P.Condition P.Classifier) →
+        checked_as (told_of input.now) ≡ Some wanted → IsFault (refusal_of e) wanted) }
+{
+    match input {
+        InputOf::Command(command) => check_command(command),
+        InputOf::Event(Event::Resize(cols, rows)) => {
+            check_size(usize::from(*cols), usize::from(*rows))
+        }
+        InputOf::Event(_) => Ok(()),
+    }
+}
+
+// The event that goes to the editor of an open search prompt, if an input is one.
+pub(crate) fn fed_event<P: Parts>(input: &InputOf<P>) -> Option<Event>
+    ensures fed { IfSome result (λ event. told_of input.now ≡ an_event event) }
+    ensures alone { IfSome result (λ event. checked_as (told_of input.now) ≡ None) }
+    ensures waits { IfNone result (is_some (checked_as (told_of input.now)) ≡ true) }
+{
+    match input {
+        InputOf::Command(_) | InputOf::Event(Event::Resize(..)) => None,
+        InputOf::Event(event) => Some(*event),
+    }
+}
+
+impl<S, P: Parts> Core<S, P> {
+    ghost use Rattle.std.specs.Prelude.{◌≡◌, ◌+◌, ◌≤◌, ◌⊎◌, ◌∷◌, ◌++◌, [], is_some, true, false, OnOk, OnErr, IfOk, IfErr, IfSome, IfNone};
+    ghost use Rattle.std.specs.VecDeque.{deque_len};
+    ghost use Rattle.minus_term.specs.Refusals.{refusal_of};
+    ghost use Rattle.minus.specs.Core.{seen_of};
+    ghost use Rattle.minus.specs.Reads.{told_of};
+    ghost use Rattle.minus.specs.Asked.{checked_as};
+    ghost use Rattle.minus.specs.SessionSteps.{IsKept, IsNotKept};
+    ghost use Rattle.minus.specs.Steps.{is_passed};
+    ghost use Rattle.minus.specs.Works.{IsNext, leaving, IsAtRest};
+
+    // Whether the search prompt is open.
+    pub(crate) fn is_searching(&self) -> bool
+        ensures { result ≡ is_some (seen_of self.now).control.search }
+    {
+        self.state.open_search().is_some()
+    }
+
+    // Lets an input wait for the search prompt to close.
+    pub(crate) fn wait(&mut self, input: InputOf<P>) -> Result<Taken, MinusError>
+        requires waits { is_some (checked_as (told_of input)) ≡ true }
+        ensures kept { IfOk result (λ t. IsKept self.old (told_of input) self.new t) }
+        ensures refused { IfErr result (λ e. IsNotKept self.old (told_of input) self.new e) }
+    {
+        if let Err(refusal) = check(&input) {
+            return Err(refusal);
+        }
+        if self.waiting.push_back(input).is_err() {
+            return Err(MinusError::Memory);
+        }
+        Ok(Taken {
+            exit: None,
+            copied: None,
+        })
+    }
+
+    // Lets no input wait any more.
+    pub(crate) fn let_none_wait(&mut self)
+        ensures seen { seen_of self.new ≡ record (seen_of self.old) { waiting = [] } }
+        ensures sink { self.new.sink ≡ self.old.sink }
+        ensures rest { self.new ≡ record self.old { waiting = self.new.waiting } }
+        ensures fewer { deque_len self.new.waiting ≤ deque_len self.old.waiting }
+    {
+        self.waiting.clear();
+    }
+
+    // Takes the next of the inputs that wait from them, with no search prompt open.
+    pub(crate) fn next_waiting(&mut self) -> Option<InputOf<P>>
+        ensures next { IfSome result (λ input.
+            IsNext (seen_of self.old) (told_of input) (seen_of self.new).waiting) }
+        ensures seen { seen_of self.new ≡ leaving (seen_of self.old) (seen_of self.new).waiting }
+        ensures rest { IfNone result ((seen_of self.new ≡ seen_of self.old) × IsAtRest (seen_of self.new)) }
+        ensures less { IfSome result (λ input. deque_len self.new.waiting + 1 ≡ deque_len self.old.waiting) }
+        ensures sink { self.new.sink ≡ self.old.sink }
+    {
+        if self.is_searching() {
+            return None;
+        }
+        self.waiting.pop_front()
+    }
+
+    // Keeps the refusal of an input that is passed over. Any other refusal fails the session, and want of memory for
+    // this.
+    pub(crate) fn pass_over(
+        &mut self,
+        refused: &mut Vec<MinusError>,
+        refusal: MinusError,
+    ) -> Result<(), MinusError>
+        ensures kept { OnOk result (refused.new.items ≡ refused.old.items ++ refusal ∷ []) }
+        ensures passed { OnOk result (is_passed (refusal_of refusal) ≡ true) }
+        ensures unchanged { OnOk result (self.new ≡ self.old) }
+        ensures fails { OnErr result (seen_of self.new ≡ record (seen_of self.old) { status = stands.Failed }) }
+        ensures sink { self.new.sink ≡ self.old.sink }
+        ensures cause { IfErr result (λ e. ((e ≡ refusal) × (is_passed (refusal_of refusal) ≡ false))
+            ⊎ ((e ≡ MinusError.Memory) × (is_passed (refusal_of refusal) ≡ true))) }
+    {
+        match refusal {
+            MinusError::NewlineInPrompt | MinusError::BadSize(..) => {
+                if refused.push(refusal).is_err() {
+                    self.status = Status::Failed;
+                    return Err(MinusError::Memory);
+                }
+                Ok(())
+            }
+            other => {
+                self.status = Status::Failed;
+                Err(other)
+            }
+        }
+    }
+}
