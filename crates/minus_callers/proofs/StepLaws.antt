@@ -1,46 +1,59 @@
 -- What a command leaves that does not exit, and lines that are pushed one after another.
-use Rattle.std.proofs.Common.{◌≡◌, ℕ, ◌+◌, ◌<◌, ◌++◌, min, List, take, map, length, get_or, flat_map, true, Bool, Option, None, Some, refl, sym, ap, subst, ◌∙◌, arith}
+use Rattle.std.proofs.Common.{◌≡◌, ℕ, ◌+◌, ◌<◌, ◌++◌, min, List, take, map, length, get_or, flat_map, true, Bool, Option, None, Some, [], ◌∷◌, refl, sym, ap, subst, ◌∙◌, arith}
 use Rattle.std.proofs.Math.Nat.{min-eq_left}
 use Rattle.std.proofs.lemmas.List.{map_more, flat_map_more}
 use Rattle.minus_term.specs.Refusals.{Refusal}
-use Rattle.minus_state.specs.Classifying.{Classifies}
+use Rattle.minus.specs.Says.{Says}
 use Rattle.minus_state.specs.Control.{Control, Saved, top}
 use Rattle.minus.specs.declared.answer.Answer.{Answer}
 use Rattle.minus.specs.Asked.{Asks, taken}
-use Rattle.minus.specs.Reads.{a_command}
+use Rattle.minus.specs.Reads.{Told, a_command}
 use Rattle.minus.specs.Seen.{Seen}
 use Rattle.minus.specs.Steps.{IsStep, Ends}
-use Rattle.minus.specs.Table.{Wanted, Exit, appends_data, follows, effect, changed_by}
-use Rattle.minus.specs.Works.{Work, after, worked, first, at_once}
+use Rattle.minus.specs.Table.{Wanted, Exit, appends_data, follows, effect}
+use Rattle.minus.specs.Works.{Work, after, Takes, worked, waited, Exits, Comes, at_once, later, IsReady}
+use Rattle.minus.proofs.WorksLaws.{alone_lem}
 use Rattle.minus_callers.specs.Follower.{Follows, ended}
 
 -- a command that asks for itself alone
-abbrev AsksAlone : {K : Type 0} → Classifies K → Seen K → Wanted K → Type 0
-AsksAlone says old asked = (w : Wanted _) → Asks says old (a_command asked) w → w ≡ asked
+abbrev AsksAlone : {Q K : Type 0} → Says Q K → Seen Q K → Wanted Q K → Type 0
+AsksAlone says old asked = (w : Wanted _ _) → Asks says old (a_command asked) w → w ≡ asked
 
-ends_so : {K : Type 0} (says : Classifies K) (old new : Seen K) (asked : Wanted K) (exit : Option Exit) (works : List Work) (refused : List Refusal) (copied : Option (List ℕ)) (last : Seen K)
-    → AsksAlone says old asked → (effect old.control asked).exits_by ≡ None → Ends says exit old (a_command asked) works refused copied last new → new ≡ after old asked
-ends_so says old new asked None works refused copied last alone stays (first (worked w asks possible on), is) =
-    is ∙ ap (λ (x : Wanted _). after (taken old (a_command asked) x) x) (alone w asks)
-ends_so says old new asked (Some exit) works refused copied last alone stays (next, exits, at_once, is) =
-    let exited : None ≡ Some exit = sym stays ∙ ap (λ (x : Wanted _). (effect (taken old (a_command asked) x).control x).exits_by) (sym (alone exits.wanted exits.asked)) ∙ exits.exits in
-    absurd (cc)
+-- what is worked off alone leaves what the table says of it
+worked_so : {Q K : Type 0} (says : Says Q K) (old new : Seen Q K) (asked : Wanted Q K) (work : Work) (copied : Option (List ℕ)) → AsksAlone says old asked → IsReady old → Takes says old (a_command asked) work copied new → new ≡ after old asked
+worked_so says old new asked work copied alone ready (worked w closed asks possible on) = ap (λ (x : Wanted _ _). after (taken old (a_command asked) x) x) (alone w asks)
+worked_so says old new asked work copied alone ready (waited o w searching wants possible) = absurd (let both : None ≡ Some o = sym ready.closed ∙ searching in cc)
+
+ends_so : {Q K : Type 0} (says : Says Q K) (old new : Seen Q K) (asked : Wanted Q K) (exit : Option Exit) (works : List Work) (refused : List Refusal) (copied : Option (List ℕ)) (last : Seen Q K)
+    → AsksAlone says old asked → IsReady old → (effect old.control asked).exits_by ≡ None → Ends says exit old (a_command asked) works refused copied last new → new ≡ after old asked
+ends_so says old new asked None works refused copied last alone ready stays (all, rests, is) =
+    let (work, one, none, takes) = alone_lem says old last (a_command asked) works refused copied ready all in
+    is ∙ worked_so says old last asked work copied alone ready takes
+ends_so {Q = Q} {K = K} says old new asked (Some exit) works refused copied last alone ready stays (next, exits, comes, is) = exited_so last next works refused copied comes exits
+  where
+    exited_so : (l : Seen Q K) (n : Told Q K) (ws : List Work) (rs : List Refusal) (t : Option (List ℕ)) → Comes says old (a_command asked) ws rs t l n → Exits says l n exit → new ≡ after old asked
+    exited_so l n ws rs t at_once x =
+        let exited : None ≡ Some exit = sym stays ∙ ap (λ (w : Wanted Q K). (effect (taken old (a_command asked) w).control w).exits_by) (sym (alone x.wanted x.asked)) ∙ x.exits in
+        absurd (cc)
+    exited_so l n ws rs t (later {s = s} {rest = rest} all is_next) x =
+        let (work, one, none, takes) = alone_lem says old s (a_command asked) ws rs t ready all in
+        let waits : [] ≡ n ∷ rest = sym ready.none_waits ∙ sym (ap (λ (k : Seen Q K). k.waiting) (worked_so says old s asked work t alone ready takes)) ∙ is_next.1 in
+        absurd (cc)
 
 -- the step leaves what the table says of it
-step_leaves : {K : Type 0} (says : Classifies K) (old new : Seen K) (asked : Wanted K) (answer : Answer) (a b : Option (List ℕ)) → AsksAlone says old asked → (effect old.control asked).exits_by ≡ None
-    → IsStep says old (a_command asked) new answer a b → new.control ≡ changed_by (effect old.control asked)
-step_leaves says old new asked answer a b alone stays s =
-    ap (λ (x : Seen _). x.control) (ends_so says old new asked s.exit s.works s.refused s.copied s.last alone stays s.ends)
+step_leaves : {Q K : Type 0} (says : Says Q K) (old new : Seen Q K) (asked : Wanted Q K) (answer : Answer) (a b : Option (List ℕ)) → AsksAlone says old asked → IsReady old → (effect old.control asked).exits_by ≡ None
+    → IsStep says old (a_command asked) new answer a b → new ≡ after old asked
+step_leaves says old new asked answer a b alone ready stays s = ends_so says old new asked s.exit s.works s.refused s.copied s.last alone ready stays s.ends
 
 -- the mark that an append or a command to follow leaves: the clamp keeps that of the last page
 top_stays : (n : ℕ) → min n n ≡ n
 top_stays n = min-eq_left (omega arith)
 
 -- where help is not open, a session that is let follow does so
-pub now_follows : {K : Type 0} (says : Classifies K) (old new : Seen K) (answer : Answer) (a b : Option (List ℕ)) → IsStep says old (a_command (follows true)) new answer a b → old.control.help ≡ None → Follows old.control.text new.control
-now_follows says old new answer a b s closed =
-    subst (λ (c : Control). Follows old.control.text c) (sym (step_leaves says old new (follows true) answer a b (λ w asks. asks) refl s))
-    (record { shows = refl; last_page = top_stays (top old.control); goes_on = refl; no_help = closed })
+pub now_follows : {Q K : Type 0} (says : Says Q K) (old new : Seen Q K) (answer : Answer) (a b : Option (List ℕ)) → IsStep says old (a_command (follows true)) new answer a b → old.control.help ≡ None → IsReady old → Follows old.control.text new
+now_follows says old new answer a b s closed ready =
+    subst (λ (seen : Seen _ _). Follows old.control.text seen) (sym (step_leaves says old new (follows true) answer a b (λ w asks. asks) ready refl s))
+    (record { shows = refl; last_page = top_stays (top old.control); goes_on = refl; no_help = closed; ready = record { closed = ready.closed; none_waits = ready.none_waits } })
 
 -- a control whose text is followed
 abbrev following : Control → Control
@@ -52,16 +65,16 @@ is_following c closed goes_on =
     ∙ ap (λ (follow : Bool). let k : Control = record c { settings = record c.settings { follow = follow } } in k) (sym goes_on)
 
 -- what an append leaves of it
-appended : (K : Type 0) (c : Control) (more : List ℕ) → Follows (c.text ++ more) (changed_by (effect {K = K} (following c) (appends_data more)))
-appended K c more = record { shows = refl; last_page = top_stays (top (record c { text = c.text ++ more })); goes_on = refl; no_help = refl }
+appended : {Q K : Type 0} (old : Seen Q K) (more : List ℕ) → IsReady old → Follows (old.control.text ++ more) (after (record old { control = following old.control }) (appends_data more))
+appended old more ready = record { shows = refl; last_page = top_stays (top (record old.control { text = old.control.text ++ more })); goes_on = refl; no_help = refl; ready = record { closed = ready.closed; none_waits = ready.none_waits } }
 
 -- a text that is followed is so after an append
-pub still_follows : {K : Type 0} (says : Classifies K) (old new : Seen K) (answer : Answer) (a b : Option (List ℕ)) (text more : List ℕ) → IsStep says old (a_command (appends_data more)) new answer a b → Follows text old.control → Follows (text ++ more) new.control
-still_follows {K = K} says old new answer a b text more s f =
+pub still_follows : {Q K : Type 0} (says : Says Q K) (old new : Seen Q K) (answer : Answer) (a b : Option (List ℕ)) (text more : List ℕ) → IsStep says old (a_command (appends_data more)) new answer a b → Follows text old → Follows (text ++ more) new
+still_follows {Q = Q} {K = K} says old new answer a b text more s f =
     let c : Control = old.control in
-    subst (λ (t : List ℕ). Follows (t ++ more) new.control) f.shows
-    (subst (λ (k : Control). Follows (c.text ++ more) k) (sym (step_leaves says old new (appends_data more) answer a b (λ w asks. asks) refl s))
-    (subst (λ (k : Control). Follows (c.text ++ more) (changed_by (effect {K = K} k (appends_data more)))) (is_following c f.no_help f.goes_on) (appended K c more)))
+    subst (λ (t : List ℕ). Follows (t ++ more) new) f.shows
+    (subst (λ (seen : Seen _ _). Follows (c.text ++ more) seen) (sym (step_leaves says old new (appends_data more) answer a b (λ w asks. asks) f.ready refl s))
+    (subst (λ (k : Control). Follows (c.text ++ more) (after (record old { control = k }) (appends_data more))) (is_following c f.no_help f.goes_on) (appended old more f.ready)))
 
 -- one line more
 pub one_more : {B : Type 0} (text : B → List ℕ) (before : List ℕ) (lines : List B) (i : ℕ) (d : B) → i < length lines

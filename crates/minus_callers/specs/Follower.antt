@@ -1,14 +1,17 @@
 -- A text that is followed.
 use Rattle.std.specs.Prelude.{◌≡◌, ℕ, ◌++◌, ◌∷◌, [], List, true, None}
-use Rattle.minus_state.specs.Control.{Control, top}
+use Rattle.minus_state.specs.Control.{top}
+use Rattle.minus.specs.Seen.{Seen}
+use Rattle.minus.specs.Works.{IsReady}
 
 -- a line with the newline that ends it
 abbrev pub ended : List ℕ → List ℕ
 ended line = line ++ 10 ∷ []
 
--- this is the text on show, its last page is the page, and the page goes on with what is pushed
-pub record Follows (text : List ℕ) (c : Control) : Type 0 where
-  pub shows : c.text ≡ text
-  pub last_page : c.mark ≡ top c
-  pub goes_on : c.settings.follow ≡ true
-  pub no_help : c.help ≡ None
+-- this is the text on show, its last page is the page, the page goes on with what is pushed, and what is pushed does not wait
+pub record Follows {Q K : Type 0} (text : List ℕ) (seen : Seen Q K) : Type 0 where
+  pub shows : seen.control.text ≡ text
+  pub last_page : seen.control.mark ≡ top seen.control
+  pub goes_on : seen.control.settings.follow ≡ true
+  pub no_help : seen.control.help ≡ None
+  pub ready : IsReady seen

@@ -1,19 +1,20 @@
 //! A follower: it pushes lines while the text is followed.
 ghost use Rattle.std.specs.Prelude.{◌≡◌, ◌++◌, ℕ, List, None, OnOk, map, flat_map};
 ghost use Rattle.minus.specs.Core.{seen_of};
+ghost use Rattle.minus.specs.Works.{IsReady};
 ghost use Rattle.minus_callers.specs.Follower.{Follows, ended};
 
 use minus::{Calls, CommandOf, Core, InputOf, MinusError, OutputSink};
 use std::alloc::Global;
 
-/// Lets a session go to its last page, and on with what is pushed.
+/// Lets a session go to its last page, and on with what is pushed. While its search prompt is open this waits.
 ///
 /// # Errors
 ///
 /// Those of [`Core::step`].
 pub fn follow<S: OutputSink + Drop, P: Calls>(session: &mut Core<S, P>) -> Result<(), MinusError>
-    ensures { OnOk result ((seen_of session.old).control.help ≡ None →
-        Follows (seen_of session.old).control.text (seen_of session.new).control) }
+    ensures { OnOk result ((seen_of session.old).control.help ≡ None → IsReady (seen_of session.old) →
+        Follows (seen_of session.old).control.text (seen_of session.new)) }
 {
     let _ = session.step(InputOf::Command(CommandOf::FollowOutput(true)))?;
     Ok(())
@@ -29,8 +30,8 @@ pub fn push_line<S: OutputSink + Drop, P: Calls>(
     alloc: Global,
     line: &str,
 ) -> Result<(), MinusError>
-    ensures { OnOk result ((text : List ℕ) → Follows text (seen_of session.old).control →
-        Follows (text ++ ended line.now) (seen_of session.new).control) }
+    ensures { OnOk result ((text : List ℕ) → Follows text (seen_of session.old) →
+        Follows (text ++ ended line.now) (seen_of session.new)) }
 {
     let text = format!(in alloc; "{line}\n")?;
     let _ = session.step(InputOf::Command(CommandOf::AppendData(text)))?;
@@ -47,9 +48,9 @@ pub fn push_lines<S: OutputSink + Drop, P: Calls>(
     alloc: Global,
     lines: &[&str],
 ) -> Result<(), MinusError>
-    ensures { OnOk result ((seen_of session.old).control.help ≡ None →
+    ensures { OnOk result ((seen_of session.old).control.help ≡ None → IsReady (seen_of session.old) →
         Follows ((seen_of session.old).control.text ++ flat_map ended (map (λ l. l.now) lines.now))
-        (seen_of session.new).control) }
+        (seen_of session.new)) }
 {
     follow(session)?;
     for line in lines {

@@ -8,6 +8,7 @@ use Rattle.std.specs.Str.{IsUtf8, is_utf8}
 use Rattle.std.proofs.lemmas.Str.{IsUtf8-from_is_utf8, is_utf8-from_IsUtf8}
 use Rattle.std.proofs.lemmas.Option.{none-some}
 use Rattle.std.proofs.lemmas.List.Sums.{prefix_len-le-length}
+use Rattle.minus_state.specs.declared.search.condition.NeverShows.{NeverShows}
 use Rattle.minus_script.specs.declared.keys.DefaultKeys.{DefaultKeys}
 use Rattle.minus.specs.Reads.{Told}
 use Rattle.minus_script.specs.Script.{is_newline, is_blank, has_blank, word_told, line_told, without_empty_last, script_lines, then_told}
@@ -56,11 +57,11 @@ line_told-at line text at =
     (and_from (is_utf8 line) (has_blank line) (is_utf8-from_IsUtf8 line text) (lt-ltb (position_or_len is_blank line) (length line) at)))
 
 -- what some lines tell, so many, and then what follows them
-abbrev pub told_after : List (Told DefaultKeys) → ℕ → Result (List (Told DefaultKeys)) ℕ → Result (List (Told DefaultKeys)) ℕ
+abbrev pub told_after : List (Told NeverShows DefaultKeys) → ℕ → Result (List (Told NeverShows DefaultKeys)) ℕ → Result (List (Told NeverShows DefaultKeys)) ℕ
 told_after done lines (Ok later) = Ok (done ++ later)
 told_after done lines (Err number) = Err (lines + number)
 
 -- one more line
-pub told_after-more : (done now : List (Told DefaultKeys)) (lines : ℕ) (first : List (Told DefaultKeys)) (later : Result (List (Told DefaultKeys)) ℕ) → now ≡ done ++ first → told_after done lines (then_told (Some first) later) ≡ told_after now (lines + 1) later
+pub told_after-more : (done now : List (Told NeverShows DefaultKeys)) (lines : ℕ) (first : List (Told NeverShows DefaultKeys)) (later : Result (List (Told NeverShows DefaultKeys)) ℕ) → now ≡ done ++ first → told_after done lines (then_told (Some first) later) ≡ told_after now (lines + 1) later
 told_after-more done now lines first (Ok later) e = ap Ok (sym (append_assoc done first later) ∙ ap (λ x. x ++ later) (sym e))
 told_after-more done now lines first (Err number) e = ap Err (omega arith)

@@ -4,21 +4,23 @@ use Rattle.std.specs.List.{last_or}
 use Rattle.std.specs.Option.{option_and_then, option_map}
 use Rattle.std.specs.Io.KnownBytes.{Appends, Consumes, IsAtEnd}
 use Rattle.minus_term.specs.Counts.{AppendsFront}
-use Rattle.minus_term.specs.Refusals.{Refusal, for_memory, for_newline, for_size, at_setup, at_cleanup, at_drawing, refusal_of}
+use Rattle.minus_term.specs.Refusals.{Refusal, for_memory, for_newline, for_size, for_query, for_pattern, at_setup, at_cleanup, at_drawing, refusal_of}
 use Rattle.minus_term.specs.declared.error.MinusError.TheVariants.{Memory}
+use Rattle.minus_state.specs.declared.search.condition.NeverShows.{NeverShows}
 use Rattle.minus_script.specs.declared.keys.DefaultKeys.{DefaultKeys}
 use Rattle.minus.specs.declared.answer.Answer.{Answer}
 use Rattle.minus_state.specs.declared.state.RunMode.TheVariants.{Dynamic}
-use Rattle.minus_script.specs.Keys.{default_keys_say}
+use Rattle.minus_script.specs.Keys.{script_says}
 use Rattle.minus_state.specs.Control.{Control}
 use Rattle.minus_state.specs.Page.{page}
 use Rattle.minus.specs.Reads.{Told}
 use Rattle.minus_state.specs.Sizes.{IsSize}
 use Rattle.minus.specs.Starts.{IsStarted, IsSetupRefused}
 use Rattle.minus.specs.Seen.{Seen}
-use Rattle.minus.specs.Asked.{Asks}
+use Rattle.minus.specs.Asked.{Wants}
 use Rattle.minus.specs.declared.status.Status.TheVariants as status
 use Rattle.minus.specs.Steps.{Steps, Refuses, cleanup_after}
+use Rattle.minus.specs.Works.{IsOverfull}
 use Rattle.minus.specs.Table.{Wanted, resizes, HasNewline}
 use Rattle.minus_script.specs.Script.{script_lines, script_told}
 use Rattle.minus_script.specs.Printed.{printed_all}
@@ -30,17 +32,17 @@ use Rattle.minus_script.specs.declared.fault.ScriptFault.{ScriptFault}
 use Rattle.minus_script.specs.declared.fault.ScriptFault.TheVariants.{Io, Line, Refused}
 
 -- a session took what it was told in order, with these answers, up to a rest
-pub record IsWorkedOff (old new : Seen DefaultKeys) (told : List (Told DefaultKeys)) (answers : List Answer) (rest : List (Told DefaultKeys)) (old_bytes new_bytes : Option (List ℕ)) : Type 0 where
-  pub taken : List (Told DefaultKeys)
+pub record IsWorkedOff (old new : Seen NeverShows DefaultKeys) (told : List (Told NeverShows DefaultKeys)) (answers : List Answer) (rest : List (Told NeverShows DefaultKeys)) (old_bytes new_bytes : Option (List ℕ)) : Type 0 where
+  pub taken : List (Told NeverShows DefaultKeys)
   pub passed : List Control
-  pub steps : Steps default_keys_say old taken passed answers new old_bytes new_bytes
+  pub steps : Steps script_says old taken passed answers new old_bytes new_bytes
   pub all : told ≡ taken ++ rest
 
 -- a pager was started with the default keys and without a text over a sink that held nothing, and took what it was told in order, with
 -- these answers, up to a rest
-pub record IsTaken (cols rows : ℕ) (told : List (Told DefaultKeys)) (answers : List Answer) (reached : Seen DefaultKeys) (bytes : Option (List ℕ)) (rest : List (Told DefaultKeys)) : Type 0 where
+pub record IsTaken (cols rows : ℕ) (told : List (Told NeverShows DefaultKeys)) (answers : List Answer) (reached : Seen NeverShows DefaultKeys) (bytes : Option (List ℕ)) (rest : List (Told NeverShows DefaultKeys)) : Type 0 where
   pub keys : DefaultKeys
-  pub first : Seen DefaultKeys
+  pub first : Seen NeverShows DefaultKeys
   pub begun : Option (List ℕ)
   pub started : IsStarted first keys [] Dynamic cols rows true (Some []) begun
   pub worked : IsWorkedOff first reached told answers rest begun bytes
@@ -54,27 +56,27 @@ abbrev pub exit_code : Option Answer → Option ℕ
 exit_code last = option_and_then (λ (a : Answer). option_map (λ x. x.1) a.exited) last
 
 -- all was taken, or all up to an exit
-abbrev pub IsWhole : List Answer → List (Told DefaultKeys) → Type 0
+abbrev pub IsWhole : List Answer → List (Told NeverShows DefaultKeys) → Type 0
 IsWhole answers rest = (rest ≡ []) ⊎ (is_some (exit_code (last_or None answers)) ≡ true)
 
 -- a session worked off all that it was told, or all up to an exit, with this last answer
-pub record IsRunOn (old new : Seen DefaultKeys) (told : List (Told DefaultKeys)) (last : Option Answer) (old_bytes new_bytes : Option (List ℕ)) : Type 0 where
+pub record IsRunOn (old new : Seen NeverShows DefaultKeys) (told : List (Told NeverShows DefaultKeys)) (last : Option Answer) (old_bytes new_bytes : Option (List ℕ)) : Type 0 where
   pub answers : List Answer
-  pub rest : List (Told DefaultKeys)
+  pub rest : List (Told NeverShows DefaultKeys)
   pub worked : IsWorkedOff old new told answers rest old_bytes new_bytes
   pub answer : last ≡ last_or None answers
   pub whole : IsWhole answers rest
 
 -- a session that ran refused one of those that it was told, after those before it
-pub record IsStoppedBy (refusal : Refusal) (old new : Seen DefaultKeys) (told : List (Told DefaultKeys)) (old_bytes new_bytes : Option (List ℕ)) : Type 0 where
+pub record IsStoppedBy (refusal : Refusal) (old new : Seen NeverShows DefaultKeys) (told : List (Told NeverShows DefaultKeys)) (old_bytes new_bytes : Option (List ℕ)) : Type 0 where
   pub answers : List Answer
-  pub reached : Seen DefaultKeys
-  pub refused : Told DefaultKeys
-  pub rest : List (Told DefaultKeys)
+  pub reached : Seen NeverShows DefaultKeys
+  pub refused : Told NeverShows DefaultKeys
+  pub rest : List (Told NeverShows DefaultKeys)
   pub bytes : Option (List ℕ)
   pub worked : IsWorkedOff old reached told answers (refused ∷ rest) old_bytes bytes
   pub runs : reached.status ≡ status.Running
-  pub refuses : Refuses default_keys_say refusal reached refused new bytes new_bytes
+  pub refuses : Refuses script_says refusal reached refused new bytes new_bytes
 
 -- what is printed of the page after that step
 abbrev pub printed_after : Option ℕ → Control → List ℕ
@@ -82,16 +84,16 @@ printed_after None control = printed_all (page control).texts
 printed_after (Some code) control = printed_exit code
 
 -- what the modes print: the page, or all bytes of the sink, with those that clean the terminal up
-abbrev pub Prints : Mode → List Answer → Seen DefaultKeys → Option (List ℕ) → List ℕ → Type 0
+abbrev pub Prints : Mode → List Answer → Seen NeverShows DefaultKeys → Option (List ℕ) → List ℕ → Type 0
 Prints Page answers reached bytes output = output ≡ printed_after (exit_code (last_or None answers)) reached.control
 Prints Bytes answers reached bytes output = Appends bytes (Some output) (cleanup_after reached.status)
 
 -- the pager took all that it was told, or all up to an exit, and what it came to was printed
-pub record IsShown (mode : Mode) (cols rows : ℕ) (told : List (Told DefaultKeys)) (output : List ℕ) : Type 0 where
+pub record IsShown (mode : Mode) (cols rows : ℕ) (told : List (Told NeverShows DefaultKeys)) (output : List ℕ) : Type 0 where
   pub answers : List Answer
-  pub reached : Seen DefaultKeys
+  pub reached : Seen NeverShows DefaultKeys
   pub bytes : Option (List ℕ)
-  pub rest : List (Told DefaultKeys)
+  pub rest : List (Told NeverShows DefaultKeys)
   pub taken : IsTaken cols rows told answers reached bytes rest
   pub whole : IsWhole answers rest
   pub prints : Prints mode answers reached bytes output
@@ -99,7 +101,7 @@ pub record IsShown (mode : Mode) (cols rows : ℕ) (told : List (Told DefaultKey
 -- a script was read to its end, each of its lines is well formed, and this is what they lead to
 pub record IsScriptShown (mode : Mode) (cols rows : ℕ) (old_input new_input : Option (List ℕ)) (printed : List ℕ) : Type 0 where
   pub script : List ℕ
-  pub told : List (Told DefaultKeys)
+  pub told : List (Told NeverShows DefaultKeys)
   pub read : Consumes old_input new_input script
   pub end : IsAtEnd new_input
   pub lines : script_told (script_lines script) ≡ Ok told
@@ -120,33 +122,45 @@ IsWantOfMemory at_drawing = Unit {0}
 IsWantOfMemory refusal = ⊥
 
 -- after a part of what it was told, the pager was asked for this size, which is none of a terminal
-pub record IsSizeAsked (columns lines cols rows : ℕ) (told : List (Told DefaultKeys)) : Type 0 where
+pub record IsSizeAsked (columns lines cols rows : ℕ) (told : List (Told NeverShows DefaultKeys)) : Type 0 where
   pub answers : List Answer
-  pub reached : Seen DefaultKeys
+  pub reached : Seen NeverShows DefaultKeys
   pub bytes : Option (List ℕ)
-  pub refused : Told DefaultKeys
-  pub rest : List (Told DefaultKeys)
+  pub refused : Told NeverShows DefaultKeys
+  pub rest : List (Told NeverShows DefaultKeys)
   pub taken : IsTaken cols rows told answers reached bytes (refused ∷ rest)
-  pub asked : Asks default_keys_say reached refused (resizes columns lines)
+  pub asked : Wants script_says reached reached.control.search refused (resizes columns lines)
   pub bad : IsSize columns lines → ⊥
 
 -- after a part of what it was told, the pager was asked for a prompt or a message with a newline
-pub record IsPromptAsked (cols rows : ℕ) (told : List (Told DefaultKeys)) : Type 0 where
+pub record IsPromptAsked (cols rows : ℕ) (told : List (Told NeverShows DefaultKeys)) : Type 0 where
   pub answers : List Answer
-  pub reached : Seen DefaultKeys
+  pub reached : Seen NeverShows DefaultKeys
   pub bytes : Option (List ℕ)
-  pub refused : Told DefaultKeys
-  pub rest : List (Told DefaultKeys)
-  pub wanted : Wanted DefaultKeys
+  pub refused : Told NeverShows DefaultKeys
+  pub rest : List (Told NeverShows DefaultKeys)
+  pub wanted : Wanted NeverShows DefaultKeys
   pub taken : IsTaken cols rows told answers reached bytes (refused ∷ rest)
-  pub asked : Asks default_keys_say reached refused wanted
+  pub asked : Wants script_says reached reached.control.search refused wanted
   pub bad : HasNewline wanted
 
+-- after a part of what it was told, the pager was told a key that types a character to a query which has as many as it may have
+pub record IsQueryFilled (cols rows : ℕ) (told : List (Told NeverShows DefaultKeys)) : Type 0 where
+  pub answers : List Answer
+  pub reached : Seen NeverShows DefaultKeys
+  pub bytes : Option (List ℕ)
+  pub refused : Told NeverShows DefaultKeys
+  pub rest : List (Told NeverShows DefaultKeys)
+  pub taken : IsTaken cols rows told answers reached bytes (refused ∷ rest)
+  pub full : IsOverfull reached refused
+
 -- why a pager that is told all of this refuses: this is the size of the start, or one that was asked for later, and none of a
--- terminal; a prompt or a message has a newline; or memory ran out
-abbrev pub IsRefusal : Refusal → ℕ → ℕ → List (Told DefaultKeys) → Type 0
+-- terminal; a prompt or a message has a newline; a query is full; a fixed pattern was not built; or memory ran out
+abbrev pub IsRefusal : Refusal → ℕ → ℕ → List (Told NeverShows DefaultKeys) → Type 0
 IsRefusal (for_size columns lines) cols rows told = ((columns ≡ cols) × (lines ≡ rows) × (IsSize cols rows → ⊥)) ⊎ IsSizeAsked columns lines cols rows told
 IsRefusal for_newline cols rows told = IsPromptAsked cols rows told
+IsRefusal for_query cols rows told = IsQueryFilled cols rows told
+IsRefusal for_pattern cols rows told = IsSize cols rows
 IsRefusal refusal cols rows told = IsWantOfMemory refusal
 
 -- a script was read to its end
@@ -166,7 +180,7 @@ IsRunFault mode cols rows old_input new_input old_output new_output (Io Output c
 IsRunFault mode cols rows old_input new_input old_output new_output (Line number) =
     (script : List ℕ) × IsRead old_input new_input script × (script_told (script_lines script) ≡ Err number)
 IsRunFault mode cols rows old_input new_input old_output new_output (Refused cause) =
-    (cause ≡ Memory) ⊎ ((script : List ℕ) × (told : List (Told DefaultKeys)) × IsRead old_input new_input script × (script_told (script_lines script) ≡ Ok told) × IsRefusal (refusal_of cause) cols rows told)
+    (cause ≡ Memory) ⊎ ((script : List ℕ) × (told : List (Told NeverShows DefaultKeys)) × IsRead old_input new_input script × (script_told (script_lines script) ≡ Ok told) × IsRefusal (refusal_of cause) cols rows told)
 
 -- a fault that came before anything was printed
 abbrev pub IsBeforePrinting : ScriptFault → Type 0

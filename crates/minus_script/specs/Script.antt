@@ -10,6 +10,7 @@ use Rattle.minus_term.specs.declared.event.KeyCode.TheVariants.{Char}
 use Rattle.minus_term.specs.declared.event.KeyEventKind.TheVariants.{Press}
 use Rattle.minus_text.specs.declared.line_numbers.LineNumbers.{LineNumbers}
 use Rattle.minus_text.specs.declared.line_numbers.LineNumbers.TheVariants.{AlwaysOn, Enabled, Disabled, AlwaysOff}
+use Rattle.minus_state.specs.declared.search.condition.NeverShows.{NeverShows}
 use Rattle.minus_script.specs.declared.keys.DefaultKeys.{DefaultKeys}
 use Rattle.minus.specs.Reads.{Told, a_command, an_event}
 use Rattle.minus.specs.Table.{Wanted, sets_data, appends_data, moves_mark, resizes, sets_prompt, sends_message, follows, shows_prompt, sets_numbers, sets_wrapping}
@@ -40,17 +41,17 @@ abbrev pub has_blank : List ℕ → Bool
 has_blank line = nat_lt (position_or_len is_blank line) (length line)
 
 -- a character typed: the press of its key, without a modifier
-abbrev pub typed : ℕ → Told DefaultKeys
+abbrev pub typed : ℕ → Told NeverShows DefaultKeys
 typed character = an_event (Key (record { code = Char character; modifiers = record { 0 = 0 }; kind = Press; state = record { 0 = 0 } }))
 
 -- two numbers ask for a size
-abbrev pub size_asked : Option ℕ → Option ℕ → Option (Wanted DefaultKeys)
+abbrev pub size_asked : Option ℕ → Option ℕ → Option (Wanted NeverShows DefaultKeys)
 size_asked (Some cols) (Some rows) = Some (resizes cols rows)
 size_asked (Some cols) None = None
 size_asked None rows = None
 
 -- a size is two numbers with one blank between them
-abbrev pub resize_asked : List ℕ → Option (Wanted DefaultKeys)
+abbrev pub resize_asked : List ℕ → Option (Wanted NeverShows DefaultKeys)
 resize_asked argument = if has_blank argument then size_asked (usize_of (before_first is_blank argument)) (usize_of (after_first is_blank argument)) else None
 
 -- whether an argument says on or off
@@ -67,7 +68,7 @@ numbers_of argument =
     else None
 
 -- what a word sets beside the text with its argument
-abbrev pub setting_asked : List ℕ → List ℕ → Option (Wanted DefaultKeys)
+abbrev pub setting_asked : List ℕ → List ℕ → Option (Wanted NeverShows DefaultKeys)
 setting_asked word argument =
     if bytes_eq word (codes "prompt") then option_map sets_prompt (unescaped argument)
     else if bytes_eq word (codes "message") then option_map sends_message (unescaped argument)
@@ -78,7 +79,7 @@ setting_asked word argument =
     else None
 
 -- what a word asks for as a command with its argument: a known word, whose argument is well formed
-abbrev pub command_asked : List ℕ → List ℕ → Option (Wanted DefaultKeys)
+abbrev pub command_asked : List ℕ → List ℕ → Option (Wanted NeverShows DefaultKeys)
 command_asked word argument =
     if bytes_eq word (codes "push") then option_map appends_data (unescaped argument)
     else if bytes_eq word (codes "set") then option_map sets_data (unescaped argument)
@@ -87,22 +88,22 @@ command_asked word argument =
     else setting_asked word argument
 
 -- a command is one input
-abbrev pub one_command : Wanted DefaultKeys → List (Told DefaultKeys)
+abbrev pub one_command : Wanted NeverShows DefaultKeys → List (Told NeverShows DefaultKeys)
 one_command wanted = a_command wanted ∷ []
 
 -- a text that is typed is as many as it has characters
-abbrev pub all_typed : List ℕ → List (Told DefaultKeys)
+abbrev pub all_typed : List ℕ → List (Told NeverShows DefaultKeys)
 all_typed text = map typed (chars text)
 
 -- a key, or an event of the mouse, is one input
-abbrev pub key_told : KeyEvent → List (Told DefaultKeys)
+abbrev pub key_told : KeyEvent → List (Told NeverShows DefaultKeys)
 key_told key = an_event (Key key) ∷ []
 
-abbrev pub mouse_told : MouseEvent → List (Told DefaultKeys)
+abbrev pub mouse_told : MouseEvent → List (Told NeverShows DefaultKeys)
 mouse_told mouse = an_event (Mouse mouse) ∷ []
 
 -- what a word tells the session with its argument
-abbrev pub word_told : List ℕ → List ℕ → Option (List (Told DefaultKeys))
+abbrev pub word_told : List ℕ → List ℕ → Option (List (Told NeverShows DefaultKeys))
 word_told word argument =
     if bytes_eq word (codes "type") then option_map all_typed (unescaped argument)
     else if bytes_eq word (codes "key") then option_map key_told (key_described argument)
@@ -110,16 +111,16 @@ word_told word argument =
     else option_map one_command (command_asked word argument)
 
 -- what a line tells: it is UTF-8, and its first blank ends its word and begins the argument; a faulty line tells nothing
-abbrev pub line_told : List ℕ → Option (List (Told DefaultKeys))
+abbrev pub line_told : List ℕ → Option (List (Told NeverShows DefaultKeys))
 line_told line = if is_utf8 line && has_blank line then word_told (before_first is_blank line) (after_first is_blank line) else None
 
 -- what a first line tells, and then the later ones, or the number of the first faulty line
-abbrev pub then_told : Option (List (Told DefaultKeys)) → Result (List (Told DefaultKeys)) ℕ → Result (List (Told DefaultKeys)) ℕ
+abbrev pub then_told : Option (List (Told NeverShows DefaultKeys)) → Result (List (Told NeverShows DefaultKeys)) ℕ → Result (List (Told NeverShows DefaultKeys)) ℕ
 then_told None later = Err 1
 then_told (Some first) (Ok later) = Ok (first ++ later)
 then_told (Some first) (Err number) = Err (number + 1)
 
 -- what all lines tell, or the number from 1 of the first faulty one
-abbrev pub script_told : List (List ℕ) → Result (List (Told DefaultKeys)) ℕ
+abbrev pub script_told : List (List ℕ) → Result (List (Told NeverShows DefaultKeys)) ℕ
 script_told [] = Ok []
 script_told (line ∷ lines) = then_told (line_told line) (script_told lines)

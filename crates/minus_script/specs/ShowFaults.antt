@@ -1,5 +1,6 @@
 -- Why nothing is shown.
 use Rattle.std.specs.Prelude.{ℕ, List}
+use Rattle.minus_state.specs.declared.search.condition.NeverShows.{NeverShows}
 use Rattle.minus_script.specs.declared.keys.DefaultKeys.{DefaultKeys}
 use Rattle.minus.specs.Reads.{Told}
 use Rattle.minus_term.specs.Refusals.{refusal_of}
@@ -8,7 +9,7 @@ use Rattle.minus_script.specs.declared.fault.ScriptFault.{ScriptFault}
 use Rattle.minus_script.specs.declared.fault.ScriptFault.TheVariants.{Io, Line, Refused}
 
 -- memory ran out, or the pager refuses a size
-abbrev pub IsShowFault : ℕ → ℕ → List (Told DefaultKeys) → ScriptFault → Type 0
+abbrev pub IsShowFault : ℕ → ℕ → List (Told NeverShows DefaultKeys) → ScriptFault → Type 0
 IsShowFault cols rows told (Io stream cause) = ⊥
 IsShowFault cols rows told (Line number) = ⊥
 IsShowFault cols rows told (Refused cause) = IsRefusal (refusal_of cause) cols rows told

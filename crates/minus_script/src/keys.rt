@@ -4,7 +4,8 @@ ghost use Rattle.minus_input.specs.DefaultBindings.{default_register};
 ghost use Rattle.minus_input.specs.EventTables.{register_of};
 
 use minus::{
-    ActionCall, Event, EventTable, FixedSeed, InputClassifier, InputEvent, Kinds, PagerState,
+    ActionCall, Event, EventTable, FixedSeed, InputClassifier, InputEvent, Kinds, NeverShows,
+    PagerState,
 };
 use std::alloc::{AllocError, Global};
 
@@ -30,8 +31,8 @@ pub struct DefaultKeys {
     ghost default: { register_of register ≡ default_register },
 }
 
-/// The kinds of the sessions that run scripts.
-pub type ScriptKinds = Kinds<DefaultKeys>;
+/// The kinds of the sessions that run scripts: no condition is handed to one.
+pub type ScriptKinds = Kinds<NeverShows, DefaultKeys>;
 
 impl DefaultKeys {
     /// A register of the default bindings.

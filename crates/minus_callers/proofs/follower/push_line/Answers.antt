@@ -8,5 +8,5 @@ use Rattle.minus_callers.proofs.follower.push_line.Goals as goal
 pub returns : goal.returns
 returns g c = λ text follows.
     let bytes : string_bytes c.in_ok-text.text ≡ ended c.args.line.now = search rules in
-    subst (λ (more : List ℕ). Follows (text ++ more) (seen_of c.step.new.self).control) bytes
+    subst (λ (more : List ℕ). Follows (text ++ more) (seen_of c.step.new.self)) bytes
     (still_follows _ _ _ _ _ _ text _ c.in_ok-step.ensures.step.step follows)

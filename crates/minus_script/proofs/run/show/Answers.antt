@@ -36,3 +36,7 @@ returns-in-Bytes-clause-shown c =
 pub returns-in-Bytes-clause-fault : goal.returns-in-Bytes-clause-fault
 returns-in-Bytes-clause-fault c =
     IfErr-weaker c.all_written.result IsMemory (IsShowFault c.args.cols c.args.rows (map told_of c.args.inputs.items)) (memory_fault c.args.cols c.args.rows (map told_of c.args.inputs.items)) c.all_written.ensures.memory
+
+pub returns-in-Page-clause-fault : goal.returns-in-Page-clause-fault
+returns-in-Page-clause-fault c =
+    IfErr-weaker c.print_page.result IsMemory (IsShowFault c.args.cols c.args.rows (map told_of c.args.inputs.items)) (memory_fault c.args.cols c.args.rows (map told_of c.args.inputs.items)) c.print_page.ensures.memory

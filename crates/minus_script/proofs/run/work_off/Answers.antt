@@ -6,15 +6,16 @@ use Rattle.minus_term.specs.Refusals.{refusal_of}
 use Rattle.minus.specs.Core.{seen_of}
 use Rattle.minus.specs.Reads.{Told, told_of}
 use Rattle.minus_script.specs.Runs.{IsWorkedOff}
+use Rattle.minus_state.specs.declared.search.condition.NeverShows.{NeverShows}
 use Rattle.minus_script.specs.declared.keys.DefaultKeys.{DefaultKeys}
 use Rattle.minus_script.proofs.RunLaws.{worked_none, worked_more, next_left, stopped_by, step_runs_on, last_or_snoc, whole_by_exit}
 use Rattle.minus_script.proofs.run.work_off.Goals as goal
 
 pub loop-input-init : goal.loop-input-init
 loop-input-init g c =
-    let all : List (Told DefaultKeys) = map told_of c.args.inputs.items in
+    let all : List (Told NeverShows DefaultKeys) = map told_of c.args.inputs.items in
     let back : map told_of (reverse c.reverse.new.self.items) ≡ all = ap (λ l. map told_of (reverse l)) c.reverse.ensures.items ∙ ap (map told_of) (reverse-reverse c.args.inputs.items) in
-    ([], subst (λ (l : List (Told DefaultKeys)). IsWorkedOff (seen_of c.args.session.now) (seen_of c.args.session.now) all [] l (g.S.OutputSink.seen c.args.session.now.sink).bytes (g.S.OutputSink.seen c.args.session.now.sink).bytes) (sym back) (worked_none _ all _), refl, c.requires)
+    ([], subst (λ (l : List (Told NeverShows DefaultKeys)). IsWorkedOff (seen_of c.args.session.now) (seen_of c.args.session.now) all [] l (g.S.OutputSink.seen c.args.session.now.sink).bytes (g.S.OutputSink.seen c.args.session.now.sink).bytes) (sym back) (worked_none _ all _), refl, c.requires)
 
 pub returns-in_err-answer-clause-refused : goal.returns-in_err-answer-clause-refused
 returns-in_err-answer-clause-refused g c =

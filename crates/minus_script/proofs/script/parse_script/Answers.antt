@@ -1,4 +1,5 @@
 use Rattle.std.proofs.Common.{rules, ◌≡◌, ℕ, ◌+◌, ◌-◌, List, map, Some, Result, option_map, sym, ap, ◌∙◌, arith}
+use Rattle.minus_state.specs.declared.search.condition.NeverShows.{NeverShows}
 use Rattle.minus_script.specs.declared.keys.DefaultKeys.{DefaultKeys}
 use Rattle.minus.specs.Reads.{Told, told_of}
 use Rattle.minus_script.specs.Script.{script_lines, script_told, line_told, then_told}
@@ -12,10 +13,10 @@ loop-line-init c = search rules
 -- the line is one more than those before it
 pub loop-line-preserved : goal.loop-line-preserved
 loop-line-preserved c =
-    let old : List (Told DefaultKeys) = map told_of c.loop-line.inputs.items in
-    let now : List (Told DefaultKeys) = map told_of c.push_line.new.inputs.items in
-    let first : List (Told DefaultKeys) = told_by c.in-Some-2.line in
-    let later : Result (List (Told DefaultKeys)) ℕ = script_told (script_lines c.in-Some.more.now) in
+    let old : List (Told NeverShows DefaultKeys) = map told_of c.loop-line.inputs.items in
+    let now : List (Told NeverShows DefaultKeys) = map told_of c.push_line.new.inputs.items in
+    let first : List (Told NeverShows DefaultKeys) = told_by c.in-Some-2.line in
+    let later : Result (List (Told NeverShows DefaultKeys)) ℕ = script_told (script_lines c.in-Some.more.now) in
     let line : line_told c.in-Some.line.now ≡ Some first = sym c.in_ok-line.ensures ∙ ap (option_map told_by) c.in-Some-2.is in
     let lines : script_told (script_lines c.loop-line.rest.now) ≡ then_told (Some first) later = ap script_told c.in-Some.ensures.lines ∙ ap (λ told. then_told told later) line in
     let count : (c.loop-line.number - 1) + 1 ≡ (c.loop-line.number + 1) - 1 = omega (arith, c.loop-line.invariant.some) in
