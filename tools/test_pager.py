@@ -95,7 +95,9 @@ class Player:
         elif final == 'T':
             self.cells = ([self.blank() for _ in range(first)] + self.cells)[:self.rows]
         elif final == 'm':
-            self.style = () if values == [0] else self.style + (numbers,)
+            # (a marked match ends by 27, which takes 7 back)
+            kept = () if values == [0] else tuple(style for style in self.style if style != '7' or numbers != '27')
+            self.style = kept if values in ([0], [27]) else kept + (numbers,)
 
     def put(self, c):
         if c == '\r':
@@ -361,6 +363,232 @@ class PagerTests(unittest.TestCase):
         self.press_escape()
         self.press('q')
         self.assert_page(self.LINES, 'notes  30-36/100  36%', 'mark 29', 'numbers on')
+        self.quit()
+
+    def assert_pages(self, steps):
+        """Presses the keys of each step: the page is that of the library for the lines of a script so far, and this
+        is the text of the prompt, which is not seen while the search prompt is open."""
+        script = []
+        for keys, lines, prompt in steps:
+            self.press(keys)
+            script += lines
+            self.assert_page(self.LINES, prompt, *script)
+
+    def test_a_search_goes_on_and_back(self):
+        self.page_lines()
+        self.assert_pages((
+            # (from two bytes on the page shows where the query leads)
+            ('/l', ['type /l'], ''),
+            ('ine 5', ['type ine 5'], ''),
+            ('\r', ['key enter'], 'notes  5-11/100  11%'),
+            ('n', ['type n'], 'notes  50-56/100  56%'),
+            ('2n', ['type 2n'], 'notes  52-58/100  58%'),
+            ('N', ['type p'], 'notes  51-57/100  57%'),
+            ('p', ['type p'], 'notes  50-56/100  56%'),
+            ('3N', ['type 3p'], 'notes  5-11/100  11%'),
+            ('N', ['type p'], 'notes  5-11/100  11%'),
+            # (past the last match it goes on at the first one)
+            ('10n', ['type 10n'], 'notes  59-65/100  65%'),
+            ('n', ['type n'], 'notes  5-11/100  11%'),
+        ))
+        self.assertTrue(self.terminal.player.texts()[-1].endswith(' 1/11'), self.terminal.player.texts())
+        self.quit()
+
+    def test_a_search_back(self):
+        self.page_lines()
+        self.assert_pages((
+            ('30G', ['mark 29'], 'notes  30-36/100  36%'),
+            # (the library searches on first: the program goes to the last match above the page)
+            ('?line .7\r', ['type ?line .7', 'key enter', 'type n'], 'notes  27-33/100  33%'),
+            ('n', ['type n'], 'notes  17-23/100  23%'),
+            ('N', ['type p'], 'notes  27-33/100  33%'),
+            ('>', ['mark 93'], 'notes  94-100/100  100%'),
+            ('?line .[789] o\r', ['type ?line .[789] o', 'key enter', 'type n'], 'notes  89-95/100  95%'),
+            # (no match is on the page or below it: the library goes on at the first one of all)
+            ('?line 3\r', ['type /line 3', 'key enter', 'type 10n'], 'notes  39-45/100  45%'),
+        ))
+        self.quit()
+
+    def test_a_search_without_a_match(self):
+        self.page_lines()
+        self.assert_pages((
+            ('3j', ['mark 3'], 'notes  4-10/100  10%'),
+            ('/line 55', ['type /line 55'], ''),
+            ('5', ['type 5'], ''),
+            ('\r', ['key enter'], '(pattern not found) notes  4-10/100  10%'),
+            ('j', ['type j'], 'notes  5-11/100  11%'),
+            ('n', ['type n'], 'notes  5-11/100  11%'),
+            # (what is no pattern is said so until the next key)
+            ('/line (\r', ['type /line (', 'key enter'], 'notes  5-11/100  11%'),
+            ('\r', ['key enter'], 'notes  5-11/100  11%'),
+            ('/line (\r', ['type /line (', 'key enter'], 'notes  5-11/100  11%'),
+            ('j', ['key enter', 'type j'], 'notes  6-12/100  12%'),
+        ))
+        self.quit()
+
+    def test_a_search_prompt_is_left(self):
+        self.page_lines()
+        self.press('2j')
+        self.assert_page(self.LINES, 'notes  3-9/100  9%', 'mark 2')
+        for leave in ('\x1b', '\x03', '\x7f' * 8):
+            self.press('/line 7')
+            self.assert_page(self.LINES, '', 'mark 2', 'type /line 7')
+            if leave == '\x1b':
+                self.press_escape()
+            self.press('' if leave == '\x1b' else leave)
+            self.assert_page(self.LINES, 'notes  3-9/100  9%', 'mark 2')
+        # (what was searched for before is still searched for, from the match that was told of)
+        self.press('/line 7\rnn')
+        found = ['mark 2', 'type /line 7', 'key enter', 'type nn']
+        self.assert_page(self.LINES, 'notes  71-77/100  77%', *found)
+        self.press('?other\x03')
+        self.assert_page(self.LINES, 'notes  71-77/100  77%', *found)
+        self.press('N')
+        self.assert_page(self.LINES, 'notes  72-78/100  78%', *found, 'type n')
+        # (and an empty query searches on)
+        self.press('/\r')
+        self.assert_page(self.LINES, 'notes  73-79/100  79%', *found, 'type nn')
+        self.press('?\r')
+        self.assert_page(self.LINES, 'notes  72-78/100  78%', *found, 'type n')
+        self.quit()
+
+    def test_keys_of_the_program_are_letters_in_a_query(self):
+        self.page_lines()
+        keys = 'qbfF<>MnNpG12/? jk'
+        self.press('/' + keys)
+        self.assert_page(self.LINES, '', 'type /' + keys)
+        self.press('\x1b[D\x1b[D\x7f\x1b[3~\x1b[HX\x1b[FY\x1b[1;5DZ')
+        edits = ['key left', 'key left', 'key backspace', 'key delete', 'key home', 'type X', 'key end', 'type Y']
+        self.assert_page(self.LINES, '', 'type /' + keys, *edits, 'key c-left', 'type Z')
+        self.press('\x03q')
+        self.assert_back(0)
+
+    def test_queries_that_were_taken_come_back(self):
+        terminal = self.page_lines()
+        for query in ('line 2', 'line 3', 'line 3', 'line (', 'line 4'):
+            self.press(f'/{query}\r')
+        terminal.wait_for('4-10/100')
+        self.press('g?line 9')
+        shown = lambda query: terminal.wait(
+            lambda: terminal.player.texts()[-1] == '?' + query, f'the query {query!r}: {terminal.player.texts()}')
+        shown('line 9')
+        up, down = '\x1b[A', '\x1b[B'
+        for key, query in (
+            (down, 'line 9'), (up, 'line 4'), (up, 'line ('), (up, 'line 3'), (up, 'line 2'), (up, 'line 2'),
+            (down, 'line 3'), ('4', 'line 34'), (down, 'line ('), (down, 'line 4'), (down, 'line 9'),
+            (down, 'line 9'), ('8', 'line 98'), (up, 'line 4'), (down, 'line 98'),
+        ):
+            self.press(key)
+            shown(query)
+        self.press(up + up + up + '\r')
+        self.assert_page(self.LINES, 'notes  3-9/100  9%', 'type ?line 3', 'key enter')
+        self.quit()
+
+    def test_a_query_has_a_most(self):
+        terminal = self.page_lines()
+        os.set_blocking(terminal.master, False)
+        keys, sent = b'/' + b'x' * 300, 0
+        while sent < len(keys):
+            sent += terminal.send_some(keys[sent:])
+            terminal.read(0)
+        os.set_blocking(terminal.master, True)
+        terminal.wait(lambda: terminal.player.texts()[-1].startswith('/xxx'), 'the query')
+        self.press('\x03q')
+        self.assert_back(0)
+
+    def test_a_file_grows_while_the_search_prompt_is_open(self):
+        path = self.write('log', self.LINES)
+        terminal = self.page('./minus +F log')
+        terminal.wait_for('94-100/100')
+        text = self.LINES
+        with open(path, 'a') as log:
+            def grow(more):
+                before = terminal.counted('rchar')
+                log.write(more)
+                log.flush()
+                terminal.wait(lambda: terminal.counted('rchar') >= before + len(more), 'the text to be read')
+                return text + more
+            self.press('/line 98')
+            self.assert_page(text, '', 'mark 93', 'type /line 98')
+            # (what comes is read, and waits)
+            text = grow('more\n')
+            text = grow('and more\n' * 10)
+            self.assert_page(self.LINES, '', 'mark 93', 'type /line 98')
+            # (the match is on the last page, which is followed on)
+            self.press('\r')
+            self.assert_page(text, 'log  105-111/111  100%', 'mark 93', 'type /line 98', 'key enter', 'follow on')
+            self.press('/line 2')
+            self.terminal.wait_for('/line 2')
+            text = grow('the last\n')
+            self.press('\x03')
+            self.assert_page(text, 'log  106-112/112  100%', 'type /line 98', 'key enter', 'follow on')
+            # (a match further up ends that, and so does a jump there)
+            self.press('/line 2\r')
+            self.assert_page(text, 'log  2-8/112  7%', 'type /line 2', 'key enter')
+            text = grow('not followed\n')
+            self.assert_page(text, 'log  2-8/113  7%', 'type /line 2', 'key enter')
+            self.press('F')
+            self.assert_page(text, 'log  107-113/113  100%', 'type /line 2', 'key enter', 'follow on')
+            self.press('n')
+            self.assert_page(text, 'log  2-8/113  7%', 'type /line 2', 'key enter')
+            text = grow('not either\n')
+            self.assert_page(text, 'log  2-8/114  7%', 'type /line 2', 'key enter')
+        self.quit()
+
+    def test_a_pipe_is_read_while_the_search_prompt_is_open(self):
+        writer = self.page_pipe('seq 20')
+        self.terminal.wait_for('1-7/20')
+        self.press('/1')
+        self.terminal.wait_for('/1')
+        lines = ''.join(f'{n}\n' for n in range(21, 20001))
+        for at in range(0, len(lines), 4096):
+            os.write(writer, lines[at:at + 4096].encode())
+        self.terminal.wait(lambda: self.terminal.counted('rchar') > len(lines), 'the text to be read')
+        self.press('9\r')
+        self.terminal.wait_for('14-20/20000')
+        self.press('G')
+        self.terminal.wait_for('19994-20000/')
+        self.end_pipe(writer)
+
+    def test_an_endless_pipe_waits_as_far_as_a_bound(self):
+        terminal = self.page('yes "$(printf %01000d 7)" | ./minus +F -S')
+        bound, before = 64 * 1024 * 1024, terminal.counted('rchar')
+        self.press('/7')
+        terminal.wait(lambda: terminal.counted('rchar') >= before + bound, 'as much as the bound')
+        def read_more():
+            read = terminal.counted('rchar')
+            terminal.wait_for_turns(32)
+            return terminal.counted('rchar') - read
+        terminal.wait(lambda: not read_more(), 'the end of reading')
+        self.assertEqual(terminal.player.texts()[-1], '/7')
+        self.assertLess(terminal.counted('rchar') - before, 3 * bound)
+        # (what waits is added, a piece in each turn)
+        self.press('\x03')
+        terminal.wait_for('[F]')
+        told = terminal.player.texts()[-1]
+        terminal.wait(lambda: terminal.player.texts()[-1] != told, 'more of the text')
+        self.quit()
+
+    def test_a_resize_while_the_search_prompt_is_open(self):
+        terminal = self.page_lines()
+        self.press('/line 3')
+        self.assert_page(self.LINES, '', 'type /line 3')
+        terminal.set_size(30, 12)
+        terminal.wait(lambda: self.told_size() == '12 30 0\n', 'the new size')
+        terminal.wait_for_turns()
+        terminal.player.resize(30, 12)
+        self.press('\r')
+        self.assert_page(self.LINES, 'notes  3-13/100  13%', 'type /line 3', 'key enter')
+        self.quit()
+
+    def test_ctrl_z_leaves_the_search_prompt(self):
+        terminal = self.page_lines()
+        self.press('/line 3')
+        self.assert_page(self.LINES, '', 'type /line 3')
+        self.suspend()
+        terminal.resize(30, 12)
+        self.resume()
+        self.assert_page(self.LINES, 'notes  1-11/100  11%')
         self.quit()
 
     def test_options(self):

@@ -1,3 +1,5 @@
 pub mod Clipboard
+pub mod Following
+pub mod Jumps
 pub mod Prompt
 pub mod Reading

@@ -4,13 +4,14 @@ use Rattle.minus_text.specs.Document.{rows_of}
 use Rattle.minus_state.specs.declared.state.PagerState.{PagerState}
 use Rattle.minus_view.specs.Place.{place_text}
 use Rattle.minus_pager.specs.declared.prompt.Notice.{Notice}
-use Rattle.minus_pager.specs.declared.prompt.Notice.TheVariants.{Nothing, CutShort, OutOfMemory}
+use Rattle.minus_pager.specs.declared.prompt.Notice.TheVariants.{Nothing, CutShort, OutOfMemory, NotFound}
 
 -- what is said of the text besides the place of the page
 abbrev pub notice_text : Notice → List ℕ
 notice_text Nothing = []
 notice_text CutShort = codes "(cut short) "
 notice_text OutOfMemory = codes "(out of memory) "
+notice_text NotFound = codes "(pattern not found) "
 
 -- how many rows the text on show has
 abbrev pub row_count : PagerState → ℕ

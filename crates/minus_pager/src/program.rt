@@ -7,6 +7,7 @@ use crate::size::{Size, SizeFile};
 use crate::text::TextSource;
 use crate::viewer::{Onward, Viewer};
 use minus::{Event, MinusError};
+use minus_view::TextQueue;
 use std::thread;
 use std::time::Duration;
 
@@ -24,6 +25,8 @@ const PIECES: u32 = 16;
 pub struct Program {
     viewer: Viewer,
     source: TextSource,
+    // What was read while the search prompt was open: in the session, want of memory for it would end that.
+    ahead: TextQueue,
     keyboard: Keyboard,
     sizes: SizeFile,
     // Whether there is memory for more text.
@@ -55,6 +58,7 @@ impl Program {
         Ok(Program {
             viewer,
             source,
+            ahead: TextQueue::new(alloc),
             keyboard,
             sizes,
             has_room: true,
@@ -62,14 +66,25 @@ impl Program {
         })
     }
 
-    // The text of the next piece. Out of memory, there is none.
-    fn next_text(&mut self) -> Result<Option<String>, Fault> {
+    // Reads the next piece of text. Out of memory, there is none any more.
+    fn read_text(&mut self) -> Result<Option<String>, Fault> {
+        if !self.has_room {
+            return Ok(None);
+        }
         match self.source.next() {
             Err(Fault::Pager(MinusError::Memory)) => {
                 self.run_out_of_room();
                 Ok(None)
             }
             next => next,
+        }
+    }
+
+    // The next piece of text: what was read ahead comes first.
+    fn next_text(&mut self) -> Result<Option<String>, Fault> {
+        match self.ahead.take() {
+            Some(text) => Ok(Some(text)),
+            None => self.read_text(),
         }
     }
 
@@ -80,9 +95,23 @@ impl Program {
         self.viewer.set_notice(Notice::OutOfMemory);
     }
 
-    // Whether the next piece of text is to be read.
+    // Whether the next piece of text is wanted.
     fn wants_text(&self) -> bool {
-        self.has_room && (!self.source.is_standard() || self.viewer.wants_more(AHEAD))
+        !self.source.is_standard() || self.viewer.wants_more(AHEAD)
+    }
+
+    // Reads a piece of text that waits until the search prompt is closed, and answers whether there was one.
+    fn read_ahead(&mut self) -> Result<bool, Fault> {
+        if self.ahead.is_full() {
+            return Ok(false);
+        }
+        let Some(text) = self.read_text()? else {
+            return Ok(false);
+        };
+        if self.ahead.put(text.as_str()).is_err() {
+            self.run_out_of_room();
+        }
+        Ok(true)
     }
 
     // Adds the next piece of text, and answers whether there was one.
@@ -90,11 +119,16 @@ impl Program {
         if !self.wants_text() {
             return Ok(false);
         }
+        if self.viewer.is_searching() {
+            return self.read_ahead();
+        }
         let Some(text) = self.next_text()? else {
             return Ok(false);
         };
         self.pieces = self.pieces.saturating_add(1);
         if !self.viewer.append(text)? {
+            // (what waits would stand behind a gap)
+            self.ahead.clear();
             self.run_out_of_room();
         }
         Ok(true)
@@ -136,6 +170,19 @@ impl Program {
         Ok(true)
     }
 
+    // Takes the terminal's size where it has changed, and answers whether it has. While the search prompt is open that
+    // is not asked: it is told then once the prompt is closed.
+    fn take_size(&mut self, rt: &HostRuntime) -> Result<bool, Fault> {
+        if self.viewer.is_searching() {
+            return Ok(false);
+        }
+        let Some(size) = self.sizes.change(rt) else {
+            return Ok(false);
+        };
+        self.viewer.resize(size)?;
+        Ok(true)
+    }
+
     // Hears the keys that were pressed, and reads a piece of the text. Answers whether the session goes on.
     fn turn(&mut self, rt: &HostRuntime) -> Result<bool, Fault> {
         let mut events: Vec<Event> = Vec::new(rt.alloc());
@@ -143,8 +190,7 @@ impl Program {
         if !self.tell(rt, &events)? {
             return Ok(false);
         }
-        if let Some(size) = self.sizes.change(rt) {
-            self.viewer.resize(size)?;
+        if self.take_size(rt)? {
             heard = true;
         }
         let fed = self.feed()?;

@@ -15,6 +15,8 @@ pub enum Notice {
     CutShort,
     /// There was no memory for the rest of the text, or for what a key asked for.
     OutOfMemory,
+    /// No row matches the query.
+    NotFound,
 }
 
 impl Notice {
@@ -29,6 +31,7 @@ impl Notice {
             Notice::Nothing => "",
             Notice::CutShort => "(cut short) ",
             Notice::OutOfMemory => "(out of memory) ",
+            Notice::NotFound => "(pattern not found) ",
         }
     }
 }

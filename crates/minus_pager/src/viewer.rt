@@ -1,6 +1,11 @@
 //! The pager on the terminal: its session, and what it needs around it.
 ghost use Rattle.std.specs.Prelude.{◌≡◌};
 ghost use Rattle.minus_pager.specs.Reading.{name_of, first_line, bytes_below, wants_more};
+ghost use Rattle.minus_pager.specs.Following.{leads_up};
+ghost use Rattle.minus_state.specs.States.{control_of, IsFormed};
+
+mod jumps;
+mod searching;
 
 use crate::clipboard::clipboard_sequence;
 use crate::fault::Fault;
@@ -10,15 +15,15 @@ use crate::prompt::{Notice, prompt_text};
 use crate::size::Size;
 use minus::{
     Answer, CommandOf, Core, Event, InputClassifier, InputEvent, InputOf, IoCommand, KeyCode,
-    KeyModifiers, Kinds, LineNumbers, MinusError, PagerOf, PagerState, RunMode, WithTty, cleanup,
-    init_core_with, setup, write_bytes,
+    KeyModifiers, Kinds, LineNumbers, MinusError, NeverShows, PagerOf, PagerState, RunMode,
+    WithTty, cleanup, init_core_with, setup, write_bytes,
 };
-use minus_view::{Paging, Source};
+use minus_view::{History, Paging, Source};
 use std::alloc::Global;
 use std::io::Stdout;
 
-/// The kinds of the program's session.
-type PagerKinds = Kinds<Keys>;
+/// The kinds of the program's session: no condition is handed to it.
+type PagerKinds = Kinds<NeverShows, Keys>;
 
 /// The bytes that give the mouse back to the terminal.
 const MOUSE_OFF: &str = "\x1b[?1006l\x1b[?1015l\x1b[?1003l\x1b[?1002l\x1b[?1000l";
@@ -47,6 +52,13 @@ pub struct Viewer {
     notice: Notice,
     // Whether there was no memory for what a key asked for.
     was_short: bool,
+    // Whether no row matched the query that a key took.
+    was_missed: bool,
+    history: History,
+    // The match that the prompt row told of as the search prompt opened.
+    told_before: usize,
+    // Where the page was then, if the text was followed.
+    rests_from: Option<usize>,
     has_mouse: bool,
     // The line that is shown first, counted from 0, until it was read.
     line: Option<usize>,
@@ -80,6 +92,21 @@ fn is_suspend(event: &Event) -> bool {
         }
         _ => false,
     }
+}
+
+// Whether what an event asks for is a page that begins above the one on show.
+fn leads_up(state: &PagerState, asked: InputEvent) -> bool
+    ensures { IsFormed state.now → result ≡ leads_up (control_of state.now) asked }
+{
+    let mark = match asked {
+        InputEvent::UpdateUpperMark(mark) => mark,
+        InputEvent::NextMatch => state.to_next_match(1).mark,
+        InputEvent::PrevMatch => state.to_prev_match(1).mark,
+        InputEvent::MoveToNextMatch(jump) => state.to_next_match(jump).mark,
+        InputEvent::MoveToPrevMatch(jump) => state.to_prev_match(jump).mark,
+        _ => state.upper_mark,
+    };
+    mark < state.upper_mark
 }
 
 // How many bytes of the text stand below the first row of the page.
@@ -138,6 +165,10 @@ impl Viewer {
             name,
             notice: Notice::Nothing,
             was_short: false,
+            was_missed: false,
+            history: History::new(alloc),
+            told_before: 0,
+            rests_from: None,
             has_mouse: paging.mouse,
             line: first_line(paging),
         })
@@ -206,11 +237,11 @@ impl Viewer {
     }
 
     // Tells the session an input. Out of memory, it stays as it was, and the prompt row says so; a size that is none
-    // is passed over.
+    // is passed over, and so is a character that a query has no room for.
     fn step(&mut self, input: InputOf<PagerKinds>) -> Result<Onward, Fault> {
         match self.session.step(input) {
             Ok(answer) => self.heed(answer),
-            Err(MinusError::BadSize(..)) => Ok(Onward::On),
+            Err(MinusError::BadSize(..) | MinusError::QueryFull) => Ok(Onward::On),
             Err(MinusError::Memory) => {
                 self.was_short = true;
                 Ok(Onward::On)
@@ -225,20 +256,35 @@ impl Viewer {
         Ok(())
     }
 
-    // Whether the text is followed, and an event asks for a page before the last one.
-    fn leaves_the_end(&self, event: Event) -> bool {
+    // Ends following where an event leads up, and lets it rest where one opens the search prompt. Neither moves the
+    // page, which is the last one then.
+    fn leave_the_end(&mut self, event: Event) -> Result<(), Fault> {
         let state = self.session.state();
         if !state.follow_output() || state.help_open() {
-            return false;
+            return Ok(());
         }
         match self.keys.classify_input(event, state) {
-            Some(InputEvent::UpdateUpperMark(mark)) => mark < state.upper_mark,
-            _ => false,
+            Some(InputEvent::Search(_)) => self.rests_from = Some(state.upper_mark),
+            Some(asked) if leads_up(state, asked) => {}
+            _ => return Ok(()),
         }
+        self.command(CommandOf::FollowOutput(false))
+    }
+
+    // Lets a message go with the next key, which does what it does, unless that is the one that asks for no more.
+    fn end_message(&mut self, event: Event) -> Result<(), Fault> {
+        let state = self.session.state();
+        if state.message.is_none() || state.help_open() || !matches!(&event, Event::Key(_)) {
+            return Ok(());
+        }
+        if self.keys.classify_input(event, state) == Some(InputEvent::RestorePrompt) {
+            return Ok(());
+        }
+        self.command(CommandOf::UserInput(InputEvent::RestorePrompt))
     }
 
     /// Tells the session an event. One that moves up ends following first, which moves nothing then; the key that
-    /// suspends is the program's.
+    /// suspends is the program's, and so are some while the search prompt is open.
     ///
     /// # Errors
     ///
@@ -246,13 +292,16 @@ impl Viewer {
     pub fn tell(&mut self, event: Event) -> Result<Onward, Fault> {
         self.line = None;
         self.was_short = false;
+        self.was_missed = false;
+        if self.is_searching() {
+            return self.tell_search(event);
+        }
         if is_suspend(&event) {
             return Ok(Onward::Suspended);
         }
-        if self.leaves_the_end(event) {
-            self.command(CommandOf::FollowOutput(false))?;
-        }
-        self.step(InputOf::Event(event))
+        self.end_message(event)?;
+        self.leave_the_end(event)?;
+        self.tell_page(event)
     }
 
     /// Takes the terminal's new size.
@@ -324,19 +373,21 @@ impl Viewer {
         self.notice = notice;
     }
 
-    /// Lets the prompt row say where in the text the page is, unless help is open. Where there is no memory for that,
-    /// the row stays as it is.
+    /// Lets the prompt row say where in the text the page is, unless help or the search prompt is open. Where there is
+    /// no memory for that, the row stays as it is.
     ///
     /// # Errors
     ///
     /// [`Fault::Pager`] where the session refuses.
     pub fn show_place(&mut self) -> Result<(), Fault> {
         let state = self.session.state();
-        if state.help_open() {
+        if state.help_open() || state.open_search().is_some() {
             return Ok(());
         }
         let notice = if self.was_short {
             Notice::OutOfMemory
+        } else if self.was_missed {
+            Notice::NotFound
         } else {
             self.notice
         };

@@ -1,8 +1,10 @@
 pub mod CleanLaws
 pub mod EventLaws
 pub mod ExpandedLaws
+pub mod HistoryLaws
 pub mod MeaningLaws
 pub mod PlainLaws
 pub mod PreparedLaws
 pub mod ShownLaws
+pub mod TextQueueLaws
 pub mod UnitLaws

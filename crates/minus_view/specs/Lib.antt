@@ -1,10 +1,13 @@
 pub mod Arguments
 pub mod Events
+pub mod History
 pub mod Keys
 pub mod Meaning
 pub mod Mouse
 pub mod Numbers
 pub mod Place
 pub mod Prepared
+pub mod SearchKeys
 pub mod Shown
+pub mod TextQueue
 pub mod Units

@@ -6,8 +6,8 @@ use crate::numbers::{number, past_number, past_semicolon};
 use bitflags::Flags;
 use minus_term::{Event, KeyCode, KeyEvent, KeyEventKind, KeyEventState, KeyModifiers};
 
-/// A press of a key.
-pub(crate) fn press(code: KeyCode, bits: u8) -> Event
+/// A press of a key, with the modifiers of some bits.
+pub fn press(code: KeyCode, bits: u8) -> Event
     ensures { result ≡ press code bits }
 {
     Event::Key(KeyEvent {

@@ -4,6 +4,7 @@
 
 mod arguments;
 mod events;
+mod history;
 mod keys;
 mod look;
 mod meaning;
@@ -11,12 +12,18 @@ mod mouse;
 mod numbers;
 mod place;
 mod prepare;
+mod search_keys;
 mod sheet;
 mod shown;
+mod text_queue;
 mod units;
 
 pub use arguments::{ArgumentFault, Arguments, Paging, Source, parse_arguments};
 pub use events::{pieces_join, read_events, read_late_events, units_are_determined};
+pub use history::{History, steps_lead_back};
+pub use keys::press;
 pub use place::{clean_name, place_text};
 pub use prepare::{Preparation, plain_text_stays};
+pub use search_keys::{SearchKey, search_key};
 pub use shown::{shown_texts_are_clean, shown_texts_join};
+pub use text_queue::TextQueue;

@@ -70,8 +70,9 @@ impl Sheet {
 
     /// Puts a text on it that leads from the text's end to a place in a line; any other text is left out.
     pub(crate) fn put(&mut self, text: &str) -> Result<(), AllocError>
-        ensures put { IfOk result (λ _. (s : Bool) → read (chars text.now) (Some (Line self.old.styled)) ≡ Some (Line s)
-            → (string_bytes self.new.text ≡ string_bytes self.old.text ++ text.now) × (self.new.styled ≡ s)) }
+        ensures put { IfOk result (λ _. (s : Bool) →
+            read (chars text.now) (Some (Line self.old.styled)) ≡ Some (Line s) →
+            (string_bytes self.new.text ≡ string_bytes self.old.text ++ text.now) × (self.new.styled ≡ s)) }
     {
         if let Some(Spot::Line(styled)) = read(Spot::Line(self.styled), text) {
             self.text.push_str(text)?;
