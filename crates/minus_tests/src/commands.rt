@@ -27,7 +27,7 @@ fn is_told(alloc: Global, case: &Told<'_>) -> bool {
     }
 }
 
-const TOLD: [&Told<'static>; 13] = [
+const TOLD: [&Told<'static>; 14] = [
     &Told {
         asked: Asked::Push("a"),
         other: Asked::Push("b"),
@@ -78,6 +78,11 @@ const TOLD: [&Told<'static>; 13] = [
         asked: Asked::Start(1, 2),
         other: Asked::Update(1, 2),
         text: "UserInput(StartSelection { x: 1, y: 2 })",
+    },
+    &Told {
+        asked: Asked::Does(InputEvent::MoveToNextMatch(1)),
+        other: Asked::Does(InputEvent::NextMatch),
+        text: "UserInput(MoveToNextMatch(1))",
     },
     // and so is what is drawn
     &Told {

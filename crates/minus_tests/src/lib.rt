@@ -9,6 +9,8 @@ mod classifiers;
 #[cfg(test)]
 mod commands;
 #[cfg(test)]
+mod conditions;
+#[cfg(test)]
 mod drawings;
 #[cfg(test)]
 mod endings;
@@ -25,13 +27,19 @@ mod keys;
 #[cfg(test)]
 mod layouts;
 #[cfg(test)]
+mod matches;
+#[cfg(test)]
 mod pages;
+#[cfg(test)]
+mod player;
 #[cfg(test)]
 mod prompts;
 #[cfg(test)]
 mod refusals;
 #[cfg(test)]
 mod script;
+#[cfg(test)]
+mod searches;
 #[cfg(test)]
 mod selections;
 #[cfg(test)]

@@ -1,7 +1,8 @@
 //! Worked sessions with the pages and the marks that they must have.
 use crate::facts::assert_holds;
 use crate::sessions::{
-    Asked, PROMPT_ROW, TEN_LINES, Worked, assert_shown, does, has_len, session_on, terminal,
+    Asked, PROMPT_ROW, TEN_LINES, Worked, assert_shown, does, has_len, has_page, session_on,
+    terminal,
 };
 use minus::{Event, Screen};
 use std::alloc::Global;
@@ -12,7 +13,7 @@ const FOLLOWED: Asked<'static> = Asked::Follow(true);
 const TEN_ROWS: Asked<'static> = Asked::Push("l0\nl1\nl2\nl3\nl4\nl5\nl6\nl7\nl8\nl9\n");
 
 // The pages that sessions lead to.
-const SHOWN: [&Worked<'static>; 7] = [
+const SHOWN: [&Worked<'static>; 6] = [
     &Worked {
         name: "three lines leave a blank row",
         cols: 20,
@@ -60,18 +61,25 @@ const SHOWN: [&Worked<'static>; 7] = [
         asked: &[Asked::Push("one\ntwo"), Asked::Told(Event::Resize(4, 2))],
         texts: &["one", "\x1b[2;40;37mminu\x1b[0m"],
     },
-    &Worked {
-        name: "a control sequence in a text is text",
-        cols: 20,
-        rows: 3,
-        asked: &[Asked::Push("a\x1b[2Jb")],
-        texts: &["a\x1b[2Jb", "", PROMPT_ROW],
-    },
 ];
 
 #[test]
 fn sessions_show_their_pages(rt: HostRuntime) {
     assert_shown(&rt, rt.alloc(), &SHOWN);
+}
+
+// Whether a text that has a control sequence is put as it is. (A plain player would take that for an operation.)
+fn keeps_a_sequence(alloc: Global) -> bool {
+    let Some(mut session) = session_on(alloc, terminal(alloc), 20, 3) else {
+        return false;
+    };
+    does(alloc, &mut session, &[Asked::Push("a\x1b[2Jb")])
+        && has_page(&session, &["a\x1b[2Jb", "", PROMPT_ROW])
+}
+
+#[test]
+fn a_control_sequence_in_a_text_is_text(rt: HostRuntime) {
+    assert_holds(&rt, keeps_a_sequence(rt.alloc()));
 }
 
 // Whether a page may have so many rows.

@@ -1,4 +1,5 @@
 //! Sessions for the tests, started and stepped in one place. Where memory runs out, each answer is `false` or none.
+use crate::player::played;
 use minus::{
     Calls, CommandOf, Core, Event, InputEvent, InputOf, IoCommand, KeyCode, KeyEvent, KeyEventKind,
     KeyEventState, KeyModifiers, LineNumbers, MinusError, OutputSink, Page, PagerOf, RanOf,
@@ -55,16 +56,18 @@ pub enum Asked<'a> {
     Update(u16, u16),
     /// The press of a character's key.
     Key(char),
+    /// The press of another key.
+    Pressed(KeyCode),
     Does(InputEvent),
     Io(IoCommand),
     Told(Event),
     Exit,
 }
 
-// The press of a character's key.
-fn key(character: char) -> Event {
+/// The press of a key.
+pub fn pressed(code: KeyCode) -> Event {
     Event::Key(KeyEvent {
-        code: KeyCode::Char(character),
+        code,
         modifiers: KeyModifiers::NONE,
         kind: KeyEventKind::Press,
         state: KeyEventState::NONE,
@@ -88,7 +91,8 @@ fn input(alloc: Global, asked: Asked<'_>) -> Result<Input, AllocError> {
         Asked::Left(mark) => Command::UserInput(InputEvent::UpdateLeftMark(mark)),
         Asked::Start(x, y) => Command::UserInput(InputEvent::StartSelection { x, y }),
         Asked::Update(x, y) => Command::UserInput(InputEvent::UpdateSelection { x, y }),
-        Asked::Key(character) => return Ok(Input::Event(key(character))),
+        Asked::Key(character) => return Ok(Input::Event(pressed(KeyCode::Char(character)))),
+        Asked::Pressed(code) => return Ok(Input::Event(pressed(code))),
         Asked::Does(event) => Command::UserInput(event),
         Asked::Io(command) => Command::Io(command),
         Asked::Told(event) => return Ok(Input::Event(event)),
@@ -192,8 +196,8 @@ pub fn are_bytes(bytes: &[u8], texts: &[&str]) -> bool {
     rest.is_empty()
 }
 
-// Whether a page has these rows, no others and no cursor.
-fn has_rows(page: &Page, rows: &[&str]) -> bool {
+// Whether a page has these rows, no others, and a cursor at this column, or none.
+fn has_rows(page: &Page, rows: &[&str], cursor: Option<u16>) -> bool {
     let mut wanted = rows.iter();
     for row in &page.rows {
         match wanted.next() {
@@ -201,7 +205,7 @@ fn has_rows(page: &Page, rows: &[&str]) -> bool {
             _ => return false,
         }
     }
-    wanted.next().is_none() && page.cursor.is_none()
+    wanted.next().is_none() && page.cursor == cursor
 }
 
 /// Whether a session's page has so many rows.
@@ -212,12 +216,21 @@ pub fn has_len<S: OutputSink + Drop>(session: &Session<S>, rows: usize) -> bool 
     }
 }
 
-/// Whether a session's page has these rows, no others and no cursor.
-pub fn has_page<S: OutputSink + Drop, P: Calls>(session: &Core<S, P>, rows: &[&str]) -> bool {
+/// Whether a session's page has these rows, no others, and a cursor at this column of its last row, or none.
+pub fn has_page_with<S: OutputSink + Drop, P: Calls>(
+    session: &Core<S, P>,
+    rows: &[&str],
+    cursor: Option<u16>,
+) -> bool {
     match session.page() {
-        Ok(page) => has_rows(&page, rows),
+        Ok(page) => has_rows(&page, rows, cursor),
         Err(_) => false,
     }
+}
+
+/// Whether a session's page has these rows, no others and no cursor.
+pub fn has_page<S: OutputSink + Drop, P: Calls>(session: &Core<S, P>, rows: &[&str]) -> bool {
+    has_page_with(session, rows, None)
 }
 
 // Whether a session does all of this, and its page has these rows then.
@@ -230,10 +243,24 @@ fn leads_to<S: OutputSink + Drop>(
     does(alloc, session, asked) && has_page(session, page)
 }
 
-// Whether a session does all of this, and its page has these rows then.
+// Whether the bytes that a session wrote, played by a plain player, leave its page on a screen of so many rows.
+pub fn is_played<P: Calls>(alloc: Global, session: Core<WithTty<Vec<u8>>, P>, rows: usize) -> bool {
+    let Ok(page) = session.page() else {
+        return false;
+    };
+    let (sink, _) = session.finish();
+    match played(alloc, rows, &sink.inner) {
+        Some(screen) => screen.shows(&page.rows),
+        None => false,
+    }
+}
+
+// Whether a session does all of this, its page has these rows then, and its bytes leave this page.
 fn shows(alloc: Global, cols: usize, rows: usize, asked: &[Asked<'_>], page: &[&str]) -> bool {
     match session_on(alloc, terminal(alloc), cols, rows) {
-        Some(mut session) => leads_to(alloc, &mut session, asked, page),
+        Some(mut session) => {
+            leads_to(alloc, &mut session, asked, page) && is_played(alloc, session, page.len())
+        }
         None => false,
     }
 }

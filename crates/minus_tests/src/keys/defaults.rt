@@ -3,7 +3,7 @@ use crate::facts::{assert_at, assert_holds};
 use crate::keys::asked::{At, START, answers, mouse, press, state_of};
 use minus::{
     Event, InputClassifier, InputEvent, KeyCode, KeyEvent, KeyEventKind, KeyEventState,
-    KeyModifiers, LineNumbers,
+    KeyModifiers, LineNumbers, SearchMode,
 };
 use minus_script::DefaultKeys;
 use std::alloc::Global;
@@ -109,7 +109,8 @@ fn keys_move_the_left_mark(rt: HostRuntime) {
     }
 }
 
-// A key, and what it asks for, whatever prefix is typed and wherever the mark is. A search is not asked for yet.
+// A key, and what it asks for, whatever prefix is typed and wherever the mark is. No jump among matches is
+// asked for before a search has begun.
 const OTHERS: [(&str, InputEvent); 18] = [
     ("q", InputEvent::Exit),
     ("c-c", InputEvent::Exit),
@@ -121,8 +122,8 @@ const OTHERS: [(&str, InputEvent); 18] = [
     ("c-h", InputEvent::HorizontalScroll(false)),
     ("c-s-h", InputEvent::HorizontalScroll(false)),
     ("c-H", InputEvent::HorizontalScroll(false)),
-    ("/", InputEvent::Ignore),
-    ("?", InputEvent::Ignore),
+    ("/", InputEvent::Search(SearchMode::Forward)),
+    ("?", InputEvent::Search(SearchMode::Reverse)),
     ("n", InputEvent::Ignore),
     ("p", InputEvent::Ignore),
     ("s-n", InputEvent::Ignore),

@@ -5,7 +5,8 @@ use crate::keys::asked::{At, START, answers, key, mouse, press, state_of};
 use crate::sessions::{PROMPT_ROW, has_page, terminal};
 use minus::{
     CommandOf, Core, DefaultInputClassifier, Event, InputClassifier, InputEvent, InputOf,
-    KeyEventKind, Kinds, LineNumbers, PagerOf, RunMode, WithTty, init_core_with,
+    KeyEventKind, Kinds, LineNumbers, NeverShows, PagerOf, RunMode, SearchMode, WithTty,
+    init_core_with,
 };
 use std::alloc::Global;
 
@@ -75,7 +76,7 @@ fn keys_move_the_mark(rt: HostRuntime) {
 
 // A key, and what it asks for, whatever prefix is typed, where the left mark is 4. What is no line of the table asks for
 // nothing.
-const OTHERS: [(&str, Option<InputEvent>); 26] = [
+const OTHERS: [(&str, Option<InputEvent>); 28] = [
     ("q", Some(InputEvent::Exit)),
     ("c-c", Some(InputEvent::Exit)),
     ("c-f", Some(InputEvent::FollowOutput(true))),
@@ -87,6 +88,8 @@ const OTHERS: [(&str, Option<InputEvent>); 26] = [
     ("left", Some(InputEvent::UpdateLeftMark(3))),
     ("l", Some(InputEvent::UpdateLeftMark(5))),
     ("right", Some(InputEvent::UpdateLeftMark(5))),
+    ("/", Some(InputEvent::Search(SearchMode::Forward))),
+    ("?", Some(InputEvent::Search(SearchMode::Reverse))),
     ("0", Some(InputEvent::Number('0'))),
     ("9", Some(InputEvent::Number('9'))),
     ("c-9", None),
@@ -186,7 +189,7 @@ fn enter_asks_for_the_prompt_after_a_message(rt: HostRuntime) {
     assert_holds(&rt, drops_the_message(rt.alloc()));
 }
 
-type Own = Kinds<DefaultInputClassifier>;
+type Own = Kinds<NeverShows, DefaultInputClassifier>;
 
 type Led = Core<WithTty<Vec<u8>>, Own>;
 

@@ -36,9 +36,9 @@ const ROWS: [(&str, &str); 29] = [
     ("key end\nkey home", "l0\nl1\nl2\n"),
     ("key enter", "l1\nl2\nl3\n"),
     ("message hi\nkey enter", "l0\nl1\nl2\n"),
-    // a key that is not bound, and that of a search, do nothing but for the prefix
+    // a key that is not bound does nothing but for the prefix
     ("type 3\nkey x\nkey j", "l1\nl2\nl3\n"),
-    ("type 3/\nkey j", "l1\nl2\nl3\n"),
+    ("type 3zj", "l1\nl2\nl3\n"),
     ("mouse scroll:down 0 0", "l5\nl6\nl7\n"),
     ("mark 7\nmouse scroll:up 3 1", "l2\nl3\nl4\n"),
     (

@@ -56,12 +56,19 @@ pub fn leads_to(alloc: Global, cols: usize, rows: usize, script: &str, page: &st
         && out.as_slice() == page.as_bytes()
 }
 
+// A script that goes on behind ten lines.
+macro_rules! ten_lines {
+    ($script:expr) => {
+        concat!("push l0\\nl1\\nl2\\nl3\\nl4\\nl5\\nl6\\nl7\\nl8\\nl9\n", $script)
+    };
+}
+
 // Columns, rows, a script and the page that it leads to.
-const PAGES: [(usize, usize, &str, &str); 8] = [
+const PAGES: [(usize, usize, &str, &str); 10] = [
     (
         20,
         2,
-        "push ab cd\ntype x/\nresize 3 4\n",
+        "push ab cd\ntype xz\nresize 3 4\n",
         "ab\ncd\n\n\\e[2;40;37mmin\\e[0m\n",
     ),
     (
@@ -96,6 +103,18 @@ const PAGES: [(usize, usize, &str, &str); 8] = [
         "b\n\\e[30;1;41mhi               \\e[1m[F]\\e[0m\n",
     ),
     (20, 2, "showprompt off\npush a", "a\n\n"),
+    (
+        20,
+        4,
+        ten_lines!("type /l7"),
+        "\\e[7ml7\\e[27m\nl8\nl9\n/l7\n",
+    ),
+    (
+        20,
+        4,
+        ten_lines!("type /l7\nset a\nkey enter"),
+        "a\n\n\n\\e[2;40;37mminus               \\e[0m\n",
+    ),
 ];
 
 #[test]

@@ -8,7 +8,7 @@ use minus_text::LineNumbers;
 use std::alloc::Global;
 
 // The prompt row of 20 columns.
-const PROMPT_ROW: &str = "\x1b[2;40;37mminus               \x1b[0m";
+pub(crate) const PROMPT_ROW: &str = "\x1b[2;40;37mminus               \x1b[0m";
 
 // A line that takes two rows of 20 columns.
 const LONG: &str = "abcdefghijklmnopqrstuvwxy";
@@ -34,7 +34,7 @@ fn has_rows(state: &PagerState, rows: &[&str]) -> bool {
 }
 
 // Whether the prompt row is this one.
-fn has_prompt_row(alloc: Global, state: &PagerState, row: &str) -> bool {
+pub(crate) fn has_prompt_row(alloc: Global, state: &PagerState, row: &str) -> bool {
     match state.displayed_prompt(alloc) {
         Ok(text) => text.as_str() == row,
         Err(_) => false,

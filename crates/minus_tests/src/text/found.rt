@@ -1,10 +1,10 @@
 //! What a term finds in the rows of a screen.
 use crate::facts::{assert_at, assert_holds};
-use crate::text::screens::{push, sees, stores};
+use crate::text::screens::{push, sees, set, stores};
 use crate::text::searches::Search;
 use crate::text::told::{row_of, tells_matches};
 use minus_term::error::MinusError;
-use minus_text::{FormatResult, Layout, LineNumbers, RowsView, Screen, Term};
+use minus_text::{Findings, FormatResult, Layout, LineNumbers, RowsView, Screen, Term};
 use std::alloc::Global;
 
 // Puts a piece into a screen of 20 columns under a term. The first sets the text; of the others, every other one is
@@ -175,4 +175,61 @@ fn are_found_after(alloc: Global, term: &str) -> bool {
 #[test]
 fn matches_are_counted_with_a_push_that_is_not_made_yet(rt: HostRuntime) {
     assert_holds(&rt, are_found_after(rt.alloc(), "test"));
+}
+
+// Searches a screen that keeps nothing as found, and leaves it so.
+fn search(alloc: Global, screen: &Screen, term: Option<Term<'_>>) -> Option<Findings> {
+    match screen.search(alloc, term) {
+        Ok(findings) => (screen.match_count() == 0).then_some(findings),
+        Err(_) => None,
+    }
+}
+
+// Places what a search found, if it found anything at all.
+fn place(
+    alloc: Global,
+    screen: &mut Screen,
+    findings: Option<Findings>,
+    term: Option<Term<'_>>,
+) -> bool {
+    match findings {
+        Some(findings) => screen.place_findings(alloc, findings, term).is_ok(),
+        None => false,
+    }
+}
+
+// Whether a screen keeps what was found in it.
+fn is_kept(alloc: Global, term: &str) -> bool {
+    let Some(looked_for) = Search::of(alloc, term) else {
+        return false;
+    };
+    let mut screen = Screen::new(alloc);
+    let is_set = set(alloc, &mut screen, "a test\nno\ntest", Layout::plain(20));
+    let findings = search(alloc, &screen, looked_for.term());
+    is_set
+        && place(alloc, &mut screen, findings, looked_for.term())
+        && has_matches(&screen, "02")
+        && stores(alloc, &screen, 0, "a \x1b[7mtest\x1b[27m")
+}
+
+// Whether a screen is searched anew where that was found in a longer text.
+fn is_found_anew(alloc: Global, term: &str) -> bool {
+    let Some(looked_for) = Search::of(alloc, term) else {
+        return false;
+    };
+    let (mut long, mut short) = (Screen::new(alloc), Screen::new(alloc));
+    let is_set = set(alloc, &mut long, "test\na test\nno test", Layout::plain(20))
+        && set(alloc, &mut short, "no\ntest", Layout::plain(20));
+    let findings = search(alloc, &long, looked_for.term());
+    is_set
+        && place(alloc, &mut short, findings, looked_for.term())
+        && short.orig_text() == "no\ntest"
+        && has_matches(&short, "1")
+        && stores(alloc, &short, 1, "\x1b[7mtest\x1b[27m")
+}
+
+#[test]
+fn what_a_search_found_is_kept_where_it_stands(rt: HostRuntime) {
+    assert_holds(&rt, is_kept(rt.alloc(), "test"));
+    assert_holds(&rt, is_found_anew(rt.alloc(), "test"));
 }

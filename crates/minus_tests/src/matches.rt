@@ -1,0 +1,302 @@
+//! Jumps among the rows that match, asked for by keys and by commands. Where memory runs out, each answer is `false`.
+use crate::facts::{assert_at, assert_holds};
+use crate::keys::asked::{At, press, state_of};
+use crate::sessions::{Asked, PROMPT_ROW, TEN_LINES, Worked, assert_drawn, assert_shown};
+use crate::state::terms::set_term;
+use minus::{
+    Change, DefaultInputClassifier, InputClassifier, InputEvent, NextText, PagerState, SearchMode,
+};
+use minus_script::DefaultKeys;
+use std::alloc::Global;
+
+// A term, if there is one, the mark and the match that is told of, counted from 0; a typed prefix and a key, after a search
+// forward; the mark that it leads to, and the match that is told of then. The last mark of the text is 7.
+struct Jump<'a> {
+    name: &'a str,
+    term: Option<&'a str>,
+    from: (usize, usize),
+    pressed: (&'a str, &'a str),
+    to: (usize, usize),
+}
+
+// The state that a jump begins in.
+fn begun(alloc: Global, case: &Jump<'_>) -> Option<PagerState> {
+    let at = At {
+        prefix: case.pressed.0,
+        mark: case.from.0,
+    };
+    let mut state = state_of(alloc, TEN_LINES, &at)?;
+    let is_set = match case.term {
+        Some(term) => set_term(alloc, &mut state, term),
+        None => true,
+    };
+    state.set_search_mark(case.from.1);
+    state.search_state.search_mode = SearchMode::Forward;
+    is_set.then_some(state)
+}
+
+// What a jump leaves in a state, if a key asks for one.
+fn asked(alloc: Global, state: &PagerState, key: &str) -> Option<Change> {
+    let keys = DefaultKeys::new(alloc).ok()?;
+    match keys.classify_input(press(key), state) {
+        Some(InputEvent::MoveToNextMatch(jump)) => Some(state.to_next_match(jump)),
+        Some(InputEvent::MoveToPrevMatch(jump)) => Some(state.to_prev_match(jump)),
+        _ => None,
+    }
+}
+
+// Whether it is put in its place, its mark clamped, and leads to this mark and match.
+fn settles(alloc: Global, state: &mut PagerState, mut change: Change, to: (usize, usize)) -> bool {
+    match &change.text {
+        NextText::Same => {}
+        _ => return false,
+    }
+    change.clamp(&state.screen);
+    state.place(alloc, change).is_ok() && state.upper_mark == to.0 && state.search_mark() == to.1
+}
+
+// Whether a key leads there.
+fn leads(alloc: Global, case: &Jump<'_>) -> bool {
+    let Some(mut state) = begun(alloc, case) else {
+        return false;
+    };
+    match asked(alloc, &state, case.pressed.1) {
+        Some(change) => settles(alloc, &mut state, change, case.to),
+        None => false,
+    }
+}
+
+// Rows 2, 5 and 8 match the first of these terms, and rows 2, 5 and 7 the second.
+const THREE: Option<&str> = Some("l[258]");
+
+const UP_TO_THE_LAST_MARK: Option<&str> = Some("l[257]");
+
+const JUMPS: [&Jump<'static>; 16] = [
+    &Jump {
+        name: "on to the first",
+        term: THREE,
+        from: (0, 0),
+        pressed: ("", "n"),
+        to: (2, 0),
+    },
+    &Jump {
+        name: "on from a match",
+        term: THREE,
+        from: (2, 0),
+        pressed: ("", "n"),
+        to: (5, 1),
+    },
+    &Jump {
+        name: "on from between two",
+        term: THREE,
+        from: (3, 2),
+        pressed: ("", "n"),
+        to: (5, 1),
+    },
+    &Jump {
+        name: "on to a row past the last mark",
+        term: THREE,
+        from: (5, 1),
+        pressed: ("", "n"),
+        to: (7, 2),
+    },
+    &Jump {
+        name: "on past the last one",
+        term: UP_TO_THE_LAST_MARK,
+        from: (7, 2),
+        pressed: ("", "n"),
+        to: (2, 0),
+    },
+    &Jump {
+        name: "on by three",
+        term: THREE,
+        from: (0, 0),
+        pressed: ("3", "n"),
+        to: (7, 2),
+    },
+    &Jump {
+        name: "on by five, past the last one",
+        term: THREE,
+        from: (0, 0),
+        pressed: ("5", "n"),
+        to: (5, 1),
+    },
+    &Jump {
+        name: "on by none, at a match",
+        term: THREE,
+        from: (5, 0),
+        pressed: ("0", "n"),
+        to: (5, 1),
+    },
+    &Jump {
+        name: "back",
+        term: THREE,
+        from: (7, 2),
+        pressed: ("", "p"),
+        to: (5, 1),
+    },
+    &Jump {
+        name: "back by more than there are",
+        term: THREE,
+        from: (7, 2),
+        pressed: ("4", "s-n"),
+        to: (2, 0),
+    },
+    &Jump {
+        name: "back at the first one",
+        term: THREE,
+        from: (2, 0),
+        pressed: ("", "p"),
+        to: (2, 0),
+    },
+    &Jump {
+        name: "back to a row below the mark",
+        term: THREE,
+        from: (3, 2),
+        pressed: ("", "p"),
+        to: (3, 1),
+    },
+    &Jump {
+        name: "back to where no match is",
+        term: THREE,
+        from: (6, 9),
+        pressed: ("2", "p"),
+        to: (6, 7),
+    },
+    &Jump {
+        name: "on where no row matches",
+        term: Some("q"),
+        from: (4, 3),
+        pressed: ("", "n"),
+        to: (4, 3),
+    },
+    &Jump {
+        name: "back where no row matches",
+        term: Some("q"),
+        from: (4, 3),
+        pressed: ("", "p"),
+        to: (4, 3),
+    },
+    &Jump {
+        name: "back without a term",
+        term: None,
+        from: (4, 3),
+        pressed: ("2", "p"),
+        to: (4, 3),
+    },
+];
+
+#[test]
+fn keys_jump_among_the_matches(rt: HostRuntime) {
+    for case in &JUMPS {
+        assert_at(&rt, case.name, leads(rt.alloc(), case));
+    }
+}
+
+// Whether a key asks for this by the default bindings, and for that by exact keys, after a search.
+fn are_asked(
+    alloc: Global,
+    mode: SearchMode,
+    pressed: (&str, &str),
+    wanted: (InputEvent, Option<InputEvent>),
+) -> bool {
+    let at = At {
+        prefix: pressed.0,
+        mark: 0,
+    };
+    let (Ok(keys), Some(mut state)) = (DefaultKeys::new(alloc), state_of(alloc, TEN_LINES, &at))
+    else {
+        return false;
+    };
+    state.search_state.search_mode = mode;
+    keys.classify_input(press(pressed.1), &state) == Some(wanted.0)
+        && DefaultInputClassifier.classify_input(press(pressed.1), &state) == wanted.1
+}
+
+type Wanted = (InputEvent, Option<InputEvent>);
+
+const NEXT: InputEvent = InputEvent::MoveToNextMatch(1);
+
+const PREVIOUS: InputEvent = InputEvent::MoveToPrevMatch(1);
+
+const FIFTH: InputEvent = InputEvent::MoveToNextMatch(5);
+
+// The direction of the last search, the typed prefix and a key, and what is asked for.
+const ASKED: [(SearchMode, (&str, &str), Wanted); 10] = [
+    (SearchMode::Forward, ("", "n"), (NEXT, Some(NEXT))),
+    (SearchMode::Forward, ("5", "n"), (FIFTH, Some(FIFTH))),
+    (SearchMode::Forward, ("", "p"), (PREVIOUS, Some(PREVIOUS))),
+    (SearchMode::Forward, ("", "s-n"), (PREVIOUS, None)),
+    (SearchMode::Reverse, ("", "n"), (PREVIOUS, Some(PREVIOUS))),
+    (SearchMode::Reverse, ("5", "p"), (FIFTH, Some(FIFTH))),
+    (SearchMode::Reverse, ("", "s-n"), (NEXT, None)),
+    (
+        SearchMode::Unknown,
+        ("", "n"),
+        (InputEvent::Ignore, Some(NEXT)),
+    ),
+    (
+        SearchMode::Unknown,
+        ("5", "n"),
+        (InputEvent::Ignore, Some(FIFTH)),
+    ),
+    (
+        SearchMode::Unknown,
+        ("", "p"),
+        (InputEvent::Ignore, Some(PREVIOUS)),
+    ),
+];
+
+#[test]
+fn the_direction_of_the_last_search_decides(rt: HostRuntime) {
+    for (mode, pressed, wanted) in &ASKED {
+        assert_holds(&rt, are_asked(rt.alloc(), *mode, *pressed, *wanted));
+    }
+}
+
+// What the last step of a session draws where there is no term.
+const DRAWN: [&Worked<'static>; 2] = [
+    &Worked {
+        name: "a jump on without a term",
+        cols: 20,
+        rows: 4,
+        asked: &[
+            Asked::Push(TEN_LINES),
+            Asked::Mark(5),
+            Asked::Does(InputEvent::NextMatch),
+        ],
+        texts: &[],
+    },
+    &Worked {
+        name: "a jump back without a term",
+        cols: 20,
+        rows: 4,
+        asked: &[
+            Asked::Push(TEN_LINES),
+            Asked::Mark(5),
+            Asked::Does(InputEvent::MoveToPrevMatch(3)),
+        ],
+        texts: &[],
+    },
+];
+
+// The page that such jumps leave.
+const SHOWN: [&Worked<'static>; 1] = [&Worked {
+    name: "jumps without a term",
+    cols: 20,
+    rows: 4,
+    asked: &[
+        Asked::Push(TEN_LINES),
+        Asked::Mark(5),
+        Asked::Does(InputEvent::MoveToNextMatch(3)),
+        Asked::Does(InputEvent::PrevMatch),
+        Asked::Key('n'),
+    ],
+    texts: &["l5", "l6", "l7", PROMPT_ROW],
+}];
+
+#[test]
+fn jumps_do_nothing_without_a_term(rt: HostRuntime) {
+    assert_drawn(&rt, rt.alloc(), &DRAWN);
+    assert_shown(&rt, rt.alloc(), &SHOWN);
+}
