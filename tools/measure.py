@@ -83,6 +83,16 @@ def numbered(count):
     return push("".join(line + "\n" for line in lines(count + 24)))
 
 
+def short_lines(count):
+    """A push of so many lines of a few bytes, each with a letter `l` before its number."""
+    return push("".join(f"l{line}\n" for line in range(count)))
+
+
+def searched(text, query):
+    """A push of lines, and a query that is typed and taken."""
+    return text + f"key /\ntype {query}\nkey enter\n".encode()
+
+
 # Each work: what its number counts, the numbers, and a function from a number to two scripts: what makes the document,
 # and what is measured.
 WORKS = {
@@ -120,6 +130,26 @@ WORKS = {
         lambda n: (numbered(n), b"".join(f"mark {row + 1}\n".encode() for row in range(n))),
     ),
     "keys": ("scrolls by a row, by the key j", [1000, 2000], lambda n: (numbered(n), b"key j\n" * n)),
+    "edits": (
+        "edits of a query that leads to the last of 5,000 lines",
+        [20, 40],
+        lambda n: (push("".join(line + "\n" for line in [*lines(4999), "4999"])) + b"key /\ntype 499\n", b"type 9\nkey backspace\n" * (n // 2)),
+    ),
+    "jumps": (
+        "jumps to the next match, in 10,000 rows that match",
+        [1000, 2000],
+        lambda n: (searched(short_lines(10_000), "l"), b"key n\n" * n),
+    ),
+    "far_jumps": (
+        "jumps to the next match, in 1,000,000 rows that match",
+        [1000],
+        lambda n: (searched(short_lines(1_000_000), "l"), b"key n\n" * n),
+    ),
+    "waiting": (
+        "pushes of a line that wait for the search prompt to close",
+        [1000, 2000],
+        lambda n: (short_lines(100) + b"key /\n", pushes(line + "\n" for line in lines(n)) + b"key esc\n"),
+    ),
     "wide": ("bytes in one push, wide characters", [150_000, 300_000], lambda n: (b"", push(text_of(wide, n)))),
     "accents": ("bytes in one push, accents", [150_000, 300_000], lambda n: (b"", push(text_of(accented, n)))),
     "coloured": ("bytes in one push, coloured words", [150_000, 300_000], lambda n: (b"", push(text_of(coloured, n)))),

@@ -28,8 +28,8 @@ That a body was refused is kept where rt ci keeps what it passed, on this machin
 body, the files of its crate and of those below it, and the libraries that were built of these. So a later run tries what has
 changed.
 
-The last line is `wrong-bodies: N passed, M failed`; where a name is unknown or there is nothing to try, it says that. Both that
-and a body that failed end with 1.
+The last line is `wrong-bodies: N passed, M failed`, after a line for each body that failed; where a name is unknown or there is
+nothing to try, it says that. Both that and a body that failed end with 1.
 """
 import importlib.machinery
 import importlib.util
@@ -410,12 +410,12 @@ def untried(kept, crate, bodies):
 
 
 def try_crate(rt, kept, crate, bodies, is_proved):
-    """Tries wrong bodies of a crate, which stands on a copy, keeps which are refused, and returns how many."""
+    """Tries wrong bodies of a crate, which stands on a copy, keeps which are refused, and returns a line for each that is not."""
     plain = "logic=proved" if is_proved else call(["rt", "check", "--jobs", "1"], crate.folder)
     if not re.search(r"^logic=proved", plain, re.M):
         print(f"{crate.name}: the crate as it stands is not proved\n{plain[-2000:]}", flush=True)
-        return 0
-    proofs, passed = proofs_of(crate), 0
+        return [f"{crate.name}/{it.label}: the crate as it stands is not proved" for it in bodies]
+    proofs, failed = proofs_of(crate), []
     functions = functions_of(crate.folder, proofs)
 
     def check(bodies, proofs_beside=None, others=()):
@@ -440,11 +440,12 @@ def try_crate(rt, kept, crate, bodies, is_proved):
     for body, is_refused, why in try_all(bodies, check, check_beside_unproved, twins):
         why = " ".join(why.split())[:160]
         print(f"{crate.name}/{body.label}: {'refused: ' if is_refused else 'FAILED: '}{why}", flush=True)
-        if is_refused and body.kept_as:
+        if not is_refused:
+            failed.append(f"{crate.name}/{body.label}: FAILED: {why}")
+        elif body.kept_as:
             kept.keep_tried(body.kept_as, rt.REFUSED, why)
-        passed += is_refused
     shutil.rmtree(f"{crate.folder}/out/incremental", ignore_errors=True)
-    return passed
+    return failed
 
 
 def files_of(top, name):
@@ -485,17 +486,18 @@ def main(words):
         # (an older kit keeps nothing)
         kept = rt.Kept(every, is_anew) if hasattr(rt, "Kept") else None
         left = {it: untried(kept, it, bodies_of(rt, kept, it, given[it.name])) for it in every if it.name in given}
-        passed = count - sum(map(len, left.values()))
-        if passed < count and not words and not is_proved:
+        if any(left.values()) and not words and not is_proved:
             # (the crates are proved side by side, and the libraries below the others are built)
             call(["rt", "all", "check", "--jobs", str(lanes)], base)
         # (the crate with the most bodies goes first)
         crates = sorted((it for it in left if left[it]), key=lambda it: -len(left[it]))
         with ThreadPoolExecutor(lanes) as pool:
-            passed += sum(pool.map(lambda it: try_crate(rt, kept, it, left[it], is_proved), crates))
-    # (who was not tried has failed too)
-    print(f"wrong-bodies: {passed} passed, {count - passed} failed")
-    return 1 if passed < count else 0
+            failed = [line for lines in pool.map(lambda it: try_crate(rt, kept, it, left[it], is_proved), crates) for line in lines]
+    # (once more at the end, where a log that was cut still shows them)
+    for line in failed:
+        print(line)
+    print(f"wrong-bodies: {count - len(failed)} passed, {len(failed)} failed")
+    return 1 if failed else 0
 
 
 if __name__ == "__main__":
