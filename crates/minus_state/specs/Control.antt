@@ -1,5 +1,5 @@
 -- What the commands define: the text on show and how it is laid out, the size, the part of it that the page shows, and what is set beside it.
-use Rattle.std.specs.Prelude.{◌≡◌, ℕ, ◌-◌, ◌≤◌, min, List, [], length, unwrap_or, Option, Some, Bool, if◌then◌else◌}
+use Rattle.std.specs.Prelude.{◌≡◌, ℕ, ◌-◌, ◌≤◌, ◌==◌, ◌&&◌, nat_lt, min, List, [], length, unwrap_or, Option, Some, Bool, if◌then◌else◌}
 use Rattle.regex.specs.Patterns.{Re}
 use Rattle.minus_text.specs.declared.line_numbers.LineNumbers.{LineNumbers}
 use Rattle.minus_text.specs.Document.{Document, rows_of, unfinished_rows, keeps_rows}
@@ -88,6 +88,10 @@ searched_for c term = reformed (record c { term = term })
 -- the greatest mark: the last page is full where there are rows enough
 abbrev pub top : Control → ℕ
 top c = length (text_rows c) - (c.rows - 1)
+
+-- whether a page that begins at a mark shows the end of so many rows of text, which are more than a terminal has
+abbrev pub shows_end : (count rows mark : ℕ) → Bool
+shows_end count rows mark = (mark == (count - (rows - 1))) && nat_lt rows count
 
 -- the mark is at most that
 abbrev pub clamp : Control → Control

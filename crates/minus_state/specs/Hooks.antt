@@ -1,5 +1,5 @@
 -- What a list of hooks' callbacks holds.
-use Rattle.std.specs.Prelude.{ℕ, List, [], ◌∷◌, ◌++◌, Option, None, Some}
+use Rattle.std.specs.Prelude.{ℕ, ◌+◌, ◌≤◌, vec_len, vec_capacity, List, [], ◌∷◌, ◌++◌, Option, None, Some}
 use Rattle.std.specs.List.{remove}
 use Rattle.minus_term.specs.declared.hooks.Hook.{Hook}
 use Rattle.minus_state.specs.declared.hooks.HookId.{HookId}
@@ -20,6 +20,11 @@ none_held = record { ids = []; callbacks = [] }
 -- one more is held, behind all others, under this id
 abbrev pub with_callback : {C : Type 0} → Held C → HookId → C → Held C
 with_callback held entry callback = record { ids = held.ids ++ entry ∷ []; callbacks = held.callbacks ++ callback ∷ [] }
+
+-- so many callbacks more are held without memory
+pub record HasRoom {C : Type 0} (hooks : HookList C) (more : ℕ) : Type 0 where
+  pub ids : vec_len hooks.ids + more ≤ vec_capacity hooks.ids
+  pub callbacks : vec_len hooks.callbacks + more ≤ vec_capacity hooks.callbacks
 
 -- a callback is added under the id that is given
 abbrev pub added : {C : Type 0} → Held C → Hook → (id : ℕ) → C → Held C

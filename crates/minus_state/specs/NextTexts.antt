@@ -25,7 +25,7 @@ abbrev pub next_term : Option Re → NextText → Option Re
 next_term term Same = term
 next_term term (Whole screen) = term
 next_term term (Pushed text pending) = term
-next_term term (Found pattern findings) = Some (regex_pattern pattern)
+next_term term (Found pattern findings) = Some (regex_pattern pattern.value)
 next_term term (SavedWhole text) = term
 next_term term (SavedMore text) = term
 

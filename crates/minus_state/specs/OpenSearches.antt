@@ -19,7 +19,7 @@ pub record OpenSearch : Type 0 where
 
 -- what a value of the code is seen as
 abbrev pub seen_search : code.OpenSearch → OpenSearch
-seen_search o = record { prompt = o.prompt; edited = o.edited; preview = option_map regex_pattern o.preview }
+seen_search o = record { prompt = o.prompt; edited = o.edited; preview = option_map (λ b. regex_pattern b.value) o.preview }
 
 -- one whose query was not edited
 abbrev pub unedited : Prompt → OpenSearch

@@ -49,8 +49,9 @@ pub enum NextText {
     Whole(Screen),
     /// This text is added, and these rows were formed for it.
     Pushed(String, PendingPush),
-    /// The text on show stays, and this pattern, the term from now on, was found so in its rows.
-    Found(Regex, Findings),
+    /// The text on show stays, and this pattern, the term from now on, was found so in its rows. It stands in a box, since
+    /// a pattern is large and most changes have none.
+    Found(Box<Regex>, Findings),
     /// Another text in the place of the one that is put aside.
     SavedWhole(String),
     /// More of the text that is put aside.
@@ -225,7 +226,18 @@ impl Drop for Change {
 impl Change {
     ghost use Rattle.std.specs.Prelude.{◌≡◌, ◌-◌, min, length};
     ghost use Rattle.minus_text.specs.Document.{rows_of};
+    ghost use Rattle.minus_state.specs.Control.{shows_end};
     ghost use Rattle.minus_state.specs.NextTexts.{next_document, Belongs};
+
+    /// Whether the page that there will be shows the end of its text, which has more rows than the terminal.
+    pub fn shows_end(&self, screen: &Screen) -> bool
+        requires { Belongs screen.now.document self.now.text }
+        ensures { result ≡ shows_end (length (rows_of (next_document screen.now.document self.now.text)))
+            self.now.rows self.now.mark }
+    {
+        let count = self.text.view(screen).len();
+        self.mark == count.saturating_sub(self.rows - 1) && count > self.rows
+    }
 
     /// Clamps the mark: it is at most the one at which the last page of the text that there will be is full.
     pub fn clamp(&mut self, screen: &Screen)

@@ -14,8 +14,8 @@ pub struct ExitCallbacks<C> {
 }
 
 impl<C: Drop> ExitCallbacks<C> {
-    ghost use Rattle.std.specs.Prelude.{◌≡◌, ◌++◌, ◌∷◌, [], length, OnOk, OnErr};
-    ghost use Rattle.minus_state.specs.Exits.{exits_of};
+    ghost use Rattle.std.specs.Prelude.{ℕ, ◌≡◌, ◌+◌, ◌++◌, ◌∷◌, [], length, OnOk, OnErr};
+    ghost use Rattle.minus_state.specs.Exits.{exits_of, HasExitRoom};
 
     /// No callbacks.
     pub fn new(alloc: Global) -> ExitCallbacks<C>
@@ -33,6 +33,19 @@ impl<C: Drop> ExitCallbacks<C> {
         self.callbacks.len()
     }
 
+    /// Makes room for this number of callbacks more: so many are added without memory. The callbacks stay, whether
+    /// there is room or not.
+    ///
+    /// # Errors
+    ///
+    /// [`AllocError`] where there is no memory for it.
+    pub fn reserve(&mut self, callbacks: usize) -> Result<(), AllocError>
+        ensures held { exits_of self.new ≡ exits_of self.old }
+        ensures room { OnOk result (HasExitRoom self.new callbacks) }
+    {
+        self.callbacks.reserve(callbacks)
+    }
+
     /// Adds a callback behind all others.
     ///
     /// # Errors
@@ -41,6 +54,8 @@ impl<C: Drop> ExitCallbacks<C> {
     pub fn add(&mut self, callback: C) -> Result<(), AllocError>
         ensures ok { OnOk result (exits_of self.new ≡ exits_of self.old ++ callback ∷ []) }
         ensures err { OnErr result (exits_of self.new ≡ exits_of self.old) }
+        ensures room { OnOk result ((more : ℕ) → HasExitRoom self.old (more + 1) → HasExitRoom self.new more) }
+        ensures enough { OnErr result ((more : ℕ) → HasExitRoom self.old (more + 1) → ⊥) }
     {
         if self.callbacks.push(callback).is_err() {
             return Err(AllocError);

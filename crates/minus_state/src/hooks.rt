@@ -33,8 +33,8 @@ pub struct HookList<C> {
     ghost once: { IsDistinct same_id ids.items } by { Prim.hlevel props },
 }
 
-// Whether the pager keeps an id of a hook for itself.
-fn is_reserved(hook: Hook, id: u64) -> bool
+/// Whether the pager keeps an id of a hook for itself: 1 of [`Hook::PostPagerExit`].
+pub fn is_reserved(hook: Hook, id: u64) -> bool
     ensures { result ≡ is_reserved hook id }
 {
     hook == Hook::PostPagerExit && id == 1
@@ -93,11 +93,11 @@ fn call_each<C: HookCall>(ids: &[HookId], callbacks: &mut [C], hook: Hook, state
 }
 
 impl<C: Drop> HookList<C> {
-    ghost use Rattle.std.specs.Prelude.{◌≡◌, ◌↔◌, None, IsTrue, IsErrOf, OnOk, OnErr, IfErr, position};
+    ghost use Rattle.std.specs.Prelude.{ℕ, ◌≡◌, ◌+◌, ◌↔◌, None, IsTrue, IsErrOf, OnOk, OnErr, IfErr, position};
     ghost use Rattle.std.specs.List.{IsDistinct};
     ghost use Rattle.minus_term.specs.Refusals.{refusal_of};
     ghost use Rattle.minus_state.specs.HookIds.{same_id, is_held, is_taken, has_no_next, IsUnadded};
-    ghost use Rattle.minus_state.specs.Hooks.{held_by, none_held, with_callback, added, removed};
+    ghost use Rattle.minus_state.specs.Hooks.{held_by, none_held, with_callback, added, removed, HasRoom};
 
     /// No callbacks.
     pub fn new(alloc: Global) -> HookList<C>
@@ -117,10 +117,27 @@ impl<C: Drop> HookList<C> {
         &self.ids
     }
 
+    /// Makes room for this number of callbacks more: so many are added without memory. What is held stays, whether
+    /// there is room or not.
+    ///
+    /// # Errors
+    ///
+    /// [`AllocError`] where there is no memory for it.
+    pub fn reserve(&mut self, callbacks: usize) -> Result<(), AllocError>
+        ensures held { held_by self.new ≡ held_by self.old }
+        ensures room { OnOk result (HasRoom self.new callbacks) }
+    {
+        self.ids.reserve(callbacks)?;
+        self.callbacks.reserve(callbacks)?;
+        Ok(())
+    }
+
     // Holds one more callback. An `Err` changes nothing.
     fn push(&mut self, entry: HookId, callback: C) -> Result<(), AllocError>
         requires { position (same_id entry) (held_by self.old).ids ≡ None }
         ensures ok { OnOk result (held_by self.new ≡ with_callback (held_by self.old) entry callback) }
+        ensures room { OnOk result ((more : ℕ) → HasRoom self.old (more + 1) → HasRoom self.new more) }
+        ensures full { OnErr result ((more : ℕ) → HasRoom self.old (more + 1) → ⊥) }
         ensures err { OnErr result (held_by self.new ≡ held_by self.old) }
     {
         self.ids.reserve(1)?;
@@ -147,6 +164,8 @@ impl<C: Drop> HookList<C> {
         ensures full { IsErrOf result MinusError.NoFreeHookId ↔ IsTrue (has_no_next (held_by self.old).ids hook id) }
         ensures refused { IfErr result (λ e. IsUnadded (refusal_of e) (held_by self.old).ids hook id) }
         ensures err { OnErr result (held_by self.new ≡ held_by self.old) }
+        ensures room { OnOk result ((more : ℕ) → HasRoom self.old (more + 1) → HasRoom self.new more) }
+        ensures enough { IsErrOf result MinusError.Memory → (more : ℕ) → HasRoom self.old (more + 1) → ⊥ }
     {
         let id = given(&self.ids, hook, id)?;
         self.push(HookId { hook, id }, callback)?;
@@ -158,6 +177,7 @@ impl<C: Drop> HookList<C> {
     pub fn remove_callback(&mut self, hook: Hook, id: u64) -> bool
         ensures held { result ≡ is_held (held_by self.old).ids hook id }
         ensures rest { held_by self.new ≡ removed (held_by self.old) hook id }
+        ensures room { (more : ℕ) → HasRoom self.old more → HasRoom self.new more }
     {
         match place_of(&self.ids, HookId { hook, id }) {
             Some(place) => {

@@ -59,3 +59,15 @@ impl ExitCall for KeptExit {
         (self.callback)();
     }
 }
+
+/// No callback: as the kind of the callbacks of hooks and of exits it stands where a session keeps none in a box.
+#[derive(Clone, Copy, Drop)]
+pub struct NeverCalled;
+
+impl HookCall for NeverCalled {
+    fn call(&mut self, _state: &PagerState) {}
+}
+
+impl ExitCall for NeverCalled {
+    fn call(&mut self) {}
+}

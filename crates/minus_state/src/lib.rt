@@ -25,7 +25,7 @@ pub use copied::extract_selection;
 pub use exits::{ExitCall, ExitCallbacks};
 pub use hooks::{HookCall, HookId, HookList};
 pub use input::{InputClassifier, InputEvent};
-pub use kept::{ExitCallback, HookCallback, Hooks, KeptExit, KeptHook};
+pub use kept::{ExitCallback, HookCallback, Hooks, KeptExit, KeptHook, NeverCalled};
 pub use prompt::{PromptRow, format_prompt, prompt_fills_its_row};
 pub use rendering::{render_rows_for_display, selection_adds_markers_alone, shown_rows_fit};
 pub use scroll::get_horizontal_scroll_bounds;

@@ -388,9 +388,9 @@ impl PagerState {
                 Ok(())
             }
             NextText::Found(pattern, findings) => {
-                let term = searching(&self.patterns, Some(&pattern));
+                let term = searching(&self.patterns, Some(pattern.as_ref()));
                 self.screen.place_findings(alloc, findings, term)?;
-                self.term = Some(pattern);
+                self.term = Some(Box::into_inner(pattern));
                 Ok(())
             }
             NextText::SavedWhole(text) => {

@@ -10,7 +10,7 @@ pub struct OpenSearch {
     /// Whether the query was edited since the prompt was opened.
     pub edited: bool,
     /// The pattern of the query, where the page shows the match that it leads to.
-    pub preview: Option<Regex>,
+    pub preview: Option<Box<Regex>>,
 }
 
 // By hand: a derived drop would stand anew in the proof of each function that lets one go.

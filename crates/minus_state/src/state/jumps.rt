@@ -19,6 +19,7 @@ impl PagerState {
     ghost use Rattle.std.specs.Prelude.{◌≡◌};
     ghost use Rattle.minus_state.specs.Changes.{Leads};
     ghost use Rattle.minus_state.specs.MatchJumps.{told_at, next_match, prev_match, to_next_match, to_prev_match};
+    ghost use Rattle.minus_state.specs.MatchJumps.{next_match_row, prev_match_row};
     ghost use Rattle.minus_state.specs.States.{control_of, IsFormed};
 
     // The state with its prompt row telling of the match at a place, and its mark at a row, if there is one.
@@ -48,6 +49,22 @@ impl PagerState {
             return self.search_mark;
         }
         self.search_mark.saturating_sub(jump)
+    }
+
+    /// The row, counted from 0, of the match that a jump on by this number of matches goes to, if some row matches. It
+    /// takes no memory.
+    pub fn next_match_row(&self, jump: usize) -> Option<usize>
+        ensures { IsFormed self.now → result ≡ next_match_row (control_of self.now) jump }
+    {
+        self.matches().row(self.next_match(jump))
+    }
+
+    /// The row, counted from 0, of the match that a jump back by this number of matches goes to, if there is one and it
+    /// stands above the mark. It takes no memory.
+    pub fn prev_match_row(&self, jump: usize) -> Option<usize>
+        ensures { IsFormed self.now → result ≡ prev_match_row (control_of self.now) jump }
+    {
+        row_above(self.upper_mark, self.matches().row(self.prev_match(jump)))
     }
 
     /// The state after a jump on by this number of matches from the mark, past the last match on at the first: the

@@ -89,8 +89,12 @@ impl PagerState {
     }
 
     // A pattern, where some row matches it.
-    fn previewed(&self, alloc: Global, found: Option<Regex>) -> Result<Option<Regex>, AllocError>
-        ensures { IfOk result (λ shown. IsFormed self.now → option_map regex_pattern shown
+    fn previewed(
+        &self,
+        alloc: Global,
+        found: Option<Regex>,
+    ) -> Result<Option<Box<Regex>>, AllocError>
+        ensures { IfOk result (λ shown. IsFormed self.now → option_map (λ b. regex_pattern b.value) shown
             ≡ previewed (control_of self.now) (option_map regex_pattern found)) }
     {
         let Some(query) = found else {
@@ -102,7 +106,10 @@ impl PagerState {
         };
         let first = self.screen.first_match(alloc, term, self.upper_mark)?;
         match first {
-            Some(_) => Ok(Some(query)),
+            Some(_) => {
+                let shown = Box::new(alloc, query)?;
+                Ok(Some(shown))
+            }
             None => Ok(None),
         }
     }

@@ -121,8 +121,9 @@ impl PagerState {
         let view = self.screen.view_of(&findings);
         let search_mark = search_mark_anew(view, self.upper_mark);
         let mark = view.match_row(search_mark).unwrap_or(self.upper_mark);
+        let pattern = Box::new(alloc, query)?;
         Ok(Change {
-            text: NextText::Found(query, findings),
+            text: NextText::Found(pattern, findings),
             mark: mark.min(self.top()),
             cols: self.cols,
             rows: self.rows,

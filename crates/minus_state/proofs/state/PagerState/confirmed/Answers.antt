@@ -3,6 +3,7 @@ use Rattle.std.proofs.Common.{ℕ, List, min, Option, Some, slice_get, refl, ap,
 use Rattle.std.specs.Option.{unwrap_or}
 use Rattle.regex.specs.Patterns.{Re}
 use Rattle.regex.specs.Strings.{regex_pattern}
+use Rattle.regex.specs.declared.string.regex.Regex.{Regex}
 use Rattle.minus_text.specs.Document.{Document, rows_of}
 use Rattle.minus_text.specs.Found.{RowMatches, AreFoundIn, found_by, row_numbers}
 use Rattle.minus_text.specs.Matches.{nth_match}
@@ -33,7 +34,7 @@ returns-clause-next c = λ f.
       rows_are = refl;
       left_is = refl;
       ends_are = refl;
-      term_is = refl;
+      term_is = ap (λ (r : Regex). Some (regex_pattern r)) c.in_ok-pattern.ensures.ok;
       search_mark_is = anew;
       settings_are = refl;
       help_is = refl;

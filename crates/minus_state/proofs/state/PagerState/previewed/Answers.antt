@@ -20,10 +20,10 @@ returns-in-None c = λ f.
     let same = ap (λ (o : Option Regex). previewed k (option_map regex_pattern o)) c.in-Some.is in
     sym (same ∙ ap (λ (b : Bool). if b then None else Some query) (no_match _ k.mark none))
 
-pub returns-in-Some-first : goal.returns-in-Some-first
-returns-in-Some-first c = λ f.
+pub returns-in_ok-shown-in-Some-first : goal.returns-in_ok-shown-in-Some-first
+returns-in_ok-shown-in-Some-first c = λ f.
     let k : Control = control_of c.args.self.now in
     let query : Re = regex_pattern c.in-Some.query in
     let row = sym c.in-Some-first.is ∙ c.in_ok-first.ensures ∙ ap (λ (x : Document). match_at (matches_in (Some query) x) k.mark) (document_is c.args.self.now f) in
     let same = ap (λ (o : Option Regex). previewed k (option_map regex_pattern o)) c.in-Some.is in
-    sym (same ∙ ap (λ (b : Bool). if b then None else Some query) (some_match _ k.mark _ row))
+    ap (λ (r : Regex). Some (regex_pattern r)) c.in_ok-shown-in-Some-first.ensures.ok ∙ sym (same ∙ ap (λ (b : Bool). if b then None else Some query) (some_match _ k.mark _ row))
