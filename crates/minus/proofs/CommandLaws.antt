@@ -14,9 +14,9 @@ use Rattle.minus.specs.Works.{work_of}
 use Rattle.minus.specs.Drawings.{ops_of_step, changed_prompt, IsDrawable}
 use Rattle.minus.specs.Table.{Wanted, sets_data, appends_data, moves_mark, resizes, exits, ignores, sets_prompt}
 use Rattle.minus.specs.Table.{sends_message, shows_prompt, follows, types, restores_prompt, redraws_prompt, redraws_page}
-use Rattle.minus.specs.Table.{sets_classifier, sets_condition, sets_numbers, sets_wrapping, shifts, starts_selection, updates_selection}
+use Rattle.minus.specs.Table.{hands_over, sets_numbers, sets_wrapping, shifts, starts_selection, updates_selection}
 use Rattle.minus.specs.Table.{clears_selection, copies_selection, shows_help, moves_to_next_match, moves_to_prev_match, searches, fetches_query}
-use Rattle.minus.specs.Table.{Effect, effect, opens_search, tells_match, changed_by, drawing_by, drawing_of}
+use Rattle.minus.specs.Table.{Effect, effect, hook_after, opens_search, tells_match, changed_by, drawing_by, drawing_of}
 use Rattle.minus_state.specs.declared.search.SearchMode.{SearchMode}
 use Rattle.minus_state.specs.declared.search.SearchMode.TheVariants.{Forward, Reverse, Unknown}
 use Rattle.minus_state.specs.Redraws.{whole_where, led_redraw, append_redraw, shift_redraw}
@@ -29,7 +29,7 @@ use Rattle.minus.proofs.KeyLaws.{opening_draws}
 use Rattle.minus.proofs.KeyedLaws.{drawable_closed}
 use Rattle.minus.proofs.TableLaws.{opens_for, opens_as, search_kept}
 use Rattle.minus_state.proofs.SelectingLaws.{mark_stays, ends_stay, none_there}
-use Rattle.minus.proofs.DrawnLaws.{work_drawn, IsPlainDrawing, page_plain, plain_draws, whole_draws, aside_draws, quiet_draws, prompt_draws, scroll_draws}
+use Rattle.minus.proofs.DrawnLaws.{work_drawn, with_hook, IsPlainDrawing, page_plain, plain_draws, whole_draws, aside_draws, quiet_draws, prompt_draws, scroll_draws}
 
 -- the list of a kind is its drawing, on the way from one control to another
 abbrev IsDrawnSo : Drawing → Control → Control → Type 0
@@ -156,8 +156,7 @@ command_draws c clears (types character) e h some new_some = set_draws c _ (min 
 command_draws {Q = Q} {K = K} c clears restores_prompt e h some new_some = restored_draws Q K c clears c.help h some new_some
 command_draws c clears redraws_prompt e h some new_some = at_mark Prompt c c.search_mark _ (min c.mark (top c)) (omega (arith, h)) (prompt_draws c _ some)
 command_draws c clears redraws_page e h some new_some = whole_draws c _ new_some
-command_draws c clears (sets_classifier k) e h some new_some = set_draws c _ (min c.mark (top c)) some (omega (arith, h))
-command_draws c clears (sets_condition q) e h some new_some = set_draws c _ (min c.mark (top c)) some (omega (arith, h))
+command_draws c clears (hands_over handing) e h some new_some = set_draws c _ (min c.mark (top c)) some (omega (arith, h))
 command_draws c clears (sets_numbers numbers) e h some new_some = whole_draws c _ new_some
 command_draws c clears (sets_wrapping wrapping) e h some new_some = whole_draws c _ new_some
 command_draws c clears (shifts left) e h some new_some = shift_draws c (cleared clears c).settings left (min c.mark (top c)) some (omega (arith, h))
@@ -174,7 +173,7 @@ command_draws c clears fetches_query e h some new_some = absurd (let both : Some
 -- ---- the drawing of a work, where no search prompt is open
 
 -- an effect is drawn by the list of its kind, on the way from one control, which was taken as another
-abbrev DrawsBy : Control → Control → Effect → Type 0
+abbrev pub DrawsBy : Control → Control → Effect → Type 0
 DrawsBy c taken e = let drawing = drawing_by e.redraw taken (changed_by e).mark in IsDrawing (ops_of_step drawing c (changed_by e)) c (work_drawn drawing (changed_by e) ∷ []) (changed_by e)
 
 -- where the search prompt opens
@@ -185,7 +184,7 @@ opening_work c clears Unknown closed h some =
     let new : Control = record c { mark = min c.mark (top c); settings = (cleared clears c).settings } in
     plain_draws (changed_prompt c new) Nothing c new (page_plain c closed) (page_plain new closed) (set_draws c (cleared clears c).settings (min c.mark (top c)) some (omega (arith, h)))
 
-draws_for : {Q K : Type 0} (c : Control) (clears : Bool) (w : Wanted Q K) (mode : Option SearchMode) → opens_for (cleared clears c) w ≡ mode → c.search ≡ None → IsClamped c → 1 ≤ c.rows → 1 ≤ (changed_by (effect (cleared clears c) w)).rows → DrawsBy c (cleared clears c) (effect (cleared clears c) w)
+pub draws_for : {Q K : Type 0} (c : Control) (clears : Bool) (w : Wanted Q K) (mode : Option SearchMode) → opens_for (cleared clears c) w ≡ mode → c.search ≡ None → IsClamped c → 1 ≤ c.rows → 1 ≤ (changed_by (effect (cleared clears c) w)).rows → DrawsBy c (cleared clears c) (effect (cleared clears c) w)
 draws_for c clears w None e closed h some new_some =
     let new : Control = changed_by (effect (cleared clears c) w) in
     plain_draws (ops_of_step (drawing_of (cleared clears c) w) c new) (drawing_of (cleared clears c) w) c new (page_plain c closed) (page_plain new (search_kept (cleared clears c) w e ∙ closed)) (subst (λ (d : Drawing). IsDrawnSo d c new) (drawn_on c clears w) (command_draws c clears w e h some new_some))
@@ -193,7 +192,9 @@ draws_for c clears w (Some mode) e closed h some new_some = subst (λ (x : Effec
 
 pub work_draws : {Q K : Type 0} (c : Control) (clears : Bool) (w : Wanted Q K) → c.search ≡ None → IsClamped c → 1 ≤ c.rows → 1 ≤ (changed_by (effect (cleared clears c) w)).rows
     → (let new : Control = changed_by (effect (cleared clears c) w) in IsDrawing (ops_of_step (drawing_of (cleared clears c) w) c new) c (work_of (cleared clears c) w ∷ []) new)
-work_draws c clears w closed h some new_some = draws_for c clears w (opens_for (cleared clears c) w) refl closed h some new_some
+work_draws c clears w closed h some new_some =
+    let taken : Control = cleared clears c in
+    with_hook (ops_of_step (drawing_of taken w) c (changed_by (effect taken w))) (drawing_of taken w) c (changed_by (effect taken w)) (hook_after taken w) (draws_for c clears w (opens_for taken w) refl closed h some new_some)
 
 -- and it can be drawn so
 opening_drawable : (c taken : Control) (mode : SearchMode) → (let e : Effect = opens_search taken mode in IsDrawable (drawing_by e.redraw taken (changed_by e).mark) c (changed_by e))

@@ -8,6 +8,7 @@ use Rattle.std.proofs.lemmas.List.Elements.{Contains-push}
 use Rattle.std.proofs.lemmas.Slice.Eq.{bytes_eq-Decides}
 use Rattle.std.proofs.KnownBytes.{Appends-nil}
 use Rattle.minus_term.specs.Operations.{Op}
+use Rattle.minus_term.specs.declared.hooks.Hook.{Hook}
 use Rattle.minus_term.specs.PlayedScreen.{PlayedScreen, ShownPage, Shows, Draws, play_all, unknown_screen, screen_of}
 use Rattle.minus_term.specs.Puts.{puts}
 use Rattle.minus_term.specs.Terminal.{setup_bytes}
@@ -35,7 +36,11 @@ shown_fits c h = omega (arith, length-take (c.rows - 1) (drop c.mark (all_shown 
 
 -- a work, by how it is drawn
 abbrev pub work_drawn : Drawing → Control → Work
-work_drawn drawing c = record { drawing = drawing; left = c }
+work_drawn drawing c = record { drawing = drawing; left = c; hook = None }
+
+-- what is called after a work is no part of its drawing
+pub with_hook : (ops : List Op) (drawing : Drawing) (old new : Control) (hook : Option Hook) → IsDrawing ops old (work_drawn drawing new ∷ []) new → (let work : Work = record { drawing = drawing; left = new; hook = hook } in IsDrawing ops old (work ∷ []) new)
+with_hook ops drawing old new hook h = record { shows = h.shows; clean = h.clean; few = h.few; asked = h.asked; none = h.none }
 
 -- ---- a page without a search prompt
 
@@ -209,7 +214,7 @@ whole_shows c closed some =
 pub first_drawn : (a b : Option (List ℕ)) (bytes drawing : List ℕ) (c : Control) → c.search ≡ None → 1 ≤ c.rows → bytes ≡ drawing → drawing ≡ written_all (whole_page c) → Appends a b (setup_bytes ++ bytes) → Begins a b c
 first_drawn a b bytes drawing c closed some e g h = (whole_page c, subst (λ (x : List ℕ). Appends a b (setup_bytes ++ x)) (e ∙ g) h, whole_shows c closed some)
 
--- what a start drew stands at the end of the sink's bytes
-pub start_leaves : (bytes : List ℕ) (new_bytes : Option (List ℕ)) (c : Control) → Begins (Some bytes) new_bytes c → Leaves new_bytes (c ∷ []) c
-start_leaves bytes None c h = absurd h.1
-start_leaves bytes (Some new) c h = (bytes ++ setup_bytes, h.0, h.1 ∙ sym (append_assoc bytes setup_bytes (written_all h.0)), h.2)
+-- it stands at the end of the sink's bytes
+pub page_leaves : (bytes : List ℕ) (new_bytes : Option (List ℕ)) (c : Control) → Begins (Some bytes) new_bytes c → Leaves new_bytes (c ∷ []) c
+page_leaves bytes None c h = absurd h.1
+page_leaves bytes (Some new) c h = (bytes ++ setup_bytes, h.0, h.1 ∙ sym (append_assoc bytes setup_bytes (written_all h.0)), h.2)

@@ -161,7 +161,7 @@ same_editor e f same = ap (λ (x : List ℕ). let r : Editor = record { query = 
 
 -- what a key comes to, by what is told of it
 abbrev told_work : Fed → Control → Bool → Prompt → Option Re → Work
-told_work told c was_edited p found = record { drawing = drawing_by (redraw_by told) c (left_by told c was_edited p found).mark; left = left_by told c was_edited p found }
+told_work told c was_edited p found = record { drawing = drawing_by (redraw_by told) c (left_by told c was_edited p found).mark; left = left_by told c was_edited p found; hook = None }
 
 abbrev KeyDraws : Control → OpenSearch → Prompt → Option Re → Fed → Type 0
 KeyDraws c o prompt found told = (let work : Work = told_work told c o.edited prompt found in IsDrawing (ops_of_step work.drawing c work.left) c (work ∷ []) work.left)

@@ -19,4 +19,8 @@ pub mod StepLaws
 pub mod StartLaws
 pub mod RunLaws
 pub mod RefusalLaws
+pub mod RequestLaws
+pub mod KeepLaws
+pub mod BeginLaws
+pub mod PrintLaws
 pub mod WrittenRowsLaws

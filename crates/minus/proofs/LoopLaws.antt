@@ -23,7 +23,7 @@ use Rattle.minus.specs.Drawn.{IsDrawing, Drawn, BrokenOff}
 use Rattle.minus.specs.Reads.{Told}
 use Rattle.minus.specs.Seen.{Seen}
 use Rattle.minus.specs.Steps.{Took, Fails, IsStep, IsUntouched, Refuses, IsSinkFault, is_passed}
-use Rattle.minus.specs.Table.{Exit}
+use Rattle.minus.specs.Handing.{Exit}
 use Rattle.minus.specs.Works.{Work, Takes, IsUnfit, Worked, first, more, passed, at_once, later, IsNext, IsAtRest, leaving, last_copied, is_full, passed_in}
 use Rattle.minus.proofs.DrawnLaws.{nothing_drawn}
 use Rattle.minus.proofs.JoinLaws.{some_join, quiet_parts, quiet_reached, quiet_from}
@@ -78,8 +78,8 @@ passed_unfit says (at_cleanup cause) s told new a b f p = absurd (cc)
 passed_unfit says at_drawing s told new a b f p = absurd (cc)
 passed_unfit says for_mode s told new a b f p = absurd f
 passed_unfit says (at_setup cause) s told new a b f p = absurd f
-passed_unfit says (for_hook_id hook id) s told new a b f p = absurd f
-passed_unfit says for_free_hook_id s told new a b f p = absurd f
+passed_unfit says (for_hook_id hook id) s told new a b f p = f
+passed_unfit says for_free_hook_id s told new a b f p = f
 passed_unfit says (for_description place cause) s told new a b f p = absurd f
 passed_unfit says (for_binding place) s told new a b f p = absurd f
 passed_unfit says for_query s told new a b f p = absurd (cc)
@@ -158,7 +158,7 @@ fails_after last mid new e f = f ∙ ap (λ (x : Seen _ _). let r : Seen _ _ = r
 fails_again : {Q K : Type 0} (last mid new : Seen Q K) → mid ≡ record last { status = status.Failed } → new ≡ record mid { status = status.Failed } → new ≡ record last { status = status.Failed }
 fails_again last mid new e f = fails_after (record last { status = status.Failed }) mid new e f
 
-front_join : (a b c : Option (List ℕ)) (xs ys : List ℕ) → Appends a b xs → AppendsFront b c ys → AppendsFront a c (xs ++ ys)
+pub front_join : (a b c : Option (List ℕ)) (xs ys : List ℕ) → Appends a b xs → AppendsFront b c ys → AppendsFront a c (xs ++ ys)
 front_join a b c xs ys h (k, l, e) = (length xs + k, (let n = length-append xs ys in omega (arith, n, l)), subst (λ (z : List ℕ). Appends a c z) (sym (take-append-add xs ys k)) (Appends-trans a b c xs (take k ys) h e))
 
 -- one drawing after others broken off
@@ -184,8 +184,8 @@ refused_at_once says (at_cleanup cause) old told new a b running (exit, x, broke
 refused_at_once says at_drawing old told new a b running (work, text, last, t, broken, fails) = (running, record { works = work ∷ []; refused = []; copied = text; last = last; worked = first t; broken = broken; failed = fails })
 refused_at_once says for_mode old told new a b running h = absurd h
 refused_at_once says (at_setup cause) old told new a b running h = absurd h
-refused_at_once says (for_hook_id hook id) old told new a b running h = absurd h
-refused_at_once says for_free_hook_id old told new a b running h = absurd h
+refused_at_once says (for_hook_id hook id) old told new a b running h = (running, h.0, h.1)
+refused_at_once says for_free_hook_id old told new a b running h = (running, h.0, h.1)
 refused_at_once says (for_description place cause) old told new a b running h = absurd h
 refused_at_once says (for_binding place) old told new a b running h = absurd h
 refused_at_once says for_query old told new a b running h = (running, h.0, h.1)
@@ -232,8 +232,8 @@ refused_later says for_newline old told s mid new next rest refused copied a b c
 refused_later says (for_size cols rows) old told s mid new next rest refused copied a b c running so n f p is = absurd (cc)
 refused_later says for_mode old told s mid new next rest refused copied a b c running so n f p is = absurd f
 refused_later says (at_setup cause) old told s mid new next rest refused copied a b c running so n f p is = absurd f
-refused_later says (for_hook_id hook id) old told s mid new next rest refused copied a b c running so n f p is = absurd f
-refused_later says for_free_hook_id old told s mid new next rest refused copied a b c running so n f p is = absurd f
+refused_later says (for_hook_id hook id) old told s mid new next rest refused copied a b c running so n f p is = absurd (cc)
+refused_later says for_free_hook_id old told s mid new next rest refused copied a b c running so n f p is = absurd (cc)
 refused_later says (for_description place cause) old told s mid new next rest refused copied a b c running so n f p is = absurd f
 refused_later says (for_binding place) old told s mid new next rest refused copied a b c running so n f p is = absurd f
 refused_later says for_query old told s mid new next rest refused copied a b c running so n f p is = absurd (let both : None ≡ Some f.0.search = sym n.0 ∙ f.0.opened in cc)

@@ -84,8 +84,8 @@ leaves_refused says (at_cleanup cause) a b reached new told passed h k r = let b
 leaves_refused says at_drawing a b reached new told passed h k r = let both : status.Failed ≡ status.Running = sym (ap (λ (x : Seen _ _). x.status) h.1.failed) ∙ r in cc
 leaves_refused says for_mode a b reached new told passed h k r = absurd h
 leaves_refused says (at_setup cause) a b reached new told passed h k r = absurd h
-leaves_refused says (for_hook_id hook id) a b reached new told passed h k r = absurd h
-leaves_refused says for_free_hook_id a b reached new told passed h k r = absurd h
+leaves_refused says (for_hook_id hook id) a b reached new told passed h k r = untouched a b reached new passed h.2 k r
+leaves_refused says for_free_hook_id a b reached new told passed h k r = untouched a b reached new passed h.2 k r
 leaves_refused says (for_description place cause) a b reached new told passed h k r = absurd h
 leaves_refused says (for_binding place) a b reached new told passed h k r = absurd h
 leaves_refused says for_query a b reached new told passed h k r = untouched a b reached new passed h.2 k r

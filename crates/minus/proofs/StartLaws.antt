@@ -1,25 +1,38 @@
 -- A start that was broken off.
-use Rattle.std.proofs.Common.{◌≡◌, ℕ, ◌≤◌, List, map, Bool, Option, Some, None, arith, Result, Ok, Err, OnOk, OnErr, IfOk, inl, inr, refl, subst, ◌∙◌}
+use Rattle.std.proofs.Common.{◌≡◌, ℕ, ◌≤◌, ◌<◌, List, [], ◌∷◌, ◌++◌, length, map, Bool, true, false, ap, sym, Option, Some, None, arith, Result, Ok, Err, OnOk, OnErr, IfOk, inl, inr, refl, subst, ◌∙◌, is_some}
+use Rattle.std.specs.Result.{IsErrOf}
+use Rattle.minus_term.specs.declared.error.SetupError.{SetupError}
 use Rattle.std.specs.Io.KnownBytes.{Appends}
 use Rattle.minus_term.specs.declared.error.CleanupError.{CleanupError}
 use Rattle.minus_term.specs.declared.error.MinusError.{MinusError}
 use Rattle.minus_term.specs.Counts.{SinkSeen, AppendsFront, Stays, Rises}
-use Rattle.minus_term.specs.Terminal.{cleanup_bytes}
+use Rattle.minus_term.specs.Terminal.{setup_bytes, cleanup_bytes}
 use Rattle.minus_term.specs.Refusals.{Refusal, for_memory, for_newline, for_hook_id, for_free_hook_id, for_size, for_description, for_binding, for_query, for_mode, after_failure, after_exit, at_setup, at_cleanup, at_drawing, for_pattern, of_no_call, refusal_of}
 use Rattle.minus_term.specs.Written.{written_all}
-use Rattle.minus_state.specs.Control.{Control}
+use Rattle.minus_term.proofs.WrittenLaws.{written_all-nil}
+use Rattle.minus_state.specs.Control.{Control, IsClamped}
+use Rattle.minus_state.specs.Changes.{IsUnformedState}
 use Rattle.minus_state.specs.declared.state.RunMode.{RunMode}
+use Rattle.minus_state.specs.declared.state.RunMode.TheVariants.{Static}
 use Rattle.minus.specs.declared.pager.PagerOf.{PagerOf}
 use Rattle.minus.specs.Reads.{wanted_of}
 use Rattle.minus.specs.SessionStarts.{IsStart, IsFirstStart, IsRefusedStart}
 use Rattle.minus.specs.declared.session.Core.{Core}
-use Rattle.minus.specs.Starts.{first_control, CanStart, IsFormRefused, IsStartFault, IsStartRefused, IsEarly, IsShowRefused, CleansUp, DrawingBreaksOff, ShowBreaksOff, StartBreaksOff}
+use Rattle.minus_state.specs.declared.hooks.HookId.{HookId}
+use Rattle.minus.specs.Handing.{ids_after, IsFreeFor}
+use Rattle.minus.specs.Outcomes.{IsUnformed}
+use Rattle.minus.specs.Table.{Wanted, sets_data, appends_data, moves_mark, resizes, exits, ignores, sets_prompt, sends_message, shows_prompt, follows, types, restores_prompt, redraws_prompt, redraws_page, hands_over, sets_numbers, sets_wrapping, shifts, starts_selection, updates_selection, clears_selection, copies_selection, shows_help, moves_to_next_match, moves_to_prev_match, searches, fetches_query, handed, HasNewline, IsPossible}
+use Rattle.minus.specs.Starts.{first_control, CanStart, CanBegin, CannotStart, IsUnregistered, IsUnchecked, IsUntaken, IsFormRefused, IsStartFault, IsStartRefused, IsEarly, IsShowRefused, CleansUp, DrawsOff, DrawingBreaksOff, ShowBreaksOff, StartBreaksOff, BeginsAndMoves, StartLeavesItsPage, first_mark, first_move, move_ops}
+use Rattle.minus.specs.Works.{Work}
+use Rattle.minus.proofs.CommandLaws.{draws_for}
+use Rattle.minus.proofs.LeavesLaws.{head_there, tail_there, leaves_more}
 use Rattle.minus.specs.Drawings.{whole_page}
-use Rattle.minus.proofs.DrawnLaws.{whole_shows}
+use Rattle.minus.specs.Drawn.{IsDrawing, Redraws, RedrawBreaksOff, ExchangeLeavesItsPage}
+use Rattle.minus.proofs.DrawnLaws.{whole_shows, first_drawn, page_leaves}
 
 pub start_broken : (refusal : Refusal) (a b : Option (List ℕ)) (m n : Option ℕ) (bytes drawing : List ℕ) (terminal : Bool) (c : Control) → c.search ≡ None → 1 ≤ c.rows → bytes ≡ drawing → drawing ≡ written_all (whole_page c) → IsShowRefused refusal terminal → ShowBreaksOff refusal a b m n bytes → StartBreaksOff refusal a b m n c
 start_broken (at_setup cause) a b m n bytes drawing terminal c closed some e g r h = h
-start_broken at_drawing a b m n bytes drawing terminal c closed some e g r h = (whole_page c, subst (λ (x : List ℕ). DrawingBreaksOff a b m n x) (e ∙ g) h, whole_shows c closed some)
+start_broken at_drawing a b m n bytes drawing terminal c closed some e g r h = inl (whole_page c, subst (λ (x : List ℕ). DrawingBreaksOff a b m n x) (e ∙ g) h, whole_shows c closed some)
 start_broken for_memory a b m n bytes drawing terminal c closed some e g r h = absurd h
 start_broken for_newline a b m n bytes drawing terminal c closed some e g r h = absurd h
 start_broken (for_size cols rows) a b m n bytes drawing terminal c closed some e g r h = absurd h
@@ -36,23 +49,23 @@ start_broken for_pattern a b m n bytes drawing terminal c closed some e g r h = 
 start_broken of_no_call a b m n bytes drawing terminal c closed some e g r h = absurd h
 
 -- what is refused at a terminal is refused of a start that can be, and not before the terminal was asked for anything
-pub shown_at_start : (refusal : Refusal) (mode : RunMode) (cols rows : ℕ) (terminal : Bool) → CanStart mode cols rows → IsShowRefused refusal terminal → IsStartRefused refusal mode cols rows terminal × (IsEarly refusal → ⊥)
-shown_at_start (at_setup cause) mode cols rows terminal can h = ((can, h), λ early. early)
-shown_at_start at_drawing mode cols rows terminal can h = ((can, h), λ early. early)
-shown_at_start for_memory mode cols rows terminal can h = absurd h
-shown_at_start for_newline mode cols rows terminal can h = absurd h
-shown_at_start (for_size c r) mode cols rows terminal can h = absurd h
-shown_at_start for_mode mode cols rows terminal can h = absurd h
-shown_at_start after_failure mode cols rows terminal can h = absurd h
-shown_at_start after_exit mode cols rows terminal can h = absurd h
-shown_at_start (at_cleanup cause) mode cols rows terminal can h = absurd h
-shown_at_start (for_hook_id hook id) mode cols rows terminal can h = absurd h
-shown_at_start for_free_hook_id mode cols rows terminal can h = absurd h
-shown_at_start (for_description place cause) mode cols rows terminal can h = absurd h
-shown_at_start (for_binding place) mode cols rows terminal can h = absurd h
-shown_at_start for_query mode cols rows terminal can h = absurd h
-shown_at_start for_pattern mode cols rows terminal can h = absurd h
-shown_at_start of_no_call mode cols rows terminal can h = absurd h
+pub shown_at_start : {Q K : Type 0} (refusal : Refusal) (mode : RunMode) (cols rows : ℕ) (waiting : List (Wanted Q K)) (terminal : Bool) → CanBegin mode cols rows waiting → IsShowRefused refusal terminal → IsStartRefused refusal mode cols rows waiting terminal × (IsEarly refusal → ⊥)
+shown_at_start (at_setup cause) mode cols rows waiting terminal can h = ((can, h), λ early. early)
+shown_at_start at_drawing mode cols rows waiting terminal can h = ((can, h), λ early. early)
+shown_at_start for_memory mode cols rows waiting terminal can h = absurd h
+shown_at_start for_newline mode cols rows waiting terminal can h = absurd h
+shown_at_start (for_size x y) mode cols rows waiting terminal can h = absurd h
+shown_at_start for_mode mode cols rows waiting terminal can h = absurd h
+shown_at_start after_failure mode cols rows waiting terminal can h = absurd h
+shown_at_start after_exit mode cols rows waiting terminal can h = absurd h
+shown_at_start (at_cleanup cause) mode cols rows waiting terminal can h = absurd h
+shown_at_start (for_hook_id hook id) mode cols rows waiting terminal can h = absurd h
+shown_at_start for_free_hook_id mode cols rows waiting terminal can h = absurd h
+shown_at_start (for_description place cause) mode cols rows waiting terminal can h = absurd h
+shown_at_start (for_binding place) mode cols rows waiting terminal can h = absurd h
+shown_at_start for_query mode cols rows waiting terminal can h = absurd h
+shown_at_start for_pattern mode cols rows waiting terminal can h = absurd h
+shown_at_start of_no_call mode cols rows waiting terminal can h = absurd h
 
 -- the cleanup, whatever came of it
 pub cleaned_up : (r : Result (Unit {0}) CleanupError) (a b : Option (List ℕ)) (m n : Option ℕ) → OnOk r (Appends a b cleanup_bytes) → OnOk r (Stays m n) → AppendsFront a b cleanup_bytes → OnErr r (Rises m n) → CleansUp a b m n
@@ -69,36 +82,58 @@ Stays-rises (Some k) None (Some n) p q = absurd q
 Stays-rises (Some k) (Some m) None p q = tt
 Stays-rises (Some k) (Some m) (Some n) p q = omega (arith, p, q)
 
+Rises-stays : (a b c : Option ℕ) → Rises a b → Stays b c → Rises a c
+Rises-stays None None None p q = tt
+Rises-stays None None (Some n) p q = absurd q
+Rises-stays None (Some m) c p q = absurd p
+Rises-stays (Some k) None None p q = tt
+Rises-stays (Some k) None (Some n) p q = absurd q
+Rises-stays (Some k) (Some m) None p q = tt
+Rises-stays (Some k) (Some m) (Some n) p q = omega (arith, p, q)
+
+Rises-rises : (a b c : Option ℕ) → Rises a b → Rises b c → Rises a c
+Rises-rises None None None p q = tt
+Rises-rises None None (Some n) p q = absurd q
+Rises-rises None (Some m) c p q = absurd p
+Rises-rises (Some k) None None p q = tt
+Rises-rises (Some k) None (Some n) p q = absurd q
+Rises-rises (Some k) (Some m) None p q = tt
+Rises-rises (Some k) (Some m) (Some n) p q = omega (arith, p, q)
+
 -- no call, no refusal
 pub Stays-refl : (a : Option ℕ) → Stays a a
 Stays-refl None = tt
 Stays-refl (Some n) = refl
 
 -- when what a start needs is not formed, the start is refused early, and nothing was written
-form_refused : (refusal : Refusal) (mode : RunMode) (cols rows : ℕ) (terminal : Bool) (bytes : Option (List ℕ)) (count : Option ℕ) (first : Control) → IsFormRefused refusal mode cols rows →
-    IsStartRefused refusal mode cols rows terminal × IsEarly refusal × StartBreaksOff refusal bytes bytes count count first × (IsStartFault refusal → ⊥)
-form_refused for_mode mode cols rows terminal bytes count first h = (h, tt, refl, λ fault. fault)
-form_refused (for_size c r) mode cols rows terminal bytes count first h = (h, tt, refl, λ fault. fault)
-form_refused for_memory mode cols rows terminal bytes count first h = (h, tt, refl, λ fault. fault)
-form_refused for_newline mode cols rows terminal bytes count first h = absurd h
-form_refused (for_hook_id hook id) mode cols rows terminal bytes count first h = absurd h
-form_refused for_free_hook_id mode cols rows terminal bytes count first h = absurd h
-form_refused (for_description place cause) mode cols rows terminal bytes count first h = absurd h
-form_refused (for_binding place) mode cols rows terminal bytes count first h = absurd h
-form_refused for_query mode cols rows terminal bytes count first h = absurd h
-form_refused after_failure mode cols rows terminal bytes count first h = absurd h
-form_refused after_exit mode cols rows terminal bytes count first h = absurd h
-form_refused (at_setup cause) mode cols rows terminal bytes count first h = absurd h
-form_refused (at_cleanup cause) mode cols rows terminal bytes count first h = absurd h
-form_refused at_drawing mode cols rows terminal bytes count first h = absurd h
-form_refused for_pattern mode cols rows terminal bytes count first h = (h, tt, refl, λ fault. fault)
-form_refused of_no_call mode cols rows terminal bytes count first h = absurd h
+form_refused : {Q K : Type 0} (refusal : Refusal) (mode : RunMode) (cols rows : ℕ) (waiting : List (Wanted Q K)) (terminal : Bool) (bytes : Option (List ℕ)) (count : Option ℕ) (first : Control) → IsFormRefused refusal mode cols rows waiting →
+    IsStartRefused refusal mode cols rows waiting terminal × IsEarly refusal × StartBreaksOff refusal bytes bytes count count first × (IsStartFault refusal → ⊥)
+form_refused for_mode mode cols rows waiting terminal bytes count first h = (h, tt, refl, λ fault. fault)
+form_refused (for_size x y) mode cols rows waiting terminal bytes count first h = (h, tt, refl, λ fault. fault)
+form_refused for_memory mode cols rows waiting terminal bytes count first h = (h, tt, refl, λ fault. fault)
+form_refused for_newline mode cols rows waiting terminal bytes count first h = (h, tt, refl, λ fault. fault)
+form_refused (for_hook_id hook id) mode cols rows waiting terminal bytes count first h = (h, tt, refl, λ fault. fault)
+form_refused for_free_hook_id mode cols rows waiting terminal bytes count first h = (h, tt, refl, λ fault. fault)
+form_refused for_pattern mode cols rows waiting terminal bytes count first h = (h, tt, refl, λ fault. fault)
+form_refused (for_description place cause) mode cols rows waiting terminal bytes count first h = absurd h.1
+form_refused (for_binding place) mode cols rows waiting terminal bytes count first h = absurd h.1
+form_refused for_query mode cols rows waiting terminal bytes count first h = absurd h.1
+form_refused after_failure mode cols rows waiting terminal bytes count first h = absurd h.1
+form_refused after_exit mode cols rows waiting terminal bytes count first h = absurd h.1
+form_refused (at_setup cause) mode cols rows waiting terminal bytes count first h = absurd h.1
+form_refused (at_cleanup cause) mode cols rows waiting terminal bytes count first h = absurd h.1
+form_refused at_drawing mode cols rows waiting terminal bytes count first h = absurd h.1
+form_refused of_no_call mode cols rows waiting terminal bytes count first h = absurd h.1
+
+pub form_is_early : {Q K : Type 0} (refusal : Refusal) (cols rows : ℕ) (waiting : List (Wanted Q K)) → IsFormRefused refusal Static cols rows waiting → IsEarly refusal
+form_is_early refusal cols rows waiting h = (form_refused refusal Static cols rows waiting true None None (first_control cols rows waiting) h).1
 
 -- a start that was refused before its sink was asked for anything: the pager and the sink come back as they were
-pub refused_early : {S P Q K : Type 0} (seen : S → SinkSeen) (pager : PagerOf P Q K) (mode : RunMode) (cols rows : ℕ) (sink : S) (cause : MinusError) → IsFormRefused (refusal_of cause) mode cols rows →
+pub refused_early : {S P H E Q K : Type 0} (seen : S → SinkSeen) (pager : PagerOf P H E Q K) (mode : RunMode) (cols rows : ℕ) (sink : S) (cause : MinusError) → IsFormRefused (refusal_of cause) mode cols rows (map wanted_of pager.queue.items) →
     IsRefusedStart seen pager mode cols rows sink (record { sink = sink; pager = Some pager; cause = cause })
 refused_early seen pager mode cols rows sink cause h =
-    let at = form_refused (refusal_of cause) mode cols rows (seen sink).terminal (seen sink).bytes (seen sink).refusals (first_control cols rows (map wanted_of pager.queue.items)) h in
+    let waiting = map wanted_of pager.queue.items in
+    let at = form_refused (refusal_of cause) mode cols rows waiting (seen sink).terminal (seen sink).bytes (seen sink).refusals (first_control cols rows waiting) h in
     record {
       refused = at.0;
       returned = λ early. refl;
@@ -108,8 +143,249 @@ refused_early seen pager mode cols rows sink cause h =
       untouched = λ none. refl;
     }
 
+-- one that cannot be begun, or for which no register of the default bindings is formed
+pub cannot_start : {Q K : Type 0} (refusal : Refusal) (mode : RunMode) (cols rows : ℕ) (waiting : List (Wanted Q K)) → CannotStart refusal mode cols rows → IsFormRefused refusal mode cols rows waiting
+cannot_start for_mode mode cols rows waiting h = h
+cannot_start (for_size x y) mode cols rows waiting h = inl h
+cannot_start for_memory mode cols rows waiting h = absurd h
+cannot_start for_newline mode cols rows waiting h = absurd h
+cannot_start (for_hook_id hook id) mode cols rows waiting h = absurd h
+cannot_start for_free_hook_id mode cols rows waiting h = absurd h
+cannot_start (for_description place cause) mode cols rows waiting h = absurd h
+cannot_start (for_binding place) mode cols rows waiting h = absurd h
+cannot_start for_query mode cols rows waiting h = absurd h
+cannot_start after_failure mode cols rows waiting h = absurd h
+cannot_start after_exit mode cols rows waiting h = absurd h
+cannot_start (at_setup cause) mode cols rows waiting h = absurd h
+cannot_start (at_cleanup cause) mode cols rows waiting h = absurd h
+cannot_start at_drawing mode cols rows waiting h = absurd h
+cannot_start for_pattern mode cols rows waiting h = absurd h
+cannot_start of_no_call mode cols rows waiting h = absurd h
+
+pub unregistered : {Q K : Type 0} (refusal : Refusal) (mode : RunMode) (cols rows : ℕ) (waiting : List (Wanted Q K)) → IsUnregistered refusal mode cols rows → IsFormRefused refusal mode cols rows waiting
+unregistered for_memory mode cols rows waiting h = (h, tt)
+unregistered for_mode mode cols rows waiting h = h
+unregistered (for_size x y) mode cols rows waiting h = inl h
+unregistered for_newline mode cols rows waiting h = absurd h
+unregistered (for_hook_id hook id) mode cols rows waiting h = absurd h
+unregistered for_free_hook_id mode cols rows waiting h = absurd h
+unregistered (for_description place cause) mode cols rows waiting h = absurd h
+unregistered (for_binding place) mode cols rows waiting h = absurd h
+unregistered for_query mode cols rows waiting h = absurd h
+unregistered after_failure mode cols rows waiting h = absurd h
+unregistered after_exit mode cols rows waiting h = absurd h
+unregistered (at_setup cause) mode cols rows waiting h = absurd h
+unregistered (at_cleanup cause) mode cols rows waiting h = absurd h
+unregistered at_drawing mode cols rows waiting h = absurd h
+unregistered for_pattern mode cols rows waiting h = absurd h
+unregistered of_no_call mode cols rows waiting h = absurd h
+
+-- one whose commands cannot be taken over
+pub untaken : {Q K : Type 0} (refusal : Refusal) (mode : RunMode) (cols rows : ℕ) (waiting : List (Wanted Q K)) → CanStart mode cols rows → IsUntaken refusal [] waiting → IsFormRefused refusal mode cols rows waiting
+untaken for_memory mode cols rows waiting can h = (can, h)
+untaken for_newline mode cols rows waiting can h = (can, h)
+untaken (for_size x y) mode cols rows waiting can h = inr (can, h)
+untaken (for_hook_id hook id) mode cols rows waiting can h = (can, h)
+untaken for_free_hook_id mode cols rows waiting can h = (can, h)
+untaken for_mode mode cols rows waiting can h = absurd h
+untaken (for_description place cause) mode cols rows waiting can h = absurd h
+untaken (for_binding place) mode cols rows waiting can h = absurd h
+untaken for_query mode cols rows waiting can h = absurd h
+untaken after_failure mode cols rows waiting can h = absurd h
+untaken after_exit mode cols rows waiting can h = absurd h
+untaken (at_setup cause) mode cols rows waiting can h = absurd h
+untaken (at_cleanup cause) mode cols rows waiting can h = absurd h
+untaken at_drawing mode cols rows waiting can h = absurd h
+untaken for_pattern mode cols rows waiting can h = absurd h
+untaken of_no_call mode cols rows waiting can h = absurd h
+
 -- a start with a classifier of the session's own at first
-pub first_start : {S P Q K E : Type 0} (IsFirst : K → Type 0) (seen : S → SinkSeen) (pager : PagerOf P Q K) (mode : RunMode) (cols rows : ℕ) (sink : S) (classifier : K) (r : Result (Core S P Q K) E) → IsFirst classifier →
+pub first_start : {S P H E Q K F : Type 0} (IsFirst : K → Type 0) (seen : S → SinkSeen) (pager : PagerOf P H E Q K) (mode : RunMode) (cols rows : ℕ) (sink : S) (classifier : K) (r : Result (Core S P H E Q K) F) → IsFirst classifier →
     IfOk r (λ s. IsStart seen pager mode cols rows classifier sink s) → IfOk r (λ s. IsFirstStart IsFirst seen pager mode cols rows sink s)
 first_start IsFirst seen pager mode cols rows sink classifier (Ok s) first start = record { classifier = classifier; first = first; start = start }
 first_start IsFirst seen pager mode cols rows sink classifier (Err e) first start = tt
+
+-- where no first state is formed, though its commands can be taken over
+pub unformed_refused : {Q K : Type 0} (refusal : Refusal) (mode : RunMode) (cols rows : ℕ) (waiting : List (Wanted Q K)) → CanBegin mode cols rows waiting → IsUnformedState refusal cols rows → IsFormRefused refusal mode cols rows waiting
+unformed_refused for_memory mode cols rows waiting can h = (can.can, tt)
+unformed_refused for_pattern mode cols rows waiting can h = can
+unformed_refused (for_size x y) mode cols rows waiting can h = inl (can.can.runs, h.0, h.1, h.2)
+unformed_refused for_newline mode cols rows waiting can h = absurd h
+unformed_refused (for_hook_id hook id) mode cols rows waiting can h = absurd h
+unformed_refused for_free_hook_id mode cols rows waiting can h = absurd h
+unformed_refused (for_description place cause) mode cols rows waiting can h = absurd h
+unformed_refused (for_binding place) mode cols rows waiting can h = absurd h
+unformed_refused for_query mode cols rows waiting can h = absurd h
+unformed_refused for_mode mode cols rows waiting can h = absurd h
+unformed_refused after_failure mode cols rows waiting can h = absurd h
+unformed_refused after_exit mode cols rows waiting can h = absurd h
+unformed_refused (at_setup cause) mode cols rows waiting can h = absurd h
+unformed_refused (at_cleanup cause) mode cols rows waiting can h = absurd h
+unformed_refused at_drawing mode cols rows waiting can h = absurd h
+unformed_refused of_no_call mode cols rows waiting can h = absurd h
+
+-- ---- the commands that wait
+
+-- one that cannot be taken over is the first of those that begin with it
+pub untaken_here : {Q K : Type 0} (refusal : Refusal) (ids : List HookId) (w : Wanted Q K) (ws : List (Wanted Q K)) → IsUnchecked refusal ids w → IsUntaken refusal ids (w ∷ ws)
+untaken_here for_memory ids w ws h = tt
+untaken_here for_newline ids w ws h = inl h
+untaken_here (for_size x y) ids w ws h = inl h
+untaken_here (for_hook_id hook id) ids w ws h = inl h
+untaken_here for_free_hook_id ids w ws h = inl h
+untaken_here for_mode ids w ws h = absurd h
+untaken_here (for_description place cause) ids w ws h = absurd h
+untaken_here (for_binding place) ids w ws h = absurd h
+untaken_here for_query ids w ws h = absurd h
+untaken_here after_failure ids w ws h = absurd h
+untaken_here after_exit ids w ws h = absurd h
+untaken_here (at_setup cause) ids w ws h = absurd h
+untaken_here (at_cleanup cause) ids w ws h = absurd h
+untaken_here at_drawing ids w ws h = absurd h
+untaken_here for_pattern ids w ws h = absurd h
+untaken_here of_no_call ids w ws h = absurd h
+
+-- or of those that it follows, where it is taken over
+pub untaken_later : {Q K : Type 0} (refusal : Refusal) (ids : List HookId) (w : Wanted Q K) (ws : List (Wanted Q K)) → IsPossible w → IsFreeFor ids (handed w) → IsUntaken refusal (ids_after ids (handed w)) ws → IsUntaken refusal ids (w ∷ ws)
+untaken_later for_memory ids w ws possible free h = tt
+untaken_later for_newline ids w ws possible free h = inr (possible, free, h)
+untaken_later (for_size x y) ids w ws possible free h = inr (possible, free, h)
+untaken_later (for_hook_id hook id) ids w ws possible free h = inr (possible, free, h)
+untaken_later for_free_hook_id ids w ws possible free h = inr (possible, free, h)
+untaken_later for_mode ids w ws possible free h = absurd h
+untaken_later (for_description place cause) ids w ws possible free h = absurd h
+untaken_later (for_binding place) ids w ws possible free h = absurd h
+untaken_later for_query ids w ws possible free h = absurd h
+untaken_later after_failure ids w ws possible free h = absurd h
+untaken_later after_exit ids w ws possible free h = absurd h
+untaken_later (at_setup cause) ids w ws possible free h = absurd h
+untaken_later (at_cleanup cause) ids w ws possible free h = absurd h
+untaken_later at_drawing ids w ws possible free h = absurd h
+untaken_later for_pattern ids w ws possible free h = absurd h
+untaken_later of_no_call ids w ws possible free h = absurd h
+
+-- a page that was drawn whole on a sink, or a beginning of it
+pub redrawn : (a b : Option (List ℕ)) (bytes : List ℕ) (c : Control) → c.search ≡ None → 1 ≤ c.rows → bytes ≡ written_all (whole_page c) → Appends a b bytes → Redraws a b c
+redrawn a b bytes c closed some e h = (whole_page c, subst (λ (x : List ℕ). Appends a b x) e h, whole_shows c closed some)
+
+pub redraw_broken : (a b : Option (List ℕ)) (bytes : List ℕ) (c : Control) → c.search ≡ None → 1 ≤ c.rows → bytes ≡ written_all (whole_page c) → AppendsFront a b bytes → RedrawBreaksOff a b c
+redraw_broken a b bytes c closed some e h = (whole_page c, subst (λ (x : List ℕ). AppendsFront a b x) e h, whole_shows c closed some)
+
+-- it stands at the end of the sink's bytes
+pub redraw_leaves : ExchangeLeavesItsPage
+redraw_leaves bytes None c h = absurd h.1
+redraw_leaves bytes (Some new) c h = (bytes, h.0, h.1, h.2)
+
+-- ---- the first move
+
+-- it is drawn by its operations
+pub move_drawn : (c : Control) → c.search ≡ None → IsClamped c → 1 ≤ c.rows → IsDrawing (move_ops c) c (first_move c ∷ []) (first_move c).left
+move_drawn c closed h some = draws_for {Q = Unit {0}} {K = Unit {0}} c false (moves_mark (first_mark c)) None refl closed h some some
+
+-- the first page, and what is drawn over it
+pub page_and_move : (a mid b : Option (List ℕ)) (page movement : List ℕ) (c : Control) → c.search ≡ None → IsClamped c → 1 ≤ c.rows → page ≡ written_all (whole_page c) → movement ≡ written_all (move_ops c) → Appends a mid (setup_bytes ++ page) → Appends mid b movement → BeginsAndMoves a b c
+page_and_move a mid b page movement c closed h some e g shown moved = (mid, first_drawn a mid page page c closed some refl e shown, (move_ops c, subst (λ (x : List ℕ). Appends mid b x) g moved, move_drawn c closed h some))
+
+-- where that is refused, something of it was to be drawn
+pub move_refused : (refusal : Refusal) (terminal : Bool) (a mid b : Option (List ℕ)) (l m n : Option ℕ) (page movement : List ℕ) (c : Control) → refusal ≡ at_drawing → terminal ≡ true → c.search ≡ None → IsClamped c → 1 ≤ c.rows → page ≡ written_all (whole_page c) → movement ≡ written_all (move_ops c)
+    → Appends a mid (setup_bytes ++ page) → Stays l m → DrawsOff mid b m n movement → 0 < length movement → IsShowRefused refusal terminal × StartBreaksOff refusal a b l n c × IsStartFault refusal
+move_refused refusal terminal a mid b l m n page movement c is on closed h some e g shown stays off begun =
+    let drawn = move_drawn c closed h some in
+    let broken : StartBreaksOff at_drawing a b l n c = inr (record {
+      page = mid;
+      drawn = off.drawn;
+      count = off.count;
+      begins = first_drawn a mid page page c closed some refl e shown;
+      begun = (move_ops c, subst (λ (x : List ℕ). AppendsFront mid off.drawn x) g off.begun, drawn, λ quiet. nothing_moved movement (g ∙ ap written_all (drawn.none quiet) ∙ written_all-nil) begun);
+      refused = Stays-rises l m off.count stays off.refused;
+      cleanup = off.cleanup;
+    }) in (
+      subst (λ (r : Refusal). IsShowRefused r terminal) (sym is) on,
+      subst (λ (r : Refusal). StartBreaksOff r a b l n c) (sym is) broken,
+      subst IsStartFault (sym is) tt,
+    )
+  where
+    nothing_moved : (bytes : List ℕ) → bytes ≡ [] → 0 < length bytes → ⊥
+    nothing_moved [] e l = omega (arith, l)
+    nothing_moved (x ∷ xs) e l = absurd (let both : x ∷ xs ≡ [] = e in cc)
+
+-- a refusal, and after it the cleanup
+pub Rises-cleaned : (a b : Option (List ℕ)) (l m n : Option ℕ) → Rises l m → CleansUp a b m n → Rises l n
+Rises-cleaned a b l m n up (inl h) = Rises-stays l m n up h.1
+Rises-cleaned a b l m n up (inr h) = Rises-rises l m n up h.1
+
+-- what a start drew stands at the end of the sink's bytes
+pub start_leaves : StartLeavesItsPage
+start_leaves bytes new_bytes c h =
+    let page : Option (List ℕ) = h.0 in
+    let w : Work = first_move c in
+    leaves_more page new_bytes c w.left (w ∷ []) (c ∷ []) (λ partial. refl) (tail_there c (w.left ∷ []) w.left (head_there w.left [])) h.2 (page_leaves bytes page c h.1)
+
+-- where the first page is refused after the setup
+pub drawing_refused : (refusal : Refusal) (terminal : Bool) (a mid b : Option (List ℕ)) (l m n : Option ℕ) (drawing : List ℕ) → refusal ≡ at_drawing → terminal ≡ true → Appends a mid setup_bytes → Stays l m → DrawsOff mid b m n drawing → Rises m n
+    → IsShowRefused refusal terminal × ShowBreaksOff refusal a b l n drawing × Rises l n × IsStartFault refusal
+drawing_refused refusal terminal a mid b l m n drawing is on setup stays off rises =
+    let broken : DrawingBreaksOff a b l n drawing = record { set_up = mid; drawn = off.drawn; count = off.count; setup = setup; begun = off.begun; refused = Stays-rises l m off.count stays off.refused; cleanup = off.cleanup } in (
+      subst (λ (r : Refusal). IsShowRefused r terminal) (sym is) on,
+      subst (λ (r : Refusal). ShowBreaksOff r a b l n drawing) (sym is) broken,
+      Stays-rises l m n stays rises,
+      subst IsStartFault (sym is) tt,
+    )
+
+-- a sink whose setup was not refused as that of none is a terminal
+pub on_terminal : {T : Type 0} {x : T} {e : SetupError} (terminal : Bool) → (terminal ≡ false → IsErrOf {T = T} {E = SetupError} (Ok x) e) → terminal ≡ true
+on_terminal true h = refl
+on_terminal {x = x} {e = e} false h = absurd (let wrong : Ok x ≡ Err e = h refl in cc)
+
+-- no search prompt is open
+pub none_open : {X : Type 0} (x : Option X) → is_some x ≡ false → x ≡ None
+none_open None e = refl
+none_open (Some x) e = absurd (let wrong : true ≡ false = e in cc)
+
+-- what can be done is not formed for want of memory alone
+has_none : {Q K X : Type 0} (w : Wanted Q K) → IsPossible w → HasNewline w → X
+has_none (sets_prompt text) possible has = absurd (let wrong : false ≡ true = sym possible ∙ has in cc)
+has_none (sends_message text) possible has = absurd (let wrong : false ≡ true = sym possible ∙ has in cc)
+has_none (sets_data text) possible has = absurd has
+has_none (appends_data text) possible has = absurd has
+has_none (moves_mark mark) possible has = absurd has
+has_none (resizes cols rows) possible has = absurd has
+has_none exits possible has = absurd has
+has_none ignores possible has = absurd has
+has_none (shows_prompt is_shown) possible has = absurd has
+has_none (follows follow) possible has = absurd has
+has_none (types character) possible has = absurd has
+has_none restores_prompt possible has = absurd has
+has_none redraws_prompt possible has = absurd has
+has_none redraws_page possible has = absurd has
+has_none (hands_over handing) possible has = absurd has
+has_none (sets_numbers numbers) possible has = absurd has
+has_none (sets_wrapping wrapping) possible has = absurd has
+has_none (shifts left) possible has = absurd has
+has_none (starts_selection x y) possible has = absurd has
+has_none (updates_selection x y) possible has = absurd has
+has_none clears_selection possible has = absurd has
+has_none copies_selection possible has = absurd has
+has_none (shows_help text) possible has = absurd has
+has_none (moves_to_next_match jump) possible has = absurd has
+has_none (moves_to_prev_match jump) possible has = absurd has
+has_none (searches mode) possible has = absurd has
+has_none fetches_query possible has = absurd has
+
+pub possible_memory : {Q K : Type 0} (refusal : Refusal) (w : Wanted Q K) → IsPossible w → IsUnformed refusal w → refusal ≡ for_memory
+possible_memory for_memory w possible h = refl
+possible_memory for_newline w possible h = has_none w possible h
+possible_memory (for_size cols rows) w possible h = absurd (h.1 (subst IsPossible h.0 possible))
+possible_memory for_mode w possible h = absurd h
+possible_memory (for_hook_id hook id) w possible h = absurd h
+possible_memory for_free_hook_id w possible h = absurd h
+possible_memory (for_description place cause) w possible h = absurd h
+possible_memory (for_binding place) w possible h = absurd h
+possible_memory for_query w possible h = absurd h
+possible_memory after_failure w possible h = absurd h
+possible_memory after_exit w possible h = absurd h
+possible_memory (at_setup cause) w possible h = absurd h
+possible_memory (at_cleanup cause) w possible h = absurd h
+possible_memory at_drawing w possible h = absurd h
+possible_memory for_pattern w possible h = absurd h
+possible_memory of_no_call w possible h = absurd h

@@ -1,8 +1,6 @@
 -- One input that is worked off, from what the parts of a step ensure.
-use Rattle.std.proofs.Common.{◌≡◌, ℕ, zero, suc, ◌==◌, ◌≤◌, Bool, false, List, [], ◌∷◌, length, Option, None, Some, String, Global, string_bytes, refl, sym, ap, subst, ◌∙◌, ◌<◌, arith}
+use Rattle.std.proofs.Common.{◌≡◌, ℕ, ◌≤◌, Bool, true, false, List, [], ◌∷◌, length, Option, None, Some, String, Global, string_bytes, refl, sym, ap, subst, ◌∙◌, ◌<◌, arith}
 use Rattle.std.specs.Io.KnownBytes.{Appends}
-use Rattle.std.proofs.KnownBytes.{Appends-nil}
-use Rattle.std.proofs.lemmas.List.{nil_from_length}
 use Rattle.std.specs.Option.{option_map, unwrap_or}
 use Rattle.regex.specs.Patterns.{Re}
 use Rattle.minus_term.specs.Counts.{AppendsFront, SinkSeen}
@@ -16,7 +14,7 @@ use Rattle.minus_term.specs.Written.{written_all}
 use Rattle.minus_term.proofs.WrittenLaws.{written_all-nil}
 use Rattle.minus_state.specs.declared.change.Redraw.{Redraw}
 use Rattle.minus.specs.Says.{Says}
-use Rattle.minus_state.specs.Control.{Control, Settings, IsClamped, cleared, with_prefix}
+use Rattle.minus_state.specs.Control.{Control, Settings, IsClamped, clamp, cleared, with_prefix}
 use Rattle.minus_state.specs.Changes.{IsChange}
 use Rattle.minus_state.specs.Keying.{keyed, keyed_redraw, told_by, MayFind, IsUnkeyed}
 use Rattle.minus_state.specs.OpenPrompts.{fed}
@@ -26,21 +24,25 @@ use Rattle.minus_state.specs.States.{control_of, IsFormed}
 use Rattle.minus_state.specs.declared.state.PagerState.{PagerState}
 use Rattle.minus_state.proofs.ChangeLaws.{typed_after}
 use Rattle.minus.specs.declared.outcome.Outcome.{Outcome}
+use Rattle.minus.specs.declared.status.Status.{Status}
 use Rattle.minus.specs.declared.status.Status.TheVariants as status
+use Rattle.minus_state.specs.declared.state.RunMode.{RunMode}
 use Rattle.minus.specs.declared.step_drawing.Drawing.{Drawing}
-use Rattle.minus.specs.Asked.{Asks, checked_as, taken}
+use Rattle.minus.specs.Asked.{Asks, Wants, checked_as, taken}
 use Rattle.minus.specs.Drawings.{ops_of_step, IsDrawable}
-use Rattle.minus.specs.Drawn.{IsDrawing}
+use Rattle.minus.specs.Drawn.{IsDrawing, Drawn}
 use Rattle.minus.specs.Outcomes.{IsOutcome, IsTakenBy, ExitsWith}
-use Rattle.minus.specs.Reads.{Told, an_event}
+use Rattle.minus.specs.Reads.{Told, a_command, an_event}
 use Rattle.minus.specs.Seen.{Seen}
-use Rattle.minus.specs.Table.{Wanted, Exit, effect, kept_after, condition_kept, changed_by, drawing_by, drawing_of, IsPossible}
-use Rattle.minus.specs.Works.{Work, work_of, key_work, after, Takes, worked, edits, IsQuiet}
+use Rattle.minus.specs.Handing.{Exit, Handing, Kept, kept_after, classifier_after, condition_after, kept_with, classifier_with, condition_with, IsFree, IsFreeFor, IsUnhanded}
+use Rattle.minus.specs.Table.{Wanted, hands_over, effect, handed, changed_by, drawing_by, drawing_of, IsPossible}
+use Rattle.minus.specs.Works.{Work, work_of, undrawn, key_work, after, Takes, worked, edits, IsQuiet}
 use Rattle.minus.specs.Core.{seen_of}
 use Rattle.minus.specs.SessionSteps.{IsUntakenOf}
 use Rattle.minus.specs.declared.session.Core.{Core}
 use Rattle.minus.specs.Steps.{Took, Fails, IsSinkFault}
-use Rattle.minus.proofs.TableLaws.{exit_still}
+use Rattle.minus.proofs.DrawnLaws.{undrawn_drawn}
+use Rattle.minus.proofs.TableLaws.{clamp_still, exit_still}
 use Rattle.minus.proofs.CommandLaws.{drawn_on, work_draws, work_drawable}
 use Rattle.minus.proofs.KeyedLaws.{key_drawable}
 use Rattle.minus.proofs.KeyLaws.{key_drawn}
@@ -51,105 +53,167 @@ drawn_as c clears w redraw mark r m =
     ap (λ (x : Redraw). drawing_by x c mark) r ∙ ap (λ (n : ℕ). drawing_by (effect (cleared clears c) w).redraw c n) m
     ∙ drawn_on c clears w
 
--- what is left where what comes of a request was applied
-pub left_after : {P Q K : Type 0} (old new : Seen Q K) (told : Told Q K) (w : Wanted Q K) (outcome : Outcome P Q K) → IsOutcome old.control (taken old told w).control w outcome
-    → new ≡ record old { control = changed_by (effect (taken old told w).control w); classifier = unwrap_or outcome.classifier old.classifier; condition = condition_kept old.condition outcome.condition } → new ≡ after (taken old told w) w
-left_after old new told w outcome o is =
-    let left : Control = changed_by (effect (taken old told w).control w) in
-    is ∙ ap (λ k. let r : Seen _ _ = record old { control = left; classifier = unwrap_or k old.classifier; condition = condition_kept old.condition outcome.condition } in r) o.handed
-    ∙ ap (λ q. let r : Seen _ _ = record old { control = left; classifier = kept_after old.classifier w; condition = condition_kept old.condition q } in r) o.condition
+-- what is left where nothing is handed over
+after_alone : {Q K : Type 0} (seen : Seen Q K) (w : Wanted Q K) → handed w ≡ None → (let left : Seen Q K = record seen { control = changed_by (effect seen.control w) } in left ≡ after seen w)
+after_alone {Q = Q} {K = K} seen w none =
+    ap (λ (h : Option (Handing Q K)). let left : Seen Q K = record seen { control = changed_by (effect seen.control w); classifier = classifier_after seen.classifier h; condition = condition_after seen.condition h; kept = kept_after seen.kept h } in left) (sym none)
 
 -- an exit leaves the control, but for the typed prefix
-pub exits_with : {P Q K : Type 0} (seen : Seen Q K) (told : Told Q K) (w : Wanted Q K) (outcome : Outcome P Q K) (exit : Exit) (prefix : Option (String Global)) → IsClamped seen.control → IsOutcome seen.control (taken seen told w).control w outcome → outcome.exit ≡ Some exit → prefix ≡ outcome.change.prefix → ExitsWith seen told w exit (option_map string_bytes prefix)
-exits_with seen told w outcome exit prefix clamped o is same =
+pub exits_with : {Q K : Type 0} (seen : Seen Q K) (told : Told Q K) (w : Wanted Q K) (outcome : Outcome) (prefix : Option (String Global)) → IsClamped seen.control → IsOutcome seen.control (taken seen told w).control w outcome → outcome.exits ≡ true → prefix ≡ outcome.change.prefix → ExitsWith seen told w (option_map string_bytes prefix)
+exits_with seen told w outcome prefix clamped o is same =
     let exits = sym o.exits ∙ is in
     record {
       exits = exits;
       typed = ap (λ (p : Option (String Global)). unwrap_or (option_map string_bytes p) seen.control.settings.prefix) same
-          ∙ ap (λ (s : Settings). s.prefix) o.leads.settings_are ∙ ap (λ (k : Control). k.settings.prefix) (exit_still (taken seen told w).control w exit clamped exits);
+          ∙ ap (λ (s : Settings). s.prefix) o.leads.settings_are ∙ ap (λ (k : Control). k.settings.prefix) (exit_still (taken seen told w).control w clamped exits);
     }
 
 -- the session after that
-pub prefix_placed : {Q K : Type 0} (seen : Seen Q K) (told : Told Q K) (w : Wanted Q K) (exit : Exit) (prefix : Option (String Global)) (before after : PagerState) → seen.control ≡ control_of before → after ≡ record before { prefix_num = unwrap_or prefix before.prefix_num } → ExitsWith seen told w exit (option_map string_bytes prefix)
+pub prefix_placed : {Q K : Type 0} (seen : Seen Q K) (told : Told Q K) (w : Wanted Q K) (prefix : Option (String Global)) (before after : PagerState) → seen.control ≡ control_of before → after ≡ record before { prefix_num = unwrap_or prefix before.prefix_num } → ExitsWith seen told w (option_map string_bytes prefix)
     → control_of after ≡ (taken seen told w).control
-prefix_placed seen told w exit prefix before after is placed x =
+prefix_placed seen told w prefix before after is placed x =
     ap control_of placed ∙ ap (λ (p : List ℕ). with_prefix (control_of before) p) (typed_after prefix before.prefix_num) ∙ ap (λ (k : Control). with_prefix k (unwrap_or (option_map string_bytes prefix) k.settings.prefix)) (sym is) ∙ ap (λ (p : List ℕ). with_prefix seen.control p) x.typed
 
 -- the input was worked off
-takes : {Q K : Type 0} (says : Says Q K) (old new : Seen Q K) (told : Told Q K) (w : Wanted Q K) (copied : Option (List ℕ)) → old.control.search ≡ None → Asks says old told w → IsPossible w → (effect (taken old told w).control w).exits_by ≡ None → new ≡ after (taken old told w) w → copied ≡ (effect (taken old told w).control w).copies
+takes : {Q K : Type 0} (says : Says Q K) (old new : Seen Q K) (told : Told Q K) (w : Wanted Q K) (copied : Option (List ℕ)) → old.control.search ≡ None → Asks says old told w → IsPossible w → IsFreeFor old.kept.ids (handed w) → (effect (taken old told w).control w).is_exit ≡ false → new ≡ after (taken old told w) w → copied ≡ (effect (taken old told w).control w).copies
     → Takes says old told (work_of (taken old told w).control w) copied new
-takes {Q = Q} {K = K} says old new told w copied closed asks possible on is copies =
+takes {Q = Q} {K = K} says old new told w copied closed asks possible free on is copies =
     subst (λ (x : Seen Q K). Takes says old told (work_of (taken old told w).control w) copied x) (sym is)
-    (subst (λ (text : Option (List ℕ)). Takes says old told (work_of (taken old told w).control w) text (after (taken old told w) w)) (sym copies) (worked w closed asks possible on))
+    (subst (λ (text : Option (List ℕ)). Takes says old told (work_of (taken old told w).control w) text (after (taken old told w) w)) (sym copies) (worked w closed asks possible free on))
 
--- it was worked off by a change
-pub worked_by : {P Q K : Type 0} (says : Says Q K) (old : Seen Q K) (told : Told Q K) (w : Wanted Q K) (outcome : Outcome P Q K) → old.control.search ≡ None → IsClamped old.control → 1 ≤ old.control.rows → Asks says old told w → IsOutcome old.control (taken old told w).control w outcome → outcome.exit ≡ None → IsTakenBy says old told outcome (work_of (taken old told w).control w)
-worked_by says old told w outcome closed clamped some asks o none =
+-- it was worked off by a change, and hands nothing over
+pub worked_by : {Q K : Type 0} (says : Says Q K) (old : Seen Q K) (told : Told Q K) (w : Wanted Q K) (outcome : Outcome) → old.control.search ≡ None → IsClamped old.control → 1 ≤ old.control.rows → Asks says old told w → handed w ≡ None → IsOutcome old.control (taken old told w).control w outcome → outcome.exits ≡ false → IsTakenBy says old told outcome (work_of (taken old told w).control w)
+worked_by {Q = Q} {K = K} says old told w outcome closed clamped some asks none o on =
     let work : Work = work_of (taken old told w).control w in
-    let next : Seen _ _ = record old { control = work.left; classifier = unwrap_or outcome.classifier old.classifier; condition = condition_kept old.condition outcome.condition } in
+    let next : Seen _ _ = record old { control = work.left } in
     record {
-      takes = takes says old next told w (option_map string_bytes outcome.copied) closed asks o.possible (sym o.exits ∙ none) (left_after old next told w outcome o refl) o.copied;
+      takes = takes says old next told w (option_map string_bytes outcome.copied) closed asks o.possible (subst (λ (h : Option (Handing Q K)). IsFreeFor old.kept.ids h) (sym none) tt) (sym o.exits ∙ on) (after_alone (taken old told w) w none) o.copied;
       leads = o.leads;
       drawing = drawn_as old.control _ w outcome.change.redraw outcome.change.mark o.redraw o.leads.mark_is;
       drawable = work_drawable old.control (taken old told w).control w closed;
+      hook = o.hook;
       draws = λ left_some. work_draws old.control _ w closed clamped some left_some;
     }
 
 -- an event was taken by the search prompt that is open
-pub keyed_by : {P Q K : Type 0} (says : Says Q K) (old : Seen Q K) (event : Event) (o : OpenSearch) (found : Option Re) (outcome : Outcome P Q K) → old.control.search ≡ Some o → checked_as {Q = Q} {K = K} (an_event event) ≡ None → (state : PagerState) → IsFormed state → control_of state ≡ old.control → MayFind says.condition old.condition state o event found → 1 ≤ old.control.rows
-    → IsChange old.control outcome.change (keyed old.control o (edit_of event) found) → outcome.change.redraw ≡ keyed_redraw o (edit_of event) → outcome.classifier ≡ None → outcome.condition ≡ None → outcome.copied ≡ None → IsTakenBy says old (an_event event) outcome (key_work old.control o (edit_of event) found)
-keyed_by says old event o found outcome searching alone state formed is may some leads redraw kept judged none =
+pub keyed_by : {Q K : Type 0} (says : Says Q K) (old : Seen Q K) (event : Event) (o : OpenSearch) (found : Option Re) (outcome : Outcome) → old.control.search ≡ Some o → checked_as {Q = Q} {K = K} (an_event event) ≡ None → (state : PagerState) → IsFormed state → control_of state ≡ old.control → MayFind says.condition old.condition state o event found → 1 ≤ old.control.rows
+    → IsChange old.control outcome.change (keyed old.control o (edit_of event) found) → outcome.change.redraw ≡ keyed_redraw o (edit_of event) → outcome.copied ≡ None → outcome.hook ≡ None → IsTakenBy says old (an_event event) outcome (key_work old.control o (edit_of event) found)
+keyed_by says old event o found outcome searching alone state formed is may some leads redraw none quiet =
     let work : Work = key_work old.control o (edit_of event) found in
     record {
-      takes = rw (kept, judged, none) (edits o searching alone state formed is found may);
+      takes = rw none (edits o searching alone state formed is found may);
       leads = leads;
       drawing = ap (λ (r : Redraw). drawing_by r old.control outcome.change.mark) redraw ∙ ap (λ (n : ℕ). drawing_by (keyed_redraw o (edit_of event)) old.control n) leads.mark_is;
+      hook = quiet;
       drawable = key_drawable (told_by o (edit_of event)) old.control o.edited (fed o.prompt (edit_of event)) found work.left.mark;
       draws = λ left_some. key_drawn old.control o (edit_of event) found some searching;
     }
 
 -- the change can be drawn as its redraw asks
-pub drawable_by : {P Q K : Type 0} (says : Says Q K) (old : Seen Q K) (told : Told Q K) (outcome : Outcome P Q K) (work : Work) → IsTakenBy says old told outcome work → IsDrawable (drawing_by outcome.change.redraw old.control outcome.change.mark) old.control work.left
+pub drawable_by : {Q K : Type 0} (says : Says Q K) (old : Seen Q K) (told : Told Q K) (outcome : Outcome) (work : Work) → IsTakenBy says old told outcome work → IsDrawable (drawing_by outcome.change.redraw old.control outcome.change.mark) old.control work.left
 drawable_by says old told outcome work t = subst (λ (d : Drawing). IsDrawable d old.control work.left) (sym t.drawing) t.drawable
 
 -- what is left where it was applied
-abbrev pub left_by : {P Q K : Type 0} → Seen Q K → Outcome P Q K → Work → Seen Q K
-left_by old outcome work = record old { control = work.left; classifier = unwrap_or outcome.classifier old.classifier; condition = condition_kept old.condition outcome.condition }
+abbrev pub left_by : {Q K : Type 0} → Seen Q K → Work → Seen Q K
+left_by old work = record old { control = work.left }
 
 -- and the bytes that draw it
-abbrev pub bytes_by : {P Q K : Type 0} → Seen Q K → Outcome P Q K → Work → List ℕ
+abbrev pub bytes_by : {Q K : Type 0} → Seen Q K → Outcome → Work → List ℕ
 bytes_by old outcome work = written_all (ops_of_step (drawing_by outcome.change.redraw old.control outcome.change.mark) old.control work.left)
 
-bytes_are : {P Q K : Type 0} (says : Says Q K) (old : Seen Q K) (told : Told Q K) (outcome : Outcome P Q K) (work : Work) (bytes : List ℕ) → IsTakenBy says old told outcome work → bytes ≡ bytes_by old outcome work → bytes ≡ written_all (ops_of_step work.drawing old.control work.left)
+bytes_are : {Q K : Type 0} (says : Says Q K) (old : Seen Q K) (told : Told Q K) (outcome : Outcome) (work : Work) (bytes : List ℕ) → IsTakenBy says old told outcome work → bytes ≡ bytes_by old outcome work → bytes ≡ written_all (ops_of_step work.drawing old.control work.left)
 bytes_are says old told outcome work bytes t is = is ∙ ap (λ (d : Drawing). written_all (ops_of_step d old.control work.left)) t.drawing
 
-some_left : {P Q K : Type 0} (old new : Seen Q K) (outcome : Outcome P Q K) (work : Work) → 1 ≤ new.control.rows → new ≡ left_by old outcome work → 1 ≤ work.left.rows
-some_left old new outcome work some is = subst (λ (x : Seen _ _). 1 ≤ x.control.rows) is some
+some_left : {Q K : Type 0} (old new : Seen Q K) (work : Work) → 1 ≤ new.control.rows → new ≡ left_by old work → 1 ≤ work.left.rows
+some_left old new work some is = subst (λ (x : Seen _ _). 1 ≤ x.control.rows) is some
 
 -- an input that is drawn
-pub drawn_take : {P Q K : Type 0} (says : Says Q K) (old new : Seen Q K) (told : Told Q K) (outcome : Outcome P Q K) (work : Work) (copied a b c : Option (List ℕ)) (bytes : List ℕ) → IsTakenBy says old told outcome work → 1 ≤ new.control.rows → new ≡ left_by old outcome work → bytes ≡ bytes_by old outcome work → b ≡ a → Appends b c bytes
+pub drawn_take : {Q K : Type 0} (says : Says Q K) (old new : Seen Q K) (told : Told Q K) (outcome : Outcome) (work : Work) (copied a b c : Option (List ℕ)) (bytes : List ℕ) → IsTakenBy says old told outcome work → 1 ≤ new.control.rows → new ≡ left_by old work → bytes ≡ bytes_by old outcome work → b ≡ a → Appends b c bytes
     → copied ≡ option_map string_bytes outcome.copied → Took says None old told copied new a c
 drawn_take {Q = Q} {K = K} says old new told outcome work copied a b c bytes t some is ops s h copies =
     let list : List Op = ops_of_step work.drawing old.control work.left in
     let appends : Appends a c (written_all list) = subst (λ (x : List ℕ). Appends a c x) (bytes_are says old told outcome work bytes t ops) (subst (λ (x : Option (List ℕ)). Appends x c bytes) s h) in
-    let took : Took says None old told (option_map string_bytes outcome.copied) (left_by old outcome work) a c = (work, t.takes, (list, appends, t.draws (some_left old new outcome work some is))) in
-    subst (λ (x : Seen Q K). Took says None old told copied x a c) (sym is) (subst (λ (x : Option (List ℕ)). Took says None old told x (left_by old outcome work) a c) (sym copies) took)
-
--- an input that is drawn by no bytes
-pub quiet_take : {P Q K : Type 0} (says : Says Q K) (old new : Seen Q K) (told : Told Q K) (outcome : Outcome P Q K) (work : Work) (copied a b : Option (List ℕ)) (bytes : List ℕ) → IsTakenBy says old told outcome work → 1 ≤ new.control.rows → new ≡ left_by old outcome work → bytes ≡ bytes_by old outcome work → length bytes ≡ 0 → b ≡ a
-    → copied ≡ option_map string_bytes outcome.copied → Took says None old told copied new a b
-quiet_take says old new told outcome work copied a b bytes t some is ops empty same copies = drawn_take says old new told outcome work copied a a b bytes t some is ops refl (rw (nil_from_length bytes empty, same) (Appends-nil a)) copies
+    let took : Took says None old told (option_map string_bytes outcome.copied) (left_by old work) a c = (work, t.takes, (list, appends, t.draws (some_left old new work some is))) in
+    subst (λ (x : Seen Q K). Took says None old told copied x a c) (sym is) (subst (λ (x : Option (List ℕ)). Took says None old told x (left_by old work) a c) (sym copies) took)
 
 -- its drawing was refused
-pub broken_take : {P Q K : Type 0} (says : Says Q K) (old mid new : Seen Q K) (told : Told Q K) (outcome : Outcome P Q K) (work : Work) (a b c : Option (List ℕ)) (bytes : List ℕ) → IsTakenBy says old told outcome work → 1 ≤ mid.control.rows → 0 < length bytes → mid ≡ left_by old outcome work → new ≡ record mid { status = status.Failed } → bytes ≡ bytes_by old outcome work → b ≡ a
+pub broken_take : {Q K : Type 0} (says : Says Q K) (old mid new : Seen Q K) (told : Told Q K) (outcome : Outcome) (work : Work) (a b c : Option (List ℕ)) (bytes : List ℕ) → IsTakenBy says old told outcome work → 1 ≤ mid.control.rows → 0 < length bytes → mid ≡ left_by old work → new ≡ record mid { status = status.Failed } → bytes ≡ bytes_by old outcome work → b ≡ a
     → AppendsFront b c bytes → Fails says at_drawing old told new a c
 broken_take says old mid new told outcome work a b c bytes t some drawn is fails ops s h =
     let list : List Op = ops_of_step work.drawing old.control work.left in
     let sent : bytes ≡ written_all list = bytes_are says old told outcome work bytes t ops in
-    let draws : IsDrawing list old.control (work ∷ []) work.left = t.draws (some_left old mid outcome work some is) in
+    let draws : IsDrawing list old.control (work ∷ []) work.left = t.draws (some_left old mid work some is) in
     let front : AppendsFront a c (written_all list) = subst (λ (x : List ℕ). AppendsFront a c x) sent (subst (λ (x : Option (List ℕ)). AppendsFront x c bytes) s h) in
     let loud : IsQuiet old.control (work ∷ []) → ⊥ = λ q. (let none : length bytes ≡ 0 = ap length (sent ∙ ap written_all (draws.none q) ∙ written_all-nil) in absurd (omega (arith, drawn, none))) in
-    (work, option_map string_bytes outcome.copied, left_by old outcome work, t.takes, (list, front, draws, loud), fails ∙ ap (λ (x : Seen _ _). let r : Seen _ _ = record x { status = status.Failed } in r) is)
+    (work, option_map string_bytes outcome.copied, left_by old work, t.takes, (list, front, draws, loud), fails ∙ ap (λ (x : Seen _ _). let r : Seen _ _ = record x { status = status.Failed } in r) is)
+
+-- two sessions are seen alike
+pub seen_alike : {Q K : Type 0} (x y : Seen Q K) → x.control ≡ y.control → x.classifier ≡ y.classifier → x.condition ≡ y.condition → x.kept ≡ y.kept → x.mode ≡ y.mode → x.waiting ≡ y.waiting → x.status ≡ y.status → x ≡ y
+seen_alike {Q = Q} {K = K} x y a b c d e f g =
+    ap (λ (v : Control). let r : Seen Q K = record x { control = v } in r) a
+    ∙ ap (λ (v : K). let r : Seen Q K = record x { control = y.control; classifier = v } in r) b
+    ∙ ap (λ (v : Option Q). let r : Seen Q K = record y { condition = v; kept = x.kept; mode = x.mode; waiting = x.waiting; status = x.status } in r) c
+    ∙ ap (λ (v : Kept). let r : Seen Q K = record y { kept = v; mode = x.mode; waiting = x.waiting; status = x.status } in r) d
+    ∙ ap (λ (v : RunMode). let r : Seen Q K = record y { mode = v; waiting = x.waiting; status = x.status } in r) e
+    ∙ ap (λ (v : List (Told Q K)). let r : Seen Q K = record y { waiting = v; status = x.status } in r) f
+    ∙ ap (λ (v : Status). let r : Seen Q K = record y { status = v } in r) g
+
+-- ---- what is handed over
+
+-- no event hands anything over, so the typed prefix stays
+taken_same : {Q K : Type 0} (old : Seen Q K) (told : Told Q K) (handing : Handing Q K) → taken old told (hands_over handing) ≡ old
+taken_same old (a_command asked) handing = refl
+taken_same old (an_event event) handing = refl
+
+-- it is kept
+pub handed_take : {Q K : Type 0} (says : Says Q K) (old new : Seen Q K) (told : Told Q K) (handing : Handing Q K) (a : Option (List ℕ)) → old.control.search ≡ None → IsClamped old.control → Asks says old told (hands_over handing) → IsFree old.kept.ids handing
+    → new ≡ record old { classifier = classifier_with old.classifier handing; condition = condition_with old.condition handing; kept = kept_with old.kept handing } → Took says None old told None new a a
+handed_take {Q = Q} {K = K} says old new told handing a closed clamped asks free is =
+    let c : Control = old.control in
+    let w : Wanted Q K = hands_over handing in
+    let stays : clamp c ≡ c = clamp_still c clamped in
+    let same : taken old told w ≡ old = taken_same old told handing in
+    let left : new ≡ after (taken old told w) w =
+    is ∙ ap (λ (k : Control). let r : Seen Q K = record old { control = k; classifier = classifier_with old.classifier handing; condition = condition_with old.condition handing; kept = kept_with old.kept handing } in r) (sym stays)
+    ∙ ap (λ (s : Seen Q K). after s w) (sym same) in
+    let work : work_of (taken old told w).control w ≡ undrawn c =
+    ap (λ (s : Seen Q K). work_of s.control w) same ∙ ap undrawn stays in
+    let t : Takes says old told (undrawn c) None new = subst (λ (x : Work). Takes says old told x None new) work (takes says old new told w None closed asks tt free refl left refl) in
+    let at : new.control ≡ c = ap (λ (s : Seen Q K). s.control) is in
+    (undrawn c, t, subst (λ (k : Control). Drawn a a c (undrawn c ∷ []) k) (sym at) (undrawn_drawn a c))
+
+-- it is not kept
+unhanded : {Q K : Type 0} (says : Says Q K) (refusal : Refusal) (s : Seen Q K) (told : Told Q K) (handing : Handing Q K) (a : Option (List ℕ)) → s.control.search ≡ None → Wants says s s.control.search told (hands_over handing) → IsUnhanded refusal s.kept.ids handing → Fails says refusal s told s a a × (IsSinkFault refusal → ⊥)
+unhanded says for_memory s told handing a closed wants h = ((refl, refl), λ sink. sink)
+unhanded says (for_hook_id hook id) s told handing a closed wants h = (((hands_over handing, wants, (closed, (ap hands_over h.0, h.1))), (refl, refl)), λ sink. sink)
+unhanded says for_free_hook_id s told handing a closed wants h = (((hands_over handing, wants, (closed, (handing, refl, h))), (refl, refl)), λ sink. sink)
+unhanded says for_newline s told handing a closed wants h = absurd h
+unhanded says (for_size cols rows) s told handing a closed wants h = absurd h
+unhanded says for_query s told handing a closed wants h = absurd h
+unhanded says for_mode s told handing a closed wants h = absurd h
+unhanded says (at_setup cause) s told handing a closed wants h = absurd h
+unhanded says (for_description place cause) s told handing a closed wants h = absurd h
+unhanded says (for_binding place) s told handing a closed wants h = absurd h
+unhanded says for_pattern s told handing a closed wants h = absurd h
+unhanded says after_failure s told handing a closed wants h = absurd h
+unhanded says after_exit s told handing a closed wants h = absurd h
+unhanded says of_no_call s told handing a closed wants h = absurd h
+unhanded says (at_cleanup cause) s told handing a closed wants h = absurd h
+unhanded says at_drawing s told handing a closed wants h = absurd h
+
+pub unhanded_take : {S P H E Q K : Type 0} (sink : S → SinkSeen) (says : Says Q K) (old new : Core S P H E Q K) (told : Told Q K) (handing : Handing Q K) (e : MinusError) → (seen_of old).control.search ≡ None → Asks says (seen_of old) told (hands_over handing) → IsUnhanded (refusal_of e) (seen_of old).kept.ids handing → seen_of new ≡ seen_of old → new.sink ≡ old.sink
+    → IsUntakenOf sink says old told new e
+unhanded_take {S = S} {Q = Q} {K = K} sink says old new told handing e closed asks h same at =
+    let s : Seen Q K = seen_of old in
+    let a : Option (List ℕ) = (sink old.sink).bytes in
+    let wants : Wants says s s.control.search told (hands_over handing) = subst (λ (x : Option OpenSearch). Wants says s x told (hands_over handing)) (sym closed) asks in
+    let (fails, no_fault) = unhanded says (refusal_of e) s told handing a closed wants h in
+    let left : Fails says (refusal_of e) s told (seen_of new) a a = subst (λ (x : Seen Q K). Fails says (refusal_of e) s told x a a) (sym same) fails in
+    record {
+      fails = subst (λ (x : S). Fails says (refusal_of e) s told (seen_of new) a (sink x).bytes) (sym at) left;
+      rises = λ fault. absurd (no_fault fault);
+      untouched = λ well. at;
+    }
 
 -- a key that was refused has changed nothing
 unkeyed : {Q K : Type 0} (says : Says Q K) (refusal : Refusal) (s : Seen Q K) (event : Event) (o : OpenSearch) (a : Option (List ℕ)) → s.control.search ≡ Some o → IsUnkeyed refusal o (edit_of event) → Fails says refusal s (an_event event) s a a × (IsSinkFault refusal → ⊥)
@@ -170,22 +234,17 @@ unkeyed says of_no_call s event o a searching h = absurd h
 unkeyed says (at_cleanup cause) s event o a searching h = absurd h
 unkeyed says at_drawing s event o a searching h = absurd h
 
-pub unkeyed_take : {S P Q K : Type 0} (sink : S → SinkSeen) (says : Says Q K) (old : Core S P Q K) (event : Event) (o : OpenSearch) (e : MinusError) → (seen_of old).control.search ≡ Some o → IsUnkeyed (refusal_of e) o (edit_of event) → IsUntakenOf sink says old (an_event event) old e
+pub unkeyed_take : {S P H E Q K : Type 0} (sink : S → SinkSeen) (says : Says Q K) (old : Core S P H E Q K) (event : Event) (o : OpenSearch) (e : MinusError) → (seen_of old).control.search ≡ Some o → IsUnkeyed (refusal_of e) o (edit_of event) → IsUntakenOf sink says old (an_event event) old e
 unkeyed_take sink says old event o e searching h =
     let (fails, no_fault) = unkeyed says (refusal_of e) (seen_of old) event o (sink old.sink).bytes searching h in
     record { fails = fails; rises = λ fault. absurd (no_fault fault); untouched = λ well. refl }
 
 -- an exit
-pub exit_take : {Q K : Type 0} (says : Says Q K) (old new : Seen Q K) (told : Told Q K) (w : Wanted Q K) (x : Exit) (copied a b : Option (List ℕ)) → old.control.search ≡ None → Asks says old told w → (effect (taken old told w).control w).exits_by ≡ Some x → copied ≡ None → new ≡ record (taken old told w) { waiting = []; status = status.Ended } → Appends a b cleanup_bytes
+pub exit_take : {Q K : Type 0} (says : Says Q K) (old new : Seen Q K) (told : Told Q K) (w : Wanted Q K) (x : Exit) (copied a b : Option (List ℕ)) → old.control.search ≡ None → Asks says old told w → (effect (taken old told w).control w).is_exit ≡ true → x ≡ old.kept.exit → copied ≡ None → new ≡ record (taken old told w) { waiting = []; status = status.Ended } → Appends a b cleanup_bytes
     → Took says (Some x) old told copied new a b
-exit_take says old new told w x copied a b closed asks exits none ends h = (record { wanted = w; closed = closed; asked = asks; exits = exits }, none, ends, h)
+exit_take says old new told w x copied a b closed asks exits by none ends h = (record { wanted = w; closed = closed; asked = asks; exits = exits; by = by }, none, ends, h)
 
 -- its cleanup was refused
-pub exit_broken : {Q K : Type 0} (says : Says Q K) (old new : Seen Q K) (told : Told Q K) (w : Wanted Q K) (x : Exit) (cause : CleanupError) (a b : Option (List ℕ)) → old.control.search ≡ None → Asks says old told w → (effect (taken old told w).control w).exits_by ≡ Some x → new ≡ record (taken old told w) { status = status.Failed } → CleanupBreaksOff cause a b
+pub exit_broken : {Q K : Type 0} (says : Says Q K) (old new : Seen Q K) (told : Told Q K) (w : Wanted Q K) (cause : CleanupError) (a b : Option (List ℕ)) → old.control.search ≡ None → Asks says old told w → (effect (taken old told w).control w).is_exit ≡ true → new ≡ record (taken old told w) { status = status.Failed } → CleanupBreaksOff cause a b
     → Fails says (at_cleanup cause) old told new a b
-exit_broken says old new told w x cause a b closed asks exits fails h = (x, record { wanted = w; closed = closed; asked = asks; exits = exits }, h, fails)
-
--- a drawing that is not empty has bytes
-pub some_bytes : (n : ℕ) (bytes : List ℕ) → false ≡ (n == 0) → length bytes ≡ n → 0 < length bytes
-some_bytes zero bytes e h = cc
-some_bytes (suc n) bytes e h = omega (arith, h)
+exit_broken says old new told w cause a b closed asks exits fails h = (old.kept.exit, record { wanted = w; closed = closed; asked = asks; exits = exits; by = refl }, h, fails)

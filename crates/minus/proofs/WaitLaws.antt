@@ -14,14 +14,15 @@ use Rattle.minus_state.specs.OpenSearches.{OpenSearch}
 use Rattle.minus.specs.Seen.{Seen}
 use Rattle.minus.specs.SessionSteps.{IsTakenOf, IsUntakenOf, IsKept, IsUnkept, IsNotKept}
 use Rattle.minus.specs.Steps.{Took, Fails, IsSinkFault}
-use Rattle.minus.specs.Table.{Wanted, Exit, IsFault}
+use Rattle.minus.specs.Handing.{Exit}
+use Rattle.minus.specs.Table.{Wanted, IsFault}
 use Rattle.minus.specs.Works.{undrawn, waited}
 use Rattle.minus.proofs.DrawnLaws.{undrawn_drawn}
 use Rattle.minus.proofs.LoopLaws.{some_of}
 use Rattle.minus.proofs.StartLaws.{Stays-refl}
 
 -- an input that waits was taken
-pub kept_take : {S P Q K : Type 0} (sink : S → SinkSeen) (says : Says Q K) (old new : Core S P Q K) (told : Told Q K) (of : Taken) → is_some ((seen_of old).control.search) ≡ true → is_some (checked_as told) ≡ true → IsKept old told new of → IsTakenOf sink says old told new of
+pub kept_take : {S P H E Q K : Type 0} (sink : S → SinkSeen) (says : Says Q K) (old new : Core S P H E Q K) (told : Told Q K) (of : Taken) → is_some ((seen_of old).control.search) ≡ true → is_some (checked_as told) ≡ true → IsKept old told new of → IsTakenOf sink says old told new of
 kept_take sink says old new told of searching waits h =
     let s : Seen _ _ = seen_of old in
     let (o, open_search) = some_of s.control.search searching in
@@ -60,7 +61,7 @@ unkept : {Q K : Type 0} (says : Says Q K) (refusal : Refusal) (s : Seen Q K) (to
 unkept says refusal s told a w wants checked (inl memory) = rw memory ((refl, refl), λ fault. fault)
 unkept says refusal s told a w wants checked (inr why) = faulty says refusal s told a w wants (why w checked)
 
-pub unkept_take : {S P Q K : Type 0} (sink : S → SinkSeen) (says : Says Q K) (old new : Core S P Q K) (told : Told Q K) (e : MinusError) → is_some ((seen_of old).control.search) ≡ true → is_some (checked_as told) ≡ true → IsNotKept old told new e → IsUntakenOf sink says old told new e
+pub unkept_take : {S P H E Q K : Type 0} (sink : S → SinkSeen) (says : Says Q K) (old new : Core S P H E Q K) (told : Told Q K) (e : MinusError) → is_some ((seen_of old).control.search) ≡ true → is_some (checked_as told) ≡ true → IsNotKept old told new e → IsUntakenOf sink says old told new e
 unkept_take sink says old new told e searching waits h =
     let s : Seen _ _ = seen_of old in
     let (o, open_search) = some_of s.control.search searching in

@@ -21,18 +21,18 @@ use Rattle.minus.proofs.TableLaws.{resizes_full_lem}
 
 -- what it leaves is its work's
 pub takes_left : {Q K : Type 0} (says : Says Q K) (s new : Seen Q K) (told : Told Q K) (work : Work) (text : Option (List ℕ)) → Takes says s told work text new → new.control ≡ work.left
-takes_left says s new told work text (worked w closed asked possible on) = refl
+takes_left says s new told work text (worked w closed asked possible free on) = refl
 takes_left says s new told work text (waited o w searching wants possible) = refl
 takes_left says s new told work text (edits o searching alone state formed is found may) = refl
 
 pub takes_status : {Q K : Type 0} (says : Says Q K) (s new : Seen Q K) (told : Told Q K) (work : Work) (text : Option (List ℕ)) → Takes says s told work text new → new.status ≡ s.status
-takes_status says s new told work text (worked w closed asked possible on) = refl
+takes_status says s new told work text (worked w closed asked possible free on) = refl
 takes_status says s new told work text (waited o w searching wants possible) = refl
 takes_status says s new told work text (edits o searching alone state formed is found may) = refl
 
 -- what is not drawn in full keeps the size
 pub takes_rows : {Q K : Type 0} (says : Says Q K) (s new : Seen Q K) (told : Told Q K) (work : Work) (text : Option (List ℕ)) → Takes says s told work text new → is_full work.drawing ≡ false → s.control.rows ≡ new.control.rows
-takes_rows says s new told work text (worked w closed asked possible on) e = (resizes_full_lem (taken s told w).control w e).same_rows
+takes_rows says s new told work text (worked w closed asked possible free on) e = (resizes_full_lem (taken s told w).control w e).same_rows
 takes_rows says s new told work text (waited o w searching wants possible) e = refl
 takes_rows says s new told work text (edits {event = event} o searching alone state formed is found may) e = sym (keyed_rows (told_by o (edit_of event)) s.control o.edited (fed o.prompt (edit_of event)) found)
 
@@ -86,7 +86,7 @@ rows_kept says old told s works refused copied (passed {s = m} refusal h n u) e 
 -- ---- one input alone
 
 takes_waiting : {Q K : Type 0} (says : Says Q K) (s new : Seen Q K) (told : Told Q K) (work : Work) (text : Option (List ℕ)) → s.control.search ≡ None → Takes says s told work text new → new.waiting ≡ s.waiting
-takes_waiting says s new told work text none (worked w closed asked possible on) = refl
+takes_waiting says s new told work text none (worked w closed asked possible free on) = refl
 takes_waiting says s new told work text none (waited o w searching wants possible) = absurd (let both : None ≡ Some o = sym none ∙ searching in cc)
 takes_waiting says s new told work text none (edits o searching alone state formed is found may) = absurd (let both : None ≡ Some o = sym none ∙ searching in cc)
 

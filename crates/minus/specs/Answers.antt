@@ -3,7 +3,7 @@ use Rattle.std.specs.Prelude.{◌≡◌, ℕ, nat_lt, List, map, length, is_some
 use Rattle.std.specs.Option.{option_map}
 use Rattle.minus_term.specs.Refusals.{Refusal, refusal_of}
 use Rattle.minus.specs.declared.answer.Answer.{Answer}
-use Rattle.minus.specs.Table.{Exit}
+use Rattle.minus.specs.Handing.{Exit}
 
 -- an exit is answered, the text that was copied, and the refusals of the items that were passed over
 pub record IsAnswer (exit : Option Exit) (text : Option (List ℕ)) (refused : List Refusal) (answer : Answer) : Type 0 where

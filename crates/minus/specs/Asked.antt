@@ -10,7 +10,7 @@ use Rattle.minus.specs.Reads.{answer_wanted, Told, a_command, an_event}
 use Rattle.minus_state.specs.OpenSearches.{OpenSearch}
 use Rattle.minus.specs.Says.{Says}
 use Rattle.minus.specs.Seen.{Seen}
-use Rattle.minus.specs.Table.{Wanted, resizes, shows_help, types_nothing}
+use Rattle.minus.specs.Table.{Wanted, resizes, shows_help, lets_prefix_go}
 
 -- the text that help is opened with, if there is one: the classifier may give it; where help is open, the classifier is not asked
 abbrev pub IsHelpText : {K : Type 0} → Classifies K → K → Option Saved → Option (List ℕ) → Type 0
@@ -45,7 +45,7 @@ Wants says seen (Some open_search) told wanted = checked_as told ≡ Some wanted
 -- the typed prefix goes with an event that types nothing; a command leaves it
 abbrev pub clears_prefix : {Q K : Type 0} → Told Q K → Wanted Q K → Bool
 clears_prefix (a_command asked) wanted = false
-clears_prefix (an_event event) wanted = types_nothing wanted
+clears_prefix (an_event event) wanted = lets_prefix_go wanted
 
 -- what a session is seen as once an input that asks for this was taken: the typed prefix is gone, or stays
 abbrev pub taken : {Q K : Type 0} → Seen Q K → Told Q K → Wanted Q K → Seen Q K

@@ -103,6 +103,14 @@ Leaves (Some bytes) passed control = (front : List ℕ) × (ops : List Op) × (b
 abbrev pub Begins : Option (List ℕ) → Option (List ℕ) → Control → Type 0
 Begins old_bytes new_bytes control = (ops : List Op) × Appends old_bytes new_bytes (setup_bytes ++ written_all ops) × IsWholeDrawing ops (control ∷ []) control
 
--- a start leaves its page on a sink that told its bytes
-abbrev pub StartLeavesItsPage : Type 0
-StartLeavesItsPage = (bytes : List ℕ) (new_bytes : Option (List ℕ)) (control : Control) → Begins (Some bytes) new_bytes control → Leaves new_bytes (control ∷ []) control
+-- the sink grew by the written form of such a list for one page
+abbrev pub Redraws : Option (List ℕ) → Option (List ℕ) → Control → Type 0
+Redraws old_bytes new_bytes control = (ops : List Op) × Appends old_bytes new_bytes (written_all ops) × IsWholeDrawing ops (control ∷ []) control
+
+-- by a beginning of it
+abbrev pub RedrawBreaksOff : Option (List ℕ) → Option (List ℕ) → Control → Type 0
+RedrawBreaksOff old_bytes new_bytes control = (ops : List Op) × AppendsFront old_bytes new_bytes (written_all ops) × IsWholeDrawing ops (control ∷ []) control
+
+-- a sink that was put in the place of another one, and told its bytes, is left with the page
+abbrev pub ExchangeLeavesItsPage : Type 0
+ExchangeLeavesItsPage = (bytes : List ℕ) (new_bytes : Option (List ℕ)) (control : Control) → Redraws (Some bytes) new_bytes control → Leaves new_bytes (control ∷ []) control

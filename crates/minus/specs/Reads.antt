@@ -1,9 +1,15 @@
 -- What contracts read of the state, of commands and inputs.
-use Rattle.std.specs.Prelude.{string_bytes, Option, None, Some}
+use Rattle.std.specs.Prelude.{string_bytes, length, Option, None, Some}
 use Rattle.std.specs.Option.{option_map}
 use Rattle.minus_term.specs.declared.event.Event.{Event}
 use Rattle.minus.specs.declared.commands.CommandOf.{CommandOf}
-use Rattle.minus.specs.declared.commands.CommandOf.TheVariants.{SetData, AppendData, SetPrompt, SendMessage, ShowPrompt, SetLineNumbers, LineWrapping, FollowOutput, UserInput, Io, IncrementalSearchCondition, SetInputClassifier}
+use Rattle.minus.specs.declared.commands.CommandOf.TheVariants.{SetData, AppendData, SetPrompt, SendMessage, ShowPrompt, SetLineNumbers, LineWrapping, FollowOutput, UserInput, Io, SetExitStrategy, SetRunNoOverflow, AddExitCallback, AddHook, RemoveHook, IncrementalSearchCondition, SetInputClassifier}
+use Rattle.minus.specs.declared.handed.Handed.{Handed}
+use Rattle.minus.specs.declared.handed.Handed.TheVariants as handed
+use Rattle.minus.specs.declared.parts.PartsOf.{PartsOf}
+use Rattle.minus.specs.Handing.{Handing, Kept, a_classifier, a_condition, an_exit_callback, a_callback, no_callback, a_strategy, a_run_no_overflow}
+use Rattle.minus_state.specs.Hooks.{held_by}
+use Rattle.minus_state.specs.Exits.{exits_of}
 use Rattle.minus.specs.declared.commands.IoCommand.{IoCommand}
 use Rattle.minus.specs.declared.commands.IoCommand.TheVariants.{RedrawPrompt, RedrawDisplay, DrawAppendedText, SetUpperMark, FetchSearchQuery}
 use Rattle.minus.specs.declared.commands.InputOf.{InputOf}
@@ -14,7 +20,7 @@ use Rattle.minus.specs.declared.request.Request.{Request}
 use Rattle.minus.specs.declared.request.Request.TheVariants as request
 use Rattle.minus.specs.Table.{Wanted, sets_data, appends_data, moves_mark, resizes, exits, ignores, sets_prompt}
 use Rattle.minus.specs.Table.{sends_message, shows_prompt, follows, types, restores_prompt, redraws_prompt, redraws_page}
-use Rattle.minus.specs.Table.{sets_classifier, sets_condition, sets_numbers, sets_wrapping, shifts, starts_selection, updates_selection}
+use Rattle.minus.specs.Table.{hands_over, sets_numbers, sets_wrapping, shifts, starts_selection, updates_selection}
 use Rattle.minus.specs.Table.{clears_selection, copies_selection, shows_help, moves_to_next_match, moves_to_prev_match, searches, fetches_query}
 
 -- what an event of the pager asks for
@@ -54,7 +60,7 @@ answer_wanted None = ignores
 answer_wanted (Some event) = event_wanted event
 
 -- what a command asks for
-abbrev pub wanted_of : {P Q K : Type 0} → CommandOf P Q K → Wanted Q K
+abbrev pub wanted_of : {P H E Q K : Type 0} → CommandOf P H E Q K → Wanted Q K
 wanted_of (SetData text) = sets_data (string_bytes text)
 wanted_of (AppendData text) = appends_data (string_bytes text)
 wanted_of (SetPrompt text) = sets_prompt (string_bytes text)
@@ -65,20 +71,39 @@ wanted_of (LineWrapping wrapping) = sets_wrapping wrapping
 wanted_of (FollowOutput follow) = follows follow
 wanted_of (UserInput event) = event_wanted event
 wanted_of (Io command) = io_wanted command
-wanted_of (IncrementalSearchCondition condition) = sets_condition condition
-wanted_of (SetInputClassifier classifier) = sets_classifier classifier
+wanted_of (SetExitStrategy strategy) = hands_over (a_strategy strategy)
+wanted_of (SetRunNoOverflow on) = hands_over (a_run_no_overflow on)
+wanted_of (AddExitCallback callback) = hands_over an_exit_callback
+wanted_of (AddHook hook id callback) = hands_over (a_callback hook id)
+wanted_of (RemoveHook hook id) = hands_over (no_callback hook id)
+wanted_of (IncrementalSearchCondition condition) = hands_over (a_condition condition)
+wanted_of (SetInputClassifier classifier) = hands_over (a_classifier classifier)
 
 -- what a session is told: a command, or an event of the terminal
 pub data Told (Q K : Type 0) : Type 0 where
   a_command : Wanted Q K → Told Q K
   an_event : Event → Told Q K
 
-abbrev pub told_of : {P Q K : Type 0} → InputOf P Q K → Told Q K
+abbrev pub told_of : {P H E Q K : Type 0} → InputOf P H E Q K → Told Q K
 told_of (input.Command command) = a_command (wanted_of command)
 told_of (input.Event event) = an_event event
 
+-- what is handed over, as values alone
+abbrev pub handing_of : {P H E Q K : Type 0} → Handed P H E Q K → Handing Q K
+handing_of (handed.Classifier classifier) = a_classifier classifier
+handing_of (handed.Condition condition) = a_condition condition
+handing_of (handed.ExitCallback callback) = an_exit_callback
+handing_of (handed.Callback hook id callback) = a_callback hook id
+handing_of (handed.NoCallback hook id) = no_callback hook id
+handing_of (handed.Strategy strategy) = a_strategy strategy
+handing_of (handed.RunNoOverflow on) = a_run_no_overflow on
+
+-- what is kept beside the state, the classifier and the condition
+abbrev pub kept_of : {P H E Q K : Type 0} → PartsOf P H E Q K → Kept
+kept_of parts = record { ids = (held_by parts.hooks).ids; exit_callbacks = length (exits_of parts.exit_callbacks); exit = (parts.exit_strategy, parts.exit_code); run_no_overflow = parts.run_no_overflow }
+
 -- what a request asks for
-abbrev pub wanted_by : {P Q K : Type 0} → Request P Q K → Wanted Q K
+abbrev pub wanted_by : {P H E Q K : Type 0} → Request P H E Q K → Wanted Q K
 wanted_by (request.SetText text) = sets_data (string_bytes text)
 wanted_by (request.AppendText text) = appends_data (string_bytes text)
 wanted_by (request.MoveMark mark) = moves_mark mark
@@ -93,8 +118,7 @@ wanted_by (request.Type character) = types character
 wanted_by request.RestorePrompt = restores_prompt
 wanted_by request.RedrawPrompt = redraws_prompt
 wanted_by request.RedrawPage = redraws_page
-wanted_by (request.SetClassifier classifier) = sets_classifier classifier
-wanted_by (request.SetCondition condition) = sets_condition condition
+wanted_by (request.HandOver handed) = hands_over (handing_of handed)
 wanted_by (request.SetNumbers numbers) = sets_numbers numbers
 wanted_by (request.SetWrapping wrapping) = sets_wrapping wrapping
 wanted_by (request.ShiftLeft left) = shifts left

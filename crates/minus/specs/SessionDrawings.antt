@@ -7,5 +7,5 @@ use Rattle.minus_state.specs.Control.{Control}
 use Rattle.minus.specs.Drawings.{ops_of_step}
 
 -- the buffer holds the list that a page is drawn by, on the way from one control to another
-abbrev pub DrawsBetween : {S P Q K : Type 0} → Core S P Q K → Drawing → Control → Control → Type 0
+abbrev pub DrawsBetween : {S P H E Q K : Type 0} → Core S P H E Q K → Drawing → Control → Control → Type 0
 DrawsBetween core drawing old new = core.drawing.items ≡ written_all (ops_of_step drawing old new)

@@ -17,28 +17,28 @@ use Rattle.minus.specs.Table.{Wanted, IsPossible, IsFault}
 use Rattle.minus.specs.Steps.{IsStep, Refuses, IsSinkFault, Took, Fails}
 
 -- a step that ends well: the sink refused nothing
-pub record IsStepOf {S P Q K : Type 0} (sink : S → SinkSeen) (says : Says Q K) (old : Core S P Q K) (told : Told Q K) (new : Core S P Q K) (answer : Answer) : Type 0 where
+pub record IsStepOf {S P H E Q K : Type 0} (sink : S → SinkSeen) (says : Says Q K) (old : Core S P H E Q K) (told : Told Q K) (new : Core S P H E Q K) (answer : Answer) : Type 0 where
   pub step : IsStep says (seen_of old) told (seen_of new) answer (sink old.sink).bytes (sink new.sink).bytes
   pub stays : Stays (sink old.sink).refusals (sink new.sink).refusals
 
 -- what was told asks for this, and the typed prefix goes, or stays
-pub record IsAsked {S P Q K : Type 0} (says : Says Q K) (core : Core S P Q K) (told : Told Q K) (wanted : Wanted Q K) (clears : Bool) : Type 0 where
+pub record IsAsked {S P H E Q K : Type 0} (says : Says Q K) (core : Core S P H E Q K) (told : Told Q K) (wanted : Wanted Q K) (clears : Bool) : Type 0 where
   pub asks : Asks says (seen_of core) told wanted
   pub prefix : clears_prefix told wanted ≡ clears
 
 -- one input was taken, and the sink refused nothing
-pub record IsTakenOf {S P Q K : Type 0} (sink : S → SinkSeen) (says : Says Q K) (old : Core S P Q K) (told : Told Q K) (new : Core S P Q K) (of : Taken) : Type 0 where
+pub record IsTakenOf {S P H E Q K : Type 0} (sink : S → SinkSeen) (says : Says Q K) (old : Core S P H E Q K) (told : Told Q K) (new : Core S P H E Q K) (of : Taken) : Type 0 where
   pub took : Took says of.exit (seen_of old) told (option_map string_bytes of.copied) (seen_of new) (sink old.sink).bytes (sink new.sink).bytes
   pub stays : Stays (sink old.sink).refusals (sink new.sink).refusals
 
 -- one input was not taken: the sink refused where that is said, and was left alone where it is not
-pub record IsUntakenOf {S P Q K : Type 0} (sink : S → SinkSeen) (says : Says Q K) (old : Core S P Q K) (told : Told Q K) (new : Core S P Q K) (e : MinusError) : Type 0 where
+pub record IsUntakenOf {S P H E Q K : Type 0} (sink : S → SinkSeen) (says : Says Q K) (old : Core S P H E Q K) (told : Told Q K) (new : Core S P H E Q K) (e : MinusError) : Type 0 where
   pub fails : Fails says (refusal_of e) (seen_of old) told (seen_of new) (sink old.sink).bytes (sink new.sink).bytes
   pub rises : IsSinkFault (refusal_of e) → Rises (sink old.sink).refusals (sink new.sink).refusals
   pub untouched : (IsSinkFault (refusal_of e) → ⊥) → new.sink ≡ old.sink
 
 -- an input waits, and nothing else has changed
-pub record IsKept {S P Q K : Type 0} (old : Core S P Q K) (told : Told Q K) (new : Core S P Q K) (of : Taken) : Type 0 where
+pub record IsKept {S P H E Q K : Type 0} (old : Core S P H E Q K) (told : Told Q K) (new : Core S P H E Q K) (of : Taken) : Type 0 where
   pub possible : (wanted : Wanted Q K) → checked_as told ≡ Some wanted → IsPossible wanted
   pub seen : seen_of new ≡ record (seen_of old) { waiting = (seen_of old).waiting ++ told ∷ [] }
   pub sink : new.sink ≡ old.sink
@@ -50,21 +50,21 @@ abbrev pub IsUnkept : {Q K : Type 0} → Refusal → Told Q K → Type 0
 IsUnkept refusal told = (refusal ≡ for_memory) ⊎ ((wanted : Wanted _ _) → checked_as told ≡ Some wanted → IsFault refusal wanted)
 
 -- it does not, and nothing has changed
-pub record IsNotKept {S P Q K : Type 0} (old : Core S P Q K) (told : Told Q K) (new : Core S P Q K) (e : MinusError) : Type 0 where
+pub record IsNotKept {S P H E Q K : Type 0} (old : Core S P H E Q K) (told : Told Q K) (new : Core S P H E Q K) (e : MinusError) : Type 0 where
   pub why : IsUnkept (refusal_of e) told
   pub seen : seen_of new ≡ seen_of old
   pub sink : new.sink ≡ old.sink
 
 -- a step that is refused: what it leaves, and that the sink refused where that is said; where it is not, it refused nothing, and was
 -- left alone unless something was worked off
-pub record IsRefusedStepOf {S P Q K : Type 0} (sink : S → SinkSeen) (says : Says Q K) (old : Core S P Q K) (told : Told Q K) (new : Core S P Q K) (e : MinusError) : Type 0 where
+pub record IsRefusedStepOf {S P H E Q K : Type 0} (sink : S → SinkSeen) (says : Says Q K) (old : Core S P H E Q K) (told : Told Q K) (new : Core S P H E Q K) (e : MinusError) : Type 0 where
   pub refuses : Refuses says (refusal_of e) (seen_of old) told (seen_of new) (sink old.sink).bytes (sink new.sink).bytes
   pub rises : IsSinkFault (refusal_of e) → Rises (sink old.sink).refusals (sink new.sink).refusals
   pub stays : (IsSinkFault (refusal_of e) → ⊥) → Stays (sink old.sink).refusals (sink new.sink).refusals
   pub untouched : (IsSinkFault (refusal_of e) → ⊥) → seen_of new ≡ seen_of old → new.sink ≡ old.sink
 
 -- a run: the sink refused where it stopped at the sink, and nowhere else
-pub record IsRunOf {S P Q K : Type 0} (sink : S → SinkSeen) (says : Says Q K) (old new : Core S P Q K) (inputs : List (InputOf P Q K)) (done : ℕ) (last : Option Answer) (stopped : Option MinusError) (rest : List (InputOf P Q K)) : Type 0 where
+pub record IsRunOf {S P H E Q K : Type 0} (sink : S → SinkSeen) (says : Says Q K) (old new : Core S P H E Q K) (inputs : List (InputOf P H E Q K)) (done : ℕ) (last : Option Answer) (stopped : Option MinusError) (rest : List (InputOf P H E Q K)) : Type 0 where
   pub run : IsRun says told_of (seen_of old) (seen_of new) inputs done last stopped rest (sink old.sink).bytes (sink new.sink).bytes
   pub stays : (StopsAtSink stopped → ⊥) → Stays (sink old.sink).refusals (sink new.sink).refusals
   pub rises : StopsAtSink stopped → Rises (sink old.sink).refusals (sink new.sink).refusals

@@ -1,7 +1,7 @@
 -- The start of a session.
-use Rattle.std.specs.Prelude.{◌≡◌, ℕ, List, [], ◌∷◌, ◌++◌, Bool, true, false, Option, None, ◌⊎◌}
+use Rattle.std.specs.Prelude.{◌≡◌, ℕ, List, [], ◌∷◌, Bool, true, false, Option, None, Some, if◌then◌else◌, ◌⊎◌}
 use Rattle.std.specs.Io.KnownBytes.{Appends}
-use Rattle.minus_term.specs.Refusals.{Refusal, for_memory, for_size, for_mode, for_pattern, at_setup, at_drawing}
+use Rattle.minus_term.specs.Refusals.{Refusal, for_memory, for_newline, for_hook_id, for_free_hook_id, for_size, for_mode, for_pattern, at_setup, at_drawing}
 use Rattle.minus_term.specs.declared.error.SetupError.{SetupError}
 use Rattle.minus_term.specs.declared.error.SetupError.TheVariants.{InvalidTerminal}
 use Rattle.minus_term.specs.Operations.{Op}
@@ -13,32 +13,20 @@ use Rattle.minus_state.specs.declared.state.RunMode.TheVariants.{Uninitialized}
 use Rattle.minus.specs.declared.status.Status.TheVariants as status
 use Rattle.minus_state.specs.Sizes.{IsSize}
 use Rattle.minus_state.specs.States.{at_start}
-use Rattle.minus_state.specs.Control.{Control, reformed}
-use Rattle.minus_state.specs.Appending.{search_mark_behind}
-use Rattle.minus.specs.Drawn.{Begins, IsWholeDrawing}
+use Rattle.minus_state.specs.Control.{Control, top}
+use Rattle.minus_state.specs.declared.hooks.HookId.{HookId}
+use Rattle.minus.specs.Drawings.{ops_of_step}
+use Rattle.minus.specs.Drawn.{Begins, Drawn, BrokenOff, Leaves, IsWholeDrawing}
 use Rattle.minus.specs.Seen.{Seen}
-use Rattle.minus.specs.Table.{Wanted, sets_data, appends_data, kept_after, condition_after}
+use Rattle.minus.specs.Handing.{Kept, kept_at_first, kept_after, ids_after, classifier_after, condition_after, IsFreeFor}
+use Rattle.minus.specs.Table.{Wanted, moves_mark, handed, IsPossible}
+use Rattle.minus.specs.Unmoved.{unmoved}
+use Rattle.minus.specs.Works.{Work, work_of, IsFaultBeside}
 
--- the text that a command which waits for the start leaves
-abbrev pub text_taken : {Q K : Type 0} → List ℕ → Wanted Q K → List ℕ
-text_taken before (sets_data text) = text
-text_taken before (appends_data text) = before ++ text
-text_taken before w = before
-
--- the search mark that it leaves
-abbrev pub search_mark_taken : {Q K : Type 0} → Control → Wanted Q K → ℕ
-search_mark_taken c (sets_data text) = (reformed (record c { text = text })).search_mark
-search_mark_taken c (appends_data text) = search_mark_behind c text
-search_mark_taken c w = c.search_mark
-
--- it changes nothing else, and nothing moves
-abbrev pub taken : {Q K : Type 0} → Control → Wanted Q K → Control
-taken c w = record c { text = text_taken c.text w; search_mark = search_mark_taken c w }
-
--- commands that wait are taken in their order
+-- commands that wait are taken over in their order, each without its move, its drawing and its hook
 abbrev pub taken_all : {Q K : Type 0} → Control → List (Wanted Q K) → Control
 taken_all c [] = c
-taken_all c (w ∷ ws) = taken_all (taken c w) ws
+taken_all c (w ∷ ws) = taken_all (unmoved c w) ws
 
 -- the first control: that of the commands that waited
 abbrev pub first_control : {Q K : Type 0} → ℕ → ℕ → List (Wanted Q K) → Control
@@ -47,24 +35,98 @@ first_control cols rows waiting = taken_all (at_start cols rows) waiting
 -- the first classifier: the last one that was set by a command that waited, or else the one of the start
 abbrev pub classifier_taken : {Q K : Type 0} → K → List (Wanted Q K) → K
 classifier_taken classifier [] = classifier
-classifier_taken classifier (w ∷ ws) = classifier_taken (kept_after classifier w) ws
+classifier_taken classifier (w ∷ ws) = classifier_taken (classifier_after classifier (handed w)) ws
 
 -- the first condition: the last one that was set by a command that waited, or else the default
 abbrev pub condition_taken : {Q K : Type 0} → Option Q → List (Wanted Q K) → Option Q
 condition_taken kept [] = kept
-condition_taken kept (w ∷ ws) = condition_taken (condition_after kept w) ws
+condition_taken kept (w ∷ ws) = condition_taken (condition_after kept (handed w)) ws
+
+-- what they hand over is kept
+abbrev pub kept_taken : {Q K : Type 0} → Kept → List (Wanted Q K) → Kept
+kept_taken kept [] = kept
+kept_taken kept (w ∷ ws) = kept_taken (kept_after kept (handed w)) ws
+
+-- they can be taken over one after another, the first of them beside these ids of hooks
+abbrev pub CanTakeAll : {Q K : Type 0} → List HookId → List (Wanted Q K) → Type 0
+CanTakeAll ids [] = Unit {0}
+CanTakeAll ids (w ∷ ws) = IsPossible w × IsFreeFor ids (handed w) × CanTakeAll (ids_after ids (handed w)) ws
+
+-- why the first of them that cannot be taken over cannot
+abbrev pub IsFirstFault : {Q K : Type 0} → Refusal → List HookId → List (Wanted Q K) → Type 0
+IsFirstFault refusal ids [] = ⊥
+IsFirstFault refusal ids (w ∷ ws) = IsFaultBeside ids refusal w ⊎ (IsPossible w × IsFreeFor ids (handed w) × IsFirstFault refusal (ids_after ids (handed w)) ws)
+
+-- why one is not taken over beside these ids: out of memory, or for a fault
+abbrev pub IsUnchecked : {Q K : Type 0} → Refusal → List HookId → Wanted Q K → Type 0
+IsUnchecked for_memory ids w = Unit {0}
+IsUnchecked refusal ids w = IsFaultBeside ids refusal w
+
+-- why they are not taken over: out of memory, or for the first fault, which is a newline, a size, or an id of a hook
+abbrev pub IsUntaken : {Q K : Type 0} → Refusal → List HookId → List (Wanted Q K) → Type 0
+IsUntaken for_memory ids waiting = Unit {0}
+IsUntaken for_newline ids waiting = IsFirstFault for_newline ids waiting
+IsUntaken (for_size c r) ids waiting = IsFirstFault (for_size c r) ids waiting
+IsUntaken (for_hook_id hook id) ids waiting = IsFirstFault (for_hook_id hook id) ids waiting
+IsUntaken for_free_hook_id ids waiting = IsFirstFault for_free_hook_id ids waiting
+IsUntaken refusal ids waiting = ⊥
+
+-- the mark once the first page is drawn: the last page's where the text is followed
+abbrev pub first_mark : Control → ℕ
+first_mark c = if c.settings.follow then top c else c.mark
+
+-- the mark moves there as in a scroll, but no hook is called
+abbrev pub first_move : Control → Work
+first_move c = record (work_of {Q = Unit {0}} {K = Unit {0}} c (moves_mark (first_mark c))) { hook = None }
+
+-- the operations that draw this
+abbrev pub move_ops : Control → List Op
+move_ops c = ops_of_step (first_move c).drawing c (first_move c).left
+
+-- the page that a start draws first, and what is drawn over it
+abbrev pub BeginsAndMoves : Option (List ℕ) → Option (List ℕ) → Control → Type 0
+BeginsAndMoves old_bytes new_bytes first = (page : Option (List ℕ)) × Begins old_bytes page first × Drawn page new_bytes first (first_move first ∷ []) (first_move first).left
+
+-- a start leaves its page on a sink that told its bytes
+abbrev pub StartLeavesItsPage : Type 0
+StartLeavesItsPage = (bytes : List ℕ) (new_bytes : Option (List ℕ)) (first : Control) → BeginsAndMoves (Some bytes) new_bytes first → (let left : Control = (first_move first).left in Leaves new_bytes (first ∷ left ∷ []) left)
 
 -- a start is asked for as it can be: in a mode in which a session runs, and for a size of a terminal
 pub record CanStart (mode : RunMode) (cols rows : ℕ) : Type 0 where
   pub runs : mode ≡ Uninitialized → ⊥
   pub size : IsSize cols rows
 
+-- when it cannot: for its mode first, then for its size
+abbrev pub CannotStart : Refusal → RunMode → ℕ → ℕ → Type 0
+CannotStart for_mode mode cols rows = mode ≡ Uninitialized
+CannotStart (for_size c r) mode cols rows = (mode ≡ Uninitialized → ⊥) × (c ≡ cols) × (r ≡ rows) × (IsSize cols rows → ⊥)
+CannotStart refusal mode cols rows = ⊥
+
+-- or out of memory for the default bindings
+abbrev pub IsUnregistered : Refusal → RunMode → ℕ → ℕ → Type 0
+IsUnregistered for_memory mode cols rows = CanStart mode cols rows
+IsUnregistered refusal mode cols rows = CannotStart refusal mode cols rows
+
+-- it is asked for as it can be, and the commands that wait can be taken over
+pub record CanBegin {Q K : Type 0} (mode : RunMode) (cols rows : ℕ) (waiting : List (Wanted Q K)) : Type 0 where
+  pub can : CanStart mode cols rows
+  pub takes : CanTakeAll [] waiting
+
+-- when what a start needs is not formed: for its mode first, then for its size, then for the first command that cannot be taken over,
+-- then since a fixed pattern was not built; out of memory once the mode and the size are those of a start
+abbrev pub IsFormRefused : {Q K : Type 0} → Refusal → RunMode → ℕ → ℕ → List (Wanted Q K) → Type 0
+IsFormRefused for_mode mode cols rows waiting = mode ≡ Uninitialized
+IsFormRefused (for_size c r) mode cols rows waiting = CannotStart (for_size c r) mode cols rows ⊎ (CanStart mode cols rows × IsUntaken (for_size c r) [] waiting)
+IsFormRefused for_pattern mode cols rows waiting = CanBegin mode cols rows waiting
+IsFormRefused refusal mode cols rows waiting = CanStart mode cols rows × IsUntaken refusal [] waiting
+
 -- a start that ends well: on a terminal, where the session runs and has drawn its first page
 pub record IsStarted {Q K : Type 0} (seen : Seen Q K) (classifier : K) (waiting : List (Wanted Q K)) (mode : RunMode) (cols rows : ℕ) (terminal : Bool) (old_bytes new_bytes : Option (List ℕ)) : Type 0 where
   pub can : CanStart mode cols rows
+  pub takes : CanTakeAll [] waiting
   pub on_terminal : terminal ≡ true
-  pub begins : seen ≡ record { control = first_control cols rows waiting; classifier = classifier_taken classifier waiting; condition = condition_taken None waiting; mode = mode; waiting = []; status = status.Running }
-  pub drawn : Begins old_bytes new_bytes (first_control cols rows waiting)
+  pub begins : seen ≡ record { control = (first_move (first_control cols rows waiting)).left; classifier = classifier_taken classifier waiting; condition = condition_taken None waiting; kept = kept_taken kept_at_first waiting; mode = mode; waiting = []; status = status.Running }
+  pub drawn : BeginsAndMoves old_bytes new_bytes (first_control cols rows waiting)
 
 -- when a setup is refused: with the one error where the sink is no terminal
 abbrev pub IsSetupRefused : SetupError → Bool → Type 0
@@ -80,6 +142,14 @@ IsShowRefused refusal terminal = ⊥
 -- the terminal was cleaned up, or the sink refused that too, after a beginning of it
 abbrev pub CleansUp : Option (List ℕ) → Option (List ℕ) → Option ℕ → Option ℕ → Type 0
 CleansUp old_bytes new_bytes old_count new_count = (Appends old_bytes new_bytes cleanup_bytes × Stays old_count new_count) ⊎ (AppendsFront old_bytes new_bytes cleanup_bytes × Rises old_count new_count)
+
+-- the sink grew by a beginning of these bytes, refused the rest of them, and was cleaned up as far as it took that
+pub record DrawsOff (old_bytes new_bytes : Option (List ℕ)) (old_count new_count : Option ℕ) (drawing : List ℕ) : Type 0 where
+  pub drawn : Option (List ℕ)
+  pub count : Option ℕ
+  pub begun : AppendsFront old_bytes drawn drawing
+  pub refused : Rises old_count count
+  pub cleanup : CleansUp drawn new_bytes count new_count
 
 -- the sink grew by the bytes that set a terminal up and a beginning of these, refused the rest of them, and was cleaned up
 -- as far as it took that
@@ -98,23 +168,12 @@ ShowBreaksOff (at_setup cause) old_bytes new_bytes old_count new_count drawing =
 ShowBreaksOff at_drawing old_bytes new_bytes old_count new_count drawing = DrawingBreaksOff old_bytes new_bytes old_count new_count drawing
 ShowBreaksOff refusal old_bytes new_bytes old_count new_count drawing = ⊥
 
--- when a start is refused: for its mode first, then for its size, then since a fixed pattern was not built, then by the sink
-abbrev pub IsStartRefused : Refusal → RunMode → ℕ → ℕ → Bool → Type 0
-IsStartRefused for_mode mode cols rows terminal = mode ≡ Uninitialized
-IsStartRefused (for_size c r) mode cols rows terminal = (mode ≡ Uninitialized → ⊥) × (c ≡ cols) × (r ≡ rows) × (IsSize cols rows → ⊥)
-IsStartRefused for_memory mode cols rows terminal = CanStart mode cols rows
-IsStartRefused for_pattern mode cols rows terminal = CanStart mode cols rows
-IsStartRefused (at_setup cause) mode cols rows terminal = CanStart mode cols rows × IsSetupRefused cause terminal
-IsStartRefused at_drawing mode cols rows terminal = CanStart mode cols rows × (terminal ≡ true)
-IsStartRefused refusal mode cols rows terminal = ⊥
-
--- when what a start needs is not formed: for its mode first, then for its size, then memory ran out or a fixed pattern was not built
-abbrev pub IsFormRefused : Refusal → RunMode → ℕ → ℕ → Type 0
-IsFormRefused for_mode mode cols rows = mode ≡ Uninitialized
-IsFormRefused (for_size c r) mode cols rows = (mode ≡ Uninitialized → ⊥) × (c ≡ cols) × (r ≡ rows) × (IsSize cols rows → ⊥)
-IsFormRefused for_memory mode cols rows = CanStart mode cols rows
-IsFormRefused for_pattern mode cols rows = CanStart mode cols rows
-IsFormRefused refusal mode cols rows = ⊥
+-- when a start is refused: for its mode first, then for its size, then for the first command that cannot be taken over, then since a
+-- fixed pattern was not built, then by the sink
+abbrev pub IsStartRefused : {Q K : Type 0} → Refusal → RunMode → ℕ → ℕ → List (Wanted Q K) → Bool → Type 0
+IsStartRefused (at_setup cause) mode cols rows waiting terminal = CanBegin mode cols rows waiting × IsSetupRefused cause terminal
+IsStartRefused at_drawing mode cols rows waiting terminal = CanBegin mode cols rows waiting × (terminal ≡ true)
+IsStartRefused refusal mode cols rows waiting terminal = IsFormRefused refusal mode cols rows waiting
 
 -- the start was refused before anything was written
 abbrev pub IsEarly : Refusal → Type 0
@@ -122,12 +181,23 @@ IsEarly (at_setup cause) = ⊥
 IsEarly at_drawing = ⊥
 IsEarly refusal = Unit {0}
 
--- what a refused start wrote: nothing; a beginning of what sets the terminal up; or all of that and a beginning of the first
--- page, and then what cleans the terminal up, as far as the sink took it
+-- the sink took the first page, and a beginning of what is drawn over it, refused the rest of that, and was cleaned up as far as it
+-- took that
+pub record MoveBreaksOff (old_bytes new_bytes : Option (List ℕ)) (old_count new_count : Option ℕ) (first : Control) : Type 0 where
+  pub page : Option (List ℕ)
+  pub drawn : Option (List ℕ)
+  pub count : Option ℕ
+  pub begins : Begins old_bytes page first
+  pub begun : BrokenOff page drawn first (first_move first ∷ []) (first_move first).left
+  pub refused : Rises old_count count
+  pub cleanup : CleansUp drawn new_bytes count new_count
+
+-- what a refused start wrote: nothing; a beginning of what sets the terminal up; or all of that and a beginning of what is drawn, and
+-- then what cleans the terminal up, as far as the sink took it
 abbrev pub StartBreaksOff : Refusal → Option (List ℕ) → Option (List ℕ) → Option ℕ → Option ℕ → Control → Type 0
 StartBreaksOff (at_setup cause) old_bytes new_bytes old_count new_count first = SetupBreaksOff cause old_bytes new_bytes
 StartBreaksOff at_drawing old_bytes new_bytes old_count new_count first =
-    (ops : List Op) × DrawingBreaksOff old_bytes new_bytes old_count new_count (written_all ops) × IsWholeDrawing ops (first ∷ []) first
+    ((ops : List Op) × DrawingBreaksOff old_bytes new_bytes old_count new_count (written_all ops) × IsWholeDrawing ops (first ∷ []) first) ⊎ MoveBreaksOff old_bytes new_bytes old_count new_count first
 StartBreaksOff refusal old_bytes new_bytes old_count new_count first = new_bytes ≡ old_bytes
 
 -- the sink refused a write or a flush, or took nothing

@@ -1,7 +1,7 @@
 -- Steps, and what a refusal leaves.
 use Rattle.std.specs.Prelude.{◌≡◌, ℕ, List, [], ◌∷◌, ◌++◌, Bool, true, false, Option, None, Some, ◌⊎◌}
 use Rattle.std.specs.Io.KnownBytes.{Appends}
-use Rattle.minus_term.specs.Refusals.{Refusal, for_memory, for_newline, for_size, for_query, after_failure, after_exit, at_cleanup, at_drawing}
+use Rattle.minus_term.specs.Refusals.{Refusal, for_memory, for_newline, for_hook_id, for_free_hook_id, for_size, for_query, after_failure, after_exit, at_cleanup, at_drawing}
 use Rattle.minus_term.specs.Terminal.{cleanup_bytes, CleanupBreaksOff}
 use Rattle.minus_term.specs.declared.error.CleanupError.{CleanupError}
 use Rattle.minus_state.specs.declared.state.RunMode.{RunMode}
@@ -16,7 +16,7 @@ use Rattle.minus.specs.Asked.{taken}
 use Rattle.minus.specs.Drawn.{Drawn, BrokenOff, Leaves}
 use Rattle.minus.specs.Reads.{Told}
 use Rattle.minus.specs.Seen.{Seen}
-use Rattle.minus.specs.Table.{Exit}
+use Rattle.minus.specs.Handing.{Exit}
 use Rattle.minus.specs.Works.{Work, Takes, Exits, IsUnfit, IsOverfull, Worked, Comes, IsNext, IsAtRest, passed_in}
 
 -- how a session stands after a step: it goes on, but for an exit
@@ -106,6 +106,8 @@ abbrev pub Refuses : {Q K : Type 0} → Says Q K → Refusal → Seen Q K → To
 Refuses says for_memory old told new old_bytes new_bytes = (old.status ≡ status.Running) × (IsUntouched old new old_bytes new_bytes ⊎ IsLate says old told new old_bytes new_bytes)
 Refuses says for_newline old told new old_bytes new_bytes = (old.status ≡ status.Running) × IsUnfit says old told for_newline × IsUntouched old new old_bytes new_bytes
 Refuses says (for_size cols rows) old told new old_bytes new_bytes = (old.status ≡ status.Running) × IsUnfit says old told (for_size cols rows) × IsUntouched old new old_bytes new_bytes
+Refuses says (for_hook_id hook id) old told new old_bytes new_bytes = (old.status ≡ status.Running) × IsUnfit says old told (for_hook_id hook id) × IsUntouched old new old_bytes new_bytes
+Refuses says for_free_hook_id old told new old_bytes new_bytes = (old.status ≡ status.Running) × IsUnfit says old told for_free_hook_id × IsUntouched old new old_bytes new_bytes
 Refuses says for_query old told new old_bytes new_bytes = (old.status ≡ status.Running) × IsOverfull old told × IsUntouched old new old_bytes new_bytes
 Refuses says after_failure old told new old_bytes new_bytes = (old.status ≡ status.Failed) × IsUntouched old new old_bytes new_bytes
 Refuses says after_exit old told new old_bytes new_bytes = (old.status ≡ status.Ended) × IsUntouched old new old_bytes new_bytes
@@ -123,6 +125,8 @@ IsSinkFault refusal = ⊥
 abbrev pub is_passed : Refusal → Bool
 is_passed for_newline = true
 is_passed (for_size cols rows) = true
+is_passed (for_hook_id hook id) = true
+is_passed for_free_hook_id = true
 is_passed refusal = false
 
 -- one input was taken: its work was drawn; or it exits
@@ -136,6 +140,8 @@ abbrev pub Fails : {Q K : Type 0} → Says Q K → Refusal → Seen Q K → Told
 Fails says for_memory old told new old_bytes new_bytes = IsUntouched old new old_bytes new_bytes
 Fails says for_newline old told new old_bytes new_bytes = IsUnfit says old told for_newline × IsUntouched old new old_bytes new_bytes
 Fails says (for_size cols rows) old told new old_bytes new_bytes = IsUnfit says old told (for_size cols rows) × IsUntouched old new old_bytes new_bytes
+Fails says (for_hook_id hook id) old told new old_bytes new_bytes = IsUnfit says old told (for_hook_id hook id) × IsUntouched old new old_bytes new_bytes
+Fails says for_free_hook_id old told new old_bytes new_bytes = IsUnfit says old told for_free_hook_id × IsUntouched old new old_bytes new_bytes
 Fails says for_query old told new old_bytes new_bytes = IsOverfull old told × IsUntouched old new old_bytes new_bytes
 Fails says (at_cleanup cause) old told new old_bytes new_bytes =
     (exit : Exit) × (exits : Exits says old told exit) × CleanupBreaksOff cause old_bytes new_bytes × (new ≡ record (taken old told exits.wanted) { status = status.Failed })

@@ -1,5 +1,5 @@
 -- The table of commands and events.
-use Rattle.std.specs.Prelude.{◌≡◌, ℕ, ◌==◌, is_some, not, List, [], length, ◌++◌, Bool, true, false, Option, None, Some, encode_utf8, if◌then◌else◌}
+use Rattle.std.specs.Prelude.{◌≡◌, ℕ, ◌==◌, ◌&&◌, is_some, not, List, [], length, ◌++◌, Bool, true, false, Option, None, Some, encode_utf8, if◌then◌else◌}
 use Rattle.std.specs.Option.{unwrap_or}
 use Rattle.minus_term.specs.Refusals.{Refusal, for_newline, for_size}
 use Rattle.minus_text.specs.declared.line_numbers.LineNumbers.{LineNumbers}
@@ -11,8 +11,8 @@ use Rattle.minus_state.specs.declared.change.Redraw.{Redraw}
 use Rattle.minus_state.specs.declared.change.Redraw.TheVariants as redraws
 use Rattle.minus_state.specs.declared.change.Redraw.TheVariants.{Stays, Whole, Moved, Appended, PromptRow}
 use Rattle.minus_state.specs.declared.search.SearchMode.{SearchMode}
-use Rattle.minus_state.specs.declared.state.ExitStrategy.{ExitStrategy}
-use Rattle.minus_state.specs.declared.state.ExitStrategy.TheVariants.{ProcessQuit}
+use Rattle.minus_term.specs.declared.hooks.Hook.{Hook}
+use Rattle.minus_term.specs.declared.hooks.Hook.TheVariants.{EofReached}
 use Rattle.minus_state.specs.Sizes.{IsSize}
 use Rattle.minus_state.specs.Appending.{followed, with_more}
 use Rattle.minus_state.specs.Redraws.{append_redraw, added_redraw, shift_redraw, whole_where, led_redraw}
@@ -21,11 +21,12 @@ use Rattle.minus_state.specs.MatchJumps.{next_match, next_match_row, prev_match,
 use Rattle.minus_state.specs.Prompting.{opened, opening_redraw}
 use Rattle.minus_state.specs.ShownPrompt.{has_newline}
 use Rattle.minus_state.specs.Selecting.{no_ends, has_ends, end_at, ends_begun, mark_led, ends_led}
-use Rattle.minus_state.specs.Control.{Control, Settings, document_of, text_rows, first_changed, with_message, with_prefix, reformed, clamp, top}
+use Rattle.minus_state.specs.Control.{Control, Settings, document_of, text_rows, first_changed, with_message, with_prefix, reformed, clamp, top, shows_end}
+use Rattle.minus.specs.Handing.{Handing}
 use Rattle.minus_state.specs.Help.{help_open, left_help, restored, turned, with_prompt, with_text}
 
--- a request, as values alone; a condition and a classifier are values of the kinds that the session keeps, and help has the text that
--- it is opened with: none where the classifier gives none, or where help is open
+-- a request, as values alone: what is handed over changes what the session keeps beside its state, and help has the text that it is
+-- opened with: none where the classifier gives none, or where help is open
 pub data Wanted (Q K : Type 0) : Type 0 where
   sets_data : List ℕ → Wanted Q K
   appends_data : List ℕ → Wanted Q K
@@ -41,8 +42,7 @@ pub data Wanted (Q K : Type 0) : Type 0 where
   restores_prompt : Wanted Q K
   redraws_prompt : Wanted Q K
   redraws_page : Wanted Q K
-  sets_classifier : K → Wanted Q K
-  sets_condition : Q → Wanted Q K
+  hands_over : Handing Q K → Wanted Q K
   sets_numbers : LineNumbers → Wanted Q K
   sets_wrapping : Bool → Wanted Q K
   shifts : ℕ → Wanted Q K
@@ -56,22 +56,18 @@ pub data Wanted (Q K : Type 0) : Type 0 where
   searches : SearchMode → Wanted Q K
   fetches_query : Wanted Q K
 
--- an exit: how the program is to go on, and the code that it ends with if it is to end
-abbrev pub Exit : Type 0
-Exit = ExitStrategy × ℕ
-
--- what a command does: the control that it changes, the move of the mark after it, if any, what it asks to be drawn, the exit
--- that is answered, if it is one, and the text that is copied, if one is
+-- what a command does: the control that it changes, the move of the mark after it, if any, what it asks to be drawn, whether it is an
+-- exit, and the text that is copied, if one is
 pub record Effect : Type 0 where
   pub changed : Control
   pub moves_to : Option ℕ
   pub redraw : Redraw
-  pub exits_by : Option Exit
+  pub is_exit : Bool
   pub copies : Option (List ℕ)
 
 -- what only changes the control
 abbrev pub changes : Control → Redraw → Effect
-changes c redraw = record { changed = c; moves_to = None; redraw = redraw; exits_by = None; copies = None }
+changes c redraw = record { changed = c; moves_to = None; redraw = redraw; is_exit = false; copies = None }
 
 -- what only sets something beside the text: of the page only the prompt row may change
 abbrev pub sets : Control → Settings → Effect
@@ -105,7 +101,7 @@ effect c (sets_data text) = changes (with_text c text) (whole_where (not (help_o
 effect c (appends_data text) = adds_text c text
 effect c (moves_mark mark) = record (changes c Moved) { moves_to = Some mark }
 effect c (resizes cols rows) = changes (reformed (record c { cols = cols; rows = rows })) Whole
-effect c exits = record (changes (left_help c c.help) (whole_where (help_open c))) { exits_by = if help_open c then None else Some (ProcessQuit, 0) }
+effect c exits = record (changes (left_help c c.help) (whole_where (help_open c))) { is_exit = not (help_open c) }
 effect c ignores = changes c Stays
 effect c (sets_prompt text) = changes (with_prompt c text) Stays
 effect c (sends_message text) = changes (with_message c text) Stays
@@ -115,8 +111,7 @@ effect c (types character) = changes (with_prefix c (c.settings.prefix ++ encode
 effect c restores_prompt = changes (restored c c.help) (whole_where (help_open c))
 effect c redraws_prompt = changes c PromptRow
 effect c redraws_page = changes c Whole
-effect c (sets_classifier k) = changes c Stays
-effect c (sets_condition q) = changes c Stays
+effect c (hands_over handing) = changes c Stays
 effect c (sets_numbers numbers) = changes (reformed (record c { numbers = numbers })) Whole
 effect c (sets_wrapping wrapping) = changes (reformed (record c { wrapping = wrapping })) Whole
 effect c (shifts left) = changes (record c { left = left_after c left }) (shift_redraw c left)
@@ -130,33 +125,16 @@ effect c (moves_to_prev_match jump) = tells_match c (prev_match c jump) (prev_ma
 effect c (searches mode) = opens_search c mode
 effect c fetches_query = opens_search c c.mode
 
--- the classifier that a command hands over to be kept, if it does
-abbrev pub handed : {Q K : Type 0} → Wanted Q K → Option K
-handed (sets_classifier k) = Some k
+-- what is handed over, if something is
+abbrev pub handed : {Q K : Type 0} → Wanted Q K → Option (Handing Q K)
+handed (hands_over handing) = Some handing
 handed w = None
 
--- the classifier that is kept after a command
-abbrev pub kept_after : {Q K : Type 0} → K → Wanted Q K → K
-kept_after k w = unwrap_or (handed w) k
-
--- the condition that a command hands over to be kept, if it does
-abbrev pub handed_condition : {Q K : Type 0} → Wanted Q K → Option Q
-handed_condition (sets_condition q) = Some q
-handed_condition w = None
-
--- the condition that is put in the place of the one before, if there is one
-abbrev pub condition_kept : {Q : Type 0} → Option Q → Option Q → Option Q
-condition_kept kept None = kept
-condition_kept kept (Some q) = Some q
-
--- the condition that is kept after a command, if one is
-abbrev pub condition_after : {Q K : Type 0} → Option Q → Wanted Q K → Option Q
-condition_after kept w = condition_kept kept (handed_condition w)
-
--- whether it types no character to the prefix
-abbrev pub types_nothing : {Q K : Type 0} → Wanted Q K → Bool
-types_nothing (types character) = false
-types_nothing w = true
+-- whether the typed prefix goes with it, where an event asks for it: not with a character that is typed; no event hands anything over
+abbrev pub lets_prefix_go : {Q K : Type 0} → Wanted Q K → Bool
+lets_prefix_go (types character) = false
+lets_prefix_go (hands_over handing) = false
+lets_prefix_go w = true
 
 -- it can be done: a size is one of a terminal, and a prompt or a message has no newline
 abbrev pub IsPossible : {Q K : Type 0} → Wanted Q K → Type 0
@@ -206,3 +184,21 @@ drawing_by redraws.Closing old mark = Closing
 -- how what comes of a request is drawn
 abbrev pub drawing_of : {Q K : Type 0} → Control → Wanted Q K → Drawing
 drawing_of c w = drawing_by (effect c w).redraw c (changed_by (effect c w)).mark
+
+-- whether it moves the mark, as a scroll does; also where the mark stays then
+abbrev pub moves : {Q K : Type 0} → Control → Wanted Q K → Bool
+moves c (appends_data text) = c.settings.follow && not (help_open c)
+moves c (moves_mark mark) = true
+moves c (follows follow) = true
+moves c (moves_to_next_match jump) = is_some (next_match_row c jump)
+moves c (moves_to_prev_match jump) = is_some (prev_match_row c jump)
+moves c w = false
+
+-- the hook whose callbacks are called after what moves the mark, or moves none, and after which the page shows an end, or not
+abbrev pub end_hook : Bool → Bool → Option Hook
+end_hook is_move at_end = if is_move && at_end then Some EofReached else None
+
+-- the hook whose callbacks are called after what a request asks for, if one is: a move has come to the end of more rows than the
+-- terminal has
+abbrev pub hook_after : {Q K : Type 0} → Control → Wanted Q K → Option Hook
+hook_after c w = let new : Control = changed_by (effect c w) in end_hook (moves c w) (shows_end (length (text_rows new)) new.rows new.mark)

@@ -2,7 +2,7 @@
 use Rattle.std.specs.Prelude.{◌≡◌, ℕ, List, [], ◌∷◌, ◌++◌, map, Option, None, Some, Bool, true, false}
 use Rattle.std.specs.List.{list_any}
 use Rattle.regex.specs.Patterns.{Re}
-use Rattle.minus_term.specs.Refusals.{Refusal}
+use Rattle.minus_term.specs.Refusals.{Refusal, for_hook_id, for_free_hook_id}
 use Rattle.minus_term.specs.declared.event.Event.{Event}
 use Rattle.minus.specs.declared.step_drawing.Drawing.{Drawing}
 use Rattle.minus.specs.declared.step_drawing.Drawing.TheVariants.{Nothing, Full, Edit, Closing}
@@ -19,15 +19,20 @@ use Rattle.minus.specs.Asked.{Asks, Wants, checked_as, taken}
 use Rattle.minus.specs.Reads.{Told, an_event}
 use Rattle.minus_state.specs.OpenSearches.{OpenSearch}
 use Rattle.minus.specs.Seen.{Seen}
-use Rattle.minus.specs.Table.{Wanted, exits, restores_prompt, shows_help, Exit, effect, kept_after, condition_after, changed_by, drawing_by, drawing_of, IsPossible, IsFault}
+use Rattle.minus_term.specs.declared.hooks.Hook.{Hook}
+use Rattle.minus_state.specs.declared.hooks.HookId.{HookId}
+use Rattle.minus_state.specs.HookIds.{is_taken}
+use Rattle.minus.specs.Handing.{Handing, Exit, a_callback, kept_after, classifier_after, condition_after, IsFreeFor, HasNoNext}
+use Rattle.minus.specs.Table.{Wanted, hands_over, exits, restores_prompt, shows_help, effect, handed, hook_after, changed_by, drawing_by, drawing_of, IsPossible, IsFault}
 
--- a work: how what comes of it is drawn, and the control that it leaves
+-- a work: how what comes of it is drawn, the control that it leaves, and the hook whose callbacks are called after that, if one is
 pub record Work : Type 0 where
   pub drawing : Drawing
   pub left : Control
+  pub hook : Option Hook
 
 abbrev pub work_of : {Q K : Type 0} → Control → Wanted Q K → Work
-work_of c w = record { drawing = drawing_of c w; left = changed_by (effect c w) }
+work_of c w = record { drawing = drawing_of c w; left = changed_by (effect c w); hook = hook_after c w }
 
 -- the controls that works pass
 abbrev pub passed_in : List Work → List Control
@@ -40,36 +45,49 @@ reached c (w ∷ works) = reached w.left works
 
 -- what a session is seen as after a request
 abbrev pub after : {Q K : Type 0} → Seen Q K → Wanted Q K → Seen Q K
-after seen w = record seen { control = changed_by (effect seen.control w); classifier = kept_after seen.classifier w; condition = condition_after seen.condition w }
+after seen w = record seen { control = changed_by (effect seen.control w); classifier = classifier_after seen.classifier (handed w); condition = condition_after seen.condition (handed w); kept = kept_after seen.kept (handed w) }
 
 -- what is left undrawn, and as it was
 abbrev pub undrawn : Control → Work
-undrawn c = record { drawing = Nothing; left = c }
+undrawn c = record { drawing = Nothing; left = c; hook = None }
 
--- what an edit of the query comes to, with what was found for it
+-- what an edit of the query comes to, with what was found for it: no hook is called, also where it closes the prompt and moves the mark
 abbrev pub key_work : Control → OpenSearch → QueryEdit → Option Re → Work
-key_work c o edit found = record { drawing = drawing_by (keyed_redraw o edit) c (keyed c o edit found).mark; left = keyed c o edit found }
+key_work c o edit found = record { drawing = drawing_by (keyed_redraw o edit) c (keyed c o edit found).mark; left = keyed c o edit found; hook = None }
 
 -- an input that does not exit is taken: its work, the text that it copies, if it copies one, and what it leaves. With no search prompt
 -- open it is worked off; with one open a command or a new size waits, and any other event is a key of that prompt: what is found for the
 -- query is free but for its pattern and for what the condition that is kept may answer, which is asked in a formed state with the control
 pub data Takes {Q K : Type 0} (says : Says Q K) (s : Seen Q K) : Told Q K → Work → Option (List ℕ) → Seen Q K → Type 0 where
-  worked : {told : Told Q K} (w : Wanted Q K) → s.control.search ≡ None → Asks says s told w → IsPossible w → (effect (taken s told w).control w).exits_by ≡ None
+  worked : {told : Told Q K} (w : Wanted Q K) → s.control.search ≡ None → Asks says s told w → IsPossible w → IsFreeFor s.kept.ids (handed w) → (effect (taken s told w).control w).is_exit ≡ false
       → Takes says s told (work_of (taken s told w).control w) (effect (taken s told w).control w).copies (after (taken s told w) w)
   waited : {told : Told Q K} (o : OpenSearch) (w : Wanted Q K) → s.control.search ≡ Some o → checked_as told ≡ Some w → IsPossible w → Takes says s told (undrawn s.control) None (record s { waiting = s.waiting ++ told ∷ [] })
   edits : {event : Event} (o : OpenSearch) → s.control.search ≡ Some o → checked_as {Q = Q} {K = K} (an_event event) ≡ None → (state : PagerState) → IsFormed state → control_of state ≡ s.control → (found : Option Re) → MayFind says.condition s.condition state o event found
       → Takes says s (an_event event) (key_work s.control o (edit_of event) found) None (record s { control = keyed s.control o (edit_of event) found })
 
--- an input that exits: no search prompt is open
+-- an input that exits, as the session keeps it: no search prompt is open
 pub record Exits {Q K : Type 0} (says : Says Q K) (s : Seen Q K) (told : Told Q K) (exit : Exit) : Type 0 where
   pub wanted : Wanted Q K
   pub closed : s.control.search ≡ None
   pub asked : Asks says s told wanted
-  pub exits : (effect (taken s told wanted).control wanted).exits_by ≡ Some exit
+  pub exits : (effect (taken s told wanted).control wanted).is_exit ≡ true
+  pub by : exit ≡ s.kept.exit
+
+-- why it cannot be worked off beside these ids of hooks: for a newline or a size, or for an id
+abbrev pub IsFaultBeside : {Q K : Type 0} → List HookId → Refusal → Wanted Q K → Type 0
+IsFaultBeside ids (for_hook_id hook id) w = (w ≡ hands_over (a_callback hook id)) × (is_taken ids hook id ≡ true)
+IsFaultBeside ids for_free_hook_id w = (handing : Handing _ _) × (w ≡ hands_over handing) × HasNoNext ids handing
+IsFaultBeside ids refusal w = IsFault refusal w
+
+-- why it cannot be done: for a newline or a size; and, once it is worked off, for an id of a hook
+abbrev pub IsFaultIn : {Q K : Type 0} → Seen Q K → Refusal → Wanted Q K → Type 0
+IsFaultIn s (for_hook_id hook id) w = (s.control.search ≡ None) × IsFaultBeside s.kept.ids (for_hook_id hook id) w
+IsFaultIn s for_free_hook_id w = (s.control.search ≡ None) × IsFaultBeside s.kept.ids for_free_hook_id w
+IsFaultIn s refusal w = IsFault refusal w
 
 -- an input that cannot be done, or could not be done if it waited
 abbrev pub IsUnfit : {Q K : Type 0} → Says Q K → Seen Q K → Told Q K → Refusal → Type 0
-IsUnfit says s told refusal = (wanted : Wanted _ _) × Wants says s s.control.search told wanted × IsFault refusal wanted
+IsUnfit says s told refusal = (wanted : Wanted _ _) × Wants says s s.control.search told wanted × IsFaultIn s refusal wanted
 
 -- a key that types a character to the query of the open search prompt, which has as many as it may have
 pub record IsOverfull {Q K : Type 0} (s : Seen Q K) (told : Told Q K) : Type 0 where

@@ -1,6 +1,8 @@
 //! What a pager is told.
+use crate::hooks::Hook;
 use crate::input::InputEvent;
 use crate::parts::{Boxes, Parts};
+use crate::state::ExitStrategy;
 use minus_state::change::AppendStyle;
 use minus_term::Event;
 use minus_text::LineNumbers;
@@ -21,7 +23,7 @@ pub enum IoCommand {
 }
 
 /// A command, over the kinds of what a session keeps. Two that hand over a classifier are equal, whatever it is, and so
-/// are two that hand over a condition.
+/// are two that hand over a condition, a callback of an exit, or callbacks of one hook under one id.
 #[derive(Drop)]
 #[derive_where(Debug, PartialEq, Eq)]
 pub enum CommandOf<P: Parts> {
@@ -45,6 +47,17 @@ pub enum CommandOf<P: Parts> {
     UserInput(InputEvent),
     /// Draw.
     Io(IoCommand),
+    /// Let an exit be by this strategy, with the code 1 where the process is to end, and 0 where it is to go on.
+    SetExitStrategy(ExitStrategy),
+    /// Page a text all the same that fits the page, or print it.
+    SetRunNoOverflow(bool),
+    /// Call this at an exit, behind all that is called then.
+    AddExitCallback(#[derive_where(skip)] P::Exit),
+    /// Call this at a hook, behind all that is called there, and hold it under this id; 0 asks for the next free one.
+    AddHook(Hook, u64, #[derive_where(skip)] P::Hook),
+    /// Call no longer what a hook holds under this id. Without the id 1 of [`Hook::PostPagerExit`], which the pager keeps
+    /// for itself, the process goes on after an exit.
+    RemoveHook(Hook, u64),
     /// Keep this condition: from now on it is asked whether the page shows where a query leads.
     IncrementalSearchCondition(#[derive_where(skip)] P::Condition),
     /// Keep this classifier: it decides about the events after it.

@@ -1,5 +1,5 @@
 //! What comes of a request, formed beside the state: [`form`] is read beside the table of `specs/Table`, a line each.
-ghost use Rattle.std.specs.Prelude.{◌≡◌, true, string_bytes, IfOk, IfErr, OnOk};
+ghost use Rattle.std.specs.Prelude.{◌≡◌, true, length, string_bytes, IfOk, IfErr, OnOk};
 ghost use Rattle.std.specs.Option.{option_map};
 ghost use Rattle.minus_term.specs.Refusals.{refusal_of};
 ghost use Rattle.minus_state.specs.Changes.{Leads};
@@ -7,99 +7,100 @@ ghost use Rattle.minus_state.specs.Control.{cleared};
 ghost use Rattle.minus_state.specs.States.{control_of, IsFormed};
 ghost use Rattle.minus.specs.Outcomes.{IsOutcome, IsUnformed};
 ghost use Rattle.minus.specs.Reads.{wanted_by};
-ghost use Rattle.minus.specs.Table.{effect, handed, handed_condition, moved_by, types_nothing, IsPossible};
+ghost use Rattle.minus.specs.Table.{effect, end_hook, moved_by, lets_prefix_go, IsPossible};
+ghost use Rattle.minus_state.specs.Control.{shows_end};
+ghost use Rattle.minus_state.specs.NextTexts.{next_document, Belongs};
+ghost use Rattle.minus_text.specs.Document.{rows_of};
 
+use crate::hooks::Hook;
 use crate::parts::Parts;
 use crate::request::Request;
-use crate::state::{ExitStrategy, PagerState};
+use crate::screen::Screen;
+use crate::state::PagerState;
 use minus_state::change::{Change, Redraw, Setting};
 use minus_state::extract_selection;
 use minus_term::MinusError;
 use std::alloc::Global;
 
-// What comes of a request: a change, the classifier and the condition that are kept from now on, if they are others,
-// the text that is copied, if one is, and the exit, if it is one.
-pub(crate) struct Outcome<P: Parts> {
+// What comes of a request: a change, the text that is copied, if one is, whether it is an exit, and the hook whose
+// callbacks are called once the change is drawn, if one is.
+pub(crate) struct Outcome {
     pub(crate) change: Change,
-    pub(crate) classifier: Option<P::Classifier>,
-    pub(crate) condition: Option<P::Condition>,
     pub(crate) copied: Option<String>,
-    pub(crate) exit: Option<(ExitStrategy, u8)>,
+    pub(crate) exits: bool,
+    pub(crate) hook: Option<Hook>,
 }
 
 // By hand: a derived drop would stand anew in the proof of each function that lets one go.
-impl<P: Parts> Drop for Outcome<P> {
+impl Drop for Outcome {
     fn drop(self) {
         let Outcome {
             change: _,
-            classifier: _,
-            condition: _,
             copied: _,
-            exit: _,
+            exits: _,
+            hook: _,
         } = self;
     }
 }
 
-impl<P: Parts> Outcome<P> {
-    ghost use Rattle.std.specs.Prelude.{◌≡◌, None};
+impl Outcome {
+    ghost use Rattle.std.specs.Prelude.{◌≡◌, None, false};
 
     // A change alone.
-    pub(crate) fn of(change: Change) -> Outcome<P>
+    pub(crate) fn of(change: Change) -> Outcome
         ensures change { result.change ≡ change }
-        ensures classifier { result.classifier ≡ None }
-        ensures condition { result.condition ≡ None }
         ensures copied { result.copied ≡ None }
-        ensures exit { result.exit ≡ None }
+        ensures exits { result.exits ≡ false }
+        ensures hook { result.hook ≡ None }
     {
         Outcome {
             change,
-            classifier: None,
-            condition: None,
             copied: None,
-            exit: None,
+            exits: false,
+            hook: None,
         }
     }
 
-    // The change, the classifier, the condition and the text.
-    pub(crate) fn into_parts(
-        self,
-    ) -> (
-        Change,
-        Option<P::Classifier>,
-        Option<P::Condition>,
-        Option<String>,
-    )
+    // The change and the text.
+    pub(crate) fn into_parts(self) -> (Change, Option<String>)
         ensures change { result.0 ≡ self.change }
-        ensures classifier { result.1 ≡ self.classifier }
-        ensures condition { result.2 ≡ self.condition }
-        ensures copied { result.3 ≡ self.copied }
+        ensures copied { result.1 ≡ self.copied }
     {
         let Outcome {
             change,
-            classifier,
-            condition,
             copied,
-            exit: _,
+            exits: _,
+            hook: _,
         } = self;
-        (change, classifier, condition, copied)
+        (change, copied)
     }
 }
 
+// The hook whose callbacks are called after a change that moves the mark, or moves none, if one is.
+fn end_hook(moves: bool, change: &Change, screen: &Screen) -> Option<Hook>
+    requires { Belongs screen.now.document change.now.text }
+    ensures { result ≡ end_hook moves (shows_end
+        (length (rows_of (next_document screen.now.document change.now.text))) change.now.rows change.now.mark) }
+{
+    if moves && change.shows_end(screen) {
+        return Some(Hook::EofReached);
+    }
+    None
+}
+
 // What comes of a request, before the mark is clamped and the typed prefix goes.
-fn form<P: Parts>(
+pub(crate) fn form<P: Parts>(
     state: &PagerState,
     alloc: Global,
     request: Request<P>,
-) -> Result<Outcome<P>, MinusError>
+) -> Result<Outcome, MinusError>
     ensures leads { IfOk result (λ o. Leads state.now o.change
         (moved_by (effect (control_of state.now) (wanted_by request)))) }
     ensures redraw { IfOk result (λ o. IsFormed state.now →
         o.change.redraw ≡ (effect (control_of state.now) (wanted_by request)).redraw) }
-    ensures handed { IfOk result (λ o. o.classifier ≡ handed (wanted_by request)) }
-    ensures condition { IfOk result (λ o. o.condition ≡ handed_condition (wanted_by request)) }
     ensures copied { IfOk result (λ o. IsFormed state.now → option_map string_bytes o.copied
         ≡ (effect (control_of state.now) (wanted_by request)).copies) }
-    ensures exits { IfOk result (λ o. o.exit ≡ (effect (control_of state.now) (wanted_by request)).exits_by) }
+    ensures exits { IfOk result (λ o. o.exits ≡ (effect (control_of state.now) (wanted_by request)).is_exit) }
     ensures possible { OnOk result (IsPossible (wanted_by request)) }
     ensures unformed { IfErr result (λ e. IsUnformed (refusal_of e) (wanted_by request)) }
 {
@@ -110,15 +111,11 @@ fn form<P: Parts>(
         Request::Resize(cols, rows) => Ok(Outcome::of(state.resized(alloc, cols, rows)?)),
         Request::Exit => {
             let change = state.left_help(alloc)?;
-            if state.help_open() {
-                return Ok(Outcome::of(change));
-            }
             Ok(Outcome {
                 change,
-                classifier: None,
-                condition: None,
                 copied: None,
-                exit: Some((ExitStrategy::ProcessQuit, 0)),
+                exits: !state.help_open(),
+                hook: None,
             })
         }
         Request::Ignore => Ok(Outcome::of(state.redrawn(Redraw::Stays))),
@@ -136,20 +133,7 @@ fn form<P: Parts>(
         Request::RestorePrompt => Ok(Outcome::of(state.restored(alloc)?)),
         Request::RedrawPrompt => Ok(Outcome::of(state.redrawn(Redraw::PromptRow))),
         Request::RedrawPage => Ok(Outcome::of(state.redrawn(Redraw::Whole))),
-        Request::SetClassifier(classifier) => Ok(Outcome {
-            change: state.redrawn(Redraw::Stays),
-            classifier: Some(classifier),
-            condition: None,
-            copied: None,
-            exit: None,
-        }),
-        Request::SetCondition(condition) => Ok(Outcome {
-            change: state.redrawn(Redraw::Stays),
-            classifier: None,
-            condition: Some(condition),
-            copied: None,
-            exit: None,
-        }),
+        Request::HandOver(_) => Ok(Outcome::of(state.redrawn(Redraw::Stays))),
         Request::SetNumbers(numbers) => Ok(Outcome::of(state.renumbered(alloc, numbers)?)),
         Request::SetWrapping(wrapping) => Ok(Outcome::of(state.rewrapped(alloc, wrapping)?)),
         Request::ShiftLeft(left) => Ok(Outcome::of(state.shifted(left))),
@@ -160,10 +144,9 @@ fn form<P: Parts>(
             let copied = extract_selection(alloc, &state.screen, state.ends())?;
             Ok(Outcome {
                 change: state.unselected(),
-                classifier: None,
-                condition: None,
                 copied,
-                exit: None,
+                exits: false,
+                hook: None,
             })
         }
         Request::ShowHelp(text) => Ok(Outcome::of(state.turned(alloc, text)?)),
@@ -177,21 +160,24 @@ fn form<P: Parts>(
     }
 }
 
-// What comes of a request, formed beside the state: the mark is clamped last, and the typed prefix goes, or stays.
+// What comes of a request, formed beside the state: the mark is clamped last, and the typed prefix goes, or stays. What
+// is handed over is kept apart from this.
 pub(crate) fn outcome_of<P: Parts>(
     state: &PagerState,
     alloc: Global,
     request: Request<P>,
     clears_prefix: bool,
-) -> Result<Outcome<P>, MinusError>
+) -> Result<Outcome, MinusError>
     requires formed { IsFormed state.now }
-    requires typed { clears_prefix ≡ true → types_nothing (wanted_by request) ≡ true }
+    requires typed { clears_prefix ≡ true → lets_prefix_go (wanted_by request) ≡ true }
     ensures ok { IfOk result (IsOutcome (control_of state.now) (cleared clears_prefix (control_of state.now))
         (wanted_by request)) }
     ensures unformed { IfErr result (λ e. IsUnformed (refusal_of e) (wanted_by request)) }
 {
+    let moves = request.moves(state);
     let mut outcome = form(state, alloc, request)?;
     outcome.change.clamp(&state.screen);
+    outcome.hook = end_hook(moves, &outcome.change, &state.screen);
     if !clears_prefix {
         return Ok(outcome);
     }

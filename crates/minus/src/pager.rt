@@ -1,11 +1,19 @@
 //! A pager that is not yet on show.
-ghost use Rattle.std.specs.Prelude.{◌≡◌, ◌++◌, ◌∷◌, [], map, OnOk, OnErr, IfErr, IfOk};
+ghost use Rattle.std.specs.Prelude.{◌≡◌, ◌++◌, ◌∷◌, [], map, not, false, OnOk, OnErr, IfErr};
+ghost use Rattle.minus_term.specs.Refusals.{refusal_of};
+ghost use Rattle.minus_state.specs.ShownPrompt.{has_newline};
 ghost use Rattle.minus.specs.Reads.{wanted_of};
-ghost use Rattle.minus.specs.Table.{sets_data, appends_data, sets_classifier, sets_condition};
+ghost use Rattle.minus.specs.Handing.{a_classifier, a_condition};
+ghost use Rattle.minus.specs.Pager.{IsUnsaid};
+ghost use Rattle.minus.specs.Table.{sets_data, appends_data, sets_prompt, sends_message, hands_over};
 
 use crate::commands::CommandOf;
+use crate::hooks::Hook;
 use crate::parts::{Boxes, Parts};
+use crate::state::ExitStrategy;
+use crate::waiting::check_line;
 use minus_term::MinusError;
+use minus_text::LineNumbers;
 use std::alloc::{AllocError, Global};
 use std::fmt;
 
@@ -73,6 +81,179 @@ impl<P: Parts> PagerOf<P> {
         Ok(())
     }
 
+    /// Lets the prompt row say this.
+    ///
+    /// # Errors
+    ///
+    /// [`MinusError::NewlineInPrompt`] where the text has a newline, and [`MinusError::Memory`] where there is no
+    /// memory; nothing has changed.
+    pub fn set_prompt(&mut self, text: &str) -> Result<(), MinusError>
+        ensures ok { OnOk result (map wanted_of self.new.queue.items
+            ≡ map wanted_of self.old.queue.items ++ sets_prompt text.now ∷ []) }
+        ensures one_line { OnOk result (has_newline text.now ≡ false) }
+        ensures err { OnErr result (self.new.queue.items ≡ self.old.queue.items) }
+        ensures refused { IfErr result (λ e. IsUnsaid (refusal_of e) text.now) }
+    {
+        check_line(text)?;
+        self.queue(CommandOf::SetPrompt(String::from_str(self.alloc, text)?))?;
+        Ok(())
+    }
+
+    /// Lets the prompt row say this in the prompt's place, until the message goes.
+    ///
+    /// # Errors
+    ///
+    /// [`MinusError::NewlineInPrompt`] where the text has a newline, and [`MinusError::Memory`] where there is no
+    /// memory; nothing has changed.
+    pub fn send_message(&mut self, text: &str) -> Result<(), MinusError>
+        ensures ok { OnOk result (map wanted_of self.new.queue.items
+            ≡ map wanted_of self.old.queue.items ++ sends_message text.now ∷ []) }
+        ensures one_line { OnOk result (has_newline text.now ≡ false) }
+        ensures err { OnErr result (self.new.queue.items ≡ self.old.queue.items) }
+        ensures refused { IfErr result (λ e. IsUnsaid (refusal_of e) text.now) }
+    {
+        check_line(text)?;
+        self.queue(CommandOf::SendMessage(String::from_str(self.alloc, text)?))?;
+        Ok(())
+    }
+
+    /// Shows the prompt row, or hides it.
+    ///
+    /// # Errors
+    ///
+    /// [`MinusError::Memory`] where there is no memory, and nothing has changed.
+    pub fn show_prompt(&mut self, is_shown: bool) -> Result<(), MinusError>
+        ensures ok { OnOk result (self.new.queue.items
+            ≡ self.old.queue.items ++ CommandOf.ShowPrompt is_shown ∷ []) }
+        ensures err { OnErr result (self.new.queue.items ≡ self.old.queue.items) }
+        ensures memory { IfErr result (λ e. e ≡ MinusError.Memory) }
+    {
+        self.queue(CommandOf::ShowPrompt(is_shown))?;
+        Ok(())
+    }
+
+    /// Lets rows begin with the numbers of their lines, or not.
+    ///
+    /// # Errors
+    ///
+    /// [`MinusError::Memory`] where there is no memory, and nothing has changed.
+    pub fn set_line_numbers(&mut self, numbers: LineNumbers) -> Result<(), MinusError>
+        ensures ok { OnOk result (self.new.queue.items
+            ≡ self.old.queue.items ++ CommandOf.SetLineNumbers numbers ∷ []) }
+        ensures err { OnErr result (self.new.queue.items ≡ self.old.queue.items) }
+        ensures memory { IfErr result (λ e. e ≡ MinusError.Memory) }
+    {
+        self.queue(CommandOf::SetLineNumbers(numbers))?;
+        Ok(())
+    }
+
+    /// Lets each line be one row, which is scrolled sideways where it is too long, or wraps such lines.
+    ///
+    /// # Errors
+    ///
+    /// [`MinusError::Memory`] where there is no memory, and nothing has changed.
+    pub fn horizontal_scroll(&mut self, on: bool) -> Result<(), MinusError>
+        ensures ok { OnOk result (self.new.queue.items
+            ≡ self.old.queue.items ++ CommandOf.LineWrapping (not on) ∷ []) }
+        ensures err { OnErr result (self.new.queue.items ≡ self.old.queue.items) }
+        ensures memory { IfErr result (λ e. e ≡ MinusError.Memory) }
+    {
+        self.queue(CommandOf::LineWrapping(!on))?;
+        Ok(())
+    }
+
+    /// Begins on the last page, and goes on with what is appended, or no longer.
+    ///
+    /// # Errors
+    ///
+    /// [`MinusError::Memory`] where there is no memory, and nothing has changed.
+    pub fn follow_output(&mut self, follow: bool) -> Result<(), MinusError>
+        ensures ok { OnOk result (self.new.queue.items
+            ≡ self.old.queue.items ++ CommandOf.FollowOutput follow ∷ []) }
+        ensures err { OnErr result (self.new.queue.items ≡ self.old.queue.items) }
+        ensures memory { IfErr result (λ e. e ≡ MinusError.Memory) }
+    {
+        self.queue(CommandOf::FollowOutput(follow))?;
+        Ok(())
+    }
+
+    /// Lets an exit be by this strategy, with the code 1 where the process is to end, and 0 where it is to go on.
+    ///
+    /// # Errors
+    ///
+    /// [`MinusError::Memory`] where there is no memory, and nothing has changed.
+    pub fn set_exit_strategy(&mut self, strategy: ExitStrategy) -> Result<(), MinusError>
+        ensures ok { OnOk result (self.new.queue.items
+            ≡ self.old.queue.items ++ CommandOf.SetExitStrategy strategy ∷ []) }
+        ensures err { OnErr result (self.new.queue.items ≡ self.old.queue.items) }
+        ensures memory { IfErr result (λ e. e ≡ MinusError.Memory) }
+    {
+        self.queue(CommandOf::SetExitStrategy(strategy))?;
+        Ok(())
+    }
+
+    /// Pages a text all the same that fits the page, or prints it.
+    ///
+    /// # Errors
+    ///
+    /// [`MinusError::Memory`] where there is no memory, and nothing has changed.
+    pub fn set_run_no_overflow(&mut self, on: bool) -> Result<(), MinusError>
+        ensures ok { OnOk result (self.new.queue.items
+            ≡ self.old.queue.items ++ CommandOf.SetRunNoOverflow on ∷ []) }
+        ensures err { OnErr result (self.new.queue.items ≡ self.old.queue.items) }
+        ensures memory { IfErr result (λ e. e ≡ MinusError.Memory) }
+    {
+        self.queue(CommandOf::SetRunNoOverflow(on))?;
+        Ok(())
+    }
+
+    /// Calls this at an exit, behind all that is called then.
+    ///
+    /// # Errors
+    ///
+    /// [`MinusError::Memory`] where there is no memory, and nothing has changed.
+    pub fn add_exit_callback(&mut self, callback: P::Exit) -> Result<(), MinusError>
+        ensures ok { OnOk result (self.new.queue.items
+            ≡ self.old.queue.items ++ CommandOf.AddExitCallback callback ∷ []) }
+        ensures err { OnErr result (self.new.queue.items ≡ self.old.queue.items) }
+        ensures memory { IfErr result (λ e. e ≡ MinusError.Memory) }
+    {
+        self.queue(CommandOf::AddExitCallback(callback))?;
+        Ok(())
+    }
+
+    /// Calls this at a hook, behind all that is called there, and holds it under this id; 0 asks for the next free one. A
+    /// start refuses an id that the hook holds then.
+    ///
+    /// # Errors
+    ///
+    /// [`MinusError::Memory`] where there is no memory, and nothing has changed.
+    pub fn add_hook(&mut self, hook: Hook, id: u64, callback: P::Hook) -> Result<(), MinusError>
+        ensures ok { OnOk result (self.new.queue.items
+            ≡ self.old.queue.items ++ CommandOf.AddHook hook id callback ∷ []) }
+        ensures err { OnErr result (self.new.queue.items ≡ self.old.queue.items) }
+        ensures memory { IfErr result (λ e. e ≡ MinusError.Memory) }
+    {
+        self.queue(CommandOf::AddHook(hook, id, callback))?;
+        Ok(())
+    }
+
+    /// Calls no longer what a hook holds under this id. Without the id 1 of [`Hook::PostPagerExit`], which the pager
+    /// keeps for itself, the process goes on after an exit.
+    ///
+    /// # Errors
+    ///
+    /// [`MinusError::Memory`] where there is no memory, and nothing has changed.
+    pub fn remove_hook(&mut self, hook: Hook, id: u64) -> Result<(), MinusError>
+        ensures ok { OnOk result (self.new.queue.items
+            ≡ self.old.queue.items ++ CommandOf.RemoveHook hook id ∷ []) }
+        ensures err { OnErr result (self.new.queue.items ≡ self.old.queue.items) }
+        ensures memory { IfErr result (λ e. e ≡ MinusError.Memory) }
+    {
+        self.queue(CommandOf::RemoveHook(hook, id))?;
+        Ok(())
+    }
+
     /// Lets this classifier decide about the events of the session.
     ///
     /// # Errors
@@ -80,7 +261,7 @@ impl<P: Parts> PagerOf<P> {
     /// [`MinusError::Memory`] where memory ran out, nothing has changed, and the classifier is dropped.
     pub fn set_input_classifier(&mut self, classifier: P::Classifier) -> Result<(), MinusError>
         ensures ok { OnOk result (map wanted_of self.new.queue.items
-            ≡ map wanted_of self.old.queue.items ++ sets_classifier classifier ∷ []) }
+            ≡ map wanted_of self.old.queue.items ++ hands_over (a_classifier classifier) ∷ []) }
         ensures err { OnErr result (self.new.queue.items ≡ self.old.queue.items) }
         ensures memory { IfErr result (λ e. e ≡ MinusError.Memory) }
     {
@@ -98,7 +279,7 @@ impl<P: Parts> PagerOf<P> {
         condition: P::Condition,
     ) -> Result<(), MinusError>
         ensures ok { OnOk result (map wanted_of self.new.queue.items
-            ≡ map wanted_of self.old.queue.items ++ sets_condition condition ∷ []) }
+            ≡ map wanted_of self.old.queue.items ++ hands_over (a_condition condition) ∷ []) }
         ensures err { OnErr result (self.new.queue.items ≡ self.old.queue.items) }
         ensures memory { IfErr result (λ e. e ≡ MinusError.Memory) }
     {

@@ -1,33 +1,125 @@
-//! What a session keeps of its caller's.
+//! What a session works on beside its terminal, and keeps of its caller's.
 //!
 //! A function of your own on a session is written over the kinds: `<P: Calls>(session: &mut Core<S, P>)`.
+use crate::hooks::{ExitCall, ExitCallbacks, HookCall, HookList, KeptExit, KeptHook};
 use crate::input::{Classifier, InputClassifier, KeptAction};
 use crate::search::{ConditionCall, KeptCondition};
+use crate::state::{ExitStrategy, PagerState};
+use std::alloc::Global;
 use std::marker::PhantomData;
 
 /// The kinds of what a session keeps of its caller's.
 pub trait Parts {
+    /// What is called at a hook.
+    type Hook: Drop;
+    /// What is called at an exit.
+    type Exit: Drop;
     /// What decides whether the page shows where a query leads.
     type Condition: Drop;
     /// What decides about events.
     type Classifier: Drop;
 }
 
-/// Kinds that a session can step with: the condition and the classifier can be asked.
-pub trait Calls: Parts<Condition: ConditionCall, Classifier: InputClassifier> {}
+/// Kinds that a session can step with: callbacks can be called, the condition and the classifier can be asked.
+pub trait Calls: Parts<
+    Hook: HookCall,
+    Exit: ExitCall,
+    Condition: ConditionCall,
+    Classifier: InputClassifier,
+> {}
 
-/// The kinds, named by their types: a condition of the kind `Q` and a classifier of the kind `K`.
-pub struct Kinds<Q, K> {
-    kinds: PhantomData<(Q, K)>,
+/// The kinds, named by their types: callbacks of hooks of the kind `H` and of exits of the kind `E`, a condition of the
+/// kind `Q` and a classifier of the kind `K`.
+pub struct Kinds<H, E, Q, K> {
+    kinds: PhantomData<(H, E, Q, K)>,
 }
 
-impl<Q: Drop, K: Drop> Parts for Kinds<Q, K> {
+impl<H: Drop, E: Drop, Q: Drop, K: Drop> Parts for Kinds<H, E, Q, K> {
+    type Hook = H;
+
+    type Exit = E;
+
     type Condition = Q;
 
     type Classifier = K;
 }
 
-impl<Q: ConditionCall + Drop, K: InputClassifier> Calls for Kinds<Q, K> {}
+impl<H: HookCall + Drop, E: ExitCall + Drop, Q: ConditionCall + Drop, K: InputClassifier> Calls
+    for Kinds<H, E, Q, K> {}
 
-/// The kinds of a session that keeps a condition in a box, and a register of bindings, or a classifier in a box.
-pub type Boxes = Kinds<KeptCondition, Classifier<KeptAction>>;
+/// The kinds of a session that keeps a register of bindings to actions of the kind `C`, or a classifier in a box.
+pub type Keyed<H, E, Q, C> = Kinds<H, E, Q, Classifier<C>>;
+
+/// The kinds of a session that keeps callbacks and a condition in boxes, and a register of bindings, or a classifier in
+/// a box.
+pub type Boxes = Keyed<KeptHook, KeptExit, KeptCondition, KeptAction>;
+
+/// What a session works on beside its terminal, over the kinds of what it keeps.
+pub struct PartsOf<P: Parts> {
+    /// The text on show and what is set beside it, with the search prompt while one is open.
+    pub state: PagerState,
+    /// The callbacks of hooks.
+    pub hooks: HookList<P::Hook>,
+    /// The callbacks of an exit.
+    pub exit_callbacks: ExitCallbacks<P::Exit>,
+    /// What decides about events.
+    pub classifier: P::Classifier,
+    /// What decides whether the page shows where a query leads; without one the default does.
+    pub condition: Option<P::Condition>,
+    /// How the program is to go on after an exit.
+    pub exit_strategy: ExitStrategy,
+    /// The code that the program ends with after an exit, if it is to end.
+    pub exit_code: u8,
+    /// Whether a text that fits the page is paged all the same.
+    pub run_no_overflow: bool,
+}
+
+// By hand: a derived drop would stand anew in the proof of each function that lets one go.
+impl<P: Parts> Drop for PartsOf<P> {
+    fn drop(self) {
+        let PartsOf {
+            state: _,
+            hooks: _,
+            exit_callbacks: _,
+            classifier: _,
+            condition: _,
+            exit_strategy: _,
+            exit_code: _,
+            run_no_overflow: _,
+        } = self;
+    }
+}
+
+impl<P: Parts> PartsOf<P> {
+    ghost use Rattle.std.specs.Prelude.{◌≡◌};
+    ghost use Rattle.minus.specs.Handing.{kept_at_first};
+    ghost use Rattle.minus.specs.Reads.{kept_of};
+
+    /// Parts with a state, and a classifier and a condition that are kept, or no condition. No callback is kept, an exit
+    /// ends the process with the code 0, and a text that fits the page is printed.
+    pub fn new(
+        alloc: Global,
+        state: PagerState,
+        classifier: P::Classifier,
+        condition: Option<P::Condition>,
+    ) -> PartsOf<P>
+        ensures state { result.state ≡ state }
+        ensures classifier { result.classifier ≡ classifier }
+        ensures condition { result.condition ≡ condition }
+        ensures kept { kept_of result ≡ kept_at_first }
+    {
+        PartsOf {
+            state,
+            hooks: HookList::new(alloc),
+            exit_callbacks: ExitCallbacks::new(alloc),
+            classifier,
+            condition,
+            exit_strategy: ExitStrategy::ProcessQuit,
+            exit_code: 0,
+            run_no_overflow: false,
+        }
+    }
+}
+
+/// What a session works on that keeps what its caller boxes, or a register of bindings.
+pub type PagerParts = PartsOf<Boxes>;

@@ -36,10 +36,14 @@ struct OpenView<'a> {
 fn view_of(search: &OpenSearch) -> OpenView<'_>
     ensures { view_seen result ≡ seen_search search.now }
 {
+    let preview = match &search.preview {
+        Some(pattern) => Some(pattern.as_ref()),
+        None => None,
+    };
     OpenView {
         prompt: &search.prompt,
         edited: search.edited,
-        preview: search.preview.as_ref(),
+        preview,
     }
 }
 

@@ -1,9 +1,12 @@
 //! What is asked for, by a command or by an event: one request for each line of the table of commands.
 use crate::commands::{CommandOf, IoCommand};
+use crate::handed::Handed;
 use crate::input::InputEvent;
 use crate::parts::Parts;
 use crate::search::SearchMode;
+use crate::state::PagerState;
 use minus_text::LineNumbers;
+use std::alloc::{AllocError, Global};
 
 // What is asked for: a line each of the table of commands (`Wanted` of `specs/Table`), in its order.
 #[derive(Drop)]
@@ -22,8 +25,7 @@ pub(crate) enum Request<P: Parts> {
     RestorePrompt,
     RedrawPrompt,
     RedrawPage,
-    SetClassifier(P::Classifier),
-    SetCondition(P::Condition),
+    HandOver(Handed<P>),
     SetNumbers(LineNumbers),
     SetWrapping(bool),
     ShiftLeft(usize),
@@ -39,8 +41,24 @@ pub(crate) enum Request<P: Parts> {
 }
 
 impl<P: Parts> Request<P> {
-    ghost use Rattle.std.specs.Prelude.{◌≡◌};
+    ghost use Rattle.std.specs.Prelude.{◌≡◌, IfOk};
+    ghost use Rattle.minus_state.specs.Control.{Control};
+    ghost use Rattle.minus_state.specs.States.{control_of, IsFormed};
     ghost use Rattle.minus.specs.Reads.{event_wanted, io_wanted, wanted_of, wanted_by};
+    ghost use Rattle.minus.specs.Table.{effect, moves, IsPossible};
+
+    // Whether it moves the mark, as a scroll does; also where the mark stays then.
+    pub(crate) fn moves(&self, state: &PagerState) -> bool
+        ensures { IsFormed state.now → result ≡ moves (control_of state.now) (wanted_by self.now) }
+    {
+        match self {
+            Request::MoveMark(_) | Request::Follow(_) => true,
+            Request::AppendText(_) => state.follow_output() && !state.help_open(),
+            Request::MoveToNextMatch(jump) => state.next_match_row(*jump).is_some(),
+            Request::MoveToPrevMatch(jump) => state.prev_match_row(*jump).is_some(),
+            _ => false,
+        }
+    }
 
     // What an event asks for. Help has no text yet.
     pub(crate) fn of_event(event: InputEvent) -> Request<P>
@@ -82,6 +100,28 @@ impl<P: Parts> Request<P> {
         }
     }
 
+    // What a command asks for, with copies of its texts, where it hands nothing over; or else to change nothing.
+    pub(crate) fn copied(alloc: Global, command: &CommandOf<P>) -> Result<Request<P>, AllocError>
+        ensures effect { IfOk result (λ r. (c : Control) →
+            effect c (wanted_by r) ≡ effect c (wanted_of command.now)) }
+        ensures possible { IfOk result (λ r. IsPossible (wanted_of command.now) → IsPossible (wanted_by r)) }
+    {
+        let copied = match command {
+            CommandOf::SetData(text) => Request::SetText(String::from_str(alloc, text)?),
+            CommandOf::AppendData(text) => Request::AppendText(String::from_str(alloc, text)?),
+            CommandOf::SetPrompt(text) => Request::SetPrompt(String::from_str(alloc, text)?),
+            CommandOf::SendMessage(text) => Request::SendMessage(String::from_str(alloc, text)?),
+            CommandOf::ShowPrompt(is_shown) => Request::ShowPrompt(*is_shown),
+            CommandOf::SetLineNumbers(numbers) => Request::SetNumbers(*numbers),
+            CommandOf::LineWrapping(wrapping) => Request::SetWrapping(*wrapping),
+            CommandOf::FollowOutput(follow) => Request::Follow(*follow),
+            CommandOf::UserInput(event) => Request::of_event(*event),
+            CommandOf::Io(command) => Request::of_io(*command),
+            _ => Request::Ignore,
+        };
+        Ok(copied)
+    }
+
     // What a command asks for. Help has no text yet.
     pub(crate) fn of_command(command: CommandOf<P>) -> Request<P>
         ensures { wanted_by result ≡ wanted_of command }
@@ -97,8 +137,21 @@ impl<P: Parts> Request<P> {
             CommandOf::FollowOutput(follow) => Request::Follow(follow),
             CommandOf::UserInput(event) => Request::of_event(event),
             CommandOf::Io(command) => Request::of_io(command),
-            CommandOf::IncrementalSearchCondition(condition) => Request::SetCondition(condition),
-            CommandOf::SetInputClassifier(classifier) => Request::SetClassifier(classifier),
+            CommandOf::SetExitStrategy(strategy) => Request::HandOver(Handed::Strategy(strategy)),
+            CommandOf::SetRunNoOverflow(on) => Request::HandOver(Handed::RunNoOverflow(on)),
+            CommandOf::AddExitCallback(callback) => {
+                Request::HandOver(Handed::ExitCallback(callback))
+            }
+            CommandOf::AddHook(hook, id, callback) => {
+                Request::HandOver(Handed::Callback(hook, id, callback))
+            }
+            CommandOf::RemoveHook(hook, id) => Request::HandOver(Handed::NoCallback(hook, id)),
+            CommandOf::IncrementalSearchCondition(condition) => {
+                Request::HandOver(Handed::Condition(condition))
+            }
+            CommandOf::SetInputClassifier(classifier) => {
+                Request::HandOver(Handed::Classifier(classifier))
+            }
         }
     }
 }

@@ -4,17 +4,18 @@ ghost use Rattle.std.specs.Option.{option_map, unwrap_or};
 ghost use Rattle.minus_state.specs.Control.{IsClamped};
 ghost use Rattle.minus_state.specs.ShownPrompt.{prompt_row as row_shown};
 ghost use Rattle.minus_state.specs.States.{control_of, settings_of, IsFormed};
-ghost use Rattle.minus.specs.Table.{condition_kept};
 ghost use Rattle.minus.specs.declared.status.Status.TheVariants as stands;
 
 use crate::answer::Answer;
 use crate::commands::InputOf;
+use crate::handed::Handed;
+use crate::hooks::Hook;
 use crate::input::{InputClassifier, InputEvent};
 use crate::outcome::{Outcome, outcome_of};
 use crate::page::Page;
-use crate::parts::{Boxes, Calls, Parts};
+use crate::parts::{Boxes, Calls, Parts, PartsOf};
 use crate::request::Request;
-use crate::state::{ExitStrategy, PagerState, RunMode};
+use crate::state::{PagerState, RunMode};
 use crate::status::Status;
 use crate::step_drawing::{Drawing, push_step};
 use crate::taken::Taken;
@@ -28,18 +29,16 @@ use std::collections::VecDeque;
 pub struct Core<S, P: Parts> {
     pub(crate) alloc: Global,
     pub(crate) sink: S,
-    pub(crate) state: PagerState,
-    pub(crate) classifier: P::Classifier,
-    pub(crate) condition: Option<P::Condition>,
+    pub(crate) parts: PartsOf<P>,
     pub(crate) prompt_row: String,
     pub(crate) drawing: Vec<u8>,
     pub(crate) waiting: VecDeque<InputOf<P>>,
     pub(crate) mode: RunMode,
     pub(crate) status: Status,
-    ghost formed: { IsFormed state },
-    ghost clamped: { IsClamped (control_of state) },
+    ghost formed: { IsFormed parts.state },
+    ghost clamped: { IsClamped (control_of parts.state) },
     ghost prompted: { status ≡ stands.Running → string_bytes prompt_row
-        ≡ row_shown (control_of state) },
+        ≡ row_shown (control_of parts.state) },
 }
 
 // By hand: a derived drop would stand anew in the proof of each function that lets one go.
@@ -48,9 +47,7 @@ impl<S: Drop, P: Parts> Drop for Core<S, P> {
         let Core {
             alloc: _,
             sink: _,
-            state: _,
-            classifier: _,
-            condition: _,
+            parts: _,
             prompt_row: _,
             drawing: _,
             waiting: _,
@@ -82,15 +79,6 @@ fn keep<T: Drop>(kept: &mut T, new: Option<T>)
     }
 }
 
-// Puts a condition in the place of the one that is kept, if there is one.
-fn keep_condition<Q: Drop>(kept: &mut Option<Q>, new: Option<Q>)
-    ensures { kept.new ≡ condition_kept kept.old new }
-{
-    if let Some(new) = new {
-        *kept = Some(new);
-    }
-}
-
 impl<S, P: Parts> Core<S, P> {
     ghost use Rattle.std.specs.Prelude.{◌≡◌, map, OnOk, OnErr, IfOk, IfErr, string_bytes};
     ghost use Rattle.std.specs.Option.{option_map, unwrap_or};
@@ -105,14 +93,14 @@ impl<S, P: Parts> Core<S, P> {
     ghost use Rattle.minus.specs.Outcomes.{LeadsClamped};
     ghost use Rattle.minus.specs.SessionDrawings.{DrawsBetween};
     ghost use Rattle.minus.specs.Steps.{mode_told};
-    ghost use Rattle.minus.specs.Table.{condition_kept, drawing_by};
+    ghost use Rattle.minus.specs.Table.{drawing_by};
 
     /// The state: what its screen answers is the document of the text on show.
     pub fn state(&self) -> &PagerState
         ensures control { control_of result.now ≡ (seen_of self.now).control }
         ensures formed { IsFormed result.now }
     {
-        &self.state
+        &self.parts.state
     }
 
     /// The mode that the session was started in; `Uninitialized` after an exit or a failure.
@@ -135,15 +123,16 @@ impl<S, P: Parts> Core<S, P> {
         ensures cursor { IfOk result (λ p. p.cursor ≡ (page (seen_of self.now).control).cursor) }
         ensures memory { IfErr result (λ e. e ≡ MinusError.Memory) }
     {
-        let change = self.state.change_to(NextText::Same, Redraw::Stays);
-        match self.state.open_search() {
+        let change = self.parts.state.change_to(NextText::Same, Redraw::Stays);
+        match self.parts.state.open_search() {
             Some(search) => match &search.preview {
                 Some(pattern) => {
-                    Page::with_preview(self.alloc, &self.state, pattern, &search.prompt)
+                    let pattern = pattern.as_ref();
+                    Page::with_preview(self.alloc, &self.parts.state, pattern, &search.prompt)
                 }
-                None => Page::with_prompt(self.alloc, &self.state, &change, &search.prompt),
+                None => Page::with_prompt(self.alloc, &self.parts.state, &change, &search.prompt),
             },
-            None => Page::of_change(self.alloc, &self.state, &change),
+            None => Page::of_change(self.alloc, &self.parts.state, &change),
         }
     }
 
@@ -160,27 +149,28 @@ impl<S, P: Parts> Core<S, P> {
         ensures sink { self.new.sink ≡ self.old.sink }
         ensures memory { IfErr result (λ e. e ≡ MinusError.Memory) }
     {
-        self.state.reserve(bytes)
+        self.parts.state.reserve(bytes)
     }
 
     // Draws the page that a change leads to into the buffer of drawings: its prompt row is this one, or else the one
     // drawn last.
     fn draw(&mut self, change: &Change, row: &Option<String>) -> Result<(), MinusError>
-        requires belongs { IsFormedFor self.old.state change.now }
+        requires belongs { IsFormedFor self.old.parts.state change.now }
         requires running { self.old.status ≡ Status.Running }
-        ensures drawn { OnOk result ((new : Control) → IsChange (control_of self.old.state) change.now new →
-            IsDrawable (drawing_by change.now.redraw (control_of self.old.state) change.now.mark)
-            (control_of self.old.state) new →
-            unwrap_or (option_map string_bytes row.now) (prompt_row (control_of self.old.state)) ≡ prompt_row new →
-            DrawsBetween self.new (drawing_by change.now.redraw (control_of self.old.state) change.now.mark)
-            (control_of self.old.state) new) }
+        ensures drawn { OnOk result ((new : Control) → IsChange (control_of self.old.parts.state) change.now new →
+            IsDrawable (drawing_by change.now.redraw (control_of self.old.parts.state) change.now.mark)
+            (control_of self.old.parts.state) new →
+            unwrap_or (option_map string_bytes row.now) (prompt_row (control_of self.old.parts.state))
+            ≡ prompt_row new →
+            DrawsBetween self.new (drawing_by change.now.redraw (control_of self.old.parts.state) change.now.mark)
+            (control_of self.old.parts.state) new) }
         ensures rest { self.new ≡ record self.old { drawing = self.new.drawing } }
         ensures memory { IfErr result (λ e. e ≡ MinusError.Memory) }
     {
         self.drawing.clear();
         let kept = self.prompt_row.as_str();
         let prompt = row_of(row, kept);
-        let state = &self.state;
+        let state = &self.parts.state;
         let drawing = Drawing::of(state, change);
         push_step(
             state,
@@ -196,68 +186,94 @@ impl<S, P: Parts> Core<S, P> {
 
     // Draws what comes of a request into the buffer, and puts it in its place. Answers the text that it copies, if it
     // copies one. An `Err` changes nothing.
-    fn apply(&mut self, outcome: Outcome<P>) -> Result<Option<String>, MinusError>
+    pub(crate) fn apply(&mut self, outcome: Outcome) -> Result<Option<String>, MinusError>
         requires running { self.old.status ≡ Status.Running }
-        requires leads { LeadsClamped (control_of self.old.state) outcome.change }
-        ensures done { OnOk result ((new : Control) → IsChange (control_of self.old.state) outcome.change new →
-            seen_of self.new ≡ record (seen_of self.old) {
-              control = new;
-              classifier = unwrap_or outcome.classifier self.old.classifier;
-              condition = condition_kept self.old.condition outcome.condition;
-            }) }
-        ensures drawn { OnOk result ((new : Control) → IsChange (control_of self.old.state) outcome.change new →
-            IsDrawable (drawing_by outcome.change.redraw (control_of self.old.state) outcome.change.mark)
-            (control_of self.old.state) new →
-            DrawsBetween self.new (drawing_by outcome.change.redraw (control_of self.old.state) outcome.change.mark)
-            (control_of self.old.state) new) }
+        requires leads { LeadsClamped (control_of self.old.parts.state) outcome.change }
+        ensures done { OnOk result ((new : Control) → IsChange (control_of self.old.parts.state) outcome.change new →
+            seen_of self.new ≡ record (seen_of self.old) { control = new }) }
+        ensures drawn { OnOk result ((new : Control) → IsChange (control_of self.old.parts.state) outcome.change new →
+            IsDrawable (drawing_by outcome.change.redraw (control_of self.old.parts.state) outcome.change.mark)
+            (control_of self.old.parts.state) new →
+            DrawsBetween self.new (drawing_by outcome.change.redraw (control_of self.old.parts.state) outcome.change.mark)
+            (control_of self.old.parts.state) new) }
         ensures copied { IfOk result (λ text. text ≡ outcome.copied) }
-        ensures size { OnOk result (IsSize self.new.state.cols self.new.state.rows) }
+        ensures size { OnOk result (IsSize self.new.parts.state.cols self.new.parts.state.rows) }
         ensures sink { self.new.sink ≡ self.old.sink }
         ensures waiting { self.new.waiting ≡ self.old.waiting }
         ensures err { OnErr result (seen_of self.new ≡ seen_of self.old) }
         ensures memory { IfErr result (λ e. e ≡ MinusError.Memory) }
     {
-        let (change, classifier, condition, copied) = outcome.into_parts();
-        let row = self.state.new_prompt_row(self.alloc, &change)?;
+        let (change, copied) = outcome.into_parts();
+        let row = self.parts.state.new_prompt_row(self.alloc, &change)?;
         self.draw(&change, &row)?;
-        self.state.place(self.alloc, change)?;
+        self.parts.state.place(self.alloc, change)?;
         keep(&mut self.prompt_row, row);
-        keep(&mut self.classifier, classifier);
-        keep_condition(&mut self.condition, condition);
         Ok(copied)
     }
 }
 
+impl<S: OutputSink, P: Parts> Core<S, P> {
+    ghost use Rattle.std.specs.Prelude.{◌≡◌, ◌<◌, length, OnOk, OnErr, IfErr};
+    ghost use Rattle.std.specs.Io.KnownBytes.{Appends};
+    ghost use Rattle.minus_term.specs.Counts.{AppendsFront, Stays, Rises};
+    ghost use Rattle.minus_term.specs.Refusals.{refusal_of, at_drawing};
+    ghost use Rattle.minus.specs.Core.{seen_of};
+
+    // Writes what was drawn. A refusal of the sink fails the session.
+    pub(crate) fn write_drawing(&mut self) -> Result<(), MinusError>
+        ensures ok { OnOk result (Appends (S.seen self.old.sink).bytes (S.seen self.new.sink).bytes
+            self.old.drawing.items) }
+        ensures stays { OnOk result (Stays (S.seen self.old.sink).refusals (S.seen self.new.sink).refusals) }
+        ensures rest { OnOk result (self.new ≡ record self.old { sink = self.new.sink }) }
+        ensures front { OnErr result (AppendsFront (S.seen self.old.sink).bytes (S.seen self.new.sink).bytes
+            self.old.drawing.items) }
+        ensures some { OnErr result (0 < length self.old.drawing.items) }
+        ensures rises { OnErr result (Rises (S.seen self.old.sink).refusals (S.seen self.new.sink).refusals) }
+        ensures fails { OnErr result (seen_of self.new ≡ record (seen_of self.old) { status = stands.Failed }) }
+        ensures waiting { self.new.waiting ≡ self.old.waiting }
+        ensures cause { IfErr result (λ e. refusal_of e ≡ at_drawing) }
+    {
+        if self.drawing.is_empty() {
+            return Ok(());
+        }
+        if let Err(cause) = draw_bytes(&mut self.sink, &self.drawing) {
+            self.status = Status::Failed;
+            return Err(MinusError::Draw(cause));
+        }
+        Ok(())
+    }
+}
+
 impl<S: OutputSink + Drop, P: Calls> Core<S, P> {
-    ghost use Rattle.std.specs.Prelude.{◌≡◌, ◌≤◌, ◌↔◌, is_some, true, map, option_map, string_bytes, None, Some, OnOk, OnErr, IfOk, IfErr, IsOk, IsErrOf};
+    ghost use Rattle.std.specs.Prelude.{◌≡◌, ◌≤◌, ◌<◌, ◌↔◌, is_some, true, length, map, option_map, string_bytes, None, Some, OnOk, OnErr, IfOk, IfErr, IsOk, IsErrOf};
     ghost use Rattle.std.specs.VecDeque.{deque_len};
     ghost use Rattle.std.specs.Io.KnownBytes.{Appends};
-    ghost use Rattle.minus_term.specs.Counts.{Stays, Rises};
-    ghost use Rattle.minus_term.specs.Refusals.{refusal_of};
+    ghost use Rattle.minus_term.specs.Counts.{AppendsFront, Stays, Rises};
+    ghost use Rattle.minus_term.specs.Refusals.{refusal_of, at_drawing};
     ghost use Rattle.minus_term.specs.Terminal.{CleanupBreaksOff};
     ghost use Rattle.minus_state.specs.States.{control_of};
     ghost use Rattle.minus.specs.Asked.{Asks, taken, checked_as};
     ghost use Rattle.minus.specs.Core.{seen_of};
     ghost use Rattle.minus.specs.Outcomes.{LeadsClamped, IsTakenBy, ExitsWith};
-    ghost use Rattle.minus.specs.Reads.{Told, an_event, told_of, event_wanted, wanted_of, wanted_by};
+    ghost use Rattle.minus.specs.Reads.{Told, an_event, told_of, event_wanted, wanted_of, wanted_by, handing_of};
     ghost use Rattle.minus.specs.Says.{says_of};
     ghost use Rattle.minus.specs.SessionSteps.{IsAsked, IsTakenOf, IsUntakenOf, IsStepOf, IsRefusedStepOf};
     ghost use Rattle.minus.specs.Steps.{cleanup_after};
-    ghost use Rattle.minus.specs.Table.{Wanted, Exit, types_nothing};
+    ghost use Rattle.minus.specs.Table.{Wanted, hands_over, lets_prefix_go};
     ghost use Rattle.minus.specs.Asked.{IsRequest, IsHelpText};
     ghost use Rattle.minus.specs.Works.{Work};
 
     // The text that help is opened with, if there is one: the classifier's; while help is open, the classifier is not
     // asked.
     fn help_text(&self) -> Result<Option<String>, MinusError>
-        ensures text { IfOk result (λ text. IsHelpText P.Classifier.says self.now.classifier
-            (control_of self.now.state).help (option_map string_bytes text)) }
+        ensures text { IfOk result (λ text. IsHelpText P.Classifier.says self.now.parts.classifier
+            (control_of self.now.parts.state).help (option_map string_bytes text)) }
         ensures memory { IfErr result (λ e. e ≡ MinusError.Memory) }
     {
-        if self.state.help_open() {
+        if self.parts.state.help_open() {
             return Ok(None);
         }
-        let text = self.classifier.format_help(self.alloc)?;
+        let text = self.parts.classifier.format_help(self.alloc)?;
         Ok(text)
     }
 
@@ -278,7 +294,7 @@ impl<S: OutputSink + Drop, P: Calls> Core<S, P> {
     fn resolve(&self, input: InputOf<P>) -> Result<(Request<P>, bool), MinusError>
         ensures asked { IfOk result (λ r.
             IsAsked (says_of P.Condition.judges P.Classifier.says) self.now (told_of input) (wanted_by r.0) r.1) }
-        ensures typed { IfOk result (λ r. r.1 ≡ true → types_nothing (wanted_by r.0) ≡ true) }
+        ensures typed { IfOk result (λ r. r.1 ≡ true → lets_prefix_go (wanted_by r.0) ≡ true) }
         ensures memory { IfErr result (λ e. e ≡ MinusError.Memory) }
     {
         match input {
@@ -287,7 +303,10 @@ impl<S: OutputSink + Drop, P: Calls> Core<S, P> {
                 Ok((request, false))
             }
             InputOf::Event(event) => {
-                let answer = self.classifier.classify_input(event, &self.state);
+                let answer = self
+                    .parts
+                    .classifier
+                    .classify_input(event, &self.parts.state);
                 let answer = answer.unwrap_or(InputEvent::Ignore);
                 let request = self.with_help(Request::of_event(answer))?;
                 Ok((request, answer.clears_prefix()))
@@ -295,11 +314,22 @@ impl<S: OutputSink + Drop, P: Calls> Core<S, P> {
         }
     }
 
-    // Applies what comes of an input that does not exit, and writes what was drawn. A refusal of the sink fails the
-    // session.
-    fn change(&mut self, outcome: Outcome<P>) -> Result<Taken, MinusError>
+    // Calls the callbacks of a hook, if one is given.
+    fn call_hook(&mut self, hook: Option<Hook>)
+        ensures seen { seen_of self.new ≡ seen_of self.old }
+        ensures sink { self.new.sink ≡ self.old.sink }
+        ensures waiting { self.new.waiting ≡ self.old.waiting }
+    {
+        if let Some(hook) = hook {
+            self.parts.call(hook);
+        }
+    }
+
+    // Applies what comes of an input that does not exit, writes what was drawn, and then calls the callbacks of a hook,
+    // if one is asked for. A refusal of the sink fails the session.
+    fn change(&mut self, outcome: Outcome) -> Result<Taken, MinusError>
         requires running { self.old.status ≡ stands.Running }
-        requires leads { LeadsClamped (control_of self.old.state) outcome.change }
+        requires leads { LeadsClamped (control_of self.old.parts.state) outcome.change }
         ensures taken { IfOk result (λ t. (told : Told P.Condition P.Classifier) → (work : Work) →
             IsTakenBy (says_of P.Condition.judges P.Classifier.says) (seen_of self.old) told outcome work →
             IsTakenOf S.seen (says_of P.Condition.judges P.Classifier.says) self.old told self.new t) }
@@ -308,57 +338,75 @@ impl<S: OutputSink + Drop, P: Calls> Core<S, P> {
             IsUntakenOf S.seen (says_of P.Condition.judges P.Classifier.says) self.old told self.new e) }
         ensures waiting { self.new.waiting ≡ self.old.waiting }
     {
+        let hook = outcome.hook;
         let copied = self.apply(outcome)?;
-        let taken = Taken { exit: None, copied };
-        if self.drawing.is_empty() {
-            return Ok(taken);
+        if let Err(refusal) = self.write_drawing() {
+            return Err(refusal);
         }
-        if let Err(cause) = draw_bytes(&mut self.sink, &self.drawing) {
-            self.status = Status::Failed;
-            return Err(MinusError::Draw(cause));
-        }
-        Ok(taken)
+        self.call_hook(hook);
+        Ok(Taken { exit: None, copied })
     }
 
-    // Cleans the terminal up, and ends the session by an exit; the typed prefix goes, or stays, and nothing waits any
-    // more. A refusal fails the session.
-    fn exit(
-        &mut self,
-        prefix: Option<String>,
-        exit: (ExitStrategy, u8),
-    ) -> Result<Taken, MinusError>
+    // Keeps what is handed over.
+    fn take_over(&mut self, handed: Handed<P>) -> Result<Taken, MinusError>
         requires running { self.old.status ≡ stands.Running }
-        requires closed { (control_of self.old.state).search ≡ None }
+        requires closed { (control_of self.old.parts.state).search ≡ None }
+        ensures taken { IfOk result (λ t. (told : Told P.Condition P.Classifier) →
+            Asks (says_of P.Condition.judges P.Classifier.says) (seen_of self.old) told
+            (hands_over (handing_of handed)) →
+            IsTakenOf S.seen (says_of P.Condition.judges P.Classifier.says) self.old told self.new t) }
+        ensures refused { IfErr result (λ e. (told : Told P.Condition P.Classifier) →
+            Asks (says_of P.Condition.judges P.Classifier.says) (seen_of self.old) told
+            (hands_over (handing_of handed)) →
+            IsUntakenOf S.seen (says_of P.Condition.judges P.Classifier.says) self.old told self.new e) }
+        ensures waiting { self.new.waiting ≡ self.old.waiting }
+    {
+        if let Err(refusal) = self.parts.keep(handed) {
+            return Err(refusal);
+        }
+        Ok(Taken {
+            exit: None,
+            copied: None,
+        })
+    }
+
+    // Calls what is called at an exit, cleans the terminal up, and ends the session; the typed prefix goes first, or
+    // stays, and nothing waits any more. A refusal fails the session.
+    fn exit(&mut self, prefix: Option<String>) -> Result<Taken, MinusError>
+        requires running { self.old.status ≡ stands.Running }
+        requires closed { (control_of self.old.parts.state).search ≡ None }
         ensures taken { IfOk result (λ t.
             (told : Told P.Condition P.Classifier) → (w : Wanted P.Condition P.Classifier) →
             Asks (says_of P.Condition.judges P.Classifier.says) (seen_of self.old) told w →
-            ExitsWith (seen_of self.old) told w exit (option_map string_bytes prefix) →
+            ExitsWith (seen_of self.old) told w (option_map string_bytes prefix) →
             IsTakenOf S.seen (says_of P.Condition.judges P.Classifier.says) self.old told self.new t) }
         ensures refused { IfErr result (λ e.
             (told : Told P.Condition P.Classifier) → (w : Wanted P.Condition P.Classifier) →
             Asks (says_of P.Condition.judges P.Classifier.says) (seen_of self.old) told w →
-            ExitsWith (seen_of self.old) told w exit (option_map string_bytes prefix) →
+            ExitsWith (seen_of self.old) told w (option_map string_bytes prefix) →
             IsUntakenOf S.seen (says_of P.Condition.judges P.Classifier.says) self.old told self.new e) }
         ensures fewer { deque_len self.new.waiting ≤ deque_len self.old.waiting }
     {
-        self.state.place_prefix(prefix);
+        self.parts.leave(prefix);
         if let Err(cause) = cleanup(&mut self.sink, true) {
             self.status = Status::Failed;
             return Err(MinusError::Cleanup(cause));
         }
         self.status = Status::Ended;
         self.let_none_wait();
+        self.call_hook(Some(Hook::PostPagerExit));
         Ok(Taken {
-            exit: Some(exit),
+            exit: Some(self.parts.exit()),
             copied: None,
         })
     }
 
-    // Works a request off: forms what comes of it, and applies that, or exits. The typed prefix goes first, or stays.
+    // Works a request off: keeps what is handed over, or forms what comes of it, and applies that, or exits. The typed
+    // prefix goes first, or stays.
     fn execute(&mut self, request: Request<P>, clears_prefix: bool) -> Result<Taken, MinusError>
         requires running { self.old.status ≡ stands.Running }
-        requires closed { (control_of self.old.state).search ≡ None }
-        requires typed { clears_prefix ≡ true → types_nothing (wanted_by request) ≡ true }
+        requires closed { (control_of self.old.parts.state).search ≡ None }
+        requires typed { clears_prefix ≡ true → lets_prefix_go (wanted_by request) ≡ true }
         ensures taken { IfOk result (λ t. (told : Told P.Condition P.Classifier) →
             IsAsked (says_of P.Condition.judges P.Classifier.says) self.old told (wanted_by request) clears_prefix →
             IsTakenOf S.seen (says_of P.Condition.judges P.Classifier.says) self.old told self.new t) }
@@ -367,17 +415,20 @@ impl<S: OutputSink + Drop, P: Calls> Core<S, P> {
             IsUntakenOf S.seen (says_of P.Condition.judges P.Classifier.says) self.old told self.new e) }
         ensures fewer { deque_len self.new.waiting ≤ deque_len self.old.waiting }
     {
-        let mut outcome = outcome_of(&self.state, self.alloc, request, clears_prefix)?;
-        match outcome.exit {
-            Some(exit) => self.exit(outcome.change.prefix.take(), exit),
-            None => self.change(outcome),
+        if let Request::HandOver(handed) = request {
+            return self.take_over(handed);
         }
+        let mut outcome = outcome_of(&self.parts.state, self.alloc, request, clears_prefix)?;
+        if outcome.exits {
+            return self.exit(outcome.change.prefix.take());
+        }
+        self.change(outcome)
     }
 
     // Works an input off, with no search prompt open.
     fn work_off(&mut self, input: InputOf<P>) -> Result<Taken, MinusError>
         requires running { self.old.status ≡ stands.Running }
-        requires closed { (control_of self.old.state).search ≡ None }
+        requires closed { (control_of self.old.parts.state).search ≡ None }
         ensures taken { IfOk result (λ t.
             IsTakenOf S.seen (says_of P.Condition.judges P.Classifier.says) self.old (told_of input) self.new t) }
         ensures refused { IfErr result (λ e.
@@ -390,20 +441,23 @@ impl<S: OutputSink + Drop, P: Calls> Core<S, P> {
     }
 
     // What comes of a key of the search prompt that is open.
-    fn keyed(&self, event: &Event) -> Result<Outcome<P>, MinusError>
-        requires searching { is_some (control_of self.now.state).search ≡ true }
+    fn keyed(&self, event: &Event) -> Result<Outcome, MinusError>
+        requires searching { is_some (control_of self.now.parts.state).search ≡ true }
         requires fed { checked_as {Q = P.Condition} {K = P.Classifier} (an_event event.now) ≡ None }
-        ensures leads { IfOk result (λ o. LeadsClamped (control_of self.now.state) o.change) }
+        ensures leads { IfOk result (λ o. LeadsClamped (control_of self.now.parts.state) o.change) }
         ensures taken { IfOk result (λ o. (work : Work) × IsTakenBy (says_of P.Condition.judges P.Classifier.says)
             (seen_of self.now) (an_event event.now) o work) }
         ensures refused { IfErr result (λ e. IsUntakenOf S.seen (says_of P.Condition.judges P.Classifier.says)
             self.now (an_event event.now) self.now e) }
     {
-        let Some(search) = self.state.open_search() else {
-            return Ok(Outcome::of(self.state.redrawn(Redraw::Stays)));
+        let Some(search) = self.parts.state.open_search() else {
+            return Ok(Outcome::of(self.parts.state.redrawn(Redraw::Stays)));
         };
-        let condition = self.condition.as_ref();
-        let change = self.state.keyed(self.alloc, condition, search, event)?;
+        let condition = self.parts.condition.as_ref();
+        let change = self
+            .parts
+            .state
+            .keyed(self.alloc, condition, search, event)?;
         let outcome = Outcome::of(change);
         Ok(outcome)
     }
@@ -411,7 +465,7 @@ impl<S: OutputSink + Drop, P: Calls> Core<S, P> {
     // Edits the query of the open search prompt by an event, or closes the prompt, and draws what has changed.
     fn edit(&mut self, event: Event) -> Result<Taken, MinusError>
         requires running { self.old.status ≡ stands.Running }
-        requires searching { is_some (control_of self.old.state).search ≡ true }
+        requires searching { is_some (control_of self.old.parts.state).search ≡ true }
         requires fed { checked_as {Q = P.Condition} {K = P.Classifier} (an_event event) ≡ None }
         ensures taken { IfOk result (λ t.
             IsTakenOf S.seen (says_of P.Condition.judges P.Classifier.says) self.old (an_event event) self.new t) }
@@ -425,7 +479,7 @@ impl<S: OutputSink + Drop, P: Calls> Core<S, P> {
     // Takes an input while the search prompt is open: its editor has it, or it waits.
     fn take_searching(&mut self, input: InputOf<P>) -> Result<Taken, MinusError>
         requires running { self.old.status ≡ stands.Running }
-        requires searching { is_some (control_of self.old.state).search ≡ true }
+        requires searching { is_some (control_of self.old.parts.state).search ≡ true }
         ensures taken { IfOk result (λ t.
             IsTakenOf S.seen (says_of P.Condition.judges P.Classifier.says) self.old (told_of input) self.new t) }
         ensures refused { IfErr result (λ e.
@@ -444,7 +498,7 @@ impl<S: OutputSink + Drop, P: Calls> Core<S, P> {
             IsTakenOf S.seen (says_of P.Condition.judges P.Classifier.says) self.old (told_of input) self.new t) }
         ensures refused { IfErr result (λ e.
             IsUntakenOf S.seen (says_of P.Condition.judges P.Classifier.says) self.old (told_of input) self.new e) }
-        ensures fewer { (control_of self.old.state).search ≡ None →
+        ensures fewer { (control_of self.old.parts.state).search ≡ None →
             deque_len self.new.waiting ≤ deque_len self.old.waiting }
     {
         if self.is_searching() {
@@ -528,20 +582,18 @@ impl<S: OutputSink + Drop, P: Calls> Core<S, P> {
         ensures broken { IfErr result.1 (λ e. CleanupBreaksOff e (S.seen self.sink).bytes (S.seen result.0).bytes) }
         ensures rises { OnErr result.1 (Rises (S.seen self.sink).refusals (S.seen result.0).refusals) }
     {
-        let ended = self.status == Status::Ended;
+        let needs_cleanup = self.status.needs_cleanup();
         let Core {
             alloc: _,
             mut sink,
-            state: _,
-            classifier: _,
-            condition: _,
+            parts: _,
             prompt_row: _,
             drawing: _,
             waiting: _,
             mode: _,
             status: _,
         } = self;
-        let cleaned = cleanup(&mut sink, !ended);
+        let cleaned = cleanup(&mut sink, needs_cleanup);
         (sink, cleaned)
     }
 }

@@ -30,7 +30,7 @@ pub(crate) fn last_of(before: Option<String>, text: Option<String>) -> Option<St
 }
 
 // Whether the prompt row can say this.
-fn check_line(text: &str) -> Result<(), MinusError>
+pub(crate) fn check_line(text: &str) -> Result<(), MinusError>
     ensures ok { OnOk result (has_newline text.now ≡ false) }
     ensures err { IfErr result (λ e. IsNewlineRefused e text.now) }
 {
@@ -41,7 +41,7 @@ fn check_line(text: &str) -> Result<(), MinusError>
 }
 
 // Whether a command can be done.
-fn check_command<P: Parts>(command: &CommandOf<P>) -> Result<(), MinusError>
+pub(crate) fn check_command<P: Parts>(command: &CommandOf<P>) -> Result<(), MinusError>
     ensures ok { OnOk result (IsPossible (wanted_of command.now)) }
     ensures err { IfErr result (λ e. IsFault (refusal_of e) (wanted_of command.now)) }
 {
@@ -95,7 +95,7 @@ impl<S, P: Parts> Core<S, P> {
     pub(crate) fn is_searching(&self) -> bool
         ensures { result ≡ is_some (seen_of self.now).control.search }
     {
-        self.state.open_search().is_some()
+        self.parts.state.open_search().is_some()
     }
 
     // Lets an input wait for the search prompt to close.
@@ -157,7 +157,10 @@ impl<S, P: Parts> Core<S, P> {
             ⊎ ((e ≡ MinusError.Memory) × (is_passed (refusal_of refusal) ≡ true))) }
     {
         match refusal {
-            MinusError::NewlineInPrompt | MinusError::BadSize(..) => {
+            MinusError::NewlineInPrompt
+            | MinusError::BadSize(..)
+            | MinusError::HookIdTaken(..)
+            | MinusError::NoFreeHookId => {
                 if refused.push(refusal).is_err() {
                     self.status = Status::Failed;
                     return Err(MinusError::Memory);

@@ -1,9 +1,14 @@
--- The commands so far are taken.
-use Rattle.std.proofs.Common.{◌≡◌, map, take}
+-- The commands that are left lead to what all do, and each of them can be taken over.
+use Rattle.std.proofs.Common.{◌≡◌, List, map, drop}
+use Rattle.minus_state.specs.declared.hooks.HookId.{HookId}
 use Rattle.minus_state.specs.States.{IsFormed, control_of}
 use Rattle.minus.specs.Reads.{wanted_of}
-use Rattle.minus.specs.Starts.{taken_all}
+use Rattle.minus.specs.Starts.{taken_all, CanTakeAll}
 use Rattle.minus.proofs.init.take_waiting.Given as goal
 
 abbrev pub invariant-loop-command : goal.invariant-loop-command
-invariant-loop-command g l = IsFormed l.state × (control_of l.state ≡ taken_all (control_of l.fn.state) (map wanted_of (take l.command-index l.queue)))
+invariant-loop-command g l =
+    let left = map wanted_of (drop l.command-index l.queue) in
+    IsFormed l.state
+    × (taken_all (control_of l.state) left ≡ taken_all (control_of l.fn.state) (map wanted_of l.queue))
+    × ((ids : List HookId) × CanTakeAll ids left)

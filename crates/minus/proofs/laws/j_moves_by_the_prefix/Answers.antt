@@ -11,6 +11,6 @@ use Rattle.minus.proofs.laws.j_moves_by_the_prefix.Goals as goal
 pub returns : goal.returns
 returns g c w first h =
     let (state, answer, formed, same, allows, request) = h in
-    let (register, is, default) = default_of c.args.session.now.classifier first in
+    let (register, is, default) = default_of c.args.session.now.parts.classifier first in
     let only = one_default_answer _ (register_of register) _ state answer default (rw is at allows) in
     (rw (only ∙ ap Some (j_asks state)) at request) ∙ ap (λ (c : Control). moves_mark (min (c.mark + steps_of c) max)) same

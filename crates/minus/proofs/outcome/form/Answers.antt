@@ -9,8 +9,8 @@ use Rattle.minus_state.specs.declared.change.Change.{Change}
 use Rattle.minus.proofs.TableLaws.{added_as, told_as}
 use Rattle.minus.proofs.outcome.form.Goals as goal
 
-pub returns-in_ok-added-in-AppendText-clause-leads : goal.returns-in_ok-added-in-AppendText-clause-leads
-returns-in_ok-added-in-AppendText-clause-leads g c =
+pub returns-in-AppendText-clause-leads : goal.returns-in-AppendText-clause-leads
+returns-in-AppendText-clause-leads g c =
     let old : Control = control_of c.args.state.now in
     let text : List ℕ = string_bytes c.in-AppendText.text in
     let next = subst (λ (x : Change). Leads c.args.state.now x (added old text)) (sym c.of-in-AppendText.ensures.change) c.in_ok-added-in-AppendText.ensures.next in

@@ -13,13 +13,13 @@ use Rattle.minus.proofs.session.Core.apply.Goals as goal
 
 pub invariant_of-self-2 : goal.invariant_of-self-2
 invariant_of-self-2 g c =
-    let old : Control = control_of c.args.self.now.state in
+    let old : Control = control_of c.args.self.now.parts.state in
     let drawn = c.draw.new.self in
     let given : Change = c.into_parts-change.result.0 in
     let (new, leads, clamped) = c.requires.leads in
-    let state : drawn.state ≡ c.args.self.now.state = ap (λ (s : Core _ _ _ _). s.state) c.draw.ensures.rest in
+    let state : drawn.parts.state ≡ c.args.self.now.parts.state = ap (λ (s : Core _ _ _ _ _ _). s.parts.state) c.draw.ensures.rest in
     let parts : IsChange old given new = subst (λ (x : Change). IsChange old x new) (sym c.into_parts-change.ensures.change) leads in
-    let same : IsChange (control_of drawn.state) given new = subst (λ (s : PagerState). IsChange (control_of s) given new) (sym state) parts in
+    let same : IsChange (control_of drawn.parts.state) given new = subst (λ (s : PagerState). IsChange (control_of s) given new) (sym state) parts in
     let is : control_of c.place.new.self ≡ new = c.in_ok-place.ensures.control new drawn.formed same in
     let row = c.in_ok-row.row in
     record {
@@ -27,7 +27,7 @@ invariant_of-self-2 g c =
       clamped = subst IsClamped (sym is) clamped;
       prompted = λ running. (
           ap string_bytes c.keep.ensures ∙ row_kept row drawn.prompt_row
-          ∙ ap (λ (before : List ℕ). unwrap_or (option_map string_bytes row) before) (ap (λ (s : Core _ _ _ _). string_bytes s.prompt_row) c.draw.ensures.rest ∙ c.args.self.now.prompted c.requires.running)
+          ∙ ap (λ (before : List ℕ). unwrap_or (option_map string_bytes row) before) (ap (λ (s : Core _ _ _ _ _ _). string_bytes s.prompt_row) c.draw.ensures.rest ∙ c.args.self.now.prompted c.requires.running)
           ∙ c.in_ok-row.ensures.formed new c.args.self.now.formed parts ∙ ap prompt_row (sym is)
           );
     }

@@ -35,11 +35,11 @@ returns-clause-taken g c =
     let e = c.args.event.now in
     let searching : old.control.search ≡ Some o = open_as _ c.open_search.result old.control.search _ c.in-Some.is c.open_search.ensures in
     let (found, may, leads) = c.in_ok-change.ensures.next in
-    let judged = subst (λ q. MayFind g.P.Condition.ConditionCall.judges q c.args.self.now.state o e found) c.as_ref-condition.ensures.value may in
+    let judged = subst (λ q. MayFind g.P.Condition.ConditionCall.judges q c.args.self.now.parts.state o e found) c.as_ref-condition.ensures.value may in
     let new : Control = keyed old.control o (edit_of e) found in
     let is = subst (λ (x : Change). IsChange old.control x new) (sym c.of-outcome.ensures.change) (leads c.args.self.now.formed) in
     let redraw = ap (λ (x : Change). x.redraw) c.of-outcome.ensures.change ∙ c.in_ok-change.ensures.redraw in
-    (_, keyed_by says old e o found c.of-outcome.result searching c.requires.fed c.args.self.now.state c.args.self.now.formed refl judged c.args.self.now.state.sized.some_rows is redraw c.of-outcome.ensures.classifier c.of-outcome.ensures.condition c.of-outcome.ensures.copied)
+    (_, keyed_by says old e o found c.of-outcome.result searching c.requires.fed c.args.self.now.parts.state c.args.self.now.formed refl judged c.args.self.now.parts.state.sized.some_rows is redraw c.of-outcome.ensures.copied c.of-outcome.ensures.hook)
 
 pub returns-in_err-change-clause-refused : goal.returns-in_err-change-clause-refused
 returns-in_err-change-clause-refused g c =

@@ -51,6 +51,6 @@ returns-in_ok-request-in-Event-clause-asked g c =
     let asked = c.of_event.ensures ∙ ap event_wanted c.unwrap_or-answer.ensures ∙ asked_as c.classify_input-answer.result in
     let answered = subst (λ (w : Wanted _ _). IsRequest says seen w wanted) c.of_event.ensures c.in_ok-request-in-Event.ensures.ok in
     rw c.in-Event.is (record {
-      asks = (c.args.self.now.state, c.classify_input-answer.result, c.args.self.now.formed, refl, c.classify_input-answer.ensures, subst (λ (w : Wanted _ _). IsRequest says seen w wanted) asked c.in_ok-request-in-Event.ensures.ok);
+      asks = (c.args.self.now.parts.state, c.classify_input-answer.result, c.args.self.now.formed, refl, c.classify_input-answer.ensures, subst (λ (w : Wanted _ _). IsRequest says seen w wanted) asked c.in_ok-request-in-Event.ensures.ok);
       prefix = clears_as says seen c.in-Event.event c.unwrap_or-answer.result wanted answered ∙ sym c.clears_prefix.ensures;
     })

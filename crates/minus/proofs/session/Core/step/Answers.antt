@@ -7,11 +7,13 @@ use Rattle.minus_term.specs.declared.error.MinusError.TheVariants.{Failed, Ended
 use Rattle.minus_term.proofs.SinkLaws.{Stays-trans}
 use Rattle.minus.specs.Says.{says_of}
 use Rattle.minus.specs.declared.status.Status.TheVariants as status
+use Rattle.std.specs.VecDeque.{deque_len}
+use Rattle.minus.specs.declared.session.Core.{Core}
 use Rattle.minus.specs.Core.{seen_of}
 use Rattle.minus.specs.Reads.{told_of}
 use Rattle.minus.specs.Seen.{Seen}
 use Rattle.minus.specs.Steps.{Took, is_passed}
-use Rattle.minus.specs.Table.{Exit}
+use Rattle.minus.specs.Handing.{Exit}
 use Rattle.minus.specs.Works.{leaving}
 use Rattle.minus.proofs.StartLaws.{Stays-refl}
 use Rattle.minus.proofs.LoopLaws.{SoFar, begun, one_more, passed_over, step_rests, step_exits, step_exits_later, refused_at_once, took_as, fails_as, refused_so, passed_no_fault, late_rises, late_stays, has_changed, runs_on, refused_by, failed_never, ended_never, err_only, some_of, none_of}
@@ -87,6 +89,14 @@ loop-next-smaller-in-Ok-take g c =
     let fewer = c.take-in-Some.ensures.fewer closed in
     let less = c.in-Some.ensures.less in
     omega (arith, fewer, less)
+
+pub loop-next-smaller : goal.loop-next-smaller
+loop-next-smaller g c =
+    let closed = ap (λ (x : Seen _ _). x.control.search) c.in-Some.ensures.seen ∙ c.in-Some.ensures.next.0 in
+    let fewer = c.take-in-Some.ensures.fewer closed in
+    let less = c.in-Some.ensures.less in
+    let same = ap (λ (s : Core _ _ _ _ _ _). deque_len s.waiting) c.in_default-pass_over.ensures.unchanged in
+    omega (arith, fewer, less, same)
 
 pub loop-next-preserved-in-Ok-take : goal.loop-next-preserved-in-Ok-take
 loop-next-preserved-in-Ok-take g c =

@@ -1,0 +1,113 @@
+-- Stored rows one below another.
+use Rattle.std.proofs.Common.{◌≡◌, ℕ, ◌+◌, ◌<◌, ◌≤◌, nat_lt, List, [], ◌++◌, get_or, length, take, Option, None, Some, Bool, false, slice_get, map, Result, Ok, Err, IfOk, IfErr, inl, inr, sym, ap, subst, ◌∙◌, arith}
+use Rattle.std.specs.List.{flat_map}
+use Rattle.std.proofs.lemmas.List.{take_more, take_all}
+use Rattle.std.proofs.lemmas.Bool.{le-ltb}
+use Rattle.std.proofs.lemmas.Option.{get_or_from_slice_get, slice_get-get_or}
+use Rattle.minus_term.specs.FullRedraw.{row_ops}
+use Rattle.minus_term.specs.Written.{written_all}
+use Rattle.minus_term.proofs.WrittenLaws.{written_all-nil}
+use Rattle.minus_text.specs.Document.{Document, rows_of}
+use Rattle.minus_text.specs.Found.{found_of_row, found_by}
+use Rattle.minus_text.specs.Searched.{Searched, IsStoredRow, IsFoundAt, stored_rows_for}
+use Rattle.minus_text.proofs.StoredKeptLaws.{length-stored_for}
+use Rattle.minus_state.specs.Control.{Control, document_of, text_rows}
+use Rattle.minus_state.specs.declared.state.PagerState.{PagerState}
+use Rattle.minus_state.specs.States.{control_of, term_of, IsFormed}
+use Rattle.minus_state.proofs.AppendLaws.{document_is}
+use Rattle.minus_term.specs.Counts.{SinkSeen}
+use Rattle.minus_term.specs.Refusals.{refusal_of}
+use Rattle.minus_state.specs.declared.state.RunMode.TheVariants.{Static}
+use Rattle.minus.specs.declared.init.StartErrorOf.{StartErrorOf}
+use Rattle.minus.specs.declared.pager.PagerOf.{PagerOf}
+use Rattle.minus.specs.declared.parts.PartsOf.{PartsOf}
+use Rattle.minus.specs.declared.static_pager.PagedOf.{PagedOf}
+use Rattle.minus.specs.declared.static_pager.PagedOf.TheVariants.{Written, Started}
+use Rattle.minus.specs.Handing.{Kept}
+use Rattle.minus.specs.Reads.{kept_of, wanted_of}
+use Rattle.minus.specs.Starts.{first_control, kept_taken, CanBegin, IsFormRefused}
+use Rattle.minus.specs.StaticPager.{stored_rows, rows_that_fit, printed, printed_of, IsWritten, IsUnwritten, IsShownAll, IsNotShownAll, IsPaged, IsFirstPaged, IsUnpaged}
+use Rattle.minus.proofs.BeginLaws.{IsPrepared, begun, not_begun, if_ok, if_err}
+use Rattle.minus.proofs.StartLaws.{refused_early, form_is_early}
+use Rattle.minus.proofs.DrawingLaws.{row_added}
+
+-- a stored row of a formed state
+found_at : (s : PagerState) (i : ℕ) → IsFormed s → IsFoundAt (term_of s) s.screen i
+found_at s i formed = ap (λ (x : Searched). found_of_row i x.found) formed.screen ∙ sym (ap (λ (d : Document). found_of_row i (found_by (term_of s) 0 (rows_of d))) (document_is s formed))
+
+stored_at : (s : PagerState) (i : ℕ) (row : Option (List ℕ)) → IsFormed s → IsStoredRow s.screen i row → row ≡ slice_get (stored_rows (control_of s)) i
+stored_at s i row formed h = h (term_of s) (found_at s i formed) ∙ ap (λ (d : Document). slice_get (stored_rows_for (term_of s) d) i) (document_is s formed)
+
+pub stored_is : (s : PagerState) (i : ℕ) (row : Option (List ℕ)) (text : List ℕ) → IsFormed s → IsStoredRow s.screen i row → row ≡ Some text → text ≡ get_or (stored_rows (control_of s)) i []
+stored_is s i row text formed h e = sym (get_or_from_slice_get (stored_rows (control_of s)) i text [] (sym (stored_at s i row formed h) ∙ e))
+
+-- as many are stored as the text has
+pub stored_count : (c : Control) → length (stored_rows c) ≡ length (text_rows c)
+stored_count c = length-stored_for c.term (document_of c)
+
+pub stored_not : {X : Type 0} (s : PagerState) (i : ℕ) (row : Option (List ℕ)) → IsFormed s → IsStoredRow s.screen i row → i < length (text_rows (control_of s)) → row ≡ None → X
+stored_not s i row formed h l e =
+    let k : Control = control_of s in
+    let n = stored_count k in
+    let inside : i < length (stored_rows k) = omega (arith, l, n) in
+    absurd (let both : None ≡ Some (get_or (stored_rows k) i []) = sym e ∙ stored_at s i row formed h ∙ slice_get-get_or (stored_rows k) i [] inside in cc)
+
+-- ---- one below another
+
+pub rows_none : [] ≡ written_all (flat_map row_ops [])
+rows_none = sym written_all-nil
+
+pub rows_next : (c : Control) (i : ℕ) (before after : List ℕ) → i < length (text_rows c) → before ≡ written_all (flat_map row_ops (take i (stored_rows c))) → after ≡ before ++ written_all (row_ops (get_or (stored_rows c) i [])) → after ≡ written_all (flat_map row_ops (take (i + 1) (stored_rows c)))
+rows_next c i before after l e g =
+    let n = stored_count c in
+    let inside : i < length (stored_rows c) = omega (arith, l, n) in
+    row_added [] before after (take i (stored_rows c)) (get_or (stored_rows c) i []) e g ∙ ap (λ rs. written_all (flat_map row_ops rs)) (sym (take_more (stored_rows c) i [] inside))
+
+-- all of them, where they fit
+pub rows_fit : (c : Control) (count i : ℕ) (bytes : List ℕ) → count ≡ length (text_rows c) → count ≤ c.rows → count ≤ i → bytes ≡ written_all (flat_map row_ops (take i (stored_rows c))) → Some bytes ≡ rows_that_fit c
+rows_fit c count i bytes is fits past e =
+    let n = stored_count c in
+    let all : take i (stored_rows c) ≡ stored_rows c = take_all i (stored_rows c) (omega (arith, past, is, n)) in
+    let fit : nat_lt c.rows (length (text_rows c)) ≡ false = le-ltb c.rows (length (text_rows c)) (omega (arith, fits, is)) in
+    rw fit (ap Some (e ∙ ap (λ rs. written_all (flat_map row_ops rs)) all))
+
+-- ---- what came of the parts that a session would begin with
+
+-- what a session would begin with is what the commands that waited lead to
+record_same : {P H E Q K : Type 0} (pager : PagerOf P H E Q K) (cols rows : ℕ) (terminal : Bool) (first ready : PartsOf P H E Q K) → IsPrepared pager first ready → control_of first.state ≡ first_control cols rows (map wanted_of pager.queue.items) → printed terminal (control_of ready.state) (kept_of ready) ≡ printed_of pager cols rows terminal
+record_same pager cols rows terminal first ready is control =
+    let waiting = map wanted_of pager.queue.items in
+    ap (λ (k : Control). printed terminal k (kept_of ready)) (ap control_of is.state ∙ control) ∙ ap (λ (k : Kept). printed terminal (first_control cols rows waiting) k) (is.kept ∙ ap (λ (k : Kept). kept_taken k waiting) is.kept_first)
+
+paged_as : {S P H E Q K : Type 0} (seen : S → SinkSeen) (pager : PagerOf P H E Q K) (cols rows : ℕ) (sink : S) (first ready : PartsOf P H E Q K) (paged : PagedOf S P H E Q K) → IsPrepared pager first ready → CanBegin Static cols rows (map wanted_of pager.queue.items) → control_of first.state ≡ first_control cols rows (map wanted_of pager.queue.items) → IsShownAll seen ready sink paged
+    → IsPaged seen pager cols rows first.classifier sink paged
+paged_as seen pager cols rows sink first ready (Written new) is can control h = (can, subst (IsWritten seen sink new) (record_same pager cols rows (seen sink).terminal first ready is control) h)
+paged_as seen pager cols rows sink first ready (Started session) is can control h =
+    (sym (record_same pager cols rows (seen sink).terminal first ready is control) ∙ h.0, begun seen pager Static cols rows sink first ready session is can control h.1)
+
+not_paged : {S P H E Q K : Type 0} (seen : S → SinkSeen) (pager : PagerOf P H E Q K) (cols rows : ℕ) (sink : S) (first ready : PartsOf P H E Q K) (e : StartErrorOf S P H E Q K) → IsPrepared pager first ready → CanBegin Static cols rows (map wanted_of pager.queue.items) → control_of first.state ≡ first_control cols rows (map wanted_of pager.queue.items) → IsNotShownAll seen ready sink e
+    → IsUnpaged seen pager cols rows sink e
+not_paged seen pager cols rows sink first ready e is can control (inl h) = inl (can, subst (IsUnwritten seen sink e) (record_same pager cols rows (seen sink).terminal first ready is control) h)
+not_paged seen pager cols rows sink first ready e is can control (inr h) =
+    inr (not_begun seen pager Static cols rows sink first ready e is can control h.1, λ late. sym (record_same pager cols rows (seen sink).terminal first ready is control) ∙ h.0)
+
+pub pages : {S P H E Q K : Type 0} (seen : S → SinkSeen) (pager : PagerOf P H E Q K) (cols rows : ℕ) (sink : S) (classifier : K) (first ready : PartsOf P H E Q K) (r : Result (PagedOf S P H E Q K) (StartErrorOf S P H E Q K)) → IsPrepared pager first ready → first.classifier ≡ classifier → CanBegin Static cols rows (map wanted_of pager.queue.items) → control_of first.state ≡ first_control cols rows (map wanted_of pager.queue.items)
+    → IfOk r (λ paged. IsShownAll seen ready sink paged) → IfOk r (λ paged. IsPaged seen pager cols rows classifier sink paged)
+pages {K = K} seen pager cols rows sink classifier first ready r is same can control = if_ok r (λ paged h. subst (λ (k : K). IsPaged seen pager cols rows k sink paged) same (paged_as seen pager cols rows sink first ready paged is can control h))
+
+pub pages_not : {S P H E Q K : Type 0} (seen : S → SinkSeen) (pager : PagerOf P H E Q K) (cols rows : ℕ) (sink : S) (first ready : PartsOf P H E Q K) (r : Result (PagedOf S P H E Q K) (StartErrorOf S P H E Q K)) → IsPrepared pager first ready → CanBegin Static cols rows (map wanted_of pager.queue.items) → control_of first.state ≡ first_control cols rows (map wanted_of pager.queue.items)
+    → IfErr r (λ e. IsNotShownAll seen ready sink e) → IfErr r (λ e. IsUnpaged seen pager cols rows sink e)
+pages_not seen pager cols rows sink first ready r is can control = if_err r (λ e h. not_paged seen pager cols rows sink first ready e is can control h)
+
+-- refused early, before anything was written
+pub unpaged_early : {S P H E Q K : Type 0} (seen : S → SinkSeen) (pager : PagerOf P H E Q K) (cols rows : ℕ) (sink : S) (e : StartErrorOf S P H E Q K) → e.sink ≡ sink → e.pager ≡ Some pager → IsFormRefused (refusal_of e.cause) Static cols rows (map wanted_of pager.queue.items) → IsUnpaged seen pager cols rows sink e
+unpaged_early {S = S} {P = P} {H = H} {E = E} {Q = Q} {K = K} seen pager cols rows sink e same back h =
+    let x : StartErrorOf S P H E Q K = record { sink = sink; pager = Some pager; cause = e.cause } in
+    let is : e ≡ x = ap (λ (s : S). let r : StartErrorOf S P H E Q K = record { sink = s; pager = e.pager; cause = e.cause } in r) same ∙ ap (λ (p : Option (PagerOf P H E Q K)). let r : StartErrorOf S P H E Q K = record { sink = sink; pager = p; cause = e.cause } in r) back in
+    let early = form_is_early (refusal_of e.cause) cols rows (map wanted_of pager.queue.items) h in
+    subst (IsUnpaged seen pager cols rows sink) (sym is) (inr (refused_early seen pager Static cols rows sink e.cause h, λ late. absurd (late early)))
+
+-- with a classifier of the session's own at first
+pub first_paged : {S P H E Q K F : Type 0} (IsFirst : K → Type 0) (seen : S → SinkSeen) (pager : PagerOf P H E Q K) (cols rows : ℕ) (sink : S) (classifier : K) (r : Result (PagedOf S P H E Q K) F) → IsFirst classifier → IfOk r (λ paged. IsPaged seen pager cols rows classifier sink paged) → IfOk r (λ paged. IsFirstPaged IsFirst seen pager cols rows sink paged)
+first_paged IsFirst seen pager cols rows sink classifier (Ok paged) first h = record { classifier = classifier; first = first; is = h }
+first_paged IsFirst seen pager cols rows sink classifier (Err e) first h = tt

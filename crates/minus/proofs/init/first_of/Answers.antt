@@ -1,0 +1,40 @@
+-- The page is drawn in full, by a change that changes nothing.
+use Rattle.std.proofs.Common.{[], is_some, map, ap, subst, ◌∙◌}
+use Rattle.minus_state.proofs.ChangeLaws.{unchanged}
+use Rattle.minus_state.specs.Control.{Control}
+use Rattle.minus_state.specs.States.{control_of}
+use Rattle.minus.specs.Reads.{wanted_of}
+use Rattle.minus.specs.Starts.{CanTakeAll}
+use Rattle.minus.proofs.TableLaws.{first_search, first_is_clamped}
+use Rattle.minus.proofs.init.first_of.Goals as goal
+
+pub draw_move-requires-clause-closed : goal.draw_move-requires-clause-closed
+draw_move-requires-clause-closed g c = ap (λ (k : Control). k.search) c.in_ok-state.ensures.control ∙ first_search c.args.cols c.args.rows (map wanted_of c.args.pager.now.queue.items)
+
+pub draw_move-requires-clause-prompt : goal.draw_move-requires-clause-prompt
+draw_move-requires-clause-prompt g c =
+    let is = c.change_to-change.ensures in
+    let state = c.in_ok-state.state in
+    let same = unchanged state c.change_to-change.result is.text is.mark is.cols is.rows is.search_mark is.prefix is.setting in
+    c.deref-2.ensures ∙ c.in_ok-prompt_row.ensures.prompt (control_of state) same
+
+pub returns-clause-begins : goal.returns-clause-begins
+returns-clause-begins g c = record { can = c.in_ok-check_start.ensures.can; takes = subst (λ queue. CanTakeAll [] (map wanted_of queue)) c.deref.ensures.value c.in_ok-check_waiting.ensures.can }
+
+pub invariant_of-result : goal.invariant_of-result
+invariant_of-result g c =
+    let is = c.change_to-change.ensures in
+    let state = c.in_ok-state.state in
+    let waiting = map wanted_of c.args.pager.now.queue.items in
+    let same = unchanged state c.change_to-change.result is.text is.mark is.cols is.rows is.search_mark is.prefix is.setting in
+    let closed = ap (λ (k : Control). k.search) c.in_ok-state.ensures.control ∙ first_search c.args.cols c.args.rows waiting in
+    let kept = ap (λ p. p.state) c.reserve.ensures.rest ∙ c.new-parts.ensures.state in
+    record {
+      formed = rw kept c.in_ok-state.ensures.formed;
+      clamped = rw kept (first_is_clamped c.args.cols c.args.rows waiting (control_of state) c.in_ok-state.ensures.control);
+      prompted = rw kept (c.in_ok-prompt_row.ensures.prompt (control_of state) same);
+      drawn = rw kept (c.in_ok-prompt_row.ensures.bytes (control_of state) same tt);
+      closed = rw kept (ap is_some closed);
+      moved = rw kept c.in_ok-movement.ensures.drawn;
+      marked = rw kept c.in_ok-movement.ensures.mark;
+    }
