@@ -1,5 +1,5 @@
 -- What a command leaves that does not exit, and lines that are pushed one after another.
-use Rattle.std.proofs.Common.{◌≡◌, ℕ, ◌+◌, ◌<◌, ◌++◌, min, List, take, map, length, get_or, flat_map, true, Bool, Option, None, Some, [], ◌∷◌, refl, sym, ap, subst, ◌∙◌, arith}
+use Rattle.std.proofs.Common.{◌≡◌, ℕ, ◌+◌, ◌<◌, ◌++◌, min, List, take, map, length, get_or, flat_map, true, false, Bool, Option, None, Some, [], ◌∷◌, refl, sym, ap, subst, ◌∙◌, arith}
 use Rattle.std.proofs.Math.Nat.{min-eq_left}
 use Rattle.std.proofs.lemmas.List.{map_more, flat_map_more}
 use Rattle.minus_term.specs.Refusals.{Refusal}
@@ -10,7 +10,8 @@ use Rattle.minus.specs.Asked.{Asks, taken}
 use Rattle.minus.specs.Reads.{Told, a_command}
 use Rattle.minus.specs.Seen.{Seen}
 use Rattle.minus.specs.Steps.{IsStep, Ends}
-use Rattle.minus.specs.Table.{Wanted, Exit, appends_data, follows, effect}
+use Rattle.minus.specs.Handing.{Exit}
+use Rattle.minus.specs.Table.{Wanted, appends_data, follows, effect}
 use Rattle.minus.specs.Works.{Work, after, Takes, worked, waited, Exits, Comes, at_once, later, IsReady}
 use Rattle.minus.proofs.WorksLaws.{alone_lem}
 use Rattle.minus_callers.specs.Follower.{Follows, ended}
@@ -21,11 +22,11 @@ AsksAlone says old asked = (w : Wanted _ _) → Asks says old (a_command asked) 
 
 -- what is worked off alone leaves what the table says of it
 worked_so : {Q K : Type 0} (says : Says Q K) (old new : Seen Q K) (asked : Wanted Q K) (work : Work) (copied : Option (List ℕ)) → AsksAlone says old asked → IsReady old → Takes says old (a_command asked) work copied new → new ≡ after old asked
-worked_so says old new asked work copied alone ready (worked w closed asks possible on) = ap (λ (x : Wanted _ _). after (taken old (a_command asked) x) x) (alone w asks)
+worked_so says old new asked work copied alone ready (worked w closed asks possible free on) = ap (λ (x : Wanted _ _). after (taken old (a_command asked) x) x) (alone w asks)
 worked_so says old new asked work copied alone ready (waited o w searching wants possible) = absurd (let both : None ≡ Some o = sym ready.closed ∙ searching in cc)
 
 ends_so : {Q K : Type 0} (says : Says Q K) (old new : Seen Q K) (asked : Wanted Q K) (exit : Option Exit) (works : List Work) (refused : List Refusal) (copied : Option (List ℕ)) (last : Seen Q K)
-    → AsksAlone says old asked → IsReady old → (effect old.control asked).exits_by ≡ None → Ends says exit old (a_command asked) works refused copied last new → new ≡ after old asked
+    → AsksAlone says old asked → IsReady old → (effect old.control asked).is_exit ≡ false → Ends says exit old (a_command asked) works refused copied last new → new ≡ after old asked
 ends_so says old new asked None works refused copied last alone ready stays (all, rests, is) =
     let (work, one, none, takes) = alone_lem says old last (a_command asked) works refused copied ready all in
     is ∙ worked_so says old last asked work copied alone ready takes
@@ -33,7 +34,7 @@ ends_so {Q = Q} {K = K} says old new asked (Some exit) works refused copied last
   where
     exited_so : (l : Seen Q K) (n : Told Q K) (ws : List Work) (rs : List Refusal) (t : Option (List ℕ)) → Comes says old (a_command asked) ws rs t l n → Exits says l n exit → new ≡ after old asked
     exited_so l n ws rs t at_once x =
-        let exited : None ≡ Some exit = sym stays ∙ ap (λ (w : Wanted Q K). (effect (taken old (a_command asked) w).control w).exits_by) (sym (alone x.wanted x.asked)) ∙ x.exits in
+        let exited : false ≡ true = sym stays ∙ ap (λ (w : Wanted Q K). (effect (taken old (a_command asked) w).control w).is_exit) (sym (alone x.wanted x.asked)) ∙ x.exits in
         absurd (cc)
     exited_so l n ws rs t (later {s = s} {rest = rest} all is_next) x =
         let (work, one, none, takes) = alone_lem says old s (a_command asked) ws rs t ready all in
@@ -41,7 +42,7 @@ ends_so {Q = Q} {K = K} says old new asked (Some exit) works refused copied last
         absurd (cc)
 
 -- the step leaves what the table says of it
-step_leaves : {Q K : Type 0} (says : Says Q K) (old new : Seen Q K) (asked : Wanted Q K) (answer : Answer) (a b : Option (List ℕ)) → AsksAlone says old asked → IsReady old → (effect old.control asked).exits_by ≡ None
+step_leaves : {Q K : Type 0} (says : Says Q K) (old new : Seen Q K) (asked : Wanted Q K) (answer : Answer) (a b : Option (List ℕ)) → AsksAlone says old asked → IsReady old → (effect old.control asked).is_exit ≡ false
     → IsStep says old (a_command asked) new answer a b → new ≡ after old asked
 step_leaves says old new asked answer a b alone ready stays s = ends_so says old new asked s.exit s.works s.refused s.copied s.last alone ready stays s.ends
 

@@ -5,8 +5,8 @@ ghost use Rattle.minus_callers.specs.Report.{HasSummaryKey};
 ghost use Rattle.minus_input.specs.EventTables.{register_of};
 
 use minus::{
-    ActionCall, Core, Event, EventTable, FixedSeed, InputEvent, Kinds, MinusError, NeverShows,
-    OutputSink, PagerOf, PagerState, RunMode, init_core_with,
+    ActionCall, Core, Event, EventTable, FixedSeed, InputEvent, Kinds, MinusError, NeverCalled,
+    NeverShows, OutputSink, PagerOf, PagerState, RunMode, init_core_with,
 };
 use std::alloc::Global;
 
@@ -34,7 +34,7 @@ impl ActionCall for GoToLine {
 pub type ReportKeys = EventTable<FixedSeed, GoToLine>;
 
 /// What a session of the tool keeps: no condition is handed to it.
-pub type ReportKinds = Kinds<NeverShows, ReportKeys>;
+pub type ReportKinds = Kinds<NeverCalled, NeverCalled, NeverShows, ReportKeys>;
 
 /// The default bindings, and the key `s`, which goes to the line of the summary.
 ///

@@ -15,15 +15,15 @@ use crate::prompt::{Notice, prompt_text};
 use crate::size::Size;
 use minus::{
     Answer, CommandOf, Core, Event, InputClassifier, InputEvent, InputOf, IoCommand, KeyCode,
-    KeyModifiers, Kinds, LineNumbers, MinusError, NeverShows, PagerOf, PagerState, RunMode,
-    WithTty, cleanup, init_core_with, setup, write_bytes,
+    KeyModifiers, Kinds, LineNumbers, MinusError, NeverCalled, NeverShows, PagerOf, PagerState,
+    RunMode, WithTty, cleanup, init_core_with, setup, write_bytes,
 };
 use minus_view::{History, Paging, Source};
 use std::alloc::Global;
 use std::io::Stdout;
 
 /// The kinds of the program's session: no condition is handed to it.
-type PagerKinds = Kinds<NeverShows, Keys>;
+type PagerKinds = Kinds<NeverCalled, NeverCalled, NeverShows, Keys>;
 
 /// The bytes that give the mouse back to the terminal.
 const MOUSE_OFF: &str = "\x1b[?1006l\x1b[?1015l\x1b[?1003l\x1b[?1002l\x1b[?1000l";

@@ -22,12 +22,15 @@ use Rattle.minus.proofs.RunLaws.{Steps-snoc}
 use Rattle.minus.specs.Starts.{IsStarted, IsStartRefused, IsSetupRefused}
 use Rattle.minus.specs.Seen.{Seen}
 use Rattle.minus.specs.Steps.{IsStep, none, Refuses, status_after, cleanup_after}
-use Rattle.minus.specs.Table.{Wanted, Exit}
+use Rattle.minus.specs.Handing.{Exit}
+use Rattle.minus.specs.Table.{Wanted}
 use Rattle.minus_script.specs.declared.arguments.Mode.{Mode}
 use Rattle.minus_script.specs.declared.arguments.Mode.TheVariants.{Page, Bytes}
 use Rattle.minus_script.specs.declared.fault.ScriptFault.{ScriptFault}
 use Rattle.minus_script.specs.declared.fault.ScriptFault.TheVariants.{Io, Line, Refused}
-use Rattle.minus_script.specs.Runs.{IsTaken, IsWorkedOff, IsWhole, IsRunOn, IsStoppedBy, exit_code, printed_after, IsShown, IsWantOfMemory, IsRefusal}
+use Rattle.minus_script.specs.Runs.{IsTaken, IsWorkedOff, IsWhole, IsRunOn, IsStoppedBy, exit_code, printed_after, IsShown, IsWantOfMemory, IsRefusal, IsOutputFault, IsRunFault}
+use Rattle.minus_script.specs.WriteFaults.{IsWriteFault}
+use Rattle.minus_script.specs.declared.fault.Stream.{Stream}
 use Rattle.minus_script.specs.ShowFaults.{IsShowFault, IsMemory}
 
 -- a start from no text over a sink that holds nothing
@@ -134,8 +137,8 @@ step_refused (Draw cause) cols rows told rest t answers reached new a b taken ru
 step_refused (HandleEvent cause) cols rows told rest t answers reached new a b taken runs h = absurd h
 step_refused (Cursor cause) cols rows told rest t answers reached new a b taken runs h = absurd h
 step_refused (FmtWriteError cause) cols rows told rest t answers reached new a b taken runs h = absurd h
-step_refused (HookIdTaken hook id) cols rows told rest t answers reached new a b taken runs h = absurd h
-step_refused NoFreeHookId cols rows told rest t answers reached new a b taken runs h = absurd h
+step_refused (HookIdTaken hook id) cols rows told rest t answers reached new a b taken runs h = record { answers = answers; reached = reached; bytes = a; refused = t; rest = rest; taken = taken; unfit = h.1 }
+step_refused NoFreeHookId cols rows told rest t answers reached new a b taken runs h = record { answers = answers; reached = reached; bytes = a; refused = t; rest = rest; taken = taken; unfit = h.1 }
 step_refused (BadDescription place cause) cols rows told rest t answers reached new a b taken runs h = absurd h
 step_refused (Bound place) cols rows told rest t answers reached new a b taken runs h = absurd h
 step_refused QueryFull cols rows told rest t answers reached new a b taken runs h = record { answers = answers; reached = reached; bytes = a; refused = t; rest = rest; taken = taken; full = h.1 }
@@ -148,24 +151,28 @@ pub run_refused : (keys : DefaultKeys) (cols rows : ℕ) (first new : Seen Never
 run_refused keys cols rows first new told a b e fault s h f =
     rw f (step_refused e cols rows told h.rest h.refused h.answers h.reached new h.bytes b (taken_over keys cols rows first h.reached told h.answers (h.refused ∷ h.rest) a h.bytes s h.worked) h.runs h.refuses)
 
--- a start is refused
-pub start_refused : (refusal : Refusal) (cols rows : ℕ) (terminal : Bool) (told : List (Told NeverShows DefaultKeys)) → terminal ≡ true → IsStartRefused refusal Dynamic cols rows terminal → IsRefusal refusal cols rows told
-start_refused for_memory cols rows terminal told t h = tt
-start_refused for_newline cols rows terminal told t h = absurd h
-start_refused (for_size c r) cols rows terminal told t h = inl (h.1, h.2, h.3)
-start_refused for_mode cols rows terminal told t h = absurd cc
-start_refused after_failure cols rows terminal told t h = absurd h
-start_refused after_exit cols rows terminal told t h = absurd h
-start_refused (at_setup cause) cols rows terminal told t h = subst (λ (x : Bool). IsSetupRefused cause x) t h.1
-start_refused (at_cleanup cause) cols rows terminal told t h = absurd h
-start_refused at_drawing cols rows terminal told t h = tt
-start_refused (for_hook_id hook id) cols rows terminal told t h = absurd h
-start_refused for_free_hook_id cols rows terminal told t h = absurd h
-start_refused (for_description place cause) cols rows terminal told t h = absurd h
-start_refused (for_binding place) cols rows terminal told t h = absurd h
-start_refused for_query cols rows terminal told t h = absurd h
-start_refused for_pattern cols rows terminal told t h = h.size
-start_refused of_no_call cols rows terminal told t h = absurd h
+-- a start is refused of a pager in which nothing waits
+none_refused : (refusal : Refusal) (cols rows : ℕ) (terminal : Bool) (told : List (Told NeverShows DefaultKeys)) → terminal ≡ true → IsStartRefused {Q = NeverShows} {K = DefaultKeys} refusal Dynamic cols rows [] terminal → IsRefusal refusal cols rows told
+none_refused for_memory cols rows terminal told t h = tt
+none_refused (for_size c r) cols rows terminal told t (inl h) = inl (h.1, h.2, h.3)
+none_refused (for_size c r) cols rows terminal told t (inr h) = absurd h.1
+none_refused for_mode cols rows terminal told t h = absurd cc
+none_refused (at_setup cause) cols rows terminal told t h = subst (λ (x : Bool). IsSetupRefused cause x) t h.1
+none_refused at_drawing cols rows terminal told t h = tt
+none_refused for_pattern cols rows terminal told t h = h.can.size
+none_refused for_newline cols rows terminal told t h = absurd h.1
+none_refused after_failure cols rows terminal told t h = absurd h.1
+none_refused after_exit cols rows terminal told t h = absurd h.1
+none_refused (at_cleanup cause) cols rows terminal told t h = absurd h.1
+none_refused (for_hook_id hook id) cols rows terminal told t h = absurd h.1
+none_refused for_free_hook_id cols rows terminal told t h = absurd h.1
+none_refused (for_description place cause) cols rows terminal told t h = absurd h.1
+none_refused (for_binding place) cols rows terminal told t h = absurd h.1
+none_refused for_query cols rows terminal told t h = absurd h.1
+none_refused of_no_call cols rows terminal told t h = absurd h.1
+
+pub start_refused : (refusal : Refusal) (cols rows : ℕ) (terminal : Bool) (told : List (Told NeverShows DefaultKeys)) (waiting : List (Wanted NeverShows DefaultKeys)) → waiting ≡ [] → terminal ≡ true → IsStartRefused refusal Dynamic cols rows waiting terminal → IsRefusal refusal cols rows told
+start_refused refusal cols rows terminal told waiting e t h = none_refused refusal cols rows terminal told t (subst (λ (ws : List (Wanted NeverShows DefaultKeys)). IsStartRefused refusal Dynamic cols rows ws terminal) e h)
 
 -- memory ran out
 memory_refusal : (refusal : Refusal) (cols rows : ℕ) (told : List (Told NeverShows DefaultKeys)) → IsWantOfMemory refusal → IsRefusal refusal cols rows told
@@ -178,8 +185,8 @@ memory_refusal after_exit cols rows told h = h
 memory_refusal (at_setup cause) cols rows told h = h
 memory_refusal (at_cleanup cause) cols rows told h = h
 memory_refusal at_drawing cols rows told h = h
-memory_refusal (for_hook_id hook id) cols rows told h = h
-memory_refusal for_free_hook_id cols rows told h = h
+memory_refusal (for_hook_id hook id) cols rows told h = absurd h
+memory_refusal for_free_hook_id cols rows told h = absurd h
 memory_refusal (for_description place cause) cols rows told h = h
 memory_refusal (for_binding place) cols rows told h = h
 memory_refusal for_query cols rows told h = absurd h
@@ -190,3 +197,9 @@ pub memory_fault : (cols rows : ℕ) (told : List (Told NeverShows DefaultKeys))
 memory_fault cols rows told (Io stream cause) e = absurd e
 memory_fault cols rows told (Line number) e = absurd e
 memory_fault cols rows told (Refused cause) e = memory_refusal (refusal_of cause) cols rows told e
+
+-- a writer that fails
+pub output_fault : (mode : Mode) (cols rows : ℕ) (a b c d : Option (List ℕ)) (fault : ScriptFault) → IsWriteFault fault → IsOutputFault mode cols rows a b c d → IsRunFault mode cols rows a b c d fault
+output_fault mode cols rows a b c d (Io stream cause) is h = subst (λ (s : Stream). IsRunFault mode cols rows a b c d (Io s cause)) (sym is) h
+output_fault mode cols rows a b c d (Line number) is h = absurd is
+output_fault mode cols rows a b c d (Refused cause) is h = absurd is

@@ -4,7 +4,7 @@ use Rattle.std.specs.List.{last_or}
 use Rattle.std.specs.Option.{option_and_then, option_map}
 use Rattle.std.specs.Io.KnownBytes.{Appends, Consumes, IsAtEnd}
 use Rattle.minus_term.specs.Counts.{AppendsFront}
-use Rattle.minus_term.specs.Refusals.{Refusal, for_memory, for_newline, for_size, for_query, for_pattern, at_setup, at_cleanup, at_drawing, refusal_of}
+use Rattle.minus_term.specs.Refusals.{Refusal, for_memory, for_newline, for_hook_id, for_free_hook_id, for_size, for_query, for_pattern, at_setup, at_cleanup, at_drawing, refusal_of}
 use Rattle.minus_term.specs.declared.error.MinusError.TheVariants.{Memory}
 use Rattle.minus_state.specs.declared.search.condition.NeverShows.{NeverShows}
 use Rattle.minus_script.specs.declared.keys.DefaultKeys.{DefaultKeys}
@@ -20,7 +20,7 @@ use Rattle.minus.specs.Seen.{Seen}
 use Rattle.minus.specs.Asked.{Wants}
 use Rattle.minus.specs.declared.status.Status.TheVariants as status
 use Rattle.minus.specs.Steps.{Steps, Refuses, cleanup_after}
-use Rattle.minus.specs.Works.{IsOverfull}
+use Rattle.minus.specs.Works.{IsOverfull, IsUnfit}
 use Rattle.minus.specs.Table.{Wanted, resizes, HasNewline}
 use Rattle.minus_script.specs.Script.{script_lines, script_told}
 use Rattle.minus_script.specs.Printed.{printed_all}
@@ -154,11 +154,24 @@ pub record IsQueryFilled (cols rows : ℕ) (told : List (Told NeverShows Default
   pub taken : IsTaken cols rows told answers reached bytes (refused ∷ rest)
   pub full : IsOverfull reached refused
 
+-- after a part of what it was told, the pager was asked to keep a callback of a hook under an id that it cannot give; no word of a
+-- script asks for that
+pub record IsCallbackAsked (refusal : Refusal) (cols rows : ℕ) (told : List (Told NeverShows DefaultKeys)) : Type 0 where
+  pub answers : List Answer
+  pub reached : Seen NeverShows DefaultKeys
+  pub bytes : Option (List ℕ)
+  pub refused : Told NeverShows DefaultKeys
+  pub rest : List (Told NeverShows DefaultKeys)
+  pub taken : IsTaken cols rows told answers reached bytes (refused ∷ rest)
+  pub unfit : IsUnfit script_says reached refused refusal
+
 -- why a pager that is told all of this refuses: this is the size of the start, or one that was asked for later, and none of a
--- terminal; a prompt or a message has a newline; a query is full; a fixed pattern was not built; or memory ran out
+-- terminal; a prompt or a message has a newline; an id of a hook cannot be given; a query is full; a fixed pattern was not built; or memory ran out
 abbrev pub IsRefusal : Refusal → ℕ → ℕ → List (Told NeverShows DefaultKeys) → Type 0
 IsRefusal (for_size columns lines) cols rows told = ((columns ≡ cols) × (lines ≡ rows) × (IsSize cols rows → ⊥)) ⊎ IsSizeAsked columns lines cols rows told
 IsRefusal for_newline cols rows told = IsPromptAsked cols rows told
+IsRefusal (for_hook_id hook id) cols rows told = IsCallbackAsked (for_hook_id hook id) cols rows told
+IsRefusal for_free_hook_id cols rows told = IsCallbackAsked for_free_hook_id cols rows told
 IsRefusal for_query cols rows told = IsQueryFilled cols rows told
 IsRefusal for_pattern cols rows told = IsSize cols rows
 IsRefusal refusal cols rows told = IsWantOfMemory refusal

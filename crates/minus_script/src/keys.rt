@@ -4,8 +4,8 @@ ghost use Rattle.minus_input.specs.DefaultBindings.{default_register};
 ghost use Rattle.minus_input.specs.EventTables.{register_of};
 
 use minus::{
-    ActionCall, Event, EventTable, FixedSeed, InputClassifier, InputEvent, Kinds, NeverShows,
-    PagerState,
+    ActionCall, Event, EventTable, FixedSeed, InputClassifier, InputEvent, Kinds, NeverCalled,
+    NeverShows, PagerState,
 };
 use std::alloc::{AllocError, Global};
 
@@ -32,7 +32,7 @@ pub struct DefaultKeys {
 }
 
 /// The kinds of the sessions that run scripts: no condition is handed to one.
-pub type ScriptKinds = Kinds<NeverShows, DefaultKeys>;
+pub type ScriptKinds = Kinds<NeverCalled, NeverCalled, NeverShows, DefaultKeys>;
 
 impl DefaultKeys {
     /// A register of the default bindings.

@@ -12,7 +12,7 @@ use Rattle.minus_script.proofs.RunLaws.{started, start_refused, page_shown, byte
 use Rattle.minus_script.proofs.run.show.Goals as goal
 
 pub returns-in-Err-clause-fault : goal.returns-in-Err-clause-fault
-returns-in-Err-clause-fault c = rw c.from.ensures (start_refused (refusal_of c.in-Err.refused.cause) c.args.cols c.args.rows _ (map told_of c.args.inputs.items) c.new-sink.ensures.tty c.in-Err.ensures.refused.refused)
+returns-in-Err-clause-fault c = rw c.from.ensures (start_refused (refusal_of c.in-Err.refused.cause) c.args.cols c.args.rows _ (map told_of c.args.inputs.items) _ (ap (map wanted_of) c.new-pager.ensures) c.new-sink.ensures.tty c.in-Err.ensures.refused.refused)
 
 pub returns-in-Err-work_off-clause-fault : goal.returns-in-Err-work_off-clause-fault
 returns-in-Err-work_off-clause-fault c =
