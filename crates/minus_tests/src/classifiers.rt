@@ -3,8 +3,8 @@ use crate::facts::assert_holds;
 use crate::sessions::{TEN_LINES, terminal};
 use crate::shown::is_debugged;
 use minus::{
-    CommandOf, Core, Event, InputClassifier, InputEvent, InputOf, Kinds, NeverShows, PagerOf,
-    PagerState, RunMode, WithTty, init_core_with,
+    CommandOf, Core, Event, InputClassifier, InputEvent, InputOf, Kinds, NeverCalled, NeverShows,
+    PagerOf, PagerState, RunMode, WithTty, init_core_with,
 };
 use std::alloc::{AllocError, Global};
 
@@ -27,7 +27,7 @@ impl InputClassifier for ToRow {
     }
 }
 
-type Own = Kinds<NeverShows, ToRow>;
+type Own = Kinds<NeverCalled, NeverCalled, NeverShows, ToRow>;
 
 type Moving = Core<WithTty<Vec<u8>>, Own>;
 

@@ -2,8 +2,8 @@
 use crate::facts::assert_holds;
 use crate::sessions::{Asked, PROMPT_ROW, Worked, assert_drawn, assert_shown, has_page, terminal};
 use minus::{
-    CommandOf, Core, Event, InputClassifier, InputEvent, InputOf, Kinds, LineNumbers, NeverShows,
-    PagerOf, PagerState, RunMode, WithTty, init_core_with,
+    CommandOf, Core, Event, InputClassifier, InputEvent, InputOf, Kinds, LineNumbers, NeverCalled,
+    NeverShows, PagerOf, PagerState, RunMode, WithTty, init_core_with,
 };
 use std::alloc::{AllocError, Global};
 
@@ -96,7 +96,7 @@ impl InputClassifier for TwoLines {
     }
 }
 
-type Own = Kinds<NeverShows, TwoLines>;
+type Own = Kinds<NeverCalled, NeverCalled, NeverShows, TwoLines>;
 
 type Offering = Core<WithTty<Vec<u8>>, Own>;
 

@@ -15,9 +15,13 @@ mod drawings;
 #[cfg(test)]
 mod endings;
 #[cfg(test)]
+mod exchanges;
+#[cfg(test)]
 mod facts;
 #[cfg(test)]
 mod helps;
+#[cfg(test)]
+mod hooks;
 #[cfg(test)]
 mod input;
 #[cfg(test)]
@@ -30,6 +34,8 @@ mod layouts;
 mod matches;
 #[cfg(test)]
 mod pages;
+#[cfg(test)]
+mod paging;
 #[cfg(test)]
 mod player;
 #[cfg(test)]

@@ -6,7 +6,7 @@ use crate::sessions::{
 };
 use minus::{
     CommandOf, Core, Event, InputClassifier, InputEvent, InputOf, IoCommand, KeyCode, Kinds,
-    NeverShows, PagerOf, PagerState, RunMode, SearchMode, WithTty, init_core_with,
+    NeverCalled, NeverShows, PagerOf, PagerState, RunMode, SearchMode, WithTty, init_core_with,
 };
 use std::alloc::{AllocError, Global};
 
@@ -539,7 +539,7 @@ impl InputClassifier for NoSize {
     }
 }
 
-type Sizeless = Kinds<NeverShows, NoSize>;
+type Sizeless = Kinds<NeverCalled, NeverCalled, NeverShows, NoSize>;
 
 // A session by that classifier, with its search prompt open, behind which a new size and a text wait.
 fn waiting(alloc: Global) -> Option<Core<WithTty<Vec<u8>>, Sizeless>> {

@@ -3,7 +3,7 @@ use crate::facts::assert_holds;
 use crate::sessions::{CLEANUP, PROMPT_ROW, SETUP, are_bytes, has_page, terminal};
 use crate::stubborn::{NOTHING, Refusal, Refused, Stubborn, write};
 use minus::{
-    MinusError, OutputSink, Pager, RunMode, Session, SetupError, StartError, WithTty,
+    LineNumbers, MinusError, OutputSink, Pager, RunMode, Session, SetupError, StartError, WithTty,
     dynamic_paging, init_core,
 };
 use std::alloc::Global;
@@ -165,6 +165,74 @@ fn starts_again(alloc: Global, rows: &[&str]) -> bool {
 fn a_pager_that_came_back_starts(rt: HostRuntime) {
     let rows = &["one", "two", "2", "", PROMPT_ROW];
     assert_holds(&rt, starts_again(rt.alloc(), rows));
+}
+
+// The prompt row that says this, on 20 columns.
+const P_ROW: &str = "\x1b[2;40;37mp                   \x1b[0m";
+
+const M_ROW: &str = "\x1b[30;1;41mm                   \x1b[0m";
+
+// Whether the session of a pager that was told so shows these rows.
+fn begins_as_told(alloc: Global, is_said: bool, is_shown: bool, rows: &[&str]) -> bool {
+    let mut pager = Pager::new(alloc);
+    let is_told = pager
+        .set_text("a long line that is no longer wrapped\nb")
+        .is_ok()
+        && pager.horizontal_scroll(true).is_ok()
+        && pager.set_prompt("p").is_ok()
+        && (!is_said || pager.send_message("m").is_ok())
+        && pager.show_prompt(is_shown).is_ok();
+    is_told && starts(alloc, pager, rows)
+}
+
+#[test]
+fn a_start_takes_over_what_its_pager_was_told(rt: HostRuntime) {
+    let first = "a long line that is ";
+    let alloc = rt.alloc();
+    assert_holds(
+        &rt,
+        begins_as_told(alloc, false, true, &[first, "b", "", "", P_ROW]),
+    );
+    assert_holds(
+        &rt,
+        begins_as_told(alloc, true, true, &[first, "b", "", "", M_ROW]),
+    );
+    assert_holds(
+        &rt,
+        begins_as_told(alloc, true, false, &[first, "b", "", "", ""]),
+    );
+}
+
+// Whether a pager takes no text with a newline for its prompt row, and starts as if it were not told.
+fn takes_no_newline(alloc: Global) -> bool {
+    let mut pager = Pager::new(alloc);
+    let prompt = pager.set_prompt("p\n");
+    let message = pager.send_message("\n");
+    matches!(prompt, Err(MinusError::NewlineInPrompt))
+        && matches!(message, Err(MinusError::NewlineInPrompt))
+        && starts(alloc, pager, &["", "", "", "", PROMPT_ROW])
+}
+
+#[test]
+fn a_pager_takes_no_newline_for_its_prompt_row(rt: HostRuntime) {
+    assert_holds(&rt, takes_no_newline(rt.alloc()));
+}
+
+// Whether a session with numbers that go on begins with those.
+fn begins_with_numbers(alloc: Global) -> bool {
+    let mut pager = Pager::new(alloc);
+    let is_told = pager.push_str("a").is_ok()
+        && pager.set_line_numbers(LineNumbers::AlwaysOn).is_ok()
+        && pager.set_run_no_overflow(true).is_ok();
+    match init_core(pager, RunMode::Static, terminal(alloc), 20, 5) {
+        Ok(session) => is_told && session.state().line_numbers == LineNumbers::AlwaysOn,
+        Err(_) => false,
+    }
+}
+
+#[test]
+fn a_start_takes_over_numbers(rt: HostRuntime) {
+    assert_holds(&rt, begins_with_numbers(rt.alloc()));
 }
 
 // The part of what a start writes at which it was refused, or that nothing is written to such a sink.

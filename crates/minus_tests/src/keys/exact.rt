@@ -5,8 +5,8 @@ use crate::keys::asked::{At, START, answers, key, mouse, press, state_of};
 use crate::sessions::{PROMPT_ROW, has_page, terminal};
 use minus::{
     CommandOf, Core, DefaultInputClassifier, Event, InputClassifier, InputEvent, InputOf,
-    KeyEventKind, Kinds, LineNumbers, NeverShows, PagerOf, RunMode, SearchMode, WithTty,
-    init_core_with,
+    KeyEventKind, Kinds, LineNumbers, NeverCalled, NeverShows, PagerOf, RunMode, SearchMode,
+    WithTty, init_core_with,
 };
 use std::alloc::Global;
 
@@ -189,7 +189,7 @@ fn enter_asks_for_the_prompt_after_a_message(rt: HostRuntime) {
     assert_holds(&rt, drops_the_message(rt.alloc()));
 }
 
-type Own = Kinds<NeverShows, DefaultInputClassifier>;
+type Own = Kinds<NeverCalled, NeverCalled, NeverShows, DefaultInputClassifier>;
 
 type Led = Core<WithTty<Vec<u8>>, Own>;
 

@@ -25,10 +25,7 @@ fn add_command(text: &mut String, command: &Command) -> bool {
         Command::ShowPrompt(is_shown) => add(text, "showprompt", is_shown),
         Command::LineWrapping(wrapping) => add(text, "wrap", wrapping),
         Command::SetLineNumbers(numbers) => write!(text, "numbers[{numbers:?}]").is_ok(),
-        Command::UserInput(_)
-        | Command::Io(_)
-        | Command::IncrementalSearchCondition(_)
-        | Command::SetInputClassifier(_) => false,
+        _ => false,
     }
 }
 

@@ -1,0 +1,106 @@
+//! A session's sink is exchanged for another one. Where memory runs out, each answer is `false`.
+use crate::facts::assert_holds;
+use crate::sessions::{Asked, Session, number_of, session_on, terminal};
+use crate::stubborn::{NOTHING, Refusal, Stubborn, write};
+use minus::{KeyCode, OutputSink, WithTty};
+use std::alloc::Global;
+
+// The page of a text `a` on ten columns and two rows.
+const A_PAGE: &str = "\x1b[1;1H\x1b[2J\ra\n\x1b[3;1H\r\x1b[2K\x1b[2;40;37mminus     \x1b[0m";
+
+// The number by which an exchange is refused, and the sink that comes back; 0 where it is not refused.
+fn exchanged<S: OutputSink + Drop>(
+    session: &mut Session<S>,
+    sink: S,
+    cols: usize,
+    rows: usize,
+) -> (u8, S) {
+    match session.set_output_sink(sink, cols, rows) {
+        Ok(old) => (0, old),
+        Err(refused) => (refused.cause.number(), refused.sink),
+    }
+}
+
+// A session of a text `a` on 20 columns and three rows.
+fn session_of_a(alloc: Global) -> Option<Session<WithTty<Vec<u8>>>> {
+    let mut session = session_on(alloc, terminal(alloc), 20, 3)?;
+    match number_of(alloc, &mut session, Asked::Push("a")) {
+        0 => Some(session),
+        _ => None,
+    }
+}
+
+// Whether the old sink comes back as it was, the new one has the page whole, and later steps are drawn there.
+fn is_exchanged(alloc: Global) -> bool {
+    let Some(mut session) = session_of_a(alloc) else {
+        return false;
+    };
+    let (number, old) = exchanged(&mut session, terminal(alloc), 10, 2);
+    let is_resized = session.state().cols == 10 && session.state().rows == 2;
+    let goes_on = number_of(alloc, &mut session, Asked::Shown(false)) == 0;
+    let (new, _) = session.finish();
+    number == 0
+        && is_resized
+        && goes_on
+        && old.inner.ends_with("\x1b[1;1H\x1b[2Ka".as_bytes())
+        && new.inner.starts_with(A_PAGE.as_bytes())
+        && new.inner.len() > A_PAGE.len()
+}
+
+#[test]
+fn another_sink_gets_the_page(rt: HostRuntime) {
+    assert_holds(&rt, is_exchanged(rt.alloc()));
+}
+
+// Whether an exchange is refused by this number, the sink that was given comes back empty, and the session has the size
+// that it had.
+fn refuses(
+    session: &mut Session<WithTty<Vec<u8>>>,
+    alloc: Global,
+    rows: usize,
+    number: u8,
+) -> bool {
+    let (refused, given) = exchanged(session, terminal(alloc), 10, rows);
+    refused == number && given.inner.is_empty() && session.state().cols == 20
+}
+
+// Whether a size that is none, an open search prompt and an exit refuse an exchange.
+fn are_refused(alloc: Global) -> bool {
+    let Some(mut session) = session_of_a(alloc) else {
+        return false;
+    };
+    refuses(&mut session, alloc, 0, 5)
+        && number_of(alloc, &mut session, Asked::Key('/')) == 0
+        && refuses(&mut session, alloc, 2, 9)
+        && number_of(alloc, &mut session, Asked::Pressed(KeyCode::Esc)) == 0
+        && number_of(alloc, &mut session, Asked::Exit) == 0
+        && refuses(&mut session, alloc, 2, 11)
+}
+
+#[test]
+fn an_exchange_is_refused(rt: HostRuntime) {
+    assert_holds(&rt, are_refused(rt.alloc()));
+}
+
+// Whether a sink that refuses the page fails the session, the old one comes back, and later exchanges are refused.
+fn is_broken_off(alloc: Global) -> bool {
+    let sink = Stubborn::terminal(alloc, NOTHING);
+    let Some(mut session) = session_on(alloc, sink, 20, 3) else {
+        return false;
+    };
+    let given = Stubborn::terminal(alloc, write(3, Refusal::Broken));
+    let (number, old) = exchanged(&mut session, given, 10, 2);
+    let later = Stubborn::terminal(alloc, NOTHING);
+    let (again, given) = exchanged(&mut session, later, 10, 2);
+    number == 14
+        && old.refusals == 0
+        && !old.inner.held.is_empty()
+        && again == 10
+        && given.inner.held.is_empty()
+        && number_of(alloc, &mut session, Asked::Push("b")) == 10
+}
+
+#[test]
+fn a_refused_page_hands_the_old_sink_back(rt: HostRuntime) {
+    assert_holds(&rt, is_broken_off(rt.alloc()));
+}
