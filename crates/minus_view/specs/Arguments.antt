@@ -12,14 +12,15 @@ use Rattle.minus_view.specs.declared.arguments.ArgumentFault.TheVariants.{Unknow
 
 -- no word: standard input from its first line on
 abbrev pub no_words : Paging
-no_words = record { numbers = false; chops = false; follows = false; mouse = true; line = 1; source = Unnamed }
+no_words = record { numbers = false; chops = false; prints = false; follows = false; mouse = true; line = 1; source = Unnamed }
 
--- letters of one word: `N` for line numbers, `S` for lines that are not wrapped
+-- letters of one word: `N` for line numbers, `S` for lines that are not wrapped, `F` for a text that is printed where it fits
 abbrev pub with_letters : Paging → List ℕ → Option Paging
 with_letters so_far [] = Some so_far
 with_letters so_far (c ∷ letters) =
     if c == 78 then with_letters (record so_far { numbers = true }) letters
-    else (if c == 83 then with_letters (record so_far { chops = true }) letters else None)
+    else (if c == 83 then with_letters (record so_far { chops = true }) letters
+    else (if c == 70 then with_letters (record so_far { prints = true }) letters else None))
 
 -- the number that digits make behind `so_far`, where it has no more than 13 digits
 abbrev pub line_from : ℕ → List ℕ → Option ℕ

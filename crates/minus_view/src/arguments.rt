@@ -1,6 +1,6 @@
 //! The arguments of the pager program, as `less` has them.
 //!
-//! `[-N] [-S] [+F] [+LINE] [--no-mouse] [-h | --help] [--version] [FILE | -]`, in any order; letters may share a
+//! `[-N] [-S] [-F] [+F] [+LINE] [--no-mouse] [-h | --help] [--version] [FILE | -]`, in any order; letters may share a
 //! word, as in `-NS`. The first word that asks for help or the version, or that is at fault, ends the reading.
 ghost use Rattle.std.specs.Prelude.{◌≡◌};
 ghost use Rattle.minus_view.specs.Arguments.{no_words, with_letters, line_number, with_source, read_other, read_word, read_words};
@@ -23,6 +23,8 @@ pub struct Paging<'a> {
     pub numbers: bool,
     /// Whether long lines are cut at the screen's edge, and not wrapped.
     pub chops: bool,
+    /// Whether a text that fits the terminal is printed, and not paged.
+    pub prints: bool,
     /// Whether the end of the text is followed.
     pub follows: bool,
     /// Whether the pager takes the mouse.
@@ -64,6 +66,7 @@ fn with_letters<'a>(so_far: Paging<'a>, letters: &[u8]) -> Option<Paging<'a>>
         match *letter {
             b'N' => paging.numbers = true,
             b'S' => paging.chops = true,
+            b'F' => paging.prints = true,
             _ => return None,
         }
     }
@@ -146,6 +149,7 @@ pub fn parse_arguments<'a>(words: &[&'a str]) -> Result<Arguments<'a>, ArgumentF
     let mut paging = Paging {
         numbers: false,
         chops: false,
+        prints: false,
         follows: false,
         mouse: true,
         line: 1,
