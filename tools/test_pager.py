@@ -606,6 +606,41 @@ class PagerTests(unittest.TestCase):
         self.assertFalse(self.terminal.player.modes[1000])
         self.quit()
 
+    def assert_printed(self, command, rows):
+        """The command prints these rows, below what was typed, and touches nothing else of the terminal."""
+        self.tearDown()
+        self.terminal = terminal = Terminal(self.folder, 40, 8)
+        terminal.send(command + '\n')
+        terminal.wait(lambda: terminal.bytes.count(b'ready> ') > 1 and terminal.ends_with('ready> '), 'the shell')
+        self.assertNotIn(b'\x1b[?', terminal.bytes)
+        shown = [row.rstrip() for row in terminal.player.texts()]
+        self.assertEqual(shown[1:len(rows) + 1], rows)
+        self.assertEqual(shown[len(rows) + 1], 'ready>')
+        self.assertEqual(terminal.mode(), terminal.before)
+
+    def test_a_text_that_fits_is_printed(self):
+        self.write('short', 'a\n\tb\n')
+        self.assert_printed('./minus -F short', ['a', '        b'])
+        self.assert_printed('(echo a; sleep 0.1; echo b) | ./minus -FS -', ['a', 'b'])
+        self.write('notes', self.LINES)
+        self.page('./minus -F notes')
+        self.assert_page(self.LINES, 'notes  1-7/100  7%')
+        self.quit()
+        self.page('./minus -F +F short')
+        self.assert_page('a\n        b\n', 'short  1-2/2  100%  [F]', 'follow on')
+        self.quit()
+
+    def test_a_key_is_heard_before_a_pipe_ends(self):
+        writer = self.open_pipe()
+        self.terminal = Terminal(self.folder, 40, 8)
+        self.terminal.send('(seq 3; cat to_come) | ./minus -F\n')
+        self.terminal.wait(lambda: self.terminal.processes('minus_pager'), 'the program')
+        self.terminal.wait_for_turns()
+        self.assertFalse(self.terminal.player.modes.get(1049))
+        self.press('j')
+        self.terminal.wait_for('1-3/3')
+        self.end_pipe(writer)
+
     def test_a_first_line_beyond_a_file_shows_the_last_page(self):
         self.write('notes', self.LINES)
         self.page('./minus +200 notes')
@@ -704,11 +739,15 @@ class PagerTests(unittest.TestCase):
         os.set_blocking(terminal.master, True)
         self.quit()
 
-    def page_pipe(self, begin, options=''):
-        """Pages a pipe whose producer writes what a command says and then what this test writes: to this descriptor."""
+    def open_pipe(self):
+        """Makes a pipe that `cat to_come` reads, and answers its other end."""
         path = os.path.join(self.folder, 'to_come')
         os.mkfifo(path)
-        writer = os.open(path, os.O_RDWR)
+        return os.open(path, os.O_RDWR)
+
+    def page_pipe(self, begin, options=''):
+        """Pages a pipe whose producer writes what a command says and then what this test writes: to this descriptor."""
+        writer = self.open_pipe()
         self.page(f'({begin}; cat to_come) | ./minus {options}')
         return writer
 
@@ -867,7 +906,7 @@ class PagerTests(unittest.TestCase):
     # Words, and what they ask for: a page of the file or of standard input, or something else; or they are refused.
     WORDS = (
         ('', 'page'), ('-', 'page'), ('notes', 'page'), ('-N -S notes', 'page'), ('notes -SNS', 'page'),
-        ('+F +12 --no-mouse notes', 'page'), ('+9999999999999 notes', 'page'), ('+00000000000000000001 notes', 'page'),
+        ('+F +12 --no-mouse -F notes', 'page'), ('+9999999999999 notes', 'page'), ('+00000000000000000001 notes', 'page'),
         ('-h', 'other'), ('-N --help', 'other'), ('--version', 'other'), ('--help -x', 'other'),
         ('-x --help', 'refused'), ('-x notes', 'refused'), ('-Nx notes', 'refused'), ('-- notes', 'refused'),
         ('--nomouse notes', 'refused'),

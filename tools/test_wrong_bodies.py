@@ -1,5 +1,5 @@
 #!/usr/bin/env python3
-"""Tests of wrong_bodies.py: how a body's function is found, how rounds are made, how a check's lines are judged, what is kept, and what the words of a call name."""
+"""Tests of wrong_bodies.py: how a body's function is found, how rounds are made, how a check's lines are judged, what is kept, which crates are tried when, and what the words of a call name."""
 import contextlib
 import io
 import os
@@ -9,7 +9,7 @@ import unittest
 from types import SimpleNamespace
 
 sys.path.insert(0, os.path.dirname(os.path.abspath(__file__)))
-from wrong_bodies import Body, Place, bodies_of, functions_of, given_by, judge, next_round, paths_of, place_of, read_body, texts_of, try_all, untried, verdicts_of, with_twins, without_bodies, without_proofs
+from wrong_bodies import Body, Place, bodies_of, functions_of, given_by, in_turn, judge, next_round, paths_of, place_of, read_body, texts_of, told_by, try_all, untried, verdicts_of, with_twins, without_bodies, without_proofs
 
 SOURCE = """const LIMIT: usize = 3;
 
@@ -297,6 +297,37 @@ class Keeping(unittest.TestCase):
         with contextlib.redirect_stdout(io.StringIO()) as said:
             self.assertEqual(untried(kept, self.crate, [earlier, other]), [other])
         self.assertEqual(said.getvalue(), "k/a: refused, in an earlier run: why\n")
+
+
+class Turns(unittest.TestCase):
+    low, high = SimpleNamespace(name="low"), SimpleNamespace(name="high")
+
+    def told(self, text):
+        with tempfile.NamedTemporaryFile("w") as file:
+            file.write(text)
+            file.flush()
+            return told_by(file.name)
+
+    def test_a_proved_or_kept_crate_is_told(self):
+        said = "== low\nrt: low proved\nrt: mid is kept: an earlier run\nrt: high NOT PROVED\nrt: low: its tests are proved\n"
+        self.assertEqual(self.told(said), ({"low", "mid"}, False))
+        self.assertEqual(self.told("rt ci: ended\n"), (set(), True))
+        self.assertEqual(told_by("no such file"), (set(), False))
+
+    def test_a_crate_waits_for_the_one_below_it(self):
+        begun = []
+
+        def call(crate):
+            begun.append(crate)
+            return [f"{crate.name}/a: FAILED"]
+
+        lines = in_turn([self.high, self.low], 2, lambda it: it is self.low or self.low in begun, lambda: False, call)
+        self.assertEqual(begun, [self.low, self.high])
+        self.assertEqual(lines, ["low/a: FAILED", "high/a: FAILED"])
+
+    def test_a_crate_that_cannot_begin_is_said_at_the_end(self):
+        lines = in_turn([self.high, self.low], 1, lambda it: it is self.low, lambda: True, lambda it: [])
+        self.assertEqual(lines, ["high: no body was tried: a crate below it is not proved"])
 
 
 class Calls(unittest.TestCase):

@@ -5,6 +5,7 @@ usage, at the top of the repository:
     tools/wrong_bodies.py                                every crate, side by side
     tools/wrong_bodies.py NAME [FILE.edit ..]            one crate, or these files of it
     tools/wrong_bodies.py --proved [NAME [FILE.edit ..]] the same, right after an rt ci that proved them all
+    tools/wrong_bodies.py --beside FILE                  every crate, beside an rt ci that writes what it says to that file
     tools/wrong_bodies.py --anew ..                      the same, with those that an earlier run refused
 
 A FILE.edit is a path, or the name of a file in crates/NAME/wrong-bodies/ or crates/NAME/must-fail/.
@@ -22,7 +23,9 @@ its module must be refused for itself.
 
 All this happens on a copy of the repository, over the work that `rt check` kept in out/, where there is some. The crate as
 it stands must be proved there first. With --proved that is taken from the caller, in a repository where nothing is kept: the
-rounds then stand on the libraries that rt ci built. RT_JOBS is how many checks run side by side, as it is for rt ci.
+rounds then stand on the libraries that rt ci built. With --beside a crate's bodies are tried as soon as the file says that
+the crates below it are proved and built; that the crate itself is, is for rt ci to say. The file ends with a line
+`rt ci: ended`. RT_JOBS is how many checks run side by side, as it is for rt ci.
 
 That a body was refused is kept where rt ci keeps what it passed, on this machine alone, under a sum of the kit, this tool, the
 body, the files of its crate and of those below it, and the libraries that were built of these. So a later run tries what has
@@ -39,10 +42,13 @@ import shutil
 import subprocess
 import sys
 import tempfile
-from concurrent.futures import ThreadPoolExecutor
+import threading
+import time
+from concurrent.futures import FIRST_COMPLETED, ThreadPoolExecutor, wait
 from dataclasses import dataclass, field, replace
 
 FUNCTION = re.compile(r"^( {4})?(?:pub(?:\([^)]*\))? )?(?:const |unsafe )*fn (\w+)", re.M)
+SOURCES = ["src", "specs", "proofs"]
 TAKEN_AWAY = re.compile(r"has no `|has no field|is not in scope|was not admitted")
 
 
@@ -359,14 +365,18 @@ def call(words, folder):
     return ran.stdout + ran.stderr
 
 
-def copy_of(top, to):
-    """Copies a repository, with what `rt check` and `rt ci` kept."""
+def copy_of(top, to, parts):
+    """Copies these parts of a repository's crates."""
     os.makedirs(f"{to}/.git")
     shutil.copyfile(f"{top}/crates.txt", f"{to}/crates.txt")
     for name in os.listdir(f"{top}/crates"):
-        for part in ("src", "specs", "proofs", "out/incremental", "out/rlib"):
-            if os.path.isdir(f"{top}/crates/{name}/{part}"):
-                shutil.copytree(f"{top}/crates/{name}/{part}", f"{to}/crates/{name}/{part}", copy_function=shutil.copy2)
+        for part in parts:
+            copy_part(top, to, name, part)
+
+
+def copy_part(top, to, name, part):
+    if os.path.isdir(f"{top}/crates/{name}/{part}"):
+        shutil.copytree(f"{top}/crates/{name}/{part}", f"{to}/crates/{name}/{part}", copy_function=shutil.copy2)
 
 
 def has_kept(top):
@@ -472,27 +482,81 @@ def given_by(words, top):
     return {name: files for name, files in given.items() if files}
 
 
+def told_by(file):
+    """Returns the crates that an rt ci has proved by now and built, by what it wrote to a file, and whether it has ended."""
+    said = read(file) if os.path.isfile(file) else ""
+    return set(re.findall(r"^rt: (\w+) (?:proved$|is kept:)", said, re.M)), bool(re.search(r"^rt ci: ended", said, re.M))
+
+
+def in_turn(left, lanes, can_begin, is_over, call):
+    """Calls a function for each crate once that can begin, the first of these first, as many side by side as there are lanes, and
+    returns the lines that all return. A crate that cannot begin when all is over has one line."""
+    lines, running = [], set()
+    with ThreadPoolExecutor(lanes) as pool:
+        while left or running:
+            over = is_over()
+            ready = [it for it in left if can_begin(it)]
+            for it in ready[: lanes - len(running)]:
+                left = [other for other in left if other is not it]
+                running.add(pool.submit(call, it))
+            if not ready and not running and over:
+                return lines + [f"{it.name}: no body was tried: a crate below it is not proved" for it in left]
+            done, running = wait(running, timeout=2, return_when=FIRST_COMPLETED) if running else (set(), running)
+            if not done and not running:
+                time.sleep(2)
+            lines += [line for it in done for line in it.result()]
+    return lines
+
+
+def try_beside(rt, top, base, every, given, lanes, told, is_anew):
+    """Tries the bodies beside an rt ci, and returns a line for each that is not refused."""
+    kept, built, lock = rt.Kept(every, is_anew) if hasattr(rt, "Kept") else None, set(), threading.Lock()
+
+    def can_begin(crate):
+        return {it.name for it in crate.below()} <= told_by(told)[0]
+
+    def call(crate):
+        with lock:
+            for name in {it.name for it in crate.below()} - built:
+                copy_part(top, base, name, "out/rlib")
+                built.add(name)
+        bodies = untried(kept, crate, bodies_of(rt, kept, crate, given[crate.name]))
+        return try_crate(rt, kept, crate, bodies, True) if bodies else []
+
+    # (the crate with the most bodies goes first)
+    left = sorted((it for it in every if it.name in given), key=lambda it: -len(given[it.name]))
+    return in_turn(left, lanes, can_begin, lambda: told_by(told)[1], call)
+
+
+def try_proved(rt, base, every, given, lanes, is_proved, is_whole, is_anew):
+    """Tries the bodies of crates that are proved, or once they are, and returns a line for each that is not refused."""
+    # (an older kit keeps nothing)
+    kept = rt.Kept(every, is_anew) if hasattr(rt, "Kept") else None
+    left = {it: untried(kept, it, bodies_of(rt, kept, it, given[it.name])) for it in every if it.name in given}
+    if any(left.values()) and is_whole and not is_proved:
+        # (the crates are proved side by side, and the libraries below the others are built)
+        call(["rt", "all", "check", "--jobs", str(lanes)], base)
+    # (the crate with the most bodies goes first)
+    crates = sorted((it for it in left if left[it]), key=lambda it: -len(left[it]))
+    return in_turn(crates, lanes, lambda it: True, lambda: True, lambda it: try_crate(rt, kept, it, left[it], is_proved))
+
+
 def main(words):
     top, lanes = os.getcwd(), int(os.environ.get("RT_JOBS") or os.cpu_count() or 1)
     if not os.path.isfile(f"{top}/crates.txt"):
         sys.exit("wrong_bodies.py runs at the top of the repository, where crates.txt stands")
     is_proved, is_anew = "--proved" in words and not has_kept(top), "--anew" in words
-    words = [it for it in words if it not in ("--proved", "--anew")]
+    told = words[1] if words[:1] == ["--beside"] and len(words) == 2 else ""
+    words = [] if told else [it for it in words if it not in ("--proved", "--anew")]
     given = given_by(words, top)
     rt, count = load_rt(), sum(map(len, given.values()))
     with tempfile.TemporaryDirectory(prefix="wrong-bodies-") as base:
-        copy_of(top, base)
+        copy_of(top, base, SOURCES if told else [*SOURCES, "out/incremental", "out/rlib"])
         every = rt.rtlib.crates_below(base)
-        # (an older kit keeps nothing)
-        kept = rt.Kept(every, is_anew) if hasattr(rt, "Kept") else None
-        left = {it: untried(kept, it, bodies_of(rt, kept, it, given[it.name])) for it in every if it.name in given}
-        if any(left.values()) and not words and not is_proved:
-            # (the crates are proved side by side, and the libraries below the others are built)
-            call(["rt", "all", "check", "--jobs", str(lanes)], base)
-        # (the crate with the most bodies goes first)
-        crates = sorted((it for it in left if left[it]), key=lambda it: -len(left[it]))
-        with ThreadPoolExecutor(lanes) as pool:
-            failed = [line for lines in pool.map(lambda it: try_crate(rt, kept, it, left[it], is_proved), crates) for line in lines]
+        if told:
+            failed = try_beside(rt, top, base, every, given, lanes, told, is_anew)
+        else:
+            failed = try_proved(rt, base, every, given, lanes, is_proved, not words, is_anew)
     # (once more at the end, where a log that was cut still shows them)
     for line in failed:
         print(line)

@@ -22,5 +22,6 @@ pub mod RefusalLaws
 pub mod RequestLaws
 pub mod KeepLaws
 pub mod BeginLaws
+pub mod EventLaws
 pub mod PrintLaws
 pub mod WrittenRowsLaws

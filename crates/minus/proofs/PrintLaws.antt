@@ -1,5 +1,5 @@
 -- Stored rows one below another.
-use Rattle.std.proofs.Common.{◌≡◌, ℕ, ◌+◌, ◌<◌, ◌≤◌, nat_lt, List, [], ◌++◌, get_or, length, take, Option, None, Some, Bool, false, slice_get, map, Result, Ok, Err, IfOk, IfErr, inl, inr, sym, ap, subst, ◌∙◌, arith}
+use Rattle.std.proofs.Common.{◌≡◌, ℕ, ◌+◌, ◌<◌, ◌≤◌, nat_lt, List, [], ◌++◌, get_or, length, take, Option, None, Some, Bool, false, slice_get, map, Result, Ok, Err, IfOk, IfErr, inl, inr, refl, sym, ap, subst, ◌∙◌, arith}
 use Rattle.std.specs.List.{flat_map}
 use Rattle.std.proofs.lemmas.List.{take_more, take_all}
 use Rattle.std.proofs.lemmas.Bool.{le-ltb}
@@ -28,7 +28,7 @@ use Rattle.minus.specs.Reads.{kept_of, wanted_of}
 use Rattle.minus.specs.Starts.{first_control, kept_taken, CanBegin, IsFormRefused}
 use Rattle.minus.specs.StaticPager.{stored_rows, rows_that_fit, printed, printed_of, IsWritten, IsUnwritten, IsShownAll, IsNotShownAll, IsPaged, IsFirstPaged, IsUnpaged}
 use Rattle.minus.proofs.BeginLaws.{IsPrepared, begun, not_begun, if_ok, if_err}
-use Rattle.minus.proofs.StartLaws.{refused_early, form_is_early}
+use Rattle.minus.proofs.StartLaws.{refused_with, form_is_early}
 use Rattle.minus.proofs.DrawingLaws.{row_added}
 
 -- a stored row of a formed state
@@ -101,11 +101,9 @@ pages_not seen pager cols rows sink first ready r is can control = if_err r (λ 
 
 -- refused early, before anything was written
 pub unpaged_early : {S P H E Q K : Type 0} (seen : S → SinkSeen) (pager : PagerOf P H E Q K) (cols rows : ℕ) (sink : S) (e : StartErrorOf S P H E Q K) → e.sink ≡ sink → e.pager ≡ Some pager → IsFormRefused (refusal_of e.cause) Static cols rows (map wanted_of pager.queue.items) → IsUnpaged seen pager cols rows sink e
-unpaged_early {S = S} {P = P} {H = H} {E = E} {Q = Q} {K = K} seen pager cols rows sink e same back h =
-    let x : StartErrorOf S P H E Q K = record { sink = sink; pager = Some pager; cause = e.cause } in
-    let is : e ≡ x = ap (λ (s : S). let r : StartErrorOf S P H E Q K = record { sink = s; pager = e.pager; cause = e.cause } in r) same ∙ ap (λ (p : Option (PagerOf P H E Q K)). let r : StartErrorOf S P H E Q K = record { sink = sink; pager = p; cause = e.cause } in r) back in
+unpaged_early seen pager cols rows sink e same back h =
     let early = form_is_early (refusal_of e.cause) cols rows (map wanted_of pager.queue.items) h in
-    subst (IsUnpaged seen pager cols rows sink) (sym is) (inr (refused_early seen pager Static cols rows sink e.cause h, λ late. absurd (late early)))
+    inr (refused_with seen pager Static cols rows sink e.cause e same back refl h, λ late. absurd (late early))
 
 -- with a classifier of the session's own at first
 pub first_paged : {S P H E Q K F : Type 0} (IsFirst : K → Type 0) (seen : S → SinkSeen) (pager : PagerOf P H E Q K) (cols rows : ℕ) (sink : S) (classifier : K) (r : Result (PagedOf S P H E Q K) F) → IsFirst classifier → IfOk r (λ paged. IsPaged seen pager cols rows classifier sink paged) → IfOk r (λ paged. IsFirstPaged IsFirst seen pager cols rows sink paged)

@@ -14,6 +14,7 @@ use Rattle.minus_state.specs.Control.{Control, IsClamped}
 use Rattle.minus_state.specs.Changes.{IsUnformedState}
 use Rattle.minus_state.specs.declared.state.RunMode.{RunMode}
 use Rattle.minus_state.specs.declared.state.RunMode.TheVariants.{Static}
+use Rattle.minus.specs.declared.init.StartErrorOf.{StartErrorOf}
 use Rattle.minus.specs.declared.pager.PagerOf.{PagerOf}
 use Rattle.minus.specs.Reads.{wanted_of}
 use Rattle.minus.specs.SessionStarts.{IsStart, IsFirstStart, IsRefusedStart}
@@ -142,6 +143,15 @@ refused_early seen pager mode cols rows sink cause h =
       rises = λ fault. absurd (at.3 fault);
       untouched = λ none. refl;
     }
+
+pub refused_with : {S P H E Q K : Type 0} (seen : S → SinkSeen) (pager : PagerOf P H E Q K) (mode : RunMode) (cols rows : ℕ) (sink : S) (cause : MinusError) (e : StartErrorOf S P H E Q K) → e.sink ≡ sink → e.pager ≡ Some pager → e.cause ≡ cause
+    → IsFormRefused (refusal_of cause) mode cols rows (map wanted_of pager.queue.items) → IsRefusedStart seen pager mode cols rows sink e
+refused_with {S = S} {P = P} {H = H} {E = E} {Q = Q} {K = K} seen pager mode cols rows sink cause e same back why h =
+    let is : e ≡ record { sink = sink; pager = Some pager; cause = cause } =
+    ap (λ (s : S). let r : StartErrorOf S P H E Q K = record { sink = s; pager = e.pager; cause = e.cause } in r) same
+    ∙ ap (λ (p : Option (PagerOf P H E Q K)). let r : StartErrorOf S P H E Q K = record { sink = sink; pager = p; cause = e.cause } in r) back
+    ∙ ap (λ (c : MinusError). let r : StartErrorOf S P H E Q K = record { sink = sink; pager = Some pager; cause = c } in r) why in
+    subst (IsRefusedStart seen pager mode cols rows sink) (sym is) (refused_early seen pager mode cols rows sink cause h)
 
 -- one that cannot be begun, or for which no register of the default bindings is formed
 pub cannot_start : {Q K : Type 0} (refusal : Refusal) (mode : RunMode) (cols rows : ℕ) (waiting : List (Wanted Q K)) → CannotStart refusal mode cols rows → IsFormRefused refusal mode cols rows waiting

@@ -17,18 +17,18 @@ abbrev pub IsHelpText : {K : Type 0} → Classifies K → K → Option Saved →
 IsHelpText says classifier None text = says.helps classifier text
 IsHelpText says classifier (Some saved) text = text ≡ None
 
--- the request that comes of what is asked for: help has its text
-abbrev pub IsRequest : {Q K : Type 0} → Says Q K → Seen Q K → Wanted Q K → Wanted Q K → Type 0
-IsRequest says seen (shows_help asked) wanted = (text : Option (List ℕ)) × IsHelpText says.events seen.classifier seen.control.help text × (wanted ≡ shows_help text)
-IsRequest says seen asked wanted = wanted ≡ asked
+-- the request that comes of what is asked for, with this classifier, and with this put aside where help is open: help has its text
+abbrev pub IsRequest : {Q K : Type 0} → Classifies K → K → Option Saved → Wanted Q K → Wanted Q K → Type 0
+IsRequest says classifier help (shows_help asked) wanted = (text : Option (List ℕ)) × IsHelpText says classifier help text × (wanted ≡ shows_help text)
+IsRequest says classifier help asked wanted = wanted ≡ asked
 
 -- what is asked for: a command asks by itself, an event by an answer that the classifier which is kept may give, in a formed state
 -- that holds the control
 abbrev pub Asks : {Q K : Type 0} → Says Q K → Seen Q K → Told Q K → Wanted Q K → Type 0
-Asks says seen (a_command asked) wanted = IsRequest says seen asked wanted
+Asks says seen (a_command asked) wanted = IsRequest says.events seen.classifier seen.control.help asked wanted
 Asks says seen (an_event event) wanted =
     (state : PagerState) × (answer : Option InputEvent) × IsFormed state × (control_of state ≡ seen.control)
-    × says.events.allows seen.classifier event state answer × IsRequest says seen (answer_wanted answer) wanted
+    × says.events.allows seen.classifier event state answer × IsRequest says.events seen.classifier seen.control.help (answer_wanted answer) wanted
 
 -- what an input is checked as before it waits: a command as what it asks for by itself, a new size as a request for that size; any
 -- other event does not wait

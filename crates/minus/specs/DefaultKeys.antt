@@ -15,7 +15,7 @@ use Rattle.minus.specs.Table.{Wanted, moves_mark}
 abbrev pub EventsAskByTheTable : {Q K : Type 0} → Says Q K → (K → Type 0) → Seen Q K → Type 0
 EventsAskByTheTable {Q} {K} says IsFirst seen =
     (e : Event) (w : Wanted Q K) → IsFirst seen.classifier → Asks says seen (an_event e) w →
-    (state : PagerState) × IsFormed state × (control_of state ≡ seen.control) × IsRequest says seen (event_wanted (default_asks e state)) w
+    (state : PagerState) × IsFormed state × (control_of state ≡ seen.control) × IsRequest says.events seen.classifier seen.control.help (event_wanted (default_asks e state)) w
 
 -- the key `j` asks for a move of the mark by as many rows as the typed prefix says
 abbrev pub JMovesByThePrefix : {Q K : Type 0} → Says Q K → (K → Type 0) → Seen Q K → Type 0

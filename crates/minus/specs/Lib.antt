@@ -18,7 +18,9 @@ pub mod Runs
 pub mod Core
 pub mod Pager
 pub mod Room
+pub mod Queued
 pub mod Unmoved
+pub mod EvHandler
 pub mod Starts
 pub mod Answers
 pub mod SessionDrawings

@@ -79,6 +79,15 @@ wanted_of (RemoveHook hook id) = hands_over (no_callback hook id)
 wanted_of (IncrementalSearchCondition condition) = hands_over (a_condition condition)
 wanted_of (SetInputClassifier classifier) = hands_over (a_classifier classifier)
 
+-- the command that asks for a drawing, if it is one
+abbrev pub io_of : {P H E Q K : Type 0} → CommandOf P H E Q K → Option IoCommand
+io_of (Io command) = Some command
+io_of command = None
+
+-- the command that it is
+abbrev pub as_command : {P H E Q K : Type 0} → IoCommand → CommandOf P H E Q K
+as_command command = Io command
+
 -- what a session is told: a command, or an event of the terminal
 pub data Told (Q K : Type 0) : Type 0 where
   a_command : Wanted Q K → Told Q K

@@ -64,6 +64,21 @@ pub enum CommandOf<P: Parts> {
     SetInputClassifier(#[derive_where(skip)] P::Classifier),
 }
 
+impl<P: Parts> CommandOf<P> {
+    ghost use Rattle.std.specs.Prelude.{◌≡◌};
+    ghost use Rattle.minus.specs.Reads.{io_of};
+
+    // The command that asks for a drawing, if it is one.
+    pub(crate) fn io(&self) -> Option<IoCommand>
+        ensures { result ≡ io_of self.now }
+    {
+        match self {
+            CommandOf::Io(command) => Some(*command),
+            _ => None,
+        }
+    }
+}
+
 /// A command to a session that keeps what its caller boxes, or a register of bindings.
 pub type Command = CommandOf<Boxes>;
 

@@ -130,7 +130,7 @@ fn take_waiting<P: Parts>(
 {
     for command in queue {
         let request = Request::copied(alloc, command)?;
-        take_over(state, alloc, request)?;
+        let _ = take_over(state, alloc, request)?;
     }
     Ok(())
 }
@@ -403,11 +403,7 @@ pub fn init_core_with<S: OutputSink + Drop, P: Calls>(
 {
     match first_of(&pager, mode, cols, rows, classifier) {
         Ok(first) => begin(pager, mode, sink, first),
-        Err(cause) => Err(StartErrorOf {
-            sink,
-            pager: Some(pager),
-            cause,
-        }),
+        Err(cause) => Err(StartErrorOf::early(pager, sink, cause)),
     }
 }
 
@@ -472,11 +468,7 @@ pub fn init_core<
             let classifier = Classifier::Register(register);
             init_core_with(pager, mode, sink, cols, rows, classifier)
         }
-        Err(cause) => Err(StartErrorOf {
-            sink,
-            pager: Some(pager),
-            cause,
-        }),
+        Err(cause) => Err(StartErrorOf::early(pager, sink, cause)),
     }
 }
 

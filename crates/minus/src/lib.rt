@@ -5,8 +5,10 @@
 #![tactic(auto)]
 
 mod answer;
+mod command_queue;
 mod commands;
 pub mod error;
+mod ev_handler;
 mod exchange;
 mod handed;
 pub mod help;
@@ -37,6 +39,8 @@ mod waiting;
 mod written_rows;
 
 pub use answer::Answer;
+pub use command_queue::CommandQueue;
+pub use command_queue::CommandQueueOf;
 pub use commands::Command;
 pub use commands::CommandOf;
 pub use commands::Input;
@@ -48,6 +52,9 @@ pub use error::MinusError;
 pub use error::RegexError;
 pub use error::SetupError;
 pub use error::TermError;
+pub use ev_handler::Handled;
+pub use ev_handler::handle_event;
+pub use ev_handler::handle_io_command;
 pub use exchange::SinkError;
 pub use exchange::an_exchange_leaves_its_page;
 pub use help::format_help_table_from_entries;

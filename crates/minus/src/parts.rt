@@ -3,8 +3,10 @@
 //! A function of your own on a session is written over the kinds: `<P: Calls>(session: &mut Core<S, P>)`.
 use crate::hooks::{ExitCall, ExitCallbacks, HookCall, HookList, KeptExit, KeptHook};
 use crate::input::{Classifier, InputClassifier, KeptAction};
+use crate::request::Request;
 use crate::search::{ConditionCall, KeptCondition};
 use crate::state::{ExitStrategy, PagerState};
+use minus_term::MinusError;
 use std::alloc::Global;
 use std::marker::PhantomData;
 
@@ -117,6 +119,43 @@ impl<P: Parts> PartsOf<P> {
             exit_strategy: ExitStrategy::ProcessQuit,
             exit_code: 0,
             run_no_overflow: false,
+        }
+    }
+}
+
+impl<P: Calls> PartsOf<P> {
+    ghost use Rattle.std.specs.Prelude.{◌≡◌, option_map, string_bytes, IfOk, IfErr};
+    ghost use Rattle.minus_state.specs.States.{control_of};
+    ghost use Rattle.minus.specs.Asked.{IsRequest, IsHelpText};
+    ghost use Rattle.minus.specs.Reads.{wanted_by};
+
+    // The text that help is opened with, if there is one: the classifier's; while help is open, the classifier is not
+    // asked.
+    fn help_text(&self, alloc: Global) -> Result<Option<String>, MinusError>
+        ensures text { IfOk result (λ text. IsHelpText P.Classifier.says self.now.classifier
+            (control_of self.now.state).help (option_map string_bytes text)) }
+        ensures memory { IfErr result (λ e. e ≡ MinusError.Memory) }
+    {
+        if self.state.help_open() {
+            return Ok(None);
+        }
+        let text = self.classifier.format_help(alloc)?;
+        Ok(text)
+    }
+
+    // A request as it is worked off: help has its text.
+    pub(crate) fn with_help(
+        &self,
+        alloc: Global,
+        request: Request<P>,
+    ) -> Result<Request<P>, MinusError>
+        ensures ok { IfOk result (λ r. IsRequest P.Classifier.says self.now.classifier
+            (control_of self.now.state).help (wanted_by request) (wanted_by r)) }
+        ensures memory { IfErr result (λ e. e ≡ MinusError.Memory) }
+    {
+        match request {
+            Request::ShowHelp(_) => Ok(Request::ShowHelp(self.help_text(alloc)?)),
+            request => Ok(request),
         }
     }
 }

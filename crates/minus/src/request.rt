@@ -44,6 +44,7 @@ impl<P: Parts> Request<P> {
     ghost use Rattle.std.specs.Prelude.{◌≡◌, IfOk};
     ghost use Rattle.minus_state.specs.Control.{Control};
     ghost use Rattle.minus_state.specs.States.{control_of, IsFormed};
+    ghost use Rattle.minus.specs.Queued.{draws_prompt_row};
     ghost use Rattle.minus.specs.Reads.{event_wanted, io_wanted, wanted_of, wanted_by};
     ghost use Rattle.minus.specs.Table.{effect, moves, IsPossible};
 
@@ -56,6 +57,18 @@ impl<P: Parts> Request<P> {
             Request::AppendText(_) => state.follow_output() && !state.help_open(),
             Request::MoveToNextMatch(jump) => state.next_match_row(*jump).is_some(),
             Request::MoveToPrevMatch(jump) => state.prev_match_row(*jump).is_some(),
+            _ => false,
+        }
+    }
+
+    // Whether the prompt row alone is drawn for it.
+    pub(crate) fn draws_prompt_row(&self, state: &PagerState) -> bool
+        ensures { result ≡ draws_prompt_row (control_of state.now) (wanted_by self.now) }
+    {
+        match self {
+            Request::SetPrompt(_) | Request::SendMessage(_) | Request::ShowPrompt(_) => true,
+            Request::Type(_) => true,
+            Request::RestorePrompt => !state.help_open(),
             _ => false,
         }
     }
@@ -89,7 +102,7 @@ impl<P: Parts> Request<P> {
     }
 
     // What a command that asks for a drawing asks for.
-    fn of_io(command: IoCommand) -> Request<P>
+    pub(crate) fn of_io(command: IoCommand) -> Request<P>
         ensures { wanted_by result ≡ io_wanted command }
     {
         match command {

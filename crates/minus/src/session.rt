@@ -260,35 +260,7 @@ impl<S: OutputSink + Drop, P: Calls> Core<S, P> {
     ghost use Rattle.minus.specs.SessionSteps.{IsAsked, IsTakenOf, IsUntakenOf, IsStepOf, IsRefusedStepOf};
     ghost use Rattle.minus.specs.Steps.{cleanup_after};
     ghost use Rattle.minus.specs.Table.{Wanted, hands_over, lets_prefix_go};
-    ghost use Rattle.minus.specs.Asked.{IsRequest, IsHelpText};
     ghost use Rattle.minus.specs.Works.{Work};
-
-    // The text that help is opened with, if there is one: the classifier's; while help is open, the classifier is not
-    // asked.
-    fn help_text(&self) -> Result<Option<String>, MinusError>
-        ensures text { IfOk result (λ text. IsHelpText P.Classifier.says self.now.parts.classifier
-            (control_of self.now.parts.state).help (option_map string_bytes text)) }
-        ensures memory { IfErr result (λ e. e ≡ MinusError.Memory) }
-    {
-        if self.parts.state.help_open() {
-            return Ok(None);
-        }
-        let text = self.parts.classifier.format_help(self.alloc)?;
-        Ok(text)
-    }
-
-    // A request as it is worked off: help has its text.
-    fn with_help(&self, request: Request<P>) -> Result<Request<P>, MinusError>
-        ensures ok { IfOk result (λ r.
-            IsRequest (says_of P.Condition.judges P.Classifier.says) (seen_of self.now) (wanted_by request)
-            (wanted_by r)) }
-        ensures memory { IfErr result (λ e. e ≡ MinusError.Memory) }
-    {
-        match request {
-            Request::ShowHelp(_) => Ok(Request::ShowHelp(self.help_text()?)),
-            request => Ok(request),
-        }
-    }
 
     // The request that an input is, for an event by the classifier's answer, and whether the typed prefix goes with it.
     fn resolve(&self, input: InputOf<P>) -> Result<(Request<P>, bool), MinusError>
@@ -299,7 +271,9 @@ impl<S: OutputSink + Drop, P: Calls> Core<S, P> {
     {
         match input {
             InputOf::Command(command) => {
-                let request = self.with_help(Request::of_command(command))?;
+                let request = self
+                    .parts
+                    .with_help(self.alloc, Request::of_command(command))?;
                 Ok((request, false))
             }
             InputOf::Event(event) => {
@@ -308,7 +282,7 @@ impl<S: OutputSink + Drop, P: Calls> Core<S, P> {
                     .classifier
                     .classify_input(event, &self.parts.state);
                 let answer = answer.unwrap_or(InputEvent::Ignore);
-                let request = self.with_help(Request::of_event(answer))?;
+                let request = self.parts.with_help(self.alloc, Request::of_event(answer))?;
                 Ok((request, answer.clears_prefix()))
             }
         }

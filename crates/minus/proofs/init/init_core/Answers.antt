@@ -4,7 +4,7 @@ use Rattle.minus_term.specs.Refusals.{refusal_of}
 use Rattle.minus_input.specs.DefaultClassifier.{IsDefault}
 use Rattle.minus_input.specs.declared.classifier.Classifier.TheVariants.{Register}
 use Rattle.minus.specs.Reads.{wanted_of}
-use Rattle.minus.proofs.StartLaws.{first_start, refused_early, unregistered}
+use Rattle.minus.proofs.StartLaws.{first_start, refused_with, unregistered}
 use Rattle.minus.proofs.init.init_core.Goals as goal
 
 pub returns-in-Ok-clause-started : goal.returns-in-Ok-clause-started
@@ -13,4 +13,4 @@ returns-in-Ok-clause-started g c =
 
 pub returns-in-Err-clause-refused : goal.returns-in-Err-clause-refused
 returns-in-Err-clause-refused g c =
-    refused_early g.S.OutputSink.seen c.args.pager c.args.mode c.args.cols c.args.rows c.args.sink c.in-Err.cause (unregistered (refusal_of c.in-Err.cause) c.args.mode c.args.cols c.args.rows (map wanted_of c.args.pager.queue.items) c.in-Err.ensures.refused)
+    refused_with g.S.OutputSink.seen c.args.pager c.args.mode c.args.cols c.args.rows c.args.sink c.in-Err.cause c.early.result c.early.ensures.sink c.early.ensures.pager c.early.ensures.cause (unregistered (refusal_of c.in-Err.cause) c.args.mode c.args.cols c.args.rows (map wanted_of c.args.pager.queue.items) c.in-Err.ensures.refused)

@@ -24,5 +24,7 @@ returns-in_ok-place-in_default g c =
     record {
       control = placed.control left c.requires leads ∙ opens_none old request c.in_default.not-Search c.in_default.not-FetchSearchQuery;
       formed = placed.formed left c.requires leads;
+      left = c.in_ok-change-in_default.ensures.left;
       refused = tt;
+      err = tt;
     }

@@ -21,7 +21,7 @@ same_clears : {Q K : Type 0} (e : Event) (a b : Wanted Q K) → a ≡ b → clea
 same_clears e a b is = ap (λ (w : Wanted _ _). clears_prefix (an_event e) w) is
 
 -- whether the prefix goes does not hang on the text of help
-clears_as : {Q K : Type 0} (says : Says Q K) (seen : Seen Q K) (e : Event) (answer : InputEvent) (wanted : Wanted Q K) → IsRequest says seen (event_wanted answer) wanted → clears_prefix (an_event e) wanted ≡ event_clears answer
+clears_as : {Q K : Type 0} (says : Says Q K) (seen : Seen Q K) (e : Event) (answer : InputEvent) (wanted : Wanted Q K) → IsRequest says.events seen.classifier seen.control.help (event_wanted answer) wanted → clears_prefix (an_event e) wanted ≡ event_clears answer
 clears_as says seen e (UpdateUpperMark mark) wanted h = same_clears e wanted _ h
 clears_as says seen e (UpdateTermArea cols rows) wanted h = same_clears e wanted _ h
 clears_as says seen e (UpdateLeftMark left) wanted h = same_clears e wanted _ h
@@ -49,8 +49,8 @@ returns-in_ok-request-in-Event-clause-asked g c =
     let seen = seen_of c.args.self.now in
     let wanted = wanted_by c.in_ok-request-in-Event.request in
     let asked = c.of_event.ensures ∙ ap event_wanted c.unwrap_or-answer.ensures ∙ asked_as c.classify_input-answer.result in
-    let answered = subst (λ (w : Wanted _ _). IsRequest says seen w wanted) c.of_event.ensures c.in_ok-request-in-Event.ensures.ok in
+    let answered = subst (λ (w : Wanted _ _). IsRequest says.events seen.classifier seen.control.help w wanted) c.of_event.ensures c.in_ok-request-in-Event.ensures.ok in
     rw c.in-Event.is (record {
-      asks = (c.args.self.now.parts.state, c.classify_input-answer.result, c.args.self.now.formed, refl, c.classify_input-answer.ensures, subst (λ (w : Wanted _ _). IsRequest says seen w wanted) asked c.in_ok-request-in-Event.ensures.ok);
+      asks = (c.args.self.now.parts.state, c.classify_input-answer.result, c.args.self.now.formed, refl, c.classify_input-answer.ensures, subst (λ (w : Wanted _ _). IsRequest says.events seen.classifier seen.control.help w wanted) asked c.in_ok-request-in-Event.ensures.ok);
       prefix = clears_as says seen c.in-Event.event c.unwrap_or-answer.result wanted answered ∙ sym c.clears_prefix.ensures;
     })

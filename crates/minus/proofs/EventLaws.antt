@@ -1,0 +1,76 @@
+-- Commands that are handled by hand.
+use Rattle.std.proofs.Common.{◌≡◌, ℕ, List, ◌++◌, map, true, false, Option, None, Some, is_some, sym, ap, ◌∙◌}
+use Rattle.std.proofs.lemmas.List.{append_assoc, map-append}
+use Rattle.minus_term.specs.Refusals.{Refusal, for_memory, for_newline, for_size, for_mode, for_hook_id, for_free_hook_id, for_description, for_binding, for_query, after_failure, after_exit, at_setup, at_cleanup, at_drawing, for_pattern, of_no_call}
+use Rattle.minus_state.specs.Classifying.{Classifies}
+use Rattle.minus_state.specs.Control.{Control}
+use Rattle.minus_state.specs.Prompting.{opening_redraw}
+use Rattle.minus_state.specs.declared.search.SearchMode.{SearchMode}
+use Rattle.minus_state.specs.declared.search.SearchMode.TheVariants.{Forward, Reverse, Unknown}
+use Rattle.minus.specs.declared.commands.CommandOf.{CommandOf}
+use Rattle.minus.specs.declared.commands.IoCommand.{IoCommand}
+use Rattle.minus.specs.declared.commands.IoCommand.TheVariants.{RedrawPrompt, RedrawDisplay, DrawAppendedText, SetUpperMark, FetchSearchQuery}
+use Rattle.minus.specs.declared.ev_handler.Handled.{Handled}
+use Rattle.minus.specs.declared.parts.PartsOf.{PartsOf}
+use Rattle.minus.specs.Drawings.{IsDrawable}
+use Rattle.minus.specs.declared.unmoved.Left.{Left}
+use Rattle.minus.specs.EvHandler.{HandlesAs, IsQueued, IsDone, IsRequestTo, CannotHandle}
+use Rattle.minus.specs.Outcomes.{IsUnformed}
+use Rattle.minus.specs.Queued.{listed, queued, drawing_command, draws_prompt_row}
+use Rattle.minus.specs.Reads.{as_command, io_wanted}
+use Rattle.minus.specs.Unmoved.{IsLeft}
+use Rattle.minus.specs.Table.{Wanted, moves_mark, fetches_query, effect, changed_by, drawing_by, drawing_of}
+use Rattle.minus.proofs.KeyedLaws.{moved_drawable}
+
+-- a command that asks for a drawing waits
+pub waits : {P H E Q K : Type 0} (io : Option IoCommand) (says : Classifies K) (old : PartsOf P H E Q K) (waiting : List (CommandOf P H E Q K)) (command : CommandOf P H E Q K) (new : PartsOf P H E Q K) (queue : List (CommandOf P H E Q K)) (handled : Handled)
+    → is_some io ≡ true → IsQueued old waiting command new queue handled → HandlesAs io says old waiting command new queue handled
+waits (Some io) says old waiting command new queue handled is queued = queued
+waits None says old waiting command new queue handled is queued = absurd (let no : false ≡ true = is in cc)
+
+-- any other is done
+pub is_done : {P H E Q K : Type 0} (io : Option IoCommand) (says : Classifies K) (old : PartsOf P H E Q K) (waiting : List (CommandOf P H E Q K)) (command : CommandOf P H E Q K) (new : PartsOf P H E Q K) (queue : List (CommandOf P H E Q K)) (handled : Handled) (w : Wanted Q K)
+    → is_some io ≡ false → IsRequestTo says old command w → IsDone old waiting w new queue handled → HandlesAs io says old waiting command new queue handled
+is_done (Some io) says old waiting command new queue handled w is request h = absurd (let no : true ≡ false = is in cc)
+is_done None says old waiting command new queue handled w is request h = (w, request, h)
+
+fetch_drawable : (mode : SearchMode) (c new : Control) (mark : ℕ) → IsDrawable (drawing_by (opening_redraw mode) c mark) c new
+fetch_drawable Forward c new mark = tt
+fetch_drawable Reverse c new mark = tt
+fetch_drawable Unknown c new mark = tt
+
+-- no command that asks for a drawing edits the query of a search prompt
+pub io_drawable : (Q K : Type 0) (c new : Control) (io : IoCommand) → IsDrawable (drawing_of {Q = Q} {K = K} c (io_wanted io)) c new
+io_drawable Q K c new RedrawPrompt = tt
+io_drawable Q K c new RedrawDisplay = tt
+io_drawable Q K c new (DrawAppendedText unfinished rows style) = tt
+io_drawable Q K c new (SetUpperMark mark) = moved_drawable c new (changed_by (effect {Q = Q} {K = K} c (moves_mark mark))).mark
+io_drawable Q K c new FetchSearchQuery = fetch_drawable c.mode c new (changed_by (effect {Q = Q} {K = K} c fetches_query)).mark
+
+-- the drawing waits behind what waited, and the move behind that
+pub both_wait : {P H E Q K : Type 0} (c : Control) (w : Wanted Q K) (left : Left) (waiting kept first last : List (CommandOf P H E Q K)) → IsLeft c w left → kept ≡ waiting → first ≡ kept ++ map as_command (listed left.drawing) → last ≡ first ++ map as_command (listed left.movement)
+    → last ≡ waiting ++ map as_command (queued c w)
+both_wait {P = P} {H = H} {E = E} {Q = Q} {K = K} c w left waiting kept first last is same drawn moved =
+    let commands : List IoCommand → List (CommandOf P H E Q K) = map as_command in
+    let behind : last ≡ waiting ++ (commands (listed left.drawing) ++ commands (listed left.movement)) = moved ∙ ap (λ l. l ++ commands (listed left.movement)) (drawn ∙ ap (λ l. l ++ commands (listed left.drawing)) same) ∙ append_assoc waiting (commands (listed left.drawing)) (commands (listed left.movement)) in
+    let both : listed left.drawing ++ listed left.movement ≡ queued c w = ap (λ d. listed d ++ listed left.movement) is.drawing ∙ ap (λ m. listed (drawing_command (effect c w).redraw (draws_prompt_row c w)) ++ listed m) is.movement in
+    behind ∙ ap (λ l. waiting ++ l) (sym (map-append as_command (listed left.drawing) (listed left.movement)) ∙ ap commands both)
+
+-- why a request was not formed is why its command is not handled
+pub cannot_form : {P H E Q K : Type 0} (refusal : Refusal) (says : Classifies K) (parts : PartsOf P H E Q K) (command : CommandOf P H E Q K) (w : Wanted Q K) → IsRequestTo says parts command w → IsUnformed refusal w → CannotHandle refusal says parts command
+cannot_form for_memory says parts command w request h = tt
+cannot_form for_newline says parts command w request h = (w, request, h)
+cannot_form (for_size cols rows) says parts command w request h = (w, request, h)
+cannot_form for_mode says parts command w request h = absurd h
+cannot_form (for_hook_id hook id) says parts command w request h = absurd h
+cannot_form for_free_hook_id says parts command w request h = absurd h
+cannot_form (for_description place cause) says parts command w request h = absurd h
+cannot_form (for_binding place) says parts command w request h = absurd h
+cannot_form for_query says parts command w request h = absurd h
+cannot_form after_failure says parts command w request h = absurd h
+cannot_form after_exit says parts command w request h = absurd h
+cannot_form (at_setup cause) says parts command w request h = absurd h
+cannot_form (at_cleanup cause) says parts command w request h = absurd h
+cannot_form at_drawing says parts command w request h = absurd h
+cannot_form for_pattern says parts command w request h = absurd h
+cannot_form of_no_call says parts command w request h = absurd h

@@ -1,0 +1,140 @@
+//! Commands that a program handles by hand, one at a time, on parts of its own.
+ghost use Rattle.std.specs.Prelude.{◌≡◌, OnOk, OnErr, IfOk, IfErr};
+ghost use Rattle.minus_term.specs.Refusals.{refusal_of};
+ghost use Rattle.minus_term.specs.Written.{written_all};
+ghost use Rattle.minus_state.specs.Changes.{IsChange};
+ghost use Rattle.minus_state.specs.States.{control_of, IsFormed};
+ghost use Rattle.minus.specs.EvHandler.{Handles, IsUnhandled, CannotHandle, io_left, io_ops, IsIoDone, IsIoUndone};
+ghost use Rattle.minus.specs.Reads.{kept_of};
+
+use crate::command_queue::CommandQueueOf;
+use crate::commands::{CommandOf, IoCommand};
+use crate::hooks::Hook;
+use crate::outcome::outcome_of;
+use crate::parts::{Calls, PartsOf};
+use crate::request::Request;
+use crate::state::PagerState;
+use crate::step_drawing::{Drawing, draw_page};
+use crate::unmoved::{clamp_mark, take_over};
+use minus_state::change::Change;
+use minus_term::{MinusError, OutputSink, draw_bytes};
+use std::alloc::Global;
+
+/// What a command that was handled answers.
+#[derive(Debug, Drop)]
+pub struct Handled {
+    /// Whether it was an exit.
+    pub exited: bool,
+    /// The text that was copied.
+    pub copied: Option<String>,
+}
+
+impl Handled {
+    ghost use Rattle.std.specs.Prelude.{◌≡◌, None, false};
+
+    // Nothing is answered.
+    pub(crate) fn nothing() -> Handled
+        ensures { result ≡ record { exited = false; copied = None } }
+    {
+        Handled {
+            exited: false,
+            copied: None,
+        }
+    }
+}
+
+/// Handles a command by its line of the table of commands, without its drawing, its move, its callbacks and the opening
+/// of a search prompt: these wait in the queue, in this order, as commands that ask for a drawing, which
+/// [`handle_io_command`] does. Such a command waits there itself. An exit is answered, and left to the caller.
+///
+/// # Errors
+///
+/// [`MinusError::NewlineInPrompt`], [`MinusError::HookIdTaken`], [`MinusError::NoFreeHookId`] and
+/// [`MinusError::BadSize`] where a session's step has them, and [`MinusError::Memory`] where there is no memory; nothing
+/// has changed.
+pub fn handle_event<P: Calls>(
+    alloc: Global,
+    command: CommandOf<P>,
+    parts: &mut PartsOf<P>,
+    queue: &mut CommandQueueOf<P>,
+) -> Result<Handled, MinusError>
+    requires formed { IsFormed parts.old.state }
+    ensures handled { IfOk result (λ handled. Handles P.Classifier.says parts.old queue.old.commands.items command
+        parts.new queue.new.commands.items handled) }
+    ensures refused { IfErr result (λ e. CannotHandle (refusal_of e) P.Classifier.says parts.old command) }
+    ensures unhandled { OnErr result (IsUnhandled parts.old queue.old.commands.items
+        parts.new queue.new.commands.items) }
+    ensures formed { IsFormed parts.new.state }
+{
+    if command.io().is_some() {
+        queue.push_back(command)?;
+        return Ok(Handled::nothing());
+    }
+    queue.reserve(2)?;
+    let request = parts.with_help(alloc, Request::of_command(command))?;
+    if let Request::HandOver(handed) = request {
+        parts.keep(handed)?;
+        clamp_mark(&mut parts.state);
+        return Ok(Handled::nothing());
+    }
+    let left = take_over(&mut parts.state, alloc, request)?;
+    queue.push_reserved(left.drawing);
+    queue.push_reserved(left.movement);
+    Ok(left.handled)
+}
+
+// The change that a command which asks for a drawing comes to, the bytes of the drawing, and the hook whose callbacks
+// are called then, if one is.
+fn drawn_io<P: Calls>(
+    alloc: Global,
+    state: &PagerState,
+    command: IoCommand,
+) -> Result<(Change, Vec<u8>, Option<Hook>), MinusError>
+    requires formed { IsFormed state.now }
+    ensures leads { IfOk result (λ d. IsChange (control_of state.now) d.0
+        (io_left P.Condition P.Classifier (control_of state.now) command)) }
+    ensures bytes { IfOk result (λ d. d.1.items
+        ≡ written_all (io_ops P.Condition P.Classifier (control_of state.now) command)) }
+    ensures memory { IfErr result (λ e. e ≡ MinusError.Memory) }
+{
+    let request: Request<P> = Request::of_io(command);
+    let outcome = outcome_of(state, alloc, request, false)?;
+    let drawing = Drawing::of(state, &outcome.change);
+    let (_, bytes) = draw_page(alloc, state, drawing, &outcome.change)?;
+    let hook = outcome.hook;
+    let (change, _) = outcome.into_parts();
+    Ok((change, bytes, hook))
+}
+
+/// Does what a command asks for that asks for a drawing, by its line of the table of commands, and draws it. Then it
+/// calls the callbacks of [`Hook::EofReached`], where the mark was moved, also by no rows, and the page shows the end of
+/// more rows than the terminal has.
+///
+/// # Errors
+///
+/// [`MinusError::Memory`] where there is no memory: nothing has changed, and nothing was written. [`MinusError::Draw`]
+/// where the sink refused a write or the flush: a beginning of the bytes was written, and what was asked for is done.
+pub fn handle_io_command<W: OutputSink, P: Calls>(
+    alloc: Global,
+    command: IoCommand,
+    out: &mut W,
+    parts: &mut PartsOf<P>,
+) -> Result<(), MinusError>
+    requires formed { IsFormed parts.old.state }
+    ensures done { OnOk result (IsIoDone W.seen parts.old out.old command parts.new out.new) }
+    ensures undone { IfErr result (λ e. IsIoUndone (refusal_of e) W.seen parts.old out.old command parts.new out.new) }
+    ensures formed { IsFormed parts.new.state }
+    ensures kept { kept_of parts.new ≡ kept_of parts.old }
+    ensures classifier { parts.new.classifier ≡ parts.old.classifier }
+    ensures condition { parts.new.condition ≡ parts.old.condition }
+{
+    let (change, bytes, hook) = drawn_io::<P>(alloc, &parts.state, command)?;
+    parts.state.place(alloc, change)?;
+    if let Err(cause) = draw_bytes(out, &bytes) {
+        return Err(MinusError::Draw(cause));
+    }
+    if let Some(hook) = hook {
+        parts.call(hook);
+    }
+    Ok(())
+}
