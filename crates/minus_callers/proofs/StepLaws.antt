@@ -11,9 +11,10 @@ use Rattle.minus.specs.Reads.{Told, a_command}
 use Rattle.minus.specs.Seen.{Seen}
 use Rattle.minus.specs.Steps.{IsStep, Ends}
 use Rattle.minus.specs.Handing.{Exit}
-use Rattle.minus.specs.Table.{Wanted, appends_data, follows, effect}
+use Rattle.minus.specs.Table.{Wanted, appends_data, follows, effect, changed_by}
 use Rattle.minus.specs.Works.{Work, after, Takes, worked, waited, Exits, Comes, at_once, later, IsReady}
 use Rattle.minus.proofs.WorksLaws.{alone_lem}
+use Rattle.minus_callers.specs.Fetcher.{TakesText}
 use Rattle.minus_callers.specs.Follower.{Follows, ended}
 
 -- a command that asks for itself alone
@@ -55,6 +56,15 @@ pub now_follows : {Q K : Type 0} (says : Says Q K) (old new : Seen Q K) (answer 
 now_follows says old new answer a b s closed ready =
     subst (λ (seen : Seen _ _). Follows old.control.text seen) (sym (step_leaves says old new (follows true) answer a b (λ w asks. asks) ready refl s))
     (record { shows = refl; last_page = top_stays (top old.control); goes_on = refl; no_help = closed; ready = record { closed = ready.closed; none_waits = ready.none_waits } })
+
+-- where help is not open, a text that is added is on show behind the one before
+pub adds_text : {Q K : Type 0} (says : Says Q K) (old new : Seen Q K) (answer : Answer) (a b : Option (List ℕ)) (more : List ℕ) → IsStep says old (a_command (appends_data more)) new answer a b → TakesText old → new.control.text ≡ old.control.text ++ more
+adds_text says old new answer a b more s t =
+    let c : Control = old.control in
+    let closed : Control = record c { help = None } in
+    let is : closed ≡ c = ap (λ (help : Option Saved). let k : Control = record c { help = help } in k) (sym t.no_help) in
+    ap (λ (s : Seen _ _). s.control.text) (step_leaves says old new (appends_data more) answer a b (λ w asks. asks) t.ready refl s)
+    ∙ ap (λ (k : Control). (changed_by (effect {Q = Unit {0}} {K = Unit {0}} k (appends_data more))).text) (sym is)
 
 -- a control whose text is followed
 abbrev following : Control → Control

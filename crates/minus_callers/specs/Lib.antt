@@ -1,2 +1,3 @@
+pub mod Fetcher
 pub mod Follower
 pub mod Report

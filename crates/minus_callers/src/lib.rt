@@ -1,8 +1,11 @@
-//! How programs call the pager: one that pushes lines while the text is followed, and one with a key of its own.
+//! How programs call the pager: one that pushes lines while the text is followed, one that fetches more
+//! of a text when the reader comes to its end, and one with a key of its own.
 #![tactic(auto)]
 
+mod fetcher;
 mod follower;
 mod report;
 
+pub use fetcher::{FetcherKinds, NotesEnd, fetch, page_beginning};
 pub use follower::{follow, push_line, push_lines};
 pub use report::{GoToLine, ReportKeys, ReportKinds, page_report, report_keys};
