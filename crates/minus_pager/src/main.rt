@@ -18,10 +18,12 @@ use crate::launch::Launch;
 use crate::program::Program;
 use std::process::ExitCode;
 
-// Pages the text that the launcher names, from its first page to the key that ends the session.
+// Pages the text that the launcher names, from its first page to the key that ends the session, unless it was printed.
 fn page(rt: &HostRuntime) -> Result<(), Fault> {
     let launch = Launch::read(rt)?;
-    let mut program = Program::start(rt, &launch)?;
+    let Some(mut program) = Program::start(rt, &launch)? else {
+        return Ok(());
+    };
     let served = program.serve(rt);
     let cleaned = program.finish();
     served?;

@@ -8,8 +8,8 @@ use crate::text::TextSource;
 use crate::viewer::{Onward, Viewer};
 use minus::{Event, MinusError};
 use minus_view::TextQueue;
-use std::thread;
 use std::time::Duration;
+use std::{mem, thread};
 
 /// How long the program sleeps where it heard and read nothing, in milliseconds.
 const NAP: u64 = 10;
@@ -33,15 +33,47 @@ pub struct Program {
     has_room: bool,
     // How many pieces came since the prompt row was told where the page is.
     pieces: u32,
+    // The keys that were pressed before the first page.
+    pressed: Vec<Event>,
+}
+
+// Whether a text has more lines than the terminal has rows, or more bytes than are read ahead of a page.
+fn is_long(text: &str, rows: usize) -> bool {
+    text.len() > AHEAD || text.lines().count() > rows
+}
+
+// The beginning of a text that is printed where it fits a terminal of so many rows: all of it, unless it is longer than
+// that, or keys are pressed before it ends.
+fn read_to_fit(
+    rt: &HostRuntime,
+    source: &mut TextSource,
+    keyboard: &mut Keyboard,
+    pressed: &mut Vec<Event>,
+    rows: usize,
+) -> Result<String, Fault> {
+    let mut text = String::new(rt.alloc());
+    for _ in 0..u64::MAX {
+        match source.next()? {
+            Some(piece) => text.push_str(piece.as_str())?,
+            None if !source.is_at_end() => thread::sleep(rt, Duration::from_millis(NAP)),
+            None => {}
+        }
+        let _ = keyboard.read(rt, pressed)?;
+        if source.is_at_end() || !pressed.is_empty() || is_long(&text, rows) {
+            break;
+        }
+    }
+    Ok(text)
 }
 
 impl Program {
-    /// Opens the text and the terminal, and shows the first page.
+    /// Opens the text and the terminal, and shows the first page. Where the options ask that a text is printed which
+    /// fits the terminal, and it does, it is printed, and nothing is paged.
     ///
     /// # Errors
     ///
     /// Those of [`TextSource::open`], [`Keyboard::open`] and [`Viewer::start`].
-    pub fn start(rt: &HostRuntime, launch: &Launch) -> Result<Program, Fault> {
+    pub fn start(rt: &HostRuntime, launch: &Launch) -> Result<Option<Program>, Fault> {
         let alloc = rt.alloc();
         let paging = launch.paging(alloc)?;
         let sizes = SizeFile::new(
@@ -49,13 +81,24 @@ impl Program {
             launch.size(),
         );
         let mut source = TextSource::open(rt, launch.text.as_str())?;
-        let keyboard = Keyboard::open(rt)?;
-        let beginning = source.next()?.unwrap_or(String::new(alloc));
-        let mut viewer = Viewer::start(rt, launch, &paging, beginning.as_str())?;
+        let mut keyboard = Keyboard::open(rt)?;
+        let mut pressed = Vec::new(alloc);
+        let prints = paging.prints && !paging.follows;
+        let beginning = if prints {
+            let rows = usize::from(launch.rows);
+            read_to_fit(rt, &mut source, &mut keyboard, &mut pressed, rows)?
+        } else {
+            source.next()?.unwrap_or(String::new(alloc))
+        };
+        let prints = prints && pressed.is_empty() && source.is_at_end();
+        let Some(mut viewer) = Viewer::start(rt, launch, &paging, beginning.as_str(), prints)?
+        else {
+            return Ok(None);
+        };
         viewer.set_options(&paging)?;
         viewer.go_to_line()?;
         viewer.make_room(source.bytes_left());
-        Ok(Program {
+        Ok(Some(Program {
             viewer,
             source,
             ahead: TextQueue::new(alloc),
@@ -63,7 +106,8 @@ impl Program {
             sizes,
             has_room: true,
             pieces: 1,
-        })
+            pressed,
+        }))
     }
 
     // Reads the next piece of text. Out of memory, there is none any more.
@@ -185,7 +229,7 @@ impl Program {
 
     // Hears the keys that were pressed, and reads a piece of the text. Answers whether the session goes on.
     fn turn(&mut self, rt: &HostRuntime) -> Result<bool, Fault> {
-        let mut events: Vec<Event> = Vec::new(rt.alloc());
+        let mut events = mem::replace(&mut self.pressed, Vec::new(rt.alloc()));
         let mut heard = self.keyboard.read(rt, &mut events)?;
         if !self.tell(rt, &events)? {
             return Ok(false);

@@ -15,8 +15,9 @@ use crate::prompt::{Notice, prompt_text};
 use crate::size::Size;
 use minus::{
     Answer, CommandOf, Core, Event, InputClassifier, InputEvent, InputOf, IoCommand, KeyCode,
-    KeyModifiers, Kinds, LineNumbers, MinusError, NeverCalled, NeverShows, PagerOf, PagerState,
-    RunMode, WithTty, cleanup, init_core_with, setup, write_bytes,
+    KeyModifiers, Kinds, LineNumbers, MinusError, NeverCalled, NeverShows, PagedOf, PagerOf,
+    PagerState, RunMode, WithTty, cleanup, draw_bytes, init_core_with, page_all_with, setup,
+    write_bytes,
 };
 use minus_view::{History, Paging, Source};
 use std::alloc::Global;
@@ -24,6 +25,9 @@ use std::io::Stdout;
 
 /// The kinds of the program's session: no condition is handed to it.
 type PagerKinds = Kinds<NeverCalled, NeverCalled, NeverShows, Keys>;
+
+/// The program's session, on the terminal.
+type Session = Core<WithTty<Stdout>, PagerKinds>;
 
 /// The bytes that give the mouse back to the terminal.
 const MOUSE_OFF: &str = "\x1b[?1006l\x1b[?1015l\x1b[?1003l\x1b[?1002l\x1b[?1000l";
@@ -43,7 +47,7 @@ pub enum Onward {
 #[derive(Drop)]
 pub struct Viewer {
     alloc: Global,
-    session: Core<WithTty<Stdout>, PagerKinds>,
+    session: Session,
     // The keys once more: what an event will ask for is known before the session is told it.
     keys: Keys,
     // The terminal once more, for what is no part of a page.
@@ -131,33 +135,68 @@ fn wants_more(state: &PagerState, waits: bool, most: usize) -> bool
     !state.help_open() && (state.follow_output() || waits || bytes_below(state) < most)
 }
 
+// A pager with the beginning of a text, and with what the options say of its rows.
+fn pager_of(
+    alloc: Global,
+    paging: &Paging<'_>,
+    beginning: &str,
+) -> Result<PagerOf<PagerKinds>, MinusError> {
+    let mut pager = PagerOf::new(alloc);
+    if paging.numbers {
+        pager.set_line_numbers(LineNumbers::Enabled)?;
+    }
+    if paging.chops {
+        pager.horizontal_scroll(true)?;
+    }
+    pager.push_str(beginning)?;
+    Ok(pager)
+}
+
+// The session of a pager on the terminal; none where its text was printed instead, since it fits there.
+fn session_of(
+    rt: &HostRuntime,
+    launch: &Launch,
+    pager: PagerOf<PagerKinds>,
+    prints: bool,
+) -> Result<Option<Session>, MinusError> {
+    let (cols, rows) = (usize::from(launch.cols), usize::from(launch.rows));
+    let (terminal, keys) = (WithTty::new(rt.stdout(), true), pager_keys(rt.alloc())?);
+    if !prints {
+        let session = init_core_with(pager, RunMode::Dynamic, terminal, cols, rows, keys)?;
+        return Ok(Some(session));
+    }
+    match page_all_with(pager, terminal, cols, rows, keys)? {
+        PagedOf::Written(mut terminal) => {
+            // (its mode is raw, so the last newline has not returned to the first column)
+            draw_bytes(&mut terminal, b"\r")?;
+            Ok(None)
+        }
+        PagedOf::Started(session) => Ok(Some(session)),
+    }
+}
+
 impl Viewer {
-    /// Starts a session with the beginning of a text.
+    /// Starts a session with the beginning of a text. Where that is all of it, and is to be printed where it fits the
+    /// terminal, it is printed there, and there is no session.
     ///
     /// # Errors
     ///
-    /// [`Fault::Pager`] where the session does not start.
+    /// [`Fault::Pager`] where the session does not start, or the terminal refuses the text.
     pub fn start(
         rt: &HostRuntime,
         launch: &Launch,
         paging: &Paging<'_>,
         beginning: &str,
-    ) -> Result<Viewer, Fault> {
+        prints: bool,
+    ) -> Result<Option<Viewer>, Fault> {
         let alloc = rt.alloc();
         let keys = pager_keys(alloc)?;
         let name = String::from_str(alloc, name_of(paging.source))?;
-        let mut pager: PagerOf<PagerKinds> = PagerOf::new(alloc);
-        pager.push_str(beginning)?;
-        let session = init_core_with(
-            pager,
-            RunMode::Dynamic,
-            WithTty::new(rt.stdout(), true),
-            usize::from(launch.cols),
-            usize::from(launch.rows),
-            pager_keys(alloc)?,
-        )
-        .map_err(MinusError::from)?;
-        Ok(Viewer {
+        let pager = pager_of(alloc, paging, beginning)?;
+        let Some(session) = session_of(rt, launch, pager, prints)? else {
+            return Ok(None);
+        };
+        Ok(Some(Viewer {
             alloc,
             session,
             keys,
@@ -171,22 +210,16 @@ impl Viewer {
             rests_from: None,
             has_mouse: paging.mouse,
             line: first_line(paging),
-        })
+        }))
     }
 
-    /// Sets what the options ask for.
+    /// Sets what the options ask for beside the text.
     ///
     /// # Errors
     ///
     /// [`Fault::Pager`] where the session refuses.
     pub fn set_options(&mut self, paging: &Paging<'_>) -> Result<(), Fault> {
         self.release_mouse()?;
-        if paging.numbers {
-            self.command(CommandOf::SetLineNumbers(LineNumbers::Enabled))?;
-        }
-        if paging.chops {
-            self.command(CommandOf::LineWrapping(false))?;
-        }
         if paging.follows {
             self.command(CommandOf::FollowOutput(true))?;
         }
