@@ -1,8 +1,8 @@
 //! Which commands are equal, and what they are shown as to a programmer.
-use crate::facts::assert_at;
 use crate::sessions::{Asked, Input, inputs};
-use crate::shown::is_debugged;
 use minus::{AppendStyle, InputEvent, IoCommand, LineNumbers};
+use minus_part_tests::facts::assert_at;
+use minus_part_tests::shown::is_debugged;
 use std::alloc::Global;
 
 // What one command asks for, what another one does, and what the first is shown as.

@@ -1,12 +1,12 @@
 //! Conditions of incremental search: boxed ones, and what one sees. Where memory runs out, each answer is `false`.
-use crate::facts::assert_holds;
-use crate::keys::asked::press;
 use crate::sessions::{TEN_LINES, terminal};
-use crate::shown::is_debugged;
 use minus::{
     Calls, Command, CommandOf, Core, InputOf, KeptCondition, NeverShows, OutputSink, Pager,
     RunMode, SearchCondition, SearchOpts, init_core,
 };
+use minus_part_tests::asked::press;
+use minus_part_tests::facts::assert_holds;
+use minus_part_tests::shown::is_debugged;
 use minus_script::ScriptKinds;
 use std::alloc::Global;
 

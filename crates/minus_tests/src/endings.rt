@@ -1,11 +1,11 @@
 //! Exits and their cleanup.
-use crate::facts::assert_holds;
 use crate::sessions::{
     Asked, CLEANUP, Command, Input, Ran, Session, number_of, run, session_on, terminal,
 };
-use crate::shown::is_debugged;
-use crate::stubborn::{NOTHING, Refusal, Refused, Stubborn, write};
 use minus::{CleanupError, ExitStrategy, InputEvent, MinusError, OutputSink, RunMode};
+use minus_part_tests::facts::assert_holds;
+use minus_part_tests::shown::is_debugged;
+use minus_part_tests::stubborn::{NOTHING, Refusal, Refused, Stubborn, write};
 use std::alloc::Global;
 
 // So many writes a start on 6 columns and 2 rows takes, the setup and the first page, and so many a cleanup.

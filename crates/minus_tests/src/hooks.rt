@@ -1,14 +1,15 @@
 //! Hooks and callbacks of an exit in a session: who is called, when and in which order, and what is kept. Where memory
 //! runs out, each answer is `false`.
-use crate::facts::assert_holds;
-use crate::keys::asked::press;
 use crate::sessions::TEN_LINES;
-use crate::shown::is_debugged;
 use minus::{
-    CommandOf, Core, Event, ExitCall, ExitStrategy, Hook, HookCall, InputClassifier, InputEvent,
-    InputOf, Kinds, MinusError, NeverShows, PagerOf, PagerState, RunMode, SearchMode, StartErrorOf,
-    WithTty, init_core_with,
+    CommandOf, CommandQueueOf, Core, Event, ExitCall, ExitStrategy, Hook, HookCall,
+    InputClassifier, InputEvent, InputOf, IoCommand, Kinds, MinusError, NeverShows, PagerOf,
+    PagerState, PartsOf, RunMode, SearchMode, StartErrorOf, WithTty, handle_event,
+    handle_io_command, init_core_with,
 };
+use minus_part_tests::asked::press;
+use minus_part_tests::facts::assert_holds;
+use minus_part_tests::shown::is_debugged;
 use std::alloc::{AllocError, Global};
 use std::cell::Cell;
 use std::io::{self, Write};
@@ -457,6 +458,40 @@ fn a_start_refuses_ids_that_are_not_free(rt: HostRuntime) {
             "by {number}"
         );
     }
+}
+
+// Whether a move that is done by hand calls the hook of the end where it comes there, and only there.
+fn is_called_by_hand(alloc: Global, log: &Rc<Cell<u64>>) -> bool {
+    let (Ok(state), Ok(text), Ok(log_of_hook)) = (
+        PagerState::new(alloc, 20, 4),
+        String::from_str(alloc, TEN_LINES),
+        shared(log),
+    ) else {
+        return false;
+    };
+    let mut parts: PartsOf<Own> = PartsOf::new(alloc, state, Still, None);
+    let mut queue = CommandQueueOf::new_zero(alloc);
+    let mut sink = WithTty::new(Vec::new(alloc), true);
+    let writes = Writes {
+        digit: 5,
+        log: log_of_hook,
+    };
+    parts
+        .hooks
+        .add_callback(Hook::EofReached, 0, writes)
+        .is_ok()
+        && handle_event(alloc, CommandOf::SetData(text), &mut parts, &mut queue).is_ok()
+        && handle_io_command(alloc, IoCommand::SetUpperMark(2), &mut sink, &mut parts).is_ok()
+        && handle_io_command(alloc, IoCommand::SetUpperMark(100), &mut sink, &mut parts).is_ok()
+        && log.get() == 57
+}
+
+#[test]
+fn a_move_by_hand_calls_at_the_end(rt: HostRuntime) {
+    let Ok(log) = Rc::new(rt.alloc(), Cell::new(0)) else {
+        return;
+    };
+    assert_holds(&rt, is_called_by_hand(rt.alloc(), &log));
 }
 
 // Whether commands with callbacks are shown by what stands beside those, and are equal by that.

@@ -1,6 +1,5 @@
 //! Tests of keys and of the mouse: what the two tables of default keys answer, registers, classifiers that a session is
 //! given, and sessions that are led by keys.
-pub mod asked;
 mod boxes;
 mod defaults;
 mod exact;

@@ -3,6 +3,8 @@
 #![tactic(auto)]
 
 #[cfg(test)]
+mod by_hand;
+#[cfg(test)]
 mod callers;
 #[cfg(test)]
 mod classifiers;
@@ -17,13 +19,9 @@ mod endings;
 #[cfg(test)]
 mod exchanges;
 #[cfg(test)]
-mod facts;
-#[cfg(test)]
 mod helps;
 #[cfg(test)]
 mod hooks;
-#[cfg(test)]
-mod input;
 #[cfg(test)]
 mod inputs;
 #[cfg(test)]
@@ -32,6 +30,8 @@ mod keys;
 mod layouts;
 #[cfg(test)]
 mod matches;
+#[cfg(test)]
+mod names;
 #[cfg(test)]
 mod pages;
 #[cfg(test)]
@@ -51,22 +51,10 @@ mod selections;
 #[cfg(test)]
 mod sessions;
 #[cfg(test)]
-mod shown;
-#[cfg(test)]
 mod sinks;
 #[cfg(test)]
 mod starts;
 #[cfg(test)]
-mod state;
-#[cfg(test)]
 mod states;
-#[cfg(test)]
-mod stubborn;
-#[cfg(test)]
-mod term;
-#[cfg(test)]
-mod text;
-#[cfg(test)]
-mod view;
 #[cfg(test)]
 mod written_rows;

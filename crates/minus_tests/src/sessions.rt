@@ -5,6 +5,7 @@ use minus::{
     KeyEventState, KeyModifiers, LineNumbers, MinusError, OutputSink, Page, PagerOf, RanOf,
     RunMode, StartErrorOf, WithTty, init_core_with,
 };
+pub use minus_part_tests::asked::TEN_LINES;
 use minus_script::{DefaultKeys, ScriptKinds};
 use std::alloc::{AllocError, Global};
 use std::process::Abort;
@@ -17,9 +18,6 @@ pub const CLEANUP: &str =
 
 /// The prompt row of 20 columns.
 pub const PROMPT_ROW: &str = "\x1b[2;40;37mminus               \x1b[0m";
-
-/// Ten lines of a row each.
-pub const TEN_LINES: &str = "l0\nl1\nl2\nl3\nl4\nl5\nl6\nl7\nl8\nl9";
 
 /// A session that keeps a register of the default bindings and no box: a function may take it by `&mut` and step it.
 pub type Session<S> = Core<S, ScriptKinds>;
@@ -74,8 +72,8 @@ pub fn pressed(code: KeyCode) -> Event {
     })
 }
 
-// The input that asks for it.
-fn input(alloc: Global, asked: Asked<'_>) -> Result<Input, AllocError> {
+/// The input that asks for it.
+pub fn input(alloc: Global, asked: Asked<'_>) -> Result<Input, AllocError> {
     let command = match asked {
         Asked::Push(text) => Command::AppendData(String::from_str(alloc, text)?),
         Asked::Mark(row) => Command::UserInput(InputEvent::UpdateUpperMark(row)),

@@ -1,12 +1,12 @@
 //! Sessions that are led by keys.
-use crate::facts::assert_holds;
-use crate::keys::asked::press;
 use crate::sessions::{
     Asked, CLEANUP, Input, PROMPT_ROW, SETUP, Session, TEN_LINES, Worked, are_bytes, assert_shown,
     number_of, session_on, terminal,
 };
-use crate::shown::is_debugged;
 use minus::OutputSink;
+use minus_part_tests::asked::press;
+use minus_part_tests::facts::assert_holds;
+use minus_part_tests::shown::is_debugged;
 use std::alloc::Global;
 
 // The pages that keys lead to.

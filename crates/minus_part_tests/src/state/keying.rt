@@ -1,7 +1,7 @@
 //! Keys at the search prompt that is open in a state, without a session. Where memory runs out, each answer is `false`.
+use crate::asked::{press, set_term};
 use crate::facts::{assert_at, assert_holds};
-use crate::keys::asked::press;
-use crate::state::terms::{TEN_LINES, has_matches, has_page, set_term, state_of};
+use crate::state::terms::{TEN_LINES, has_matches, has_page, state_of};
 use minus_state::{NeverShows, PagerState, SearchMode};
 use minus_term::{Event, KeyCode, KeyEvent, KeyEventKind, KeyEventState, KeyModifiers};
 use std::alloc::Global;

@@ -1,10 +1,12 @@
 //! Events, and what classifiers answer to them in a state.
-use crate::sessions::TEN_LINES;
-use minus::{
-    Event, InputClassifier, InputEvent, KeyEvent, KeyEventKind, MouseEvent, PagerState,
-    parse_key_event, parse_mouse_event,
-};
+use minus_input::{parse_key_event, parse_mouse_event};
+use minus_state::{InputClassifier, InputEvent, PagerState};
+use minus_term::{Event, KeyEvent, KeyEventKind, MouseEvent};
+use regex::Regex;
 use std::alloc::Global;
+
+/// Ten lines of a row each.
+pub const TEN_LINES: &str = "l0\nl1\nl2\nl3\nl4\nl5\nl6\nl7\nl8\nl9";
 
 /// The typed prefix and the mark of a state of ten lines on 20 columns and four rows, whose left mark is 4.
 #[derive(Clone, Copy)]
@@ -72,5 +74,13 @@ pub fn answers<K: InputClassifier>(
     match state_of(alloc, TEN_LINES, at) {
         Some(state) => classifier.classify_input(event, &state) == wanted,
         None => false,
+    }
+}
+
+/// Searches for a term from now on, where it is a pattern and there is memory.
+pub fn set_term(alloc: Global, state: &mut PagerState, term: &str) -> bool {
+    match Regex::new(alloc, term) {
+        Ok(pattern) => state.set_term(alloc, Some(pattern)).is_ok(),
+        Err(_) => false,
     }
 }

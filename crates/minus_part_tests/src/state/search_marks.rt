@@ -1,7 +1,8 @@
 //! Where changes of a text leave the search mark. Where memory runs out, each answer is `false`.
+use crate::asked::set_term;
 use crate::facts::{assert_at, assert_holds};
 use crate::state::states::has_prompt_row;
-use crate::state::terms::{TEN_LINES, has_matches, set_term, state_of};
+use crate::state::terms::{TEN_LINES, has_matches, state_of};
 use minus_state::PagerState;
 use minus_text::LineNumbers;
 use std::alloc::Global;

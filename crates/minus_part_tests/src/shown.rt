@@ -2,14 +2,14 @@
 use std::alloc::Global;
 use std::fmt;
 
-// Whether a value is shown as this text.
-pub(crate) fn is_shown<T: fmt::Display>(alloc: Global, value: &T, text: &str) -> bool {
+/// Whether a value is shown as this text.
+pub fn is_shown<T: fmt::Display>(alloc: Global, value: &T, text: &str) -> bool {
     let mut shown = String::new(alloc);
     write!(shown, "{value}").is_ok() && shown.as_str() == text
 }
 
-// Whether a value is shown to a programmer as this text.
-pub(crate) fn is_debugged<T: fmt::Debug>(alloc: Global, value: &T, text: &str) -> bool {
+/// Whether a value is shown to a programmer as this text.
+pub fn is_debugged<T: fmt::Debug>(alloc: Global, value: &T, text: &str) -> bool {
     let mut shown = String::new(alloc);
     write!(shown, "{value:?}").is_ok() && shown.as_str() == text
 }

@@ -1,8 +1,7 @@
 //! Callbacks of hooks and exits: the ids that they are given, and who is called, in which order, with which state. Where
 //! memory runs out, each answer is `false`.
+use crate::asked::{At, TEN_LINES, state_of};
 use crate::facts::{assert_at, assert_holds};
-use crate::keys::asked::{At, state_of};
-use crate::sessions::TEN_LINES;
 use minus_state::{
     ExitCall, ExitCallback, ExitCallbacks, HookCall, HookCallback, HookId, HookList, Hooks,
     KeptExit, KeptHook, PagerState,

@@ -6,6 +6,7 @@ use std::alloc::Global;
 const DEFAULT: Paging = Paging {
     numbers: false,
     chops: false,
+    prints: false,
     follows: false,
     mouse: true,
     line: 1,
@@ -17,12 +18,13 @@ fn arguments_are_read(rt: HostRuntime) {
     let all = Paging {
         numbers: true,
         chops: true,
+        prints: true,
         follows: true,
         mouse: false,
         line: 120,
         source: Source::File("a b"),
     };
-    let words = ["-NS", "+120", "a b", "+F", "--no-mouse"];
+    let words = ["-NSF", "+120", "a b", "+F", "--no-mouse"];
     assert_holds(&rt, parse_arguments(&words) == Ok(Arguments::Page(all)));
     assert_holds(&rt, parse_arguments(&[]) == Ok(Arguments::Page(DEFAULT)));
     let input = Paging {

@@ -1,6 +1,6 @@
 //! Worked queries: what events do to one, and where its words start. Where memory runs out, each answer is `false`.
+use crate::asked::{key, mouse, press};
 use crate::facts::{assert_at, assert_holds};
-use crate::keys::asked::{key, mouse, press};
 use minus_state::{Fed, InputStatus, QueryEditor, SearchMode};
 use minus_term::{Event, KeyCode, KeyEvent, KeyEventKind, KeyEventState, KeyModifiers};
 use minus_text::Patterns;

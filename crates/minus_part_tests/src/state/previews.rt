@@ -1,10 +1,9 @@
 //! Where queries lead, before they are taken and after, and the prompt that they are typed at. Where memory runs out,
 //! each answer is `false`.
+use crate::asked::set_term;
 use crate::facts::{assert_at, assert_holds};
 use crate::state::states::{PROMPT_ROW, has_prompt_row};
-use crate::state::terms::{
-    FIRST_OF_ONE, TEN_LINES, are_rows, has_matches, has_page, set_term, state_of,
-};
+use crate::state::terms::{FIRST_OF_ONE, TEN_LINES, are_rows, has_matches, has_page, state_of};
 use minus_state::{
     Change, Fed, InputStatus, OpenPrompt, PagerState, SearchMode, SearchOpts, incremental_preview,
     search_opts,

@@ -2,7 +2,7 @@
 ghost use Rattle.std.specs.Prelude.{Some};
 ghost use Rattle.minus_term.specs.Counts.{tells_bytes};
 
-use minus::{OutputSink, WithTty};
+use minus_term::{OutputSink, WithTty};
 use std::alloc::{AllocError, Global};
 use std::io;
 use std::io::{ErrorKind, Write};

@@ -1,5 +1,6 @@
 //! The term of a state: the rows that match it, how they are shown, and what the prompt row tells of them, as the text
 //! and its layout change. Where memory runs out, each answer is `false`.
+use crate::asked::set_term;
 use crate::facts::{assert_at, assert_holds};
 use crate::state::states::{PROMPT_ROW, has_prompt_row};
 use minus_state::{PagerState, ShownRows, render_rows_for_display};
@@ -27,14 +28,6 @@ fn state_at(alloc: Global, cols: usize, text: &str) -> Option<PagerState> {
 // A state of a text on 20 columns and four rows.
 pub(crate) fn state_of(alloc: Global, text: &str) -> Option<PagerState> {
     state_at(alloc, 20, text)
-}
-
-// Searches for a term from now on.
-pub(crate) fn set_term(alloc: Global, state: &mut PagerState, term: &str) -> bool {
-    match Regex::new(alloc, term) {
-        Ok(pattern) => state.set_term(alloc, Some(pattern)).is_ok(),
-        Err(_) => false,
-    }
 }
 
 // Whether rows are these.
