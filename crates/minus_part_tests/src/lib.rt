@@ -3,7 +3,8 @@
 #![tactic(auto)]
 
 pub mod asked;
-pub mod facts;
+#[cfg(test)]
+mod facts;
 #[cfg(test)]
 mod input;
 pub mod shown;

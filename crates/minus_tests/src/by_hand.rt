@@ -2,13 +2,13 @@
 //! out, each answer is `false`.
 ghost use Rattle.minus_state.specs.States.{IsFormed};
 
+use crate::facts::{assert_at, assert_holds};
 use crate::player::played;
 use crate::sessions::{Asked, TEN_LINES, does, input, session_on, terminal};
 use minus::{
     CommandOf, CommandQueueOf, Handled, InputEvent, InputOf, IoCommand, LineNumbers, PagerState,
     PartsOf, SearchMode, WithTty, handle_event, handle_io_command,
 };
-use minus_part_tests::facts::{assert_at, assert_holds};
 use minus_script::{DefaultKeys, ScriptKinds};
 use std::alloc::Global;
 

@@ -1,8 +1,8 @@
 //! The programs of `minus_callers`, each run once.
+use crate::facts::assert_holds;
 use crate::sessions::{PROMPT_ROW, TEN_LINES, has_page, session_on, terminal};
 use minus::{Event, InputOf, parse_key_event};
 use minus_callers::{fetch, page_beginning, page_report, push_line, push_lines};
-use minus_part_tests::facts::assert_holds;
 use std::alloc::{AllocError, Global};
 use std::cell::Cell;
 use std::rc::Rc;

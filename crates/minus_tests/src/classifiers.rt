@@ -1,10 +1,10 @@
 //! Classifiers of one's own.
+use crate::facts::assert_holds;
 use crate::sessions::{TEN_LINES, terminal};
 use minus::{
     CommandOf, Core, Event, InputClassifier, InputEvent, InputOf, Kinds, NeverCalled, NeverShows,
     PagerOf, PagerState, RunMode, WithTty, init_core_with,
 };
-use minus_part_tests::facts::assert_holds;
 use minus_part_tests::shown::is_debugged;
 use std::alloc::{AllocError, Global};
 

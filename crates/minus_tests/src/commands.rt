@@ -1,7 +1,7 @@
 //! Which commands are equal, and what they are shown as to a programmer.
+use crate::facts::assert_at;
 use crate::sessions::{Asked, Input, inputs};
 use minus::{AppendStyle, InputEvent, IoCommand, LineNumbers};
-use minus_part_tests::facts::assert_at;
 use minus_part_tests::shown::is_debugged;
 use std::alloc::Global;
 

@@ -1,11 +1,11 @@
 //! Conditions of incremental search: boxed ones, and what one sees. Where memory runs out, each answer is `false`.
+use crate::facts::assert_holds;
 use crate::sessions::{TEN_LINES, terminal};
 use minus::{
     Calls, Command, CommandOf, Core, InputOf, KeptCondition, NeverShows, OutputSink, Pager,
     RunMode, SearchCondition, SearchOpts, init_core,
 };
 use minus_part_tests::asked::press;
-use minus_part_tests::facts::assert_holds;
 use minus_part_tests::shown::is_debugged;
 use minus_script::ScriptKinds;
 use std::alloc::Global;

@@ -2,11 +2,11 @@
 ghost use Rattle.std.specs.Prelude.{IfSome};
 ghost use Rattle.minus_state.specs.States.{IsFormed};
 
+use crate::facts::assert_holds;
 use crate::sessions::{Asked, PROMPT_ROW, TEN_LINES, Worked, are_bytes, assert_drawn};
 use minus::{
     IoCommand, Layout, PagerState, draw_append_text, draw_for_change, draw_full, write_prompt,
 };
-use minus_part_tests::facts::assert_holds;
 use std::alloc::Global;
 
 // What stands before the prompt row of a page of four rows.

@@ -1,9 +1,9 @@
 //! Exits and their cleanup.
+use crate::facts::assert_holds;
 use crate::sessions::{
     Asked, CLEANUP, Command, Input, Ran, Session, number_of, run, session_on, terminal,
 };
 use minus::{CleanupError, ExitStrategy, InputEvent, MinusError, OutputSink, RunMode};
-use minus_part_tests::facts::assert_holds;
 use minus_part_tests::shown::is_debugged;
 use minus_part_tests::stubborn::{NOTHING, Refusal, Refused, Stubborn, write};
 use std::alloc::Global;

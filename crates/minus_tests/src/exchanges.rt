@@ -1,7 +1,7 @@
 //! A session's sink is exchanged for another one. Where memory runs out, each answer is `false`.
+use crate::facts::assert_holds;
 use crate::sessions::{Asked, Session, number_of, session_on, terminal};
 use minus::{KeyCode, OutputSink, WithTty};
-use minus_part_tests::facts::assert_holds;
 use minus_part_tests::stubborn::{NOTHING, Refusal, Stubborn, write};
 use std::alloc::Global;
 

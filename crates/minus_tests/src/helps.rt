@@ -1,10 +1,10 @@
 //! Help: what is shown while it is open, and what is shown once it is left.
+use crate::facts::assert_holds;
 use crate::sessions::{Asked, PROMPT_ROW, Worked, assert_drawn, assert_shown, has_page, terminal};
 use minus::{
     CommandOf, Core, Event, InputClassifier, InputEvent, InputOf, Kinds, LineNumbers, NeverCalled,
     NeverShows, PagerOf, PagerState, RunMode, WithTty, init_core_with,
 };
-use minus_part_tests::facts::assert_holds;
 use std::alloc::{AllocError, Global};
 
 /// The prompt row of 20 columns while help is open.

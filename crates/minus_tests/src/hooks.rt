@@ -1,5 +1,6 @@
 //! Hooks and callbacks of an exit in a session: who is called, when and in which order, and what is kept. Where memory
 //! runs out, each answer is `false`.
+use crate::facts::assert_holds;
 use crate::sessions::TEN_LINES;
 use minus::{
     CommandOf, CommandQueueOf, Core, Event, ExitCall, ExitStrategy, Hook, HookCall,
@@ -8,7 +9,6 @@ use minus::{
     handle_io_command, init_core_with,
 };
 use minus_part_tests::asked::press;
-use minus_part_tests::facts::assert_holds;
 use minus_part_tests::shown::is_debugged;
 use std::alloc::{AllocError, Global};
 use std::cell::Cell;

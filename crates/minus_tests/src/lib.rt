@@ -19,6 +19,8 @@ mod endings;
 #[cfg(test)]
 mod exchanges;
 #[cfg(test)]
+mod facts;
+#[cfg(test)]
 mod helps;
 #[cfg(test)]
 mod hooks;

@@ -1,10 +1,10 @@
 //! Jumps among the rows that match, asked for by keys and by commands. Where memory runs out, each answer is `false`.
+use crate::facts::{assert_at, assert_holds};
 use crate::sessions::{Asked, PROMPT_ROW, TEN_LINES, Worked, assert_drawn, assert_shown};
 use minus::{
     Change, DefaultInputClassifier, InputClassifier, InputEvent, NextText, PagerState, SearchMode,
 };
 use minus_part_tests::asked::{At, press, set_term, state_of};
-use minus_part_tests::facts::{assert_at, assert_holds};
 use minus_script::DefaultKeys;
 use std::alloc::Global;
 

@@ -142,7 +142,7 @@ mod modules {
     pub use minus::state::{ExitStrategy, PagerState, RunMode, SearchState, Selection};
 }
 
-use minus_part_tests::facts::assert_holds;
+use crate::facts::assert_holds;
 
 #[test]
 fn a_name_is_one_thing_in_both_places(rt: HostRuntime) {

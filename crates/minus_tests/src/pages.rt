@@ -1,10 +1,10 @@
 //! Worked sessions with the pages and the marks that they must have.
+use crate::facts::assert_holds;
 use crate::sessions::{
     Asked, PROMPT_ROW, TEN_LINES, Worked, assert_shown, does, has_len, has_page, session_on,
     terminal,
 };
 use minus::{Event, Screen};
-use minus_part_tests::facts::assert_holds;
 use std::alloc::Global;
 
 const FOLLOWED: Asked<'static> = Asked::Follow(true);

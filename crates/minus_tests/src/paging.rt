@@ -1,7 +1,7 @@
 //! Texts that are written where they fit the terminal, or where there is none, and paged else.
+use crate::facts::assert_holds;
 use crate::sessions::has_page;
 use minus::{ExitCallback, KeptExit, PagedOf, Pager, RunMode, WithTty, page_all};
-use minus_part_tests::facts::assert_holds;
 use minus_part_tests::stubborn::{Refusal, Refused, Stubborn, write};
 use std::alloc::Global;
 use std::cell::Cell;

@@ -1,10 +1,10 @@
 //! The prompt row, what is set in it, and how it is drawn.
+use crate::facts::assert_holds;
 use crate::sessions::{
     Asked, PROMPT_ROW, TEN_LINES, Worked, assert_drawn, assert_shown, has_page, number_of,
     session_on, terminal,
 };
 use minus::{Event, IoCommand};
-use minus_part_tests::facts::assert_holds;
 use std::alloc::Global;
 
 // What stands before the prompt row of a page of two rows.

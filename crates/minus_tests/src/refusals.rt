@@ -1,10 +1,10 @@
 //! Sinks that refuse a step.
+use crate::facts::assert_holds;
 use crate::sessions::{
     Asked, CLEANUP, Command, Input, PROMPT_ROW, Ran, SETUP, Session, TEN_LINES, are_bytes,
     number_of, run, session_on, start,
 };
 use minus::{CleanupError, MinusError, OutputSink, RunMode, WithTty};
-use minus_part_tests::facts::assert_holds;
 use minus_part_tests::stubborn::{NOTHING, Refusal, Refused, Stubborn, write};
 use std::alloc::Global;
 use std::io::ErrorKind;

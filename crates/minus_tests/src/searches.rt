@@ -1,4 +1,5 @@
 //! Searches in a session: what is typed at the open search prompt, where it leads, and what waits behind it.
+use crate::facts::{assert_at, assert_holds};
 use crate::sessions::{
     Asked, PROMPT_ROW, Session, TEN_LINES, Worked, assert_drawn, does, has_page, has_page_with,
     is_played, number_of, pressed, session_on, terminal,
@@ -7,7 +8,6 @@ use minus::{
     CommandOf, Core, Event, InputClassifier, InputEvent, InputOf, IoCommand, KeyCode, Kinds,
     NeverCalled, NeverShows, PagerOf, PagerState, RunMode, SearchMode, WithTty, init_core_with,
 };
-use minus_part_tests::facts::{assert_at, assert_holds};
 use std::alloc::{AllocError, Global};
 
 const ENTER: Asked<'static> = Asked::Pressed(KeyCode::Enter);

@@ -1,7 +1,7 @@
 //! Sessions over other sinks than a vector.
+use crate::facts::assert_holds;
 use crate::sessions::{Asked, CLEANUP, SETUP, are_bytes, number_of, session_on, terminal};
 use minus::{OutputSink, WithTty};
-use minus_part_tests::facts::assert_holds;
 use std::alloc::Global;
 use std::io::{Cursor, Read};
 use std::{fs, io};

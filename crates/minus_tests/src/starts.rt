@@ -1,10 +1,10 @@
 //! Starts, and sinks that refuse them.
+use crate::facts::assert_holds;
 use crate::sessions::{CLEANUP, PROMPT_ROW, SETUP, are_bytes, has_page, terminal};
 use minus::{
     LineNumbers, MinusError, OutputSink, Pager, RunMode, Session, SetupError, StartError, WithTty,
     dynamic_paging, init_core,
 };
-use minus_part_tests::facts::assert_holds;
 use minus_part_tests::stubborn::{NOTHING, Refusal, Refused, Stubborn, write};
 use std::alloc::Global;
 use std::fmt::Write;

@@ -1,7 +1,7 @@
 //! Worked rows of text that are written without a state.
+use crate::facts::{assert_at, assert_holds};
 use crate::sessions::are_bytes;
 use minus::{LineNumbers, write_lines, write_lines_in_horizontal_scroll, write_text_checked};
-use minus_part_tests::facts::{assert_at, assert_holds};
 use std::alloc::Global;
 
 // The stored rows of a text of three lines with numbers, which take 8 columns.

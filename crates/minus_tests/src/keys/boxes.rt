@@ -1,5 +1,6 @@
 //! Callbacks and classifiers in boxes, and what a session keeps to decide about its events.
 use crate::classifiers::ToRow;
+use crate::facts::assert_holds;
 use crate::keys::registers::{goes, is_bad, is_bound};
 use crate::sessions::{TEN_LINES, terminal};
 use minus::{
@@ -8,7 +9,6 @@ use minus::{
     init_core_with, with_default_hasher,
 };
 use minus_part_tests::asked::{START, answers, press};
-use minus_part_tests::facts::assert_holds;
 use std::alloc::Global;
 use std::random::RandomSource;
 

@@ -1,10 +1,10 @@
 //! What the default bindings answer, row by row of their table.
+use crate::facts::{assert_at, assert_holds};
 use minus::{
     Event, InputClassifier, InputEvent, KeyCode, KeyEvent, KeyEventKind, KeyEventState,
     KeyModifiers, LineNumbers, SearchMode,
 };
 use minus_part_tests::asked::{At, START, answers, mouse, press, state_of};
-use minus_part_tests::facts::{assert_at, assert_holds};
 use minus_script::DefaultKeys;
 use std::alloc::Global;
 

@@ -1,4 +1,5 @@
 //! What the classifier of exact keys answers, row by row of its table.
+use crate::facts::{assert_at, assert_holds};
 use crate::helps::HELP_ROW;
 use crate::sessions::{PROMPT_ROW, has_page, terminal};
 use minus::{
@@ -7,7 +8,6 @@ use minus::{
     WithTty, init_core_with,
 };
 use minus_part_tests::asked::{At, START, answers, key, mouse, press, state_of};
-use minus_part_tests::facts::{assert_at, assert_holds};
 use std::alloc::Global;
 
 // Whether the classifier answers this to an event.

@@ -1,8 +1,8 @@
 //! The help table of the default bindings, by themselves and in a register that is in use.
+use crate::facts::assert_holds;
 use crate::keys::registers::{Register, empty, goes, lists, to_row};
 use minus::{Event, InputEvent, generate_default_bindings};
 use minus_part_tests::asked::{START, answers, press};
-use minus_part_tests::facts::assert_holds;
 use minus_script::DefaultKeys;
 use std::alloc::Global;
 

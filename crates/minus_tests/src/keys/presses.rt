@@ -1,11 +1,11 @@
 //! Sessions that are led by keys.
+use crate::facts::assert_holds;
 use crate::sessions::{
     Asked, CLEANUP, Input, PROMPT_ROW, SETUP, Session, TEN_LINES, Worked, are_bytes, assert_shown,
     number_of, session_on, terminal,
 };
 use minus::OutputSink;
 use minus_part_tests::asked::press;
-use minus_part_tests::facts::assert_holds;
 use minus_part_tests::shown::is_debugged;
 use std::alloc::Global;
 

@@ -1,10 +1,10 @@
 //! Registers of bindings: what is added, refused and removed, in which order, and what the help table lists.
+use crate::facts::assert_holds;
 use minus::{
     ActionCall, DescriptionError, Event, EventTable, FixedSeed, InputClassifier, InputEvent,
     KeyCode, KeyEvent, KeyEventKind, KeyEventState, KeyModifiers, MinusError, PagerState,
 };
 use minus_part_tests::asked::{START, mouse, press, state_of};
-use minus_part_tests::facts::assert_holds;
 use std::alloc::Global;
 
 /// A callback that asks for the same at each event.

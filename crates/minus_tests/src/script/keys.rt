@@ -1,6 +1,6 @@
 //! Scripts that press keys and use the mouse, with what they must print.
+use crate::facts::assert_at;
 use crate::script::runs::{is_refused, leads_to};
-use minus_part_tests::facts::assert_at;
 use std::alloc::Global;
 
 // The prompt row of 20 columns, as it is printed.

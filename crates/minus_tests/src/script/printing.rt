@@ -1,7 +1,7 @@
 //! Rows as they are printed, numbers and arguments.
+use crate::facts::assert_holds;
 use crate::script::words::add_words;
 use minus_input::parse_usize;
-use minus_part_tests::facts::assert_holds;
 use minus_script::{Arguments, Mode, parse_arguments, print_row, print_rows};
 use std::alloc::Global;
 

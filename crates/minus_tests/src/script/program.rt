@@ -1,7 +1,7 @@
 //! The program's statuses, and what it says of its faults.
+use crate::facts::assert_holds;
 use crate::script::doubles::{Broken, Refusal, Refusing};
 use crate::script::words::add_words;
-use minus_part_tests::facts::assert_holds;
 use minus_part_tests::shown::is_shown;
 use minus_script::{ProgramFault, run_to_end, run_words};
 use std::alloc::{AllocError, Global};

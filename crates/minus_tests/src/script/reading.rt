@@ -1,8 +1,8 @@
 //! Readers that stop, fail or never end.
 ghost use Rattle.std.specs.Prelude.{Some, drop};
 
+use crate::facts::assert_holds;
 use crate::script::doubles::{Broken, Slow, Steady};
-use minus_part_tests::facts::assert_holds;
 use minus_script::{ScriptFault, Stream, read_script};
 use std::alloc::Global;
 use std::io::{ErrorKind, Read};

@@ -1,5 +1,5 @@
 //! Runs of scripts with what they must print.
-use minus_part_tests::facts::{assert_at, assert_holds};
+use crate::facts::{assert_at, assert_holds};
 use minus_part_tests::shown::is_shown;
 use minus_script::{Mode, run_script};
 use std::alloc::Global;
