@@ -23,7 +23,7 @@ struct Driven {
 }
 
 // Parts without a text, for 20 columns and four rows.
-fn driven(alloc: Global) -> Option<Driven> {
+fn without_text(alloc: Global) -> Option<Driven> {
     let (Ok(state), Ok(keys)) = (PagerState::new(alloc, 20, 4), DefaultKeys::new(alloc)) else {
         return None;
     };
@@ -126,7 +126,7 @@ const WAITING: [(Asked<'static>, &[IoCommand]); 19] = [
 
 #[test]
 fn a_command_lets_its_drawing_and_its_move_wait(rt: HostRuntime) {
-    let Some(mut driven) = driven(rt.alloc()) else {
+    let Some(mut driven) = without_text(rt.alloc()) else {
         return assert_holds(&rt, false);
     };
     for (asked, commands) in WAITING {
@@ -159,7 +159,7 @@ const DONE: [Asked<'static>; 9] = [
 // Whether what is done by hand leaves the page of a session that does the same.
 fn is_a_sessions_page(alloc: Global) -> bool {
     let (Some(mut driven), Some(mut session)) = (
-        driven(alloc),
+        without_text(alloc),
         session_on(alloc, terminal(alloc), 20, 4),
     ) else {
         return false;
