@@ -627,7 +627,7 @@ class PagerTests(unittest.TestCase):
         self.assert_page(self.LINES, 'notes  1-7/100  7%')
         self.quit()
         self.page('./minus -F +F short')
-        self.assert_page('a\n        b\n', 'short  1-2/2  100%  [F]', 'follow on')
+        self.assert_page('a\n        b\n', 'short  1-2/2  100%', 'follow on')
         self.quit()
 
     def test_a_key_is_heard_before_a_pipe_ends(self):
