@@ -23,5 +23,6 @@ pub mod RequestLaws
 pub mod KeepLaws
 pub mod BeginLaws
 pub mod EventLaws
+pub mod ByHandLaws
 pub mod PrintLaws
 pub mod WrittenRowsLaws

@@ -4,6 +4,8 @@ use Rattle.std.specs.Io.KnownBytes.{Appends}
 use Rattle.std.proofs.KnownBytes.{Appends-trans}
 use Rattle.std.proofs.Math.Seq.{take-append-add}
 use Rattle.std.proofs.lemmas.List.{length-append}
+use Rattle.std.proofs.lemmas.Result.{err_from_is_err_and}
+use Rattle.std.specs.Result.{IsErr, IsErrAnd}
 use Rattle.minus_term.specs.Counts.{AppendsFront, Stays, Rises}
 use Rattle.minus_term.specs.Operations.{Op}
 use Rattle.minus_term.specs.Refusals.{Refusal, for_memory, for_newline, for_hook_id, for_free_hook_id, for_size, for_description, for_binding, for_query, for_mode, after_failure, after_exit, at_setup, at_cleanup, at_drawing, for_pattern, of_no_call, refusal_of}
@@ -347,6 +349,12 @@ error_in e (Err f) = f
 pub err_only : {A : Type 0} (e x : MinusError) (now s : Status) → (e ≡ x) ↔ (now ≡ s) → (◌≡◌ {A = Result A MinusError} (Err e) (Err x)) ↔ (now ≡ s)
 unfolding error_in
 err_only {A = A} e x now s h = (λ is. h.0 (ap (error_in {A = A} e) is), λ on. ap (λ (f : MinusError). let r : Result A MinusError = Err f in r) (h.1 on))
+
+-- what holds of a refusal holds where it is passed on
+pub passed_whole : {T E : Type 0} (r : Result T E) (P : Result T E → Type 0) (cause : E) → IsErr r × IsErrAnd r (λ e. e ≡ cause) → P (Err cause) → P r
+passed_whole r P cause is met =
+    let ended = err_from_is_err_and r is.1 in
+    subst P (sym ended.1) (subst (λ e. P (Err e)) (sym ended.2) met)
 
 -- what is worked off leaves a session running that ran
 pub runs_on : {Q K : Type 0} (says : Says Q K) (old : Seen Q K) (told : Told Q K) (a b : Option (List ℕ)) (s : Seen Q K) (refused : List Refusal) (copied : Option (List ℕ)) → old.status ≡ status.Running → SoFar says old told a b s refused copied → s.status ≡ status.Running

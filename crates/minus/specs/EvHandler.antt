@@ -73,6 +73,15 @@ io_left Q K c io = changed_by (effect {Q = Q} {K = K} c (io_wanted io))
 abbrev pub io_ops : (Q K : Type 0) → Control → IoCommand → List Op
 io_ops Q K c io = ops_of (drawing_of {Q = Q} {K = K} c (io_wanted io)) (io_left Q K c io)
 
+-- the control that such commands leave, done one after another
+abbrev pub all_io_left : (Q K : Type 0) → Control → List IoCommand → Control
+all_io_left Q K c [] = c
+all_io_left Q K c (io ∷ rest) = all_io_left Q K (io_left Q K c io) rest
+
+-- the law that a command which is done by hand leaves, once what waits for it is done too, what the table says of it
+abbrev pub ByHandAsByTheTable : (Q K : Type 0) → Type 0
+ByHandAsByTheTable Q K = (c : Control) (w : Wanted Q K) → all_io_left Q K (unmoved c w) (queued c w) ≡ changed_by (effect c w)
+
 -- what it asks for was done, and drawn on a sink
 pub record IsIoDone {S P H E Q K : Type 0} (sink : S → SinkSeen) (old : PartsOf P H E Q K) (before : S) (io : IoCommand) (new : PartsOf P H E Q K) (after : S) : Type 0 where
   pub control : control_of new.state ≡ io_left Q K (control_of old.state) io

@@ -1,12 +1,19 @@
--- What is queued in the place of a drawing, a move and the opening of a search prompt.
+-- What waits for a program that works commands off by hand, and what is queued in the place of a drawing, a move and the opening of a
+-- search prompt.
 use Rattle.std.specs.Prelude.{ℕ, List, [], ◌∷◌, ◌++◌, not, Bool, true, false, Option, None, Some, if◌then◌else◌}
 use Rattle.minus_state.specs.Control.{Control}
 use Rattle.minus_state.specs.Help.{help_open}
 use Rattle.minus_state.specs.declared.change.Redraw.{Redraw}
 use Rattle.minus_state.specs.declared.change.Redraw.TheVariants.{Whole, Appended, Opening}
+use Rattle.minus.specs.declared.command_queue.CommandQueueOf.{CommandQueueOf}
+use Rattle.minus.specs.declared.commands.CommandOf.{CommandOf}
 use Rattle.minus.specs.declared.commands.IoCommand.{IoCommand}
 use Rattle.minus.specs.declared.commands.IoCommand.TheVariants.{RedrawPrompt, RedrawDisplay, SetUpperMark, FetchSearchQuery}
 use Rattle.minus.specs.Table.{Wanted, sets_prompt, sends_message, shows_prompt, types, restores_prompt, effect, moved_by, moves}
+
+-- the commands that wait in a queue, the first that came first
+abbrev pub waiting_in : {P H E Q K : Type 0} → CommandQueueOf P H E Q K → List (CommandOf P H E Q K)
+waiting_in queue = queue.commands.items
 
 -- whether the prompt row alone is drawn for it
 abbrev pub draws_prompt_row : {Q K : Type 0} → Control → Wanted Q K → Bool

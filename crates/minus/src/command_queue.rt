@@ -21,7 +21,7 @@ pub type CommandQueue = CommandQueueOf<Boxes>;
 impl<P: Parts> CommandQueueOf<P> {
     ghost use Rattle.std.specs.Prelude.{◌≡◌, ◌<◌, ◌+◌, ◌≤◌, ◌∷◌, ◌++◌, [], ◌==◌, length, map, OnOk, OnErr, IfOk, IfErr, IfSome, IfNone};
     ghost use Rattle.std.specs.VecDeque.{deque_len, deque_capacity};
-    ghost use Rattle.minus.specs.Queued.{listed};
+    ghost use Rattle.minus.specs.Queued.{listed, waiting_in};
     ghost use Rattle.minus.specs.Reads.{as_command};
 
     /// A queue in which none waits, with room for ten commands.
@@ -30,7 +30,7 @@ impl<P: Parts> CommandQueueOf<P> {
     ///
     /// [`MinusError::Memory`] where there is no memory for them.
     pub fn new(alloc: Global) -> Result<CommandQueueOf<P>, MinusError>
-        ensures none { IfOk result (λ queue. queue.commands.items ≡ []) }
+        ensures none { IfOk result (λ queue. waiting_in queue ≡ []) }
         ensures memory { IfErr result (λ e. e ≡ MinusError.Memory) }
     {
         let mut queue = CommandQueueOf::new_zero(alloc);
@@ -40,7 +40,7 @@ impl<P: Parts> CommandQueueOf<P> {
 
     /// A queue in which none waits, which takes no memory yet.
     pub fn new_zero(alloc: Global) -> CommandQueueOf<P>
-        ensures { result.commands.items ≡ [] }
+        ensures { waiting_in result ≡ [] }
     {
         CommandQueueOf {
             commands: VecDeque::new(alloc),
@@ -49,7 +49,7 @@ impl<P: Parts> CommandQueueOf<P> {
 
     /// Whether none waits.
     pub fn is_empty(&self) -> bool
-        ensures { result ≡ (length self.now.commands.items == 0) }
+        ensures { result ≡ (length (waiting_in self.now) == 0) }
     {
         self.commands.is_empty()
     }
@@ -60,8 +60,8 @@ impl<P: Parts> CommandQueueOf<P> {
     ///
     /// [`MinusError::Memory`] where there is no memory, and nothing has changed.
     pub fn push_back(&mut self, command: CommandOf<P>) -> Result<(), MinusError>
-        ensures ok { OnOk result (self.new.commands.items ≡ self.old.commands.items ++ command ∷ []) }
-        ensures err { OnErr result (self.new.commands.items ≡ self.old.commands.items) }
+        ensures ok { OnOk result (waiting_in self.new ≡ waiting_in self.old ++ command ∷ []) }
+        ensures err { OnErr result (waiting_in self.new ≡ waiting_in self.old) }
         ensures memory { IfErr result (λ e. e ≡ MinusError.Memory) }
     {
         if self.commands.push_back(command).is_err() {
@@ -72,15 +72,15 @@ impl<P: Parts> CommandQueueOf<P> {
 
     /// Takes the command that came first, if one waits.
     pub fn pop_front(&mut self) -> Option<CommandOf<P>>
-        ensures first { IfSome result (λ command. self.old.commands.items ≡ command ∷ self.new.commands.items) }
-        ensures none { IfNone result ((self.old.commands.items ≡ []) × (self.new.commands.items ≡ [])) }
+        ensures first { IfSome result (λ command. waiting_in self.old ≡ command ∷ waiting_in self.new) }
+        ensures none { IfNone result ((waiting_in self.old ≡ []) × (waiting_in self.new ≡ [])) }
     {
         self.commands.pop_front()
     }
 
     // Makes room for this number of commands more.
     pub(crate) fn reserve(&mut self, commands: usize) -> Result<(), AllocError>
-        ensures same { self.new.commands.items ≡ self.old.commands.items }
+        ensures same { waiting_in self.new ≡ waiting_in self.old }
         ensures room { OnOk result (deque_len self.new.commands + commands ≤ deque_capacity self.new.commands) }
     {
         self.commands.reserve(commands)
@@ -89,7 +89,7 @@ impl<P: Parts> CommandQueueOf<P> {
     // Lets a command that asks for a drawing wait behind all others, if one is given.
     pub(crate) fn push_reserved(&mut self, command: Option<IoCommand>)
         requires { deque_len self.old.commands < deque_capacity self.old.commands }
-        ensures pushed { self.new.commands.items ≡ self.old.commands.items ++ map as_command (listed command) }
+        ensures pushed { waiting_in self.new ≡ waiting_in self.old ++ map as_command (listed command) }
         ensures room { deque_len self.new.commands ≤ deque_len self.old.commands + 1 }
         ensures capacity { deque_capacity self.new.commands ≡ deque_capacity self.old.commands }
     {

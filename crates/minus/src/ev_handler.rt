@@ -5,6 +5,7 @@ ghost use Rattle.minus_term.specs.Written.{written_all};
 ghost use Rattle.minus_state.specs.Changes.{IsChange};
 ghost use Rattle.minus_state.specs.States.{control_of, IsFormed};
 ghost use Rattle.minus.specs.EvHandler.{Handles, IsUnhandled, CannotHandle, io_left, io_ops, IsIoDone, IsIoUndone};
+ghost use Rattle.minus.specs.Queued.{waiting_in};
 ghost use Rattle.minus.specs.Reads.{kept_of};
 
 use crate::command_queue::CommandQueueOf;
@@ -59,11 +60,10 @@ pub fn handle_event<P: Calls>(
     queue: &mut CommandQueueOf<P>,
 ) -> Result<Handled, MinusError>
     requires formed { IsFormed parts.old.state }
-    ensures handled { IfOk result (λ handled. Handles P.Classifier.says parts.old queue.old.commands.items command
-        parts.new queue.new.commands.items handled) }
+    ensures handled { IfOk result (λ handled. Handles P.Classifier.says parts.old (waiting_in queue.old) command
+        parts.new (waiting_in queue.new) handled) }
     ensures refused { IfErr result (λ e. CannotHandle (refusal_of e) P.Classifier.says parts.old command) }
-    ensures unhandled { OnErr result (IsUnhandled parts.old queue.old.commands.items
-        parts.new queue.new.commands.items) }
+    ensures unhandled { OnErr result (IsUnhandled parts.old (waiting_in queue.old) parts.new (waiting_in queue.new)) }
     ensures formed { IsFormed parts.new.state }
 {
     if command.io().is_some() {

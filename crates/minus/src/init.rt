@@ -268,9 +268,7 @@ fn show<S: OutputSink>(sink: &mut S, drawing: &[u8]) -> Result<(), MinusError>
     ensures untouched { IfErr result (λ e. (IsStartFault (refusal_of e) → ⊥) → sink.new ≡ sink.old) }
 {
     setup(sink)?;
-    if let Err(refusal) = draw(sink, drawing) {
-        return Err(refusal);
-    }
+    draw(sink, drawing)?;
     Ok(())
 }
 

@@ -1,5 +1,6 @@
 //! Laws over the definitions of steps.
 ghost use Rattle.minus.specs.Drawn.{DrawingsJoin};
+ghost use Rattle.minus.specs.EvHandler.{ByHandAsByTheTable};
 ghost use Rattle.minus.specs.Keyed.{KeysAreDrawn};
 ghost use Rattle.minus.specs.Says.{says_of};
 ghost use Rattle.minus.specs.Works.{AloneWithNoPrompt, ResizesAreFull, HelpLeavesNoTrace};
@@ -30,6 +31,12 @@ pub fn keys_are_drawn()
 /// A law: help that is opened and left at once leaves all as it was, but for the message, which is gone.
 pub fn help_leaves_no_trace<Q, K>()
     ensures { HelpLeavesNoTrace Q K }
+{}
+
+/// A law: a command that is handled by hand leaves, once what waits for it is done too, what the table says of it, which
+/// is what a step leaves.
+pub fn by_hand_as_by_the_table<Q, K>()
+    ensures { ByHandAsByTheTable Q K }
 {}
 
 /// A law: with no search prompt open, and while nothing waits, an input is worked off alone.

@@ -117,6 +117,7 @@ pub use input::resizes_are_one_key;
 pub use input::wild_is_itself_alone;
 pub use input::with_default_hasher;
 pub use laws::an_input_is_alone_with_no_prompt;
+pub use laws::by_hand_as_by_the_table;
 pub use laws::drawings_join;
 pub use laws::events_ask_by_the_table;
 pub use laws::help_leaves_no_trace;

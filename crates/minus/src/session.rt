@@ -189,12 +189,15 @@ impl<S, P: Parts> Core<S, P> {
     pub(crate) fn apply(&mut self, outcome: Outcome) -> Result<Option<String>, MinusError>
         requires running { self.old.status ≡ Status.Running }
         requires leads { LeadsClamped (control_of self.old.parts.state) outcome.change }
-        ensures done { OnOk result ((new : Control) → IsChange (control_of self.old.parts.state) outcome.change new →
+        ensures done { OnOk result ((new : Control) →
+            IsChange (control_of self.old.parts.state) outcome.change new →
             seen_of self.new ≡ record (seen_of self.old) { control = new }) }
-        ensures drawn { OnOk result ((new : Control) → IsChange (control_of self.old.parts.state) outcome.change new →
+        ensures drawn { OnOk result ((new : Control) →
+            IsChange (control_of self.old.parts.state) outcome.change new →
             IsDrawable (drawing_by outcome.change.redraw (control_of self.old.parts.state) outcome.change.mark)
             (control_of self.old.parts.state) new →
-            DrawsBetween self.new (drawing_by outcome.change.redraw (control_of self.old.parts.state) outcome.change.mark)
+            DrawsBetween self.new
+            (drawing_by outcome.change.redraw (control_of self.old.parts.state) outcome.change.mark)
             (control_of self.old.parts.state) new) }
         ensures copied { IfOk result (λ text. text ≡ outcome.copied) }
         ensures size { OnOk result (IsSize self.new.parts.state.cols self.new.parts.state.rows) }
@@ -314,15 +317,13 @@ impl<S: OutputSink + Drop, P: Calls> Core<S, P> {
     {
         let hook = outcome.hook;
         let copied = self.apply(outcome)?;
-        if let Err(refusal) = self.write_drawing() {
-            return Err(refusal);
-        }
+        self.write_drawing()?;
         self.call_hook(hook);
         Ok(Taken { exit: None, copied })
     }
 
     // Keeps what is handed over.
-    fn take_over(&mut self, handed: Handed<P>) -> Result<Taken, MinusError>
+    fn take_handed(&mut self, handed: Handed<P>) -> Result<Taken, MinusError>
         requires running { self.old.status ≡ stands.Running }
         requires closed { (control_of self.old.parts.state).search ≡ None }
         ensures taken { IfOk result (λ t. (told : Told P.Condition P.Classifier) →
@@ -335,9 +336,7 @@ impl<S: OutputSink + Drop, P: Calls> Core<S, P> {
             IsUntakenOf S.seen (says_of P.Condition.judges P.Classifier.says) self.old told self.new e) }
         ensures waiting { self.new.waiting ≡ self.old.waiting }
     {
-        if let Err(refusal) = self.parts.keep(handed) {
-            return Err(refusal);
-        }
+        self.parts.keep(handed)?;
         Ok(Taken {
             exit: None,
             copied: None,
@@ -390,7 +389,7 @@ impl<S: OutputSink + Drop, P: Calls> Core<S, P> {
         ensures fewer { deque_len self.new.waiting ≤ deque_len self.old.waiting }
     {
         if let Request::HandOver(handed) = request {
-            return self.take_over(handed);
+            return self.take_handed(handed);
         }
         let mut outcome = outcome_of(&self.parts.state, self.alloc, request, clears_prefix)?;
         if outcome.exits {
@@ -515,10 +514,7 @@ impl<S: OutputSink + Drop, P: Calls> Core<S, P> {
             Status::Ended => return Err(MinusError::Ended),
             Status::Failed => return Err(MinusError::Failed),
         }
-        let first = match self.take(input) {
-            Ok(first) => first,
-            Err(refusal) => return Err(refusal),
-        };
+        let first = self.take(input)?;
         let mut refused = Vec::new(self.alloc);
         if first.exit.is_some() {
             return Ok(Answer::of_step(first.exit, None, refused));
@@ -532,11 +528,7 @@ impl<S: OutputSink + Drop, P: Calls> Core<S, P> {
                     }
                     copied = last_of(copied, taken.copied);
                 }
-                Err(refusal) => {
-                    if let Err(refusal) = self.pass_over(&mut refused, refusal) {
-                        return Err(refusal);
-                    }
-                }
+                Err(refusal) => self.pass_over(&mut refused, refusal)?,
             }
         }
         Ok(Answer::of_step(None, copied, refused))

@@ -77,12 +77,8 @@ fn write_line<S: OutputSink>(sink: &mut S, text: &str) -> io::Result<()>
         (text.now ++ codes "\n")) }
     ensures rises { OnErr result (Rises (S.seen sink.old).refusals (S.seen sink.new).refusals) }
 {
-    if let Err(cause) = write_bytes(sink, text.as_bytes()) {
-        return Err(cause);
-    }
-    if let Err(cause) = draw_bytes(sink, b"\n") {
-        return Err(cause);
-    }
+    write_bytes(sink, text.as_bytes())?;
+    draw_bytes(sink, b"\n")?;
     Ok(())
 }
 

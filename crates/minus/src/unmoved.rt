@@ -86,7 +86,7 @@ fn turn_search(state: &mut PagerState, mode: SearchMode)
         ≡ record (clamp (opened (control_of state.old) mode)) { search = (control_of state.old).search } }
     ensures formed { IsFormed state.new }
 {
-    state.upper_mark = state.upper_mark.min(state.top());
+    clamp_mark(state);
     if mode.search_char().is_some() {
         state.search_state.search_mode = mode;
         state.set_search_mark(0);

@@ -104,9 +104,7 @@ impl<S, P: Parts> Core<S, P> {
         ensures kept { IfOk result (λ t. IsKept self.old (told_of input) self.new t) }
         ensures refused { IfErr result (λ e. IsNotKept self.old (told_of input) self.new e) }
     {
-        if let Err(refusal) = check(&input) {
-            return Err(refusal);
-        }
+        check(&input)?;
         if self.waiting.push_back(input).is_err() {
             return Err(MinusError::Memory);
         }

@@ -1,15 +1,21 @@
 -- The change was not drawn, or its drawing is whole or broken off.
 use Rattle.std.proofs.Common.{◌≤◌, string_bytes, sym, ap, subst, ◌∙◌}
 use Rattle.std.specs.Option.{option_map}
+use Rattle.minus_state.proofs.RefusalLaws.{passed_on}
 use Rattle.minus.specs.Core.{seen_of}
+use Rattle.minus.specs.Outcomes.{IsTakenBy}
+use Rattle.minus.specs.Reads.{Told}
+use Rattle.minus.specs.Says.{says_of}
 use Rattle.minus.specs.Seen.{Seen}
+use Rattle.minus.specs.SessionSteps.{IsUntakenOf}
+use Rattle.minus.specs.Works.{Work}
 use Rattle.minus.proofs.StepLaws.{drawable_by, drawn_take, broken_take}
 use Rattle.minus.proofs.session.Core.change.Goals as goal
 
 pub returns-clause-taken : goal.returns-clause-taken
 returns-clause-taken g c told work t =
     let applied = c.in_ok-copied.ensures in
-    let written = c.in_default.ensures in
+    let written = c.in_ok-write_drawing.ensures in
     let old = seen_of c.args.self.now in
     let seen = c.call_hook.ensures.seen ∙ ap seen_of written.rest in
     let left = seen ∙ applied.done work.left t.leads in
@@ -21,11 +27,14 @@ returns-clause-taken g c told work t =
       stays = let h = written.stays in rw (c.call_hook.ensures.sink, ← applied.sink) h;
     }
 
-pub returns-in-Err-clause-refused : goal.returns-in-Err-clause-refused
-returns-in-Err-clause-refused g c told work t =
-    let applied = c.in_ok-copied.ensures in
-    let broken = c.in-Err.ensures in
+pub returns-in_err-write_drawing-clause-refused : goal.returns-in_err-write_drawing-clause-refused
+returns-in_err-write_drawing-clause-refused g c =
+    let says = says_of g.P.Condition.ConditionCall.judges g.P.Classifier.InputClassifier.says in
     let old = seen_of c.args.self.now in
+    passed_on c.from_residual-in_err-write_drawing.result (λ e. (told : Told _ _) → (work : Work) → IsTakenBy says old told c.args.outcome work → IsUntakenOf g.S.OutputSink.seen says c.args.self.now told c.write_drawing.new.self e)
+    c.in_err-write_drawing.field-0.0 c.from_residual-in_err-write_drawing.ensures (λ told work t. (
+    let applied = c.in_ok-copied.ensures in
+    let broken = c.in_err-write_drawing.ensures in
     let left = applied.done work.left t.leads in
     let drawn = applied.drawn work.left t.leads (drawable_by _ old told c.args.outcome work t) in
     let sink = ap (λ s. (g.S.OutputSink.seen s).bytes) applied.sink in
@@ -35,6 +44,4 @@ returns-in-Err-clause-refused g c told work t =
       rises = λ fault. (let h = broken.rises in rw (ap (λ s. (g.S.OutputSink.seen s).refusals) applied.sink) at h);
       untouched = λ quiet. absurd (quiet (rw broken.cause tt));
     }
-
-pub returns-in-Err-clause-taken : goal.returns-in-Err-clause-taken
-returns-in-Err-clause-taken g c = tt
+    ))

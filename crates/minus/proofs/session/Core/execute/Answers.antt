@@ -11,10 +11,10 @@ use Rattle.minus.proofs.StepLaws.{exits_with, worked_by}
 use Rattle.minus.proofs.session.Core.execute.Goals as goal
 
 pub returns-in-HandOver-clause-taken : goal.returns-in-HandOver-clause-taken
-returns-in-HandOver-clause-taken g c = rw c.in-HandOver.is (IfOk-weaker c.take_over.result _ _ (λ t h. λ told asked. h told asked.asks) c.take_over.ensures.taken)
+returns-in-HandOver-clause-taken g c = rw c.in-HandOver.is (IfOk-weaker c.take_handed.result _ _ (λ t h. λ told asked. h told asked.asks) c.take_handed.ensures.taken)
 
 pub returns-in-HandOver-clause-refused : goal.returns-in-HandOver-clause-refused
-returns-in-HandOver-clause-refused g c = rw c.in-HandOver.is (IfErr-weaker c.take_over.result _ _ (λ e h. λ told asked. h told asked.asks) c.take_over.ensures.refused)
+returns-in-HandOver-clause-refused g c = rw c.in-HandOver.is (IfErr-weaker c.take_handed.result _ _ (λ e h. λ told asked. h told asked.asks) c.take_handed.ensures.refused)
 
 pub returns-then-outcome-clause-taken : goal.returns-then-outcome-clause-taken
 returns-then-outcome-clause-taken g c =

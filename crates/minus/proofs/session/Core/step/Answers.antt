@@ -1,10 +1,11 @@
 -- What was worked off so far, at each end of the step.
-use Rattle.std.proofs.Common.{rules, ◌≡◌, ◌++◌, ◌∷◌, [], ℕ, List, Option, map, Some, None, is_some, true, false, option_map, string_bytes, sym, ap, subst, ◌∙◌, arith, inl, inr, ◌⊎◌}
+use Rattle.std.proofs.Common.{rules, ◌≡◌, ◌++◌, ◌∷◌, [], ℕ, List, Option, map, Some, None, is_some, true, false, option_map, string_bytes, sym, ap, subst, ◌∙◌, arith, inl, inr, ◌⊎◌, ◌↔◌, Err}
 use Rattle.std.proofs.lemmas.List.{map-append}
 use Rattle.minus_term.specs.Counts.{Stays}
 use Rattle.minus_term.specs.Refusals.{Refusal, refusal_of, for_memory}
 use Rattle.minus_term.specs.declared.error.MinusError.TheVariants.{Failed, Ended}
 use Rattle.minus_term.proofs.SinkLaws.{Stays-trans}
+use Rattle.minus_state.proofs.RefusalLaws.{passed_on}
 use Rattle.minus.specs.Says.{says_of}
 use Rattle.minus.specs.declared.status.Status.TheVariants as status
 use Rattle.std.specs.VecDeque.{deque_len}
@@ -12,11 +13,12 @@ use Rattle.minus.specs.declared.session.Core.{Core}
 use Rattle.minus.specs.Core.{seen_of}
 use Rattle.minus.specs.Reads.{told_of}
 use Rattle.minus.specs.Seen.{Seen}
+use Rattle.minus.specs.SessionSteps.{IsRefusedStepOf}
 use Rattle.minus.specs.Steps.{Took, is_passed}
 use Rattle.minus.specs.Handing.{Exit}
 use Rattle.minus.specs.Works.{leaving}
 use Rattle.minus.proofs.StartLaws.{Stays-refl}
-use Rattle.minus.proofs.LoopLaws.{SoFar, begun, one_more, passed_over, step_rests, step_exits, step_exits_later, refused_at_once, took_as, fails_as, refused_so, passed_no_fault, late_rises, late_stays, has_changed, runs_on, refused_by, failed_never, ended_never, err_only, some_of, none_of}
+use Rattle.minus.proofs.LoopLaws.{SoFar, begun, one_more, passed_over, step_rests, step_exits, step_exits_later, refused_at_once, took_as, fails_as, refused_so, passed_no_fault, late_rises, late_stays, has_changed, runs_on, refused_by, failed_never, ended_never, err_only, passed_whole, some_of, none_of}
 use Rattle.minus.proofs.session.Core.step.Goals as goal
 
 pub returns-in-Ended-clause-refused : goal.returns-in-Ended-clause-refused
@@ -25,39 +27,42 @@ returns-in-Ended-clause-refused g c = search rules
 pub returns-in-Ended-clause-failed : goal.returns-in-Ended-clause-failed
 returns-in-Ended-clause-failed g c = search rules
 
-pub returns-in-Err-clause-refused : goal.returns-in-Err-clause-refused
-returns-in-Err-clause-refused g c =
-    let h = c.in-Err.ensures.refused in
-    record {
-      refuses = refused_at_once _ (refusal_of c.in-Err.refusal) (seen_of c.args.self.now) (told_of c.args.input) (seen_of c.take.new.self) _ _ c.in-Running.is h.fails;
+pub returns-in_err-first-clause-refused : goal.returns-in_err-first-clause-refused
+returns-in_err-first-clause-refused g c =
+    let says = says_of g.P.Condition.ConditionCall.judges g.P.Classifier.InputClassifier.says in
+    let seen = g.S.OutputSink.seen in
+    let e = c.in_err-first.field-0.0 in
+    let h = c.in_err-first.ensures.refused in
+    passed_on c.from_residual.result (λ x. IsRefusedStepOf seen says c.args.self.now (told_of c.args.input) c.take.new.self x) e c.from_residual.ensures (record {
+      refuses = refused_at_once _ (refusal_of e) (seen_of c.args.self.now) (told_of c.args.input) (seen_of c.take.new.self) _ _ c.in-Running.is h.fails;
       rises = h.rises;
-      stays = λ well. rw (h.untouched well) (Stays-refl (g.S.OutputSink.seen c.args.self.now.sink).refusals);
+      stays = λ well. rw (h.untouched well) (Stays-refl (seen c.args.self.now.sink).refusals);
       untouched = λ well same. h.untouched well;
-    }
+    })
 
 pub returns-then-is_some-clause-step : goal.returns-then-is_some-clause-step
 returns-then-is_some-clause-step g c =
     let says = says_of g.P.Condition.ConditionCall.judges g.P.Classifier.InputClassifier.says in
-    let some : is_some c.in-Ok.first.exit ≡ true = search rules in
-    let x = some_of c.in-Ok.first.exit some in
+    let some : is_some c.in_ok-first.first.exit ≡ true = search rules in
+    let x = some_of c.in_ok-first.first.exit some in
     let old : Seen _ _ = seen_of c.args.self.now in
     let new : Seen _ _ = seen_of c.take.new.self in
-    let t = subst (λ (e : Option Exit). Took says e old (told_of c.args.input) (option_map string_bytes c.in-Ok.first.copied) new (g.S.OutputSink.seen c.args.self.now.sink).bytes (g.S.OutputSink.seen c.take.new.self.sink).bytes) x.1 c.in-Ok.ensures.taken.took in
+    let t = subst (λ (e : Option Exit). Took says e old (told_of c.args.input) (option_map string_bytes c.in_ok-first.first.copied) new (g.S.OutputSink.seen c.args.self.now.sink).bytes (g.S.OutputSink.seen c.take.new.self.sink).bytes) x.1 c.in_ok-first.ensures.taken.took in
     let answers = c.of_step.ensures in
     record {
       step = step_exits says old new (told_of c.args.input) x.0 _ _ _ _ c.in-Running.is t (rw (x.1, ap (map refusal_of) c.new-refused.ensures.items) at answers);
-      stays = c.in-Ok.ensures.taken.stays;
+      stays = c.in_ok-first.ensures.taken.stays;
     }
 
 pub loop-next-init : goal.loop-next-init
 loop-next-init g c =
     let says = says_of g.P.Condition.ConditionCall.judges g.P.Classifier.InputClassifier.says in
-    let no : is_some c.in-Ok.first.exit ≡ false = search rules in
+    let no : is_some c.in_ok-first.first.exit ≡ false = search rules in
     let old : Seen _ _ = seen_of c.args.self.now in
     let new : Seen _ _ = seen_of c.take.new.self in
-    let t = subst (λ (e : Option Exit). Took says e old (told_of c.args.input) (option_map string_bytes c.in-Ok.first.copied) new (g.S.OutputSink.seen c.args.self.now.sink).bytes (g.S.OutputSink.seen c.take.new.self.sink).bytes) (none_of c.in-Ok.first.exit no) c.in-Ok.ensures.taken.took in (
-      c.in-Ok.ensures.taken.stays,
-      subst (λ (r : List Refusal). SoFar says old (told_of c.args.input) (g.S.OutputSink.seen c.args.self.now.sink).bytes (g.S.OutputSink.seen c.take.new.self.sink).bytes new r (option_map string_bytes c.in-Ok.first.copied)) (sym (ap (map refusal_of) c.new-refused.ensures.items)) (begun says old new (told_of c.args.input) _ _ _ t),
+    let t = subst (λ (e : Option Exit). Took says e old (told_of c.args.input) (option_map string_bytes c.in_ok-first.first.copied) new (g.S.OutputSink.seen c.args.self.now.sink).bytes (g.S.OutputSink.seen c.take.new.self.sink).bytes) (none_of c.in_ok-first.first.exit no) c.in_ok-first.ensures.taken.took in (
+      c.in_ok-first.ensures.taken.stays,
+      subst (λ (r : List Refusal). SoFar says old (told_of c.args.input) (g.S.OutputSink.seen c.args.self.now.sink).bytes (g.S.OutputSink.seen c.take.new.self.sink).bytes new r (option_map string_bytes c.in_ok-first.first.copied)) (sym (ap (map refusal_of) c.new-refused.ensures.items)) (begun says old new (told_of c.args.input) _ _ _ t),
     )
 
 pub take-requires-in-Some : goal.take-requires-in-Some
@@ -68,23 +73,23 @@ take-requires-in-Some g c = record {
 pub returns-then-is_some-2-clause-step : goal.returns-then-is_some-2-clause-step
 returns-then-is_some-2-clause-step g c =
     let says = says_of g.P.Condition.ConditionCall.judges g.P.Classifier.InputClassifier.says in
-    let some : is_some c.in-Ok-take.taken.exit ≡ true = search rules in
-    let x = some_of c.in-Ok-take.taken.exit some in
+    let some : is_some c.in-Ok.taken.exit ≡ true = search rules in
+    let x = some_of c.in-Ok.taken.exit some in
     let old : Seen _ _ = seen_of c.args.self.now in
     let s : Seen _ _ = seen_of c.loop-next.self in
     let m : Seen _ _ = seen_of c.next_waiting.new.self in
     let new : Seen _ _ = seen_of c.take-in-Some.new.self in
-    let t = subst (λ (e : Option Exit). Took says e m (told_of c.in-Some.next) (option_map string_bytes c.in-Ok-take.taken.copied) new (g.S.OutputSink.seen c.next_waiting.new.self.sink).bytes (g.S.OutputSink.seen c.take-in-Some.new.self.sink).bytes) x.1 c.in-Ok-take.ensures.taken.took in
+    let t = subst (λ (e : Option Exit). Took says e m (told_of c.in-Some.next) (option_map string_bytes c.in-Ok.taken.copied) new (g.S.OutputSink.seen c.next_waiting.new.self.sink).bytes (g.S.OutputSink.seen c.take-in-Some.new.self.sink).bytes) x.1 c.in-Ok.ensures.taken.took in
     let answers = c.of_step-then-is_some-2.ensures in
-    let stays = (let h = c.in-Ok-take.ensures.taken.stays in rw (ap (λ x. (g.S.OutputSink.seen x).refusals) c.in-Some.ensures.sink) at h) in
+    let stays = (let h = c.in-Ok.ensures.taken.stays in rw (ap (λ x. (g.S.OutputSink.seen x).refusals) c.in-Some.ensures.sink) at h) in
     record {
       step = step_exits_later says old s new (told_of c.args.input) (told_of c.in-Some.next) m.waiting x.0 _ (map refusal_of c.loop-next.refused.items) (option_map string_bytes c.loop-next.copied) _ _ _ _ c.in-Running.is c.loop-next.invariant.1 c.in-Some.ensures.next
           (took_as says (Some x.0) m (told_of c.in-Some.next) _ new (leaving s m.waiting) _ _ _ c.in-Some.ensures.seen (ap (λ x. (g.S.OutputSink.seen x).bytes) c.in-Some.ensures.sink) t) (rw x.1 at answers);
       stays = Stays-trans _ _ _ c.loop-next.invariant.0 stays;
     }
 
-pub loop-next-smaller-in-Ok-take : goal.loop-next-smaller-in-Ok-take
-loop-next-smaller-in-Ok-take g c =
+pub loop-next-smaller-in-Ok : goal.loop-next-smaller-in-Ok
+loop-next-smaller-in-Ok g c =
     let closed = ap (λ (x : Seen _ _). x.control.search) c.in-Some.ensures.seen ∙ c.in-Some.ensures.next.0 in
     let fewer = c.take-in-Some.ensures.fewer closed in
     let less = c.in-Some.ensures.less in
@@ -95,20 +100,20 @@ loop-next-smaller g c =
     let closed = ap (λ (x : Seen _ _). x.control.search) c.in-Some.ensures.seen ∙ c.in-Some.ensures.next.0 in
     let fewer = c.take-in-Some.ensures.fewer closed in
     let less = c.in-Some.ensures.less in
-    let same = ap (λ (s : Core _ _ _ _ _ _). deque_len s.waiting) c.in_default-pass_over.ensures.unchanged in
+    let same = ap (λ (s : Core _ _ _ _ _ _). deque_len s.waiting) c.in_ok-pass_over-in-Err.ensures.unchanged in
     omega (arith, fewer, less, same)
 
-pub loop-next-preserved-in-Ok-take : goal.loop-next-preserved-in-Ok-take
-loop-next-preserved-in-Ok-take g c =
+pub loop-next-preserved-in-Ok : goal.loop-next-preserved-in-Ok
+loop-next-preserved-in-Ok g c =
     let says = says_of g.P.Condition.ConditionCall.judges g.P.Classifier.InputClassifier.says in
-    let no : is_some c.in-Ok-take.taken.exit ≡ false = search rules in
+    let no : is_some c.in-Ok.taken.exit ≡ false = search rules in
     let old : Seen _ _ = seen_of c.args.self.now in
     let s : Seen _ _ = seen_of c.loop-next.self in
     let m : Seen _ _ = seen_of c.next_waiting.new.self in
     let new : Seen _ _ = seen_of c.take-in-Some.new.self in
-    let t = subst (λ (e : Option Exit). Took says e m (told_of c.in-Some.next) (option_map string_bytes c.in-Ok-take.taken.copied) new (g.S.OutputSink.seen c.next_waiting.new.self.sink).bytes (g.S.OutputSink.seen c.take-in-Some.new.self.sink).bytes) (none_of c.in-Ok-take.taken.exit no) c.in-Ok-take.ensures.taken.took in
-    let stays = (let h = c.in-Ok-take.ensures.taken.stays in rw (ap (λ x. (g.S.OutputSink.seen x).refusals) c.in-Some.ensures.sink) at h) in
-    let so = one_more says old (told_of c.args.input) s new (told_of c.in-Some.next) m.waiting (map refusal_of c.loop-next.refused.items) (option_map string_bytes c.loop-next.copied) (option_map string_bytes c.in-Ok-take.taken.copied) _ _ _ c.loop-next.invariant.1 c.in-Some.ensures.next
+    let t = subst (λ (e : Option Exit). Took says e m (told_of c.in-Some.next) (option_map string_bytes c.in-Ok.taken.copied) new (g.S.OutputSink.seen c.next_waiting.new.self.sink).bytes (g.S.OutputSink.seen c.take-in-Some.new.self.sink).bytes) (none_of c.in-Ok.taken.exit no) c.in-Ok.ensures.taken.took in
+    let stays = (let h = c.in-Ok.ensures.taken.stays in rw (ap (λ x. (g.S.OutputSink.seen x).refusals) c.in-Some.ensures.sink) at h) in
+    let so = one_more says old (told_of c.args.input) s new (told_of c.in-Some.next) m.waiting (map refusal_of c.loop-next.refused.items) (option_map string_bytes c.loop-next.copied) (option_map string_bytes c.in-Ok.taken.copied) _ _ _ c.loop-next.invariant.1 c.in-Some.ensures.next
     (took_as says None m (told_of c.in-Some.next) _ new (leaving s m.waiting) _ _ _ c.in-Some.ensures.seen (ap (λ x. (g.S.OutputSink.seen x).bytes) c.in-Some.ensures.sink) t) in
     (Stays-trans _ _ _ c.loop-next.invariant.0 stays, subst (λ (x : Option (List ℕ)). SoFar says old (told_of c.args.input) (g.S.OutputSink.seen c.args.self.now.sink).bytes (g.S.OutputSink.seen c.take-in-Some.new.self.sink).bytes new (map refusal_of c.loop-next.refused.items) x) (sym c.last_of-copied.ensures) so)
 
@@ -128,36 +133,38 @@ returns-clause-step g c =
       stays = rw sink c.loop-next.invariant.0;
     }
 
-pub returns-in-Err-pass_over-clause-refused : goal.returns-in-Err-pass_over-clause-refused
-returns-in-Err-pass_over-clause-refused g c =
+pub returns-in_err-pass_over-in-Err-clause-refused : goal.returns-in_err-pass_over-in-Err-clause-refused
+returns-in_err-pass_over-in-Err-clause-refused g c =
     let says = says_of g.P.Condition.ConditionCall.judges g.P.Classifier.InputClassifier.says in
     let old : Seen _ _ = seen_of c.args.self.now in
     let s : Seen _ _ = seen_of c.loop-next.self in
     let m : Seen _ _ = seen_of c.next_waiting.new.self in
     let mid : Seen _ _ = seen_of c.take-in-Some.new.self in
     let new : Seen _ _ = seen_of c.pass_over.new.self in
-    let fails = c.in-Err-pass_over.ensures.fails in
-    let of : Refusal = refusal_of c.in-Err-take.refusal in
-    let out : Refusal = refusal_of c.in-Err-pass_over.refusal in
-    let h = c.in-Err-take.ensures.refused in
-    let why : ((out ≡ of) × (is_passed of ≡ false)) ⊎ ((out ≡ for_memory) × (is_passed of ≡ true)) = elim c.in-Err-pass_over.ensures.cause [ inl h ↦ inl (ap refusal_of h.0, h.1) | inr h ↦ inr (ap refusal_of h.0, h.1) ] in
+    let fails = c.in_err-pass_over-in-Err.ensures.fails in
+    let of : Refusal = refusal_of c.in-Err.refusal in
+    let out : Refusal = refusal_of c.in_err-pass_over-in-Err.field-0.0 in
+    let h = c.in-Err.ensures.refused in
+    let why : ((out ≡ of) × (is_passed of ≡ false)) ⊎ ((out ≡ for_memory) × (is_passed of ≡ true)) = elim c.in_err-pass_over-in-Err.ensures.cause [ inl h ↦ inl (ap refusal_of h.0, h.1) | inr h ↦ inr (ap refusal_of h.0, h.1) ] in
     let sink = c.pass_over.ensures.sink in
     let before : Stays (g.S.OutputSink.seen c.args.self.now.sink).refusals (g.S.OutputSink.seen c.next_waiting.new.self.sink).refusals = subst (λ x. Stays (g.S.OutputSink.seen c.args.self.now.sink).refusals (g.S.OutputSink.seen x).refusals) (sym c.in-Some.ensures.sink) c.loop-next.invariant.0 in
-    record {
+    passed_on c.from_residual-in_err-pass_over-in-Err.result (λ x. IsRefusedStepOf g.S.OutputSink.seen says c.args.self.now (told_of c.args.input) c.pass_over.new.self x) c.in_err-pass_over-in-Err.field-0.0 c.from_residual-in_err-pass_over-in-Err.ensures (record {
       refuses = refused_so says old (told_of c.args.input) s m mid new (told_of c.in-Some.next) (map refusal_of c.loop-next.refused.items) (option_map string_bytes c.loop-next.copied) _ _ _ _ _ of out c.in-Running.is c.loop-next.invariant.1 c.in-Some.ensures.next c.in-Some.ensures.seen (ap (λ x. (g.S.OutputSink.seen x).bytes) c.in-Some.ensures.sink) h.fails
           fails (ap (λ x. (g.S.OutputSink.seen x).bytes) sink) why;
       rises = λ fault. rw sink (late_rises of out _ _ _ why before h.rises fault);
       stays = λ well. rw sink (late_stays of out _ _ _ why before (λ none. ap (λ x. (g.S.OutputSink.seen x).refusals) (h.untouched none)) well);
       untouched = λ well same. has_changed old mid new c.in-Running.is fails same;
-    }
+    })
 
-pub returns-in-Err-pass_over-clause-failed : goal.returns-in-Err-pass_over-clause-failed
-returns-in-Err-pass_over-clause-failed g c =
-    err_only c.in-Err-pass_over.refusal Failed c.args.self.now.status status.Failed (failed_never c.in-Err-pass_over.refusal c.in-Err-take.refusal c.args.self.now.status c.in-Running.is (refused_by _ _ _ _ _ _ _ c.in-Err-take.ensures.refused.fails) c.in-Err-pass_over.ensures.cause)
+pub returns-in_err-pass_over-in-Err-clause-failed : goal.returns-in_err-pass_over-in-Err-clause-failed
+returns-in_err-pass_over-in-Err-clause-failed g c =
+    passed_whole c.from_residual-in_err-pass_over-in-Err.result (λ r. (r ≡ Err Failed) ↔ (c.args.self.now.status ≡ status.Failed)) c.in_err-pass_over-in-Err.field-0.0 c.from_residual-in_err-pass_over-in-Err.ensures
+    (err_only c.in_err-pass_over-in-Err.field-0.0 Failed c.args.self.now.status status.Failed (failed_never c.in_err-pass_over-in-Err.field-0.0 c.in-Err.refusal c.args.self.now.status c.in-Running.is (refused_by _ _ _ _ _ _ _ c.in-Err.ensures.refused.fails) c.in_err-pass_over-in-Err.ensures.cause))
 
-pub returns-in-Err-pass_over-clause-ended : goal.returns-in-Err-pass_over-clause-ended
-returns-in-Err-pass_over-clause-ended g c =
-    err_only c.in-Err-pass_over.refusal Ended c.args.self.now.status status.Ended (ended_never c.in-Err-pass_over.refusal c.in-Err-take.refusal c.args.self.now.status c.in-Running.is (refused_by _ _ _ _ _ _ _ c.in-Err-take.ensures.refused.fails) c.in-Err-pass_over.ensures.cause)
+pub returns-in_err-pass_over-in-Err-clause-ended : goal.returns-in_err-pass_over-in-Err-clause-ended
+returns-in_err-pass_over-in-Err-clause-ended g c =
+    passed_whole c.from_residual-in_err-pass_over-in-Err.result (λ r. (r ≡ Err Ended) ↔ (c.args.self.now.status ≡ status.Ended)) c.in_err-pass_over-in-Err.field-0.0 c.from_residual-in_err-pass_over-in-Err.ensures
+    (err_only c.in_err-pass_over-in-Err.field-0.0 Ended c.args.self.now.status status.Ended (ended_never c.in_err-pass_over-in-Err.field-0.0 c.in-Err.refusal c.args.self.now.status c.in-Running.is (refused_by _ _ _ _ _ _ _ c.in-Err.ensures.refused.fails) c.in_err-pass_over-in-Err.ensures.cause))
 
 pub loop-next-preserved : goal.loop-next-preserved
 loop-next-preserved g c =
@@ -166,14 +173,14 @@ loop-next-preserved g c =
     let s : Seen _ _ = seen_of c.loop-next.self in
     let m : Seen _ _ = seen_of c.next_waiting.new.self in
     let mid : Seen _ _ = seen_of c.take-in-Some.new.self in
-    let same = c.in_default-pass_over.ensures.unchanged in
+    let same = c.in_ok-pass_over-in-Err.ensures.unchanged in
     let refused = map refusal_of c.loop-next.refused.items in
-    let of : Refusal = refusal_of c.in-Err-take.refusal in
-    let h = c.in-Err-take.ensures.refused in
+    let of : Refusal = refusal_of c.in-Err.refusal in
+    let h = c.in-Err.ensures.refused in
     let fails = fails_as says of m (told_of c.in-Some.next) mid (leaving s m.waiting) _ _ _ c.in-Some.ensures.seen (ap (λ x. (g.S.OutputSink.seen x).bytes) c.in-Some.ensures.sink) h.fails in
-    let so = passed_over says old (told_of c.args.input) s mid (told_of c.in-Some.next) m.waiting refused of (option_map string_bytes c.loop-next.copied) _ _ _ c.loop-next.invariant.1 c.in-Some.ensures.next fails c.in_default-pass_over.ensures.passed in
-    let kept : map refusal_of c.pass_over.new.refused.items ≡ refused ++ of ∷ [] = ap (map refusal_of) c.in_default-pass_over.ensures.kept ∙ map-append refusal_of c.loop-next.refused.items (c.in-Err-take.refusal ∷ []) in
-    let sink = h.untouched (passed_no_fault of c.in_default-pass_over.ensures.passed) ∙ c.in-Some.ensures.sink in
+    let so = passed_over says old (told_of c.args.input) s mid (told_of c.in-Some.next) m.waiting refused of (option_map string_bytes c.loop-next.copied) _ _ _ c.loop-next.invariant.1 c.in-Some.ensures.next fails c.in_ok-pass_over-in-Err.ensures.passed in
+    let kept : map refusal_of c.pass_over.new.refused.items ≡ refused ++ of ∷ [] = ap (map refusal_of) c.in_ok-pass_over-in-Err.ensures.kept ∙ map-append refusal_of c.loop-next.refused.items (c.in-Err.refusal ∷ []) in
+    let sink = h.untouched (passed_no_fault of c.in_ok-pass_over-in-Err.ensures.passed) ∙ c.in-Some.ensures.sink in
     rw (kept, same) (
       subst (λ x. Stays (g.S.OutputSink.seen c.args.self.now.sink).refusals (g.S.OutputSink.seen x).refusals) (sym sink) c.loop-next.invariant.0,
       so,
