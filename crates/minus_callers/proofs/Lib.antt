@@ -1,1 +1,2 @@
+mod ByHandLaws
 mod StepLaws

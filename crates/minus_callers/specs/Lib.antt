@@ -1,3 +1,4 @@
+pub mod ByHand
 pub mod Fetcher
 pub mod Follower
 pub mod Report

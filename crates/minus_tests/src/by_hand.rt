@@ -7,8 +7,9 @@ use crate::player::played;
 use crate::sessions::{Asked, TEN_LINES, does, input, session_on, terminal};
 use minus::{
     CommandOf, CommandQueueOf, Handled, InputEvent, InputOf, IoCommand, LineNumbers, PagerState,
-    PartsOf, SearchMode, WithTty, handle_event, handle_io_command,
+    PartsOf, SearchMode, WithTty, handle_event,
 };
+use minus_callers::work_off;
 use minus_script::{DefaultKeys, ScriptKinds};
 use std::alloc::Global;
 
@@ -64,25 +65,19 @@ impl Driven {
         self.queue.is_empty()
     }
 
-    // Whether a command is done, with all that waits for it, which is not more than two.
+    // Whether a command is done, with all that waits for it.
     fn does(&mut self, asked: Asked<'_>) -> bool {
-        if self.handle(asked).is_none() {
+        let Ok(InputOf::Command(command)) = input(self.alloc, asked) else {
             return false;
-        }
-        for _ in 0..2 {
-            if let Some(CommandOf::Io(command)) = self.queue.pop_front() {
-                if handle_io_command(
-                    self.alloc,
-                    command,
-                    &mut self.sink,
-                    &mut self.parts,
-                ).is_err()
-                {
-                    return false;
-                }
-            }
-        }
-        self.queue.is_empty()
+        };
+        work_off(
+            self.alloc,
+            command,
+            &mut self.parts,
+            &mut self.queue,
+            &mut self.sink,
+        )
+        .is_ok()
     }
 }
 

@@ -1,0 +1,119 @@
+-- What a command leaves that is worked off by hand, with all that waited for it.
+use Rattle.std.proofs.Common.{◌≡◌, List, [], ◌∷◌, map, false, Option, None, Some, refl, sym, ap, subst, ◌∙◌}
+use Rattle.std.specs.Prelude.{string_bytes}
+use Rattle.std.specs.Option.{option_map}
+use Rattle.minus_state.specs.Classifying.{Classifies}
+use Rattle.minus_state.specs.Control.{Control, Saved}
+use Rattle.minus_state.specs.States.{control_of}
+use Rattle.minus.specs.declared.commands.CommandOf.{CommandOf}
+use Rattle.minus.specs.declared.commands.CommandOf.TheVariants.{SetData, AppendData, SetPrompt, SendMessage, ShowPrompt, SetLineNumbers, LineWrapping, FollowOutput, UserInput, Io, SetExitStrategy, SetRunNoOverflow, AddExitCallback, AddHook, RemoveHook, IncrementalSearchCondition, SetInputClassifier}
+use Rattle.minus.specs.declared.commands.IoCommand.{IoCommand}
+use Rattle.minus.specs.declared.commands.IoCommand.TheVariants.{RedrawPrompt, RedrawDisplay, DrawAppendedText, SetUpperMark, FetchSearchQuery}
+use Rattle.minus.specs.declared.ev_handler.Handled.{Handled}
+use Rattle.minus.specs.declared.parts.PartsOf.{PartsOf}
+use Rattle.minus.specs.Asked.{IsRequest}
+use Rattle.minus.specs.EvHandler.{HandlesAs, IsRequestTo, io_left, all_io_left}
+use Rattle.minus.specs.Handing.{Handing, kept_after, classifier_after, condition_after}
+use Rattle.minus.specs.Queued.{queued}
+use Rattle.minus.specs.Reads.{as_command, io_of, io_wanted, kept_of}
+use Rattle.minus.specs.Table.{effect, handed}
+use Rattle.minus.proofs.ByHandLaws.{by_hand_lem}
+use Rattle.minus_callers.specs.ByHand.{IsWorkedOff}
+
+-- a command that asks for a drawing
+is_io : {P H E Q K : Type 0} (command : CommandOf P H E Q K) (io : IoCommand) → io_of command ≡ Some io → command ≡ as_command io
+is_io (Io command) io e = let same : command ≡ io = cc in ap as_command same
+is_io (SetData text) io e = absurd (let both : None ≡ Some io = e in cc)
+is_io (AppendData text) io e = absurd (let both : None ≡ Some io = e in cc)
+is_io (SetPrompt text) io e = absurd (let both : None ≡ Some io = e in cc)
+is_io (SendMessage text) io e = absurd (let both : None ≡ Some io = e in cc)
+is_io (ShowPrompt is_shown) io e = absurd (let both : None ≡ Some io = e in cc)
+is_io (SetLineNumbers numbers) io e = absurd (let both : None ≡ Some io = e in cc)
+is_io (LineWrapping wrapping) io e = absurd (let both : None ≡ Some io = e in cc)
+is_io (FollowOutput follow) io e = absurd (let both : None ≡ Some io = e in cc)
+is_io (UserInput event) io e = absurd (let both : None ≡ Some io = e in cc)
+is_io (SetExitStrategy strategy) io e = absurd (let both : None ≡ Some io = e in cc)
+is_io (SetRunNoOverflow on) io e = absurd (let both : None ≡ Some io = e in cc)
+is_io (AddExitCallback callback) io e = absurd (let both : None ≡ Some io = e in cc)
+is_io (AddHook hook id callback) io e = absurd (let both : None ≡ Some io = e in cc)
+is_io (RemoveHook hook id) io e = absurd (let both : None ≡ Some io = e in cc)
+is_io (IncrementalSearchCondition condition) io e = absurd (let both : None ≡ Some io = e in cc)
+is_io (SetInputClassifier classifier) io e = absurd (let both : None ≡ Some io = e in cc)
+
+-- it asks for itself, hands nothing over, is no exit, and copies nothing
+asks_for_itself : (Q : Type 0) {K : Type 0} (says : Classifies K) (classifier : K) (help : Option Saved) (io : IoCommand) → IsRequest {Q = Q} {K = K} says classifier help (io_wanted io) (io_wanted io)
+asks_for_itself Q says classifier help RedrawPrompt = refl
+asks_for_itself Q says classifier help RedrawDisplay = refl
+asks_for_itself Q says classifier help (DrawAppendedText unfinished rows style) = refl
+asks_for_itself Q says classifier help (SetUpperMark mark) = refl
+asks_for_itself Q says classifier help FetchSearchQuery = refl
+
+hands_nothing : (Q K : Type 0) (io : IoCommand) → handed {Q = Q} {K = K} (io_wanted io) ≡ None
+hands_nothing Q K RedrawPrompt = refl
+hands_nothing Q K RedrawDisplay = refl
+hands_nothing Q K (DrawAppendedText unfinished rows style) = refl
+hands_nothing Q K (SetUpperMark mark) = refl
+hands_nothing Q K FetchSearchQuery = refl
+
+goes_on : (Q K : Type 0) (c : Control) (io : IoCommand) → (effect {Q = Q} {K = K} c (io_wanted io)).is_exit ≡ false
+goes_on Q K c RedrawPrompt = refl
+goes_on Q K c RedrawDisplay = refl
+goes_on Q K c (DrawAppendedText unfinished rows style) = refl
+goes_on Q K c (SetUpperMark mark) = refl
+goes_on Q K c FetchSearchQuery = refl
+
+copies_nothing : (Q K : Type 0) (c : Control) (io : IoCommand) → (effect {Q = Q} {K = K} c (io_wanted io)).copies ≡ None
+copies_nothing Q K c RedrawPrompt = refl
+copies_nothing Q K c RedrawDisplay = refl
+copies_nothing Q K c (DrawAppendedText unfinished rows style) = refl
+copies_nothing Q K c (SetUpperMark mark) = refl
+copies_nothing Q K c FetchSearchQuery = refl
+
+-- the command that waits first was done
+pub next_left : {P H E Q K : Type 0} (c before after : Control) (commands rest : List IoCommand) (command : CommandOf P H E Q K) (queue waiting : List (CommandOf P H E Q K))
+    → queue ≡ map as_command rest → queue ≡ command ∷ waiting → ((io : IoCommand) → command ≡ as_command io → after ≡ io_left Q K before io) → all_io_left Q K c commands ≡ all_io_left Q K before rest
+    → (more : List IoCommand) × (waiting ≡ map as_command more) × (all_io_left Q K c commands ≡ all_io_left Q K after more)
+next_left c before after commands [] command queue waiting is first done left = absurd (let none : [] ≡ command ∷ waiting = sym is ∙ first in cc)
+next_left {Q = Q} {K = K} c before after commands (io ∷ more) command queue waiting is first done left =
+    let both : as_command io ∷ map as_command more ≡ command ∷ waiting = sym is ∙ first in
+    let head : command ≡ as_command io = cc in
+    let tail : waiting ≡ map as_command more = cc in
+    (more, tail, left ∙ ap (λ k. all_io_left Q K k more) (sym (done io head)))
+
+-- none waits any more
+pub none_left : {P H E Q K : Type 0} (c now : Control) (commands rest : List IoCommand) (queue : List (CommandOf P H E Q K)) → queue ≡ map as_command rest → queue ≡ [] → all_io_left Q K c commands ≡ all_io_left Q K now rest → now ≡ all_io_left Q K c commands
+none_left c now commands [] queue is none left = sym left
+none_left {P = P} {H = H} {E = E} {Q = Q} {K = K} c now commands (io ∷ more) queue is none left =
+    absurd (let both : [] ≡ as_command {P = P} {H = H} {E = E} {Q = Q} {K = K} io ∷ map as_command more = sym none ∙ is in cc)
+
+-- what waited was done
+pub all_done : {P H E Q K : Type 0} (o : Option IoCommand) (says : Classifies K) (old : PartsOf P H E Q K) (command : CommandOf P H E Q K) (handling new : PartsOf P H E Q K) (queue : List (CommandOf P H E Q K)) (handled : Handled)
+    → io_of command ≡ o → HandlesAs o says old [] command handling queue handled
+    → ((commands : List IoCommand) → queue ≡ map as_command commands → control_of new.state ≡ all_io_left Q K (control_of handling.state) commands)
+    → kept_of new ≡ kept_of handling → new.classifier ≡ handling.classifier → new.condition ≡ handling.condition → IsWorkedOff says old command new handled
+all_done {Q = Q} {K = K} None says old command handling new queue handled is (w, request, d) left kept classifier condition =
+    let c : Control = control_of old.state in
+    record {
+      wanted = w;
+      asked = request;
+      control = left (queued c w) d.queue_is ∙ ap (λ k. all_io_left Q K k (queued c w)) d.control ∙ by_hand_lem Q K c w;
+      kept = kept ∙ d.kept;
+      classifier = classifier ∙ d.classifier;
+      condition = condition ∙ d.condition;
+      exited = d.exited;
+      copied = d.copied;
+    }
+all_done {Q = Q} {K = K} (Some io) says old command handling new queue handled is q left kept classifier condition =
+    let c : Control = control_of old.state in
+    let itself : command ≡ as_command io = is_io command io is in
+    let none : handed {Q = Q} {K = K} (io_wanted io) ≡ None = hands_nothing Q K io in
+    record {
+      wanted = io_wanted io;
+      asked = subst (λ (x : CommandOf _ _ _ _ _). IsRequestTo says old x (io_wanted io)) (sym itself) (asks_for_itself Q says old.classifier c.help io);
+      control = left (io ∷ []) (q.queue_is ∙ ap (λ x. x ∷ []) itself) ∙ ap (λ (p : PartsOf _ _ _ _ _). all_io_left Q K (control_of p.state) (io ∷ [])) q.parts;
+      kept = kept ∙ ap kept_of q.parts ∙ ap (λ (h : Option (Handing Q K)). kept_after (kept_of old) h) (sym none);
+      classifier = classifier ∙ ap (λ (p : PartsOf _ _ _ _ _). p.classifier) q.parts ∙ ap (λ (h : Option (Handing Q K)). classifier_after old.classifier h) (sym none);
+      condition = condition ∙ ap (λ (p : PartsOf _ _ _ _ _). p.condition) q.parts ∙ ap (λ (h : Option (Handing Q K)). condition_after old.condition h) (sym none);
+      exited = q.exited ∙ sym (goes_on Q K c io);
+      copied = ap (λ (t : Option _). option_map string_bytes t) q.copied ∙ sym (copies_nothing Q K c io);
+    }

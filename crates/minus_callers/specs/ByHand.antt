@@ -1,0 +1,24 @@
+-- Commands that are worked off by hand.
+use Rattle.std.specs.Prelude.{◌≡◌, string_bytes}
+use Rattle.std.specs.Option.{option_map}
+use Rattle.minus_state.specs.Classifying.{Classifies}
+use Rattle.minus_state.specs.States.{control_of}
+use Rattle.minus.specs.declared.commands.CommandOf.{CommandOf}
+use Rattle.minus.specs.declared.ev_handler.Handled.{Handled}
+use Rattle.minus.specs.declared.parts.PartsOf.{PartsOf}
+use Rattle.minus.specs.EvHandler.{IsRequestTo}
+use Rattle.minus.specs.Handing.{kept_after, classifier_after, condition_after}
+use Rattle.minus.specs.Reads.{kept_of}
+use Rattle.minus.specs.Table.{Wanted, effect, handed, changed_by}
+
+-- a command was worked off, with all that waited for it: the control is the one that the table gives, what it hands over is kept, and
+-- what the table answers is answered
+pub record IsWorkedOff {P H E Q K : Type 0} (says : Classifies K) (old : PartsOf P H E Q K) (command : CommandOf P H E Q K) (new : PartsOf P H E Q K) (handled : Handled) : Type 0 where
+  pub wanted : Wanted Q K
+  pub asked : IsRequestTo says old command wanted
+  pub control : control_of new.state ≡ changed_by (effect (control_of old.state) wanted)
+  pub kept : kept_of new ≡ kept_after (kept_of old) (handed wanted)
+  pub classifier : new.classifier ≡ classifier_after old.classifier (handed wanted)
+  pub condition : new.condition ≡ condition_after old.condition (handed wanted)
+  pub exited : handled.exited ≡ (effect (control_of old.state) wanted).is_exit
+  pub copied : option_map string_bytes handled.copied ≡ (effect (control_of old.state) wanted).copies

@@ -1,0 +1,84 @@
+//! A program that works commands off by hand, on parts of its own and on a sink that no session has.
+ghost use Rattle.std.specs.Prelude.{◌≡◌, List, [], map, OnOk, IfOk};
+ghost use Rattle.minus_state.specs.States.{control_of, IsFormed};
+ghost use Rattle.minus.specs.EvHandler.{all_io_left, io_left};
+ghost use Rattle.minus.specs.Queued.{waiting_in};
+ghost use Rattle.minus.specs.Reads.{as_command, kept_of};
+ghost use Rattle.minus.specs.declared.commands.IoCommand.{IoCommand};
+ghost use Rattle.minus_callers.specs.ByHand.{IsWorkedOff};
+
+use minus::{
+    Calls, CommandOf, CommandQueueOf, Handled, MinusError, OutputSink, PartsOf, handle_event,
+    handle_io_command,
+};
+use std::alloc::Global;
+
+// Does what a command that waits asks for, if it asks for a drawing; no other waits.
+fn do_next<W: OutputSink, P: Calls>(
+    alloc: Global,
+    command: CommandOf<P>,
+    parts: &mut PartsOf<P>,
+    out: &mut W,
+) -> Result<(), MinusError>
+    requires formed { IsFormed parts.old.state }
+    ensures control { OnOk result ((io : IoCommand) → command ≡ as_command io →
+        control_of parts.new.state ≡ io_left P.Condition P.Classifier (control_of parts.old.state) io) }
+    ensures kept { kept_of parts.new ≡ kept_of parts.old }
+    ensures classifier { parts.new.classifier ≡ parts.old.classifier }
+    ensures condition { parts.new.condition ≡ parts.old.condition }
+    ensures formed { IsFormed parts.new.state }
+{
+    match command {
+        CommandOf::Io(command) => handle_io_command(alloc, command, out, parts),
+        _ => Ok(()),
+    }
+}
+
+// Does what waits in a queue, in its order.
+fn do_waiting<W: OutputSink, P: Calls>(
+    alloc: Global,
+    parts: &mut PartsOf<P>,
+    queue: &mut CommandQueueOf<P>,
+    out: &mut W,
+) -> Result<(), MinusError>
+    requires formed { IsFormed parts.old.state }
+    ensures control { OnOk result ((commands : List IoCommand) →
+        waiting_in queue.old ≡ map as_command commands →
+        control_of parts.new.state ≡ all_io_left P.Condition P.Classifier (control_of parts.old.state) commands) }
+    ensures none { OnOk result (waiting_in queue.new ≡ []) }
+    ensures kept { kept_of parts.new ≡ kept_of parts.old }
+    ensures classifier { parts.new.classifier ≡ parts.old.classifier }
+    ensures condition { parts.new.condition ≡ parts.old.condition }
+    ensures formed { IsFormed parts.new.state }
+{
+    while let Some(command) = queue.pop_front() {
+        do_next(alloc, command, parts, out)?;
+    }
+    Ok(())
+}
+
+/// Works a command off on parts, as a session's step does, and draws on a sink what it asks to be drawn. Where the queue
+/// was empty, it is so afterwards. Answers whether the command is an exit, which is left to the caller, and the text that
+/// was copied.
+///
+/// # Errors
+///
+/// Those of [`handle_event`], with nothing changed, and of [`handle_io_command`]: what waits behind that stays in the
+/// queue.
+pub fn work_off<W: OutputSink, P: Calls>(
+    alloc: Global,
+    command: CommandOf<P>,
+    parts: &mut PartsOf<P>,
+    queue: &mut CommandQueueOf<P>,
+    out: &mut W,
+) -> Result<Handled, MinusError>
+    requires formed { IsFormed parts.old.state }
+    ensures done { IfOk result (λ handled. waiting_in queue.old ≡ [] →
+        IsWorkedOff P.Classifier.says parts.old command parts.new handled) }
+    ensures none { OnOk result (waiting_in queue.new ≡ []) }
+    ensures formed { IsFormed parts.new.state }
+{
+    let handled = handle_event(alloc, command, parts, queue)?;
+    do_waiting(alloc, parts, queue, out)?;
+    Ok(handled)
+}
