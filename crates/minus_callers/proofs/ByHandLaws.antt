@@ -2,6 +2,8 @@
 use Rattle.std.proofs.Common.{◌≡◌, List, [], ◌∷◌, map, false, Option, None, Some, refl, sym, ap, subst, ◌∙◌}
 use Rattle.std.specs.Prelude.{string_bytes}
 use Rattle.std.specs.Option.{option_map}
+use Rattle.minus_term.specs.Counts.{SinkSeen}
+use Rattle.minus_term.specs.Refusals.{Refusal, for_memory, for_newline, for_size, for_mode, for_hook_id, for_free_hook_id, for_description, for_binding, for_query, after_failure, after_exit, at_setup, at_cleanup, at_drawing, for_pattern, of_no_call}
 use Rattle.minus_state.specs.Classifying.{Classifies}
 use Rattle.minus_state.specs.Control.{Control, Saved}
 use Rattle.minus_state.specs.States.{control_of}
@@ -12,13 +14,13 @@ use Rattle.minus.specs.declared.commands.IoCommand.TheVariants.{RedrawPrompt, Re
 use Rattle.minus.specs.declared.ev_handler.Handled.{Handled}
 use Rattle.minus.specs.declared.parts.PartsOf.{PartsOf}
 use Rattle.minus.specs.Asked.{IsRequest}
-use Rattle.minus.specs.EvHandler.{HandlesAs, IsRequestTo, io_left, all_io_left}
+use Rattle.minus.specs.EvHandler.{HandlesAs, IsIoUndone, IsRequestTo, io_left, all_io_left}
 use Rattle.minus.specs.Handing.{Handing, kept_after, classifier_after, condition_after}
 use Rattle.minus.specs.Queued.{queued}
 use Rattle.minus.specs.Reads.{as_command, io_of, io_wanted, kept_of}
 use Rattle.minus.specs.Table.{effect, handed}
 use Rattle.minus.proofs.ByHandLaws.{by_hand_lem}
-use Rattle.minus_callers.specs.ByHand.{IsWorkedOff}
+use Rattle.minus_callers.specs.ByHand.{IsIoFault, IsWorkedOff}
 
 -- a command that asks for a drawing
 is_io : {P H E Q K : Type 0} (command : CommandOf P H E Q K) (io : IoCommand) → io_of command ≡ Some io → command ≡ as_command io
@@ -68,6 +70,25 @@ copies_nothing Q K c RedrawDisplay = refl
 copies_nothing Q K c (DrawAppendedText unfinished rows style) = refl
 copies_nothing Q K c (SetUpperMark mark) = refl
 copies_nothing Q K c FetchSearchQuery = refl
+
+-- why a command that asks for a drawing is not done
+pub io_fault : {S P H E Q K : Type 0} (refusal : Refusal) (sink : S → SinkSeen) (old : PartsOf P H E Q K) (before : S) (io : IoCommand) (new : PartsOf P H E Q K) (after : S) → IsIoUndone refusal sink old before io new after → IsIoFault refusal
+io_fault for_memory sink old before io new after h = tt
+io_fault at_drawing sink old before io new after h = tt
+io_fault for_newline sink old before io new after h = h
+io_fault (for_size cols rows) sink old before io new after h = h
+io_fault for_mode sink old before io new after h = h
+io_fault (for_hook_id hook id) sink old before io new after h = h
+io_fault for_free_hook_id sink old before io new after h = h
+io_fault (for_description place cause) sink old before io new after h = h
+io_fault (for_binding place) sink old before io new after h = h
+io_fault for_query sink old before io new after h = h
+io_fault after_failure sink old before io new after h = h
+io_fault after_exit sink old before io new after h = h
+io_fault (at_setup cause) sink old before io new after h = h
+io_fault (at_cleanup cause) sink old before io new after h = h
+io_fault for_pattern sink old before io new after h = h
+io_fault of_no_call sink old before io new after h = h
 
 -- the command that waits first was done
 pub next_left : {P H E Q K : Type 0} (c before after : Control) (commands rest : List IoCommand) (command : CommandOf P H E Q K) (queue waiting : List (CommandOf P H E Q K))

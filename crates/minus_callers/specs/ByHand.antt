@@ -1,12 +1,13 @@
 -- Commands that are worked off by hand.
-use Rattle.std.specs.Prelude.{◌≡◌, string_bytes}
+use Rattle.std.specs.Prelude.{◌≡◌, ◌⊎◌, string_bytes}
 use Rattle.std.specs.Option.{option_map}
+use Rattle.minus_term.specs.Refusals.{Refusal, for_memory, at_drawing}
 use Rattle.minus_state.specs.Classifying.{Classifies}
 use Rattle.minus_state.specs.States.{control_of}
 use Rattle.minus.specs.declared.commands.CommandOf.{CommandOf}
 use Rattle.minus.specs.declared.ev_handler.Handled.{Handled}
 use Rattle.minus.specs.declared.parts.PartsOf.{PartsOf}
-use Rattle.minus.specs.EvHandler.{IsRequestTo}
+use Rattle.minus.specs.EvHandler.{IsRequestTo, CannotHandle}
 use Rattle.minus.specs.Handing.{kept_after, classifier_after, condition_after}
 use Rattle.minus.specs.Reads.{kept_of}
 use Rattle.minus.specs.Table.{Wanted, effect, handed, changed_by}
@@ -22,3 +23,13 @@ pub record IsWorkedOff {P H E Q K : Type 0} (says : Classifies K) (old : PartsOf
   pub condition : new.condition ≡ condition_after old.condition (handed wanted)
   pub exited : handled.exited ≡ (effect (control_of old.state) wanted).is_exit
   pub copied : option_map string_bytes handled.copied ≡ (effect (control_of old.state) wanted).copies
+
+-- why what waits is not done: out of memory, or the sink refused a drawing
+abbrev pub IsIoFault : Refusal → Type 0
+IsIoFault for_memory = Unit {0}
+IsIoFault at_drawing = Unit {0}
+IsIoFault refusal = ⊥
+
+-- why a command is not worked off: what waited was not done, or the command was not handled
+abbrev pub CannotWorkOff : {P H E Q K : Type 0} → Refusal → Classifies K → PartsOf P H E Q K → CommandOf P H E Q K → Type 0
+CannotWorkOff refusal says parts command = IsIoFault refusal ⊎ CannotHandle refusal says parts command

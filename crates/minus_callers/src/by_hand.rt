@@ -1,11 +1,12 @@
 //! A program that works commands off by hand, on parts of its own and on a sink that no session has.
-ghost use Rattle.std.specs.Prelude.{◌≡◌, List, [], map, OnOk, IfOk};
+ghost use Rattle.std.specs.Prelude.{◌≡◌, List, [], map, OnOk, IfOk, IfErr};
+ghost use Rattle.minus_term.specs.Refusals.{refusal_of};
 ghost use Rattle.minus_state.specs.States.{control_of, IsFormed};
 ghost use Rattle.minus.specs.EvHandler.{all_io_left, io_left};
 ghost use Rattle.minus.specs.Queued.{waiting_in};
 ghost use Rattle.minus.specs.Reads.{as_command, kept_of};
 ghost use Rattle.minus.specs.declared.commands.IoCommand.{IoCommand};
-ghost use Rattle.minus_callers.specs.ByHand.{IsWorkedOff};
+ghost use Rattle.minus_callers.specs.ByHand.{CannotWorkOff, IsIoFault, IsWorkedOff};
 
 use minus::{
     Calls, CommandOf, CommandQueueOf, Handled, MinusError, OutputSink, PartsOf, handle_event,
@@ -23,15 +24,16 @@ fn do_next<W: OutputSink, P: Calls>(
     requires formed { IsFormed parts.old.state }
     ensures control { OnOk result ((io : IoCommand) → command ≡ as_command io →
         control_of parts.new.state ≡ io_left P.Condition P.Classifier (control_of parts.old.state) io) }
+    ensures refused { IfErr result (λ e. IsIoFault (refusal_of e)) }
     ensures kept { kept_of parts.new ≡ kept_of parts.old }
     ensures classifier { parts.new.classifier ≡ parts.old.classifier }
     ensures condition { parts.new.condition ≡ parts.old.condition }
     ensures formed { IsFormed parts.new.state }
 {
-    match command {
-        CommandOf::Io(command) => handle_io_command(alloc, command, out, parts),
-        _ => Ok(()),
+    if let CommandOf::Io(command) = command {
+        return handle_io_command(alloc, command, out, parts);
     }
+    Ok(())
 }
 
 // Does what waits in a queue, in its order.
@@ -46,6 +48,7 @@ fn do_waiting<W: OutputSink, P: Calls>(
         waiting_in queue.old ≡ map as_command commands →
         control_of parts.new.state ≡ all_io_left P.Condition P.Classifier (control_of parts.old.state) commands) }
     ensures none { OnOk result (waiting_in queue.new ≡ []) }
+    ensures refused { IfErr result (λ e. IsIoFault (refusal_of e)) }
     ensures kept { kept_of parts.new ≡ kept_of parts.old }
     ensures classifier { parts.new.classifier ≡ parts.old.classifier }
     ensures condition { parts.new.condition ≡ parts.old.condition }
@@ -76,6 +79,7 @@ pub fn work_off<W: OutputSink, P: Calls>(
     ensures done { IfOk result (λ handled. waiting_in queue.old ≡ [] →
         IsWorkedOff P.Classifier.says parts.old command parts.new handled) }
     ensures none { OnOk result (waiting_in queue.new ≡ []) }
+    ensures refused { IfErr result (λ e. CannotWorkOff (refusal_of e) P.Classifier.says parts.old command) }
     ensures formed { IsFormed parts.new.state }
 {
     let handled = handle_event(alloc, command, parts, queue)?;

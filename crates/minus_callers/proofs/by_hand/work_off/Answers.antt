@@ -1,9 +1,12 @@
 -- The command was handled, and what waited then was done.
-use Rattle.std.proofs.Common.{List, refl, subst}
+use Rattle.std.proofs.Common.{List, refl, subst, inl, inr}
+use Rattle.minus_term.specs.Refusals.{refusal_of}
+use Rattle.minus_state.proofs.RefusalLaws.{passed_on}
 use Rattle.minus.specs.declared.commands.CommandOf.{CommandOf}
 use Rattle.minus.specs.EvHandler.{HandlesAs}
 use Rattle.minus.specs.Queued.{waiting_in}
 use Rattle.minus.specs.Reads.{io_of}
+use Rattle.minus_callers.specs.ByHand.{CannotWorkOff}
 use Rattle.minus_callers.proofs.ByHandLaws.{all_done}
 use Rattle.minus_callers.proofs.by_hand.work_off.Goals as goal
 
@@ -19,3 +22,15 @@ returns-clause-done g c none =
     all_done (io_of command) says old command handling c.do_waiting.new.parts queue handled refl
     (subst (λ (l : List (CommandOf _ _ _ _ _)). HandlesAs (io_of command) says old l command handling queue handled) none c.in_ok-handled.ensures.handled)
     c.in_ok-do_waiting.ensures.control waiting.kept waiting.classifier waiting.condition
+
+pub returns-in_err-handled-clause-refused : goal.returns-in_err-handled-clause-refused
+returns-in_err-handled-clause-refused g c =
+    let says = g.P.Classifier.InputClassifier.says in
+    let e = c.in_err-handled.field-0.0 in
+    passed_on c.from_residual.result (λ x. CannotWorkOff (refusal_of x) says c.args.parts.now c.args.command) e c.from_residual.ensures (inr c.in_err-handled.ensures.refused)
+
+pub returns-in_err-do_waiting-clause-refused : goal.returns-in_err-do_waiting-clause-refused
+returns-in_err-do_waiting-clause-refused g c =
+    let says = g.P.Classifier.InputClassifier.says in
+    let e = c.in_err-do_waiting.field-0.0 in
+    passed_on c.from_residual-in_err-do_waiting.result (λ x. CannotWorkOff (refusal_of x) says c.args.parts.now c.args.command) e c.from_residual-in_err-do_waiting.ensures (inl c.in_err-do_waiting.ensures.refused)
