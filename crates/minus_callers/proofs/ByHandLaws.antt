@@ -20,7 +20,7 @@ use Rattle.minus.specs.Queued.{queued}
 use Rattle.minus.specs.Reads.{as_command, io_of, io_wanted, kept_of}
 use Rattle.minus.specs.Table.{effect, handed}
 use Rattle.minus.proofs.ByHandLaws.{by_hand_lem}
-use Rattle.minus_callers.specs.ByHand.{IsIoFault, IsWorkedOff}
+use Rattle.minus_callers.specs.ByHand.{left_by, left_by_all, IsIoFault, IsWorkedOff}
 
 -- a command that asks for a drawing
 is_io : {P H E Q K : Type 0} (command : CommandOf P H E Q K) (io : IoCommand) → io_of command ≡ Some io → command ≡ as_command io
@@ -90,34 +90,22 @@ io_fault (at_cleanup cause) sink old before io new after h = h
 io_fault for_pattern sink old before io new after h = h
 io_fault of_no_call sink old before io new after h = h
 
--- the command that waits first was done
-pub next_left : {P H E Q K : Type 0} (c before after : Control) (commands rest : List IoCommand) (command : CommandOf P H E Q K) (queue waiting : List (CommandOf P H E Q K))
-    → queue ≡ map as_command rest → queue ≡ command ∷ waiting → ((io : IoCommand) → command ≡ as_command io → after ≡ io_left Q K before io) → all_io_left Q K c commands ≡ all_io_left Q K before rest
-    → (more : List IoCommand) × (waiting ≡ map as_command more) × (all_io_left Q K c commands ≡ all_io_left Q K after more)
-next_left c before after commands [] command queue waiting is first done left = absurd (let none : [] ≡ command ∷ waiting = sym is ∙ first in cc)
-next_left {Q = Q} {K = K} c before after commands (io ∷ more) command queue waiting is first done left =
-    let both : as_command io ∷ map as_command more ≡ command ∷ waiting = sym is ∙ first in
-    let head : command ≡ as_command io = cc in
-    let tail : waiting ≡ map as_command more = cc in
-    (more, tail, left ∙ ap (λ k. all_io_left Q K k more) (sym (done io head)))
-
--- none waits any more
-pub none_left : {P H E Q K : Type 0} (c now : Control) (commands rest : List IoCommand) (queue : List (CommandOf P H E Q K)) → queue ≡ map as_command rest → queue ≡ [] → all_io_left Q K c commands ≡ all_io_left Q K now rest → now ≡ all_io_left Q K c commands
-none_left c now commands [] queue is none left = sym left
-none_left {P = P} {H = H} {E = E} {Q = Q} {K = K} c now commands (io ∷ more) queue is none left =
-    absurd (let both : [] ≡ as_command {P = P} {H = H} {E = E} {Q = Q} {K = K} io ∷ map as_command more = sym none ∙ is in cc)
+-- commands that ask for a drawing
+all_left : (P H E Q K : Type 0) (commands : List IoCommand) (c : Control) → left_by_all {P = P} {H = H} {E = E} {Q = Q} {K = K} c (map as_command commands) ≡ all_io_left Q K c commands
+all_left P H E Q K [] c = refl
+all_left P H E Q K (io ∷ rest) c = all_left P H E Q K rest (io_left Q K c io)
 
 -- what waited was done
 pub all_done : {P H E Q K : Type 0} (o : Option IoCommand) (says : Classifies K) (old : PartsOf P H E Q K) (command : CommandOf P H E Q K) (handling new : PartsOf P H E Q K) (queue : List (CommandOf P H E Q K)) (handled : Handled)
     → io_of command ≡ o → HandlesAs o says old [] command handling queue handled
-    → ((commands : List IoCommand) → queue ≡ map as_command commands → control_of new.state ≡ all_io_left Q K (control_of handling.state) commands)
+    → control_of new.state ≡ left_by_all (control_of handling.state) queue
     → kept_of new ≡ kept_of handling → new.classifier ≡ handling.classifier → new.condition ≡ handling.condition → IsWorkedOff says old command new handled
-all_done {Q = Q} {K = K} None says old command handling new queue handled is (w, request, d) left kept classifier condition =
+all_done {P = P} {H = H} {E = E} {Q = Q} {K = K} None says old command handling new queue handled is (w, request, d) left kept classifier condition =
     let c : Control = control_of old.state in
     record {
       wanted = w;
       asked = request;
-      control = left (queued c w) d.queue_is ∙ ap (λ k. all_io_left Q K k (queued c w)) d.control ∙ by_hand_lem Q K c w;
+      control = left ∙ ap (λ l. left_by_all (control_of handling.state) l) d.queue_is ∙ all_left P H E Q K (queued c w) (control_of handling.state) ∙ ap (λ k. all_io_left Q K k (queued c w)) d.control ∙ by_hand_lem Q K c w;
       kept = kept ∙ d.kept;
       classifier = classifier ∙ d.classifier;
       condition = condition ∙ d.condition;
@@ -126,12 +114,11 @@ all_done {Q = Q} {K = K} None says old command handling new queue handled is (w,
     }
 all_done {Q = Q} {K = K} (Some io) says old command handling new queue handled is q left kept classifier condition =
     let c : Control = control_of old.state in
-    let itself : command ≡ as_command io = is_io command io is in
     let none : handed {Q = Q} {K = K} (io_wanted io) ≡ None = hands_nothing Q K io in
     record {
       wanted = io_wanted io;
-      asked = subst (λ (x : CommandOf _ _ _ _ _). IsRequestTo says old x (io_wanted io)) (sym itself) (asks_for_itself Q says old.classifier c.help io);
-      control = left (io ∷ []) (q.queue_is ∙ ap (λ x. x ∷ []) itself) ∙ ap (λ (p : PartsOf _ _ _ _ _). all_io_left Q K (control_of p.state) (io ∷ [])) q.parts;
+      asked = subst (λ (x : CommandOf _ _ _ _ _). IsRequestTo says old x (io_wanted io)) (sym (is_io command io is)) (asks_for_itself Q says old.classifier c.help io);
+      control = left ∙ ap (λ l. left_by_all (control_of handling.state) l) q.queue_is ∙ ap (λ (o : Option IoCommand). left_by Q K (control_of handling.state) o) is ∙ ap (λ (p : PartsOf _ _ _ _ _). io_left Q K (control_of p.state) io) q.parts;
       kept = kept ∙ ap kept_of q.parts ∙ ap (λ (h : Option (Handing Q K)). kept_after (kept_of old) h) (sym none);
       classifier = classifier ∙ ap (λ (p : PartsOf _ _ _ _ _). p.classifier) q.parts ∙ ap (λ (h : Option (Handing Q K)). classifier_after old.classifier h) (sym none);
       condition = condition ∙ ap (λ (p : PartsOf _ _ _ _ _). p.condition) q.parts ∙ ap (λ (h : Option (Handing Q K)). condition_after old.condition h) (sym none);

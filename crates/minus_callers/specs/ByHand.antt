@@ -1,16 +1,28 @@
 -- Commands that are worked off by hand.
-use Rattle.std.specs.Prelude.{◌≡◌, ◌⊎◌, string_bytes}
+use Rattle.std.specs.Prelude.{◌≡◌, ◌⊎◌, List, [], ◌∷◌, Option, None, Some, string_bytes}
 use Rattle.std.specs.Option.{option_map}
 use Rattle.minus_term.specs.Refusals.{Refusal, for_memory, at_drawing}
 use Rattle.minus_state.specs.Classifying.{Classifies}
+use Rattle.minus_state.specs.Control.{Control}
 use Rattle.minus_state.specs.States.{control_of}
 use Rattle.minus.specs.declared.commands.CommandOf.{CommandOf}
+use Rattle.minus.specs.declared.commands.IoCommand.{IoCommand}
 use Rattle.minus.specs.declared.ev_handler.Handled.{Handled}
 use Rattle.minus.specs.declared.parts.PartsOf.{PartsOf}
-use Rattle.minus.specs.EvHandler.{IsRequestTo, CannotHandle}
+use Rattle.minus.specs.EvHandler.{IsRequestTo, CannotHandle, io_left}
 use Rattle.minus.specs.Handing.{kept_after, classifier_after, condition_after}
-use Rattle.minus.specs.Reads.{kept_of}
+use Rattle.minus.specs.Reads.{io_of, kept_of}
 use Rattle.minus.specs.Table.{Wanted, effect, handed, changed_by}
+
+-- the control that a command leaves which waited: what it asks for is done, if it asks for a drawing
+abbrev pub left_by : (Q K : Type 0) → Control → Option IoCommand → Control
+left_by Q K c None = c
+left_by Q K c (Some io) = io_left Q K c io
+
+-- the control that commands leave which waited, done one after another
+abbrev pub left_by_all : {P H E Q K : Type 0} → Control → List (CommandOf P H E Q K) → Control
+left_by_all c [] = c
+left_by_all {Q = Q} {K = K} c (command ∷ rest) = left_by_all (left_by Q K c (io_of command)) rest
 
 -- a command was worked off, with all that waited for it: the control is the one that the table gives, what it hands over is kept, and
 -- what the table answers is answered

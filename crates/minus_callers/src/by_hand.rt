@@ -1,12 +1,10 @@
 //! A program that works commands off by hand, on parts of its own and on a sink that no session has.
-ghost use Rattle.std.specs.Prelude.{◌≡◌, List, [], map, OnOk, IfOk, IfErr};
+ghost use Rattle.std.specs.Prelude.{◌≡◌, [], OnOk, IfOk, IfErr};
 ghost use Rattle.minus_term.specs.Refusals.{refusal_of};
 ghost use Rattle.minus_state.specs.States.{control_of, IsFormed};
-ghost use Rattle.minus.specs.EvHandler.{all_io_left, io_left};
 ghost use Rattle.minus.specs.Queued.{waiting_in};
-ghost use Rattle.minus.specs.Reads.{as_command, kept_of};
-ghost use Rattle.minus.specs.declared.commands.IoCommand.{IoCommand};
-ghost use Rattle.minus_callers.specs.ByHand.{CannotWorkOff, IsIoFault, IsWorkedOff};
+ghost use Rattle.minus.specs.Reads.{io_of, kept_of};
+ghost use Rattle.minus_callers.specs.ByHand.{left_by, left_by_all, CannotWorkOff, IsIoFault, IsWorkedOff};
 
 use minus::{
     Calls, CommandOf, CommandQueueOf, Handled, MinusError, OutputSink, PartsOf, handle_event,
@@ -22,8 +20,8 @@ fn do_next<W: OutputSink, P: Calls>(
     out: &mut W,
 ) -> Result<(), MinusError>
     requires formed { IsFormed parts.old.state }
-    ensures control { OnOk result ((io : IoCommand) → command ≡ as_command io →
-        control_of parts.new.state ≡ io_left P.Condition P.Classifier (control_of parts.old.state) io) }
+    ensures control { OnOk result (control_of parts.new.state
+        ≡ left_by P.Condition P.Classifier (control_of parts.old.state) (io_of command)) }
     ensures refused { IfErr result (λ e. IsIoFault (refusal_of e)) }
     ensures kept { kept_of parts.new ≡ kept_of parts.old }
     ensures classifier { parts.new.classifier ≡ parts.old.classifier }
@@ -44,9 +42,8 @@ fn do_waiting<W: OutputSink, P: Calls>(
     out: &mut W,
 ) -> Result<(), MinusError>
     requires formed { IsFormed parts.old.state }
-    ensures control { OnOk result ((commands : List IoCommand) →
-        waiting_in queue.old ≡ map as_command commands →
-        control_of parts.new.state ≡ all_io_left P.Condition P.Classifier (control_of parts.old.state) commands) }
+    ensures control { OnOk result (control_of parts.new.state
+        ≡ left_by_all (control_of parts.old.state) (waiting_in queue.old)) }
     ensures none { OnOk result (waiting_in queue.new ≡ []) }
     ensures refused { IfErr result (λ e. IsIoFault (refusal_of e)) }
     ensures kept { kept_of parts.new ≡ kept_of parts.old }
@@ -60,9 +57,9 @@ fn do_waiting<W: OutputSink, P: Calls>(
     Ok(())
 }
 
-/// Works a command off on parts, as a session's step does, and draws on a sink what it asks to be drawn. Where the queue
-/// was empty, it is so afterwards. Answers whether the command is an exit, which is left to the caller, and the text that
-/// was copied.
+/// Works a command off on parts, where nothing waits in the queue: leaves the state as a session's step does that works
+/// it off, and draws on a sink what the command asks to be drawn. Nothing waits then. Answers whether the command is an
+/// exit, which is left to the caller, and the text that was copied.
 ///
 /// # Errors
 ///

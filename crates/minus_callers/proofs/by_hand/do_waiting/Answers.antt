@@ -1,29 +1,28 @@
 -- The command that waits first is done, until none waits.
-use Rattle.std.proofs.Common.{◌∙◌}
+use Rattle.std.proofs.Common.{sym, ap, ◌∙◌}
 use Rattle.minus_term.specs.Refusals.{refusal_of}
 use Rattle.minus_state.proofs.RefusalLaws.{passed_on}
+use Rattle.minus_state.specs.Control.{Control}
 use Rattle.minus_state.specs.States.{control_of}
-use Rattle.minus_callers.specs.ByHand.{IsIoFault}
-use Rattle.minus_callers.proofs.ByHandLaws.{next_left, none_left}
+use Rattle.minus.specs.Queued.{waiting_in}
+use Rattle.minus_callers.specs.ByHand.{left_by_all, IsIoFault}
 use Rattle.minus_callers.proofs.by_hand.do_waiting.Goals as goal
 
 pub loop-command-preserved : goal.loop-command-preserved
 loop-command-preserved g c =
     let so = c.loop-command.invariant in
-    let done = c.do_next.ensures in (
+    let done = c.do_next.ensures in
+    let before = control_of c.loop-command.parts.state in
+    let rest = waiting_in c.pop_front.new.self in (
       done.formed,
       done.kept ∙ so.1,
       done.classifier ∙ so.2,
       done.condition ∙ so.3,
-      λ commands is.
-          let (rest, waits, left) = so.4 commands is in
-          next_left (control_of c.args.parts.now.state) (control_of c.loop-command.parts.state) (control_of c.do_next.new.parts.state) commands rest c.in-Some.command _ _ waits c.in-Some.ensures.first c.in_ok-do_next.ensures.control left,
+      ap (λ (k : Control). left_by_all k rest) c.in_ok-do_next.ensures.control ∙ sym (ap (left_by_all before) c.in-Some.ensures.first) ∙ so.4,
     )
 
 pub returns-clause-control : goal.returns-clause-control
-returns-clause-control g c commands is =
-    let (rest, waits, left) = c.loop-command.invariant.4 commands is in
-    none_left (control_of c.args.parts.now.state) (control_of c.loop-command.parts.state) commands rest _ waits c.in_default.ensures.none.0 left
+returns-clause-control g c = sym (ap (left_by_all (control_of c.loop-command.parts.state)) c.in_default.ensures.none.0) ∙ c.loop-command.invariant.4
 
 pub returns-in_err-do_next-clause-refused : goal.returns-in_err-do_next-clause-refused
 returns-in_err-do_next-clause-refused g c =
