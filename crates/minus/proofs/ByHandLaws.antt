@@ -13,10 +13,10 @@ use Rattle.minus.specs.declared.commands.IoCommand.{IoCommand}
 use Rattle.minus.specs.declared.commands.IoCommand.TheVariants.{RedrawPrompt}
 use Rattle.minus.specs.EvHandler.{io_left, all_io_left, ByHandAsByTheTable}
 use Rattle.minus.specs.Queued.{listed, queued, drawing_command, move_command, draws_prompt_row}
-use Rattle.minus.specs.Table.{Wanted, sets_data, appends_data, moves_mark, resizes, exits, ignores, sets_prompt}
-use Rattle.minus.specs.Table.{sends_message, shows_prompt, follows, types, restores_prompt, redraws_prompt, redraws_page}
-use Rattle.minus.specs.Table.{hands_over, sets_numbers, sets_wrapping, shifts, starts_selection, updates_selection}
-use Rattle.minus.specs.Table.{clears_selection, copies_selection, shows_help, moves_to_next_match, moves_to_prev_match, searches, fetches_query}
+use Rattle.minus.specs.Table.{Wanted, sets_data, appends_data, exits}
+use Rattle.minus.specs.Table.{restores_prompt}
+use Rattle.minus.specs.Table.{shifts, starts_selection, updates_selection}
+use Rattle.minus.specs.Table.{clears_selection, copies_selection, searches, fetches_query}
 use Rattle.minus.specs.Table.{effect, moves, moved_by, changed_by}
 use Rattle.minus.specs.Unmoved.{unmoved}
 use Rattle.minus.proofs.TableLaws.{clamp_still, without_move, opens_for, changed_search}
@@ -87,26 +87,11 @@ by_hand_lem Q K c (searches mode) = opens_one Q K c mode
 by_hand_lem Q K c fetches_query = opens_one Q K c c.mode
 by_hand_lem Q K c (sets_data text) = opens_none Q K c (sets_data text) refl (λ e. page_or_none _ e)
 by_hand_lem Q K c (appends_data text) = opens_none Q K c (appends_data text) refl (λ e. rows_or_none (help_open c) (keeps_rows_with c text) e)
-by_hand_lem Q K c (moves_mark mark) = opens_none Q K c (moves_mark mark) refl (λ e. cc)
-by_hand_lem Q K c (resizes cols rows) = opens_none Q K c (resizes cols rows) refl (λ e. cc)
 by_hand_lem Q K c exits = opens_none Q K c exits refl (λ e. page_or_none _ e)
-by_hand_lem Q K c ignores = opens_none Q K c ignores refl (λ e. cc)
-by_hand_lem Q K c (sets_prompt text) = opens_none Q K c (sets_prompt text) refl (λ e. cc)
-by_hand_lem Q K c (sends_message text) = opens_none Q K c (sends_message text) refl (λ e. cc)
-by_hand_lem Q K c (shows_prompt is_shown) = opens_none Q K c (shows_prompt is_shown) refl (λ e. cc)
-by_hand_lem Q K c (follows follow) = opens_none Q K c (follows follow) refl (λ e. cc)
-by_hand_lem Q K c (types character) = opens_none Q K c (types character) refl (λ e. cc)
 by_hand_lem Q K c restores_prompt = opens_none Q K c restores_prompt refl (λ e. page_or_none _ e)
-by_hand_lem Q K c redraws_prompt = opens_none Q K c redraws_prompt refl (λ e. cc)
-by_hand_lem Q K c redraws_page = opens_none Q K c redraws_page refl (λ e. cc)
-by_hand_lem Q K c (hands_over handing) = opens_none Q K c (hands_over handing) refl (λ e. cc)
-by_hand_lem Q K c (sets_numbers numbers) = opens_none Q K c (sets_numbers numbers) refl (λ e. cc)
-by_hand_lem Q K c (sets_wrapping wrapping) = opens_none Q K c (sets_wrapping wrapping) refl (λ e. cc)
 by_hand_lem Q K c (shifts left) = opens_none Q K c (shifts left) refl (λ e. page_or_none _ e)
 by_hand_lem Q K c (starts_selection x y) = opens_none Q K c (starts_selection x y) refl (λ e. page_or_none _ e)
 by_hand_lem Q K c (updates_selection x y) = opens_none Q K c (updates_selection x y) refl (λ e. page_or_none _ e)
 by_hand_lem Q K c clears_selection = opens_none Q K c clears_selection refl (λ e. page_or_none _ e)
 by_hand_lem Q K c copies_selection = opens_none Q K c copies_selection refl (λ e. page_or_none _ e)
-by_hand_lem Q K c (shows_help text) = opens_none Q K c (shows_help text) refl (λ e. cc)
-by_hand_lem Q K c (moves_to_next_match jump) = opens_none Q K c (moves_to_next_match jump) refl (λ e. cc)
-by_hand_lem Q K c (moves_to_prev_match jump) = opens_none Q K c (moves_to_prev_match jump) refl (λ e. cc)
+by_hand_lem Q K c w = opens_none Q K c w refl (λ e. cc)

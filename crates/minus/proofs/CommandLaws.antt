@@ -12,9 +12,9 @@ use Rattle.minus_state.specs.declared.change.Redraw.{Redraw}
 use Rattle.minus_state.specs.Control.{Control, Saved, Settings, IsClamped, text_rows, first_changed, keeps_rows_with, top, cleared}
 use Rattle.minus.specs.Works.{work_of}
 use Rattle.minus.specs.Drawings.{ops_of_step, changed_prompt, IsDrawable}
-use Rattle.minus.specs.Table.{Wanted, sets_data, appends_data, moves_mark, resizes, exits, ignores, sets_prompt}
-use Rattle.minus.specs.Table.{sends_message, shows_prompt, follows, types, restores_prompt, redraws_prompt, redraws_page}
-use Rattle.minus.specs.Table.{hands_over, sets_numbers, sets_wrapping, shifts, starts_selection, updates_selection}
+use Rattle.minus.specs.Table.{Wanted, sets_data, appends_data, moves_mark, resizes, exits}
+use Rattle.minus.specs.Table.{follows, restores_prompt, redraws_prompt, redraws_page}
+use Rattle.minus.specs.Table.{sets_numbers, sets_wrapping, shifts, starts_selection, updates_selection}
 use Rattle.minus.specs.Table.{clears_selection, copies_selection, shows_help, moves_to_next_match, moves_to_prev_match, searches, fetches_query}
 use Rattle.minus.specs.Table.{Effect, effect, hook_after, opens_search, tells_match, changed_by, drawing_by, drawing_of}
 use Rattle.minus_state.specs.declared.search.SearchMode.{SearchMode}
@@ -147,16 +147,10 @@ command_draws {Q = Q} {K = K} c clears (appends_data text) e h some new_some = m
 command_draws c clears (moves_mark mark) e h some new_some = move_draws c c.search_mark (cleared clears c).settings (min mark (top c)) some
 command_draws c clears (resizes cols rows) e h some new_some = whole_draws c _ new_some
 command_draws {Q = Q} {K = K} c clears exits e h some new_some = exit_draws Q K c clears c.help h some new_some
-command_draws c clears ignores e h some new_some = set_draws c _ (min c.mark (top c)) some (omega (arith, h))
-command_draws c clears (sets_prompt text) e h some new_some = set_draws c _ (min c.mark (top c)) some (omega (arith, h))
-command_draws c clears (sends_message text) e h some new_some = set_draws c _ (min c.mark (top c)) some (omega (arith, h))
-command_draws c clears (shows_prompt is_shown) e h some new_some = set_draws c _ (min c.mark (top c)) some (omega (arith, h))
 command_draws c clears (follows follow) e h some new_some = move_draws c c.search_mark _ (min (top c) (top c)) some
-command_draws c clears (types character) e h some new_some = set_draws c _ (min c.mark (top c)) some (omega (arith, h))
 command_draws {Q = Q} {K = K} c clears restores_prompt e h some new_some = restored_draws Q K c clears c.help h some new_some
 command_draws c clears redraws_prompt e h some new_some = at_mark Prompt c c.search_mark _ (min c.mark (top c)) (omega (arith, h)) (prompt_draws c _ some)
 command_draws c clears redraws_page e h some new_some = whole_draws c _ new_some
-command_draws c clears (hands_over handing) e h some new_some = set_draws c _ (min c.mark (top c)) some (omega (arith, h))
 command_draws c clears (sets_numbers numbers) e h some new_some = whole_draws c _ new_some
 command_draws c clears (sets_wrapping wrapping) e h some new_some = whole_draws c _ new_some
 command_draws c clears (shifts left) e h some new_some = shift_draws c (cleared clears c).settings left (min c.mark (top c)) some (omega (arith, h))
@@ -169,6 +163,7 @@ command_draws c clears (moves_to_next_match jump) e h some new_some = let k : Co
 command_draws c clears (moves_to_prev_match jump) e h some new_some = let k : Control = cleared clears c in told_draws c clears (prev_match k jump) (prev_match_row k jump) some
 command_draws c clears (searches mode) e h some new_some = absurd (let both : Some mode ≡ None = e in cc)
 command_draws c clears fetches_query e h some new_some = absurd (let both : Some c.mode ≡ None = e in cc)
+command_draws c clears w e h some new_some = set_draws c _ (min c.mark (top c)) some (omega (arith, h))
 
 -- ---- the drawing of a work, where no search prompt is open
 

@@ -1,7 +1,7 @@
 -- Commands that are handled by hand.
 use Rattle.std.proofs.Common.{◌≡◌, ℕ, List, ◌++◌, map, true, false, Option, None, Some, is_some, sym, ap, ◌∙◌}
 use Rattle.std.proofs.lemmas.List.{append_assoc, map-append}
-use Rattle.minus_term.specs.Refusals.{Refusal, for_memory, for_newline, for_size, for_mode, for_hook_id, for_free_hook_id, for_description, for_binding, for_query, after_failure, after_exit, at_setup, at_cleanup, at_drawing, for_pattern, of_no_call}
+use Rattle.minus_term.specs.Refusals.{Refusal, for_memory, for_newline, for_size}
 use Rattle.minus_state.specs.Classifying.{Classifies}
 use Rattle.minus_state.specs.Control.{Control}
 use Rattle.minus_state.specs.Prompting.{opening_redraw}
@@ -61,16 +61,4 @@ pub cannot_form : {P H E Q K : Type 0} (refusal : Refusal) (says : Classifies K)
 cannot_form for_memory says parts command w request h = tt
 cannot_form for_newline says parts command w request h = (w, request, h)
 cannot_form (for_size cols rows) says parts command w request h = (w, request, h)
-cannot_form for_mode says parts command w request h = absurd h
-cannot_form (for_hook_id hook id) says parts command w request h = absurd h
-cannot_form for_free_hook_id says parts command w request h = absurd h
-cannot_form (for_description place cause) says parts command w request h = absurd h
-cannot_form (for_binding place) says parts command w request h = absurd h
-cannot_form for_query says parts command w request h = absurd h
-cannot_form after_failure says parts command w request h = absurd h
-cannot_form after_exit says parts command w request h = absurd h
-cannot_form (at_setup cause) says parts command w request h = absurd h
-cannot_form (at_cleanup cause) says parts command w request h = absurd h
-cannot_form at_drawing says parts command w request h = absurd h
-cannot_form for_pattern says parts command w request h = absurd h
-cannot_form of_no_call says parts command w request h = absurd h
+cannot_form refusal says parts command w request h = absurd h

@@ -41,22 +41,7 @@ only_memory : {Q K : Type 0} (e : MinusError) (ids : List HookId) (handing : Han
 only_memory errors.Memory ids handing free h = refl
 only_memory (errors.HookIdTaken hook id) ids handing free h = free_not_taken ids handing hook id free h.0 h.1
 only_memory errors.NoFreeHookId ids handing free h = has_next ids handing free h
-only_memory errors.NewlineInPrompt ids handing free h = absurd h
-only_memory (errors.BadSize cols rows) ids handing free h = absurd h
-only_memory (errors.BadDescription place cause) ids handing free h = absurd h
-only_memory (errors.Bound place) ids handing free h = absurd h
-only_memory errors.QueryFull ids handing free h = absurd h
-only_memory errors.BadMode ids handing free h = absurd h
-only_memory errors.Failed ids handing free h = absurd h
-only_memory errors.Ended ids handing free h = absurd h
-only_memory (errors.Setup cause) ids handing free h = absurd h
-only_memory (errors.Cleanup cause) ids handing free h = absurd h
-only_memory (errors.Draw cause) ids handing free h = absurd h
-only_memory (errors.HandleEvent cause) ids handing free h = absurd h
-only_memory (errors.Cursor cause) ids handing free h = absurd h
-only_memory (errors.FmtWriteError cause) ids handing free h = absurd h
-only_memory errors.Conversion ids handing free h = absurd h
-only_memory (errors.SearchExpError cause) ids handing free h = absurd h
+only_memory refusal ids handing free h = absurd h
 
 -- what is free is kept, where there is room
 pub is_handed : {Q K : Type 0} (r : Result (Unit {0}) MinusError) (ids : List HookId) (handing : Handing Q K) → IsFree ids handing → IfErr r (λ e. IsUnhanded (refusal_of e) ids handing) → (IsErrOf r errors.Memory → ⊥) → IsOk r

@@ -8,7 +8,7 @@ use Rattle.std.proofs.lemmas.Result.{err_from_is_err_and}
 use Rattle.std.specs.Result.{IsErr, IsErrAnd}
 use Rattle.minus_term.specs.Counts.{AppendsFront, Stays, Rises}
 use Rattle.minus_term.specs.Operations.{Op}
-use Rattle.minus_term.specs.Refusals.{Refusal, for_memory, for_newline, for_hook_id, for_free_hook_id, for_size, for_description, for_binding, for_query, for_mode, after_failure, after_exit, at_setup, at_cleanup, at_drawing, for_pattern, of_no_call, refusal_of}
+use Rattle.minus_term.specs.Refusals.{Refusal, for_memory, for_newline, for_hook_id, for_free_hook_id, for_size, for_query, after_failure, after_exit, at_cleanup, at_drawing, refusal_of}
 use Rattle.minus_term.specs.declared.error.MinusError.{MinusError}
 use Rattle.minus_term.specs.declared.error.MinusError.TheVariants.{Memory, Failed, Ended}
 use Rattle.minus_term.specs.Written.{written_all}
@@ -78,17 +78,10 @@ passed_unfit says (for_size cols rows) s told new a b f p = f
 passed_unfit says for_memory s told new a b f p = absurd (cc)
 passed_unfit says (at_cleanup cause) s told new a b f p = absurd (cc)
 passed_unfit says at_drawing s told new a b f p = absurd (cc)
-passed_unfit says for_mode s told new a b f p = absurd f
-passed_unfit says (at_setup cause) s told new a b f p = absurd f
 passed_unfit says (for_hook_id hook id) s told new a b f p = f
 passed_unfit says for_free_hook_id s told new a b f p = f
-passed_unfit says (for_description place cause) s told new a b f p = absurd f
-passed_unfit says (for_binding place) s told new a b f p = absurd f
 passed_unfit says for_query s told new a b f p = absurd (cc)
-passed_unfit says for_pattern s told new a b f p = absurd f
-passed_unfit says after_failure s told new a b f p = absurd f
-passed_unfit says after_exit s told new a b f p = absurd f
-passed_unfit says of_no_call s told new a b f p = absurd f
+passed_unfit says refusal s told new a b f p = absurd f
 
 -- one that is passed over
 pub passed_over : {Q K : Type 0} (says : Says Q K) (old : Seen Q K) (told : Told Q K) (s new : Seen Q K) (next : Told Q K) (rest : List (Told Q K)) (refused : List Refusal) (refusal : Refusal) (copied a b c : Option (List ℕ)) → SoFar says old told a b s refused copied → IsNext s next rest → Fails says refusal (leaving s rest) next new b c
@@ -184,17 +177,10 @@ refused_at_once says for_newline old told new a b running h = (running, h.0, h.1
 refused_at_once says (for_size cols rows) old told new a b running h = (running, h.0, h.1)
 refused_at_once says (at_cleanup cause) old told new a b running (exit, x, broken, fails) = (running, record { works = []; refused = []; copied = None; last = old; next = told; exit = exit; drawn = a; comes = at_once; exits = x; draws = nothing_drawn a old.control; broken = broken; failed = fails })
 refused_at_once says at_drawing old told new a b running (work, text, last, t, broken, fails) = (running, record { works = work ∷ []; refused = []; copied = text; last = last; worked = first t; broken = broken; failed = fails })
-refused_at_once says for_mode old told new a b running h = absurd h
-refused_at_once says (at_setup cause) old told new a b running h = absurd h
 refused_at_once says (for_hook_id hook id) old told new a b running h = (running, h.0, h.1)
 refused_at_once says for_free_hook_id old told new a b running h = (running, h.0, h.1)
-refused_at_once says (for_description place cause) old told new a b running h = absurd h
-refused_at_once says (for_binding place) old told new a b running h = absurd h
 refused_at_once says for_query old told new a b running h = (running, h.0, h.1)
-refused_at_once says for_pattern old told new a b running h = absurd h
-refused_at_once says after_failure old told new a b running h = absurd h
-refused_at_once says after_exit old told new a b running h = absurd h
-refused_at_once says of_no_call old told new a b running h = absurd h
+refused_at_once says refusal old told new a b running h = absurd h
 
 -- by one of those that wait, so that the session fails
 pub refused_later : {Q K : Type 0} (says : Says Q K) (refusal : Refusal) (old : Seen Q K) (told : Told Q K) (s mid new : Seen Q K) (next : Told Q K) (rest : List (Told Q K)) (refused : List Refusal) (copied a b c : Option (List ℕ)) → old.status ≡ status.Running → SoFar says old told a b s refused copied → IsNext s next rest → Fails says refusal (leaving s rest) next mid b c
@@ -232,17 +218,10 @@ refused_later says at_drawing old told s mid new next rest refused copied a b c 
 )
 refused_later says for_newline old told s mid new next rest refused copied a b c running so n f p is = absurd (cc)
 refused_later says (for_size cols rows) old told s mid new next rest refused copied a b c running so n f p is = absurd (cc)
-refused_later says for_mode old told s mid new next rest refused copied a b c running so n f p is = absurd f
-refused_later says (at_setup cause) old told s mid new next rest refused copied a b c running so n f p is = absurd f
 refused_later says (for_hook_id hook id) old told s mid new next rest refused copied a b c running so n f p is = absurd (cc)
 refused_later says for_free_hook_id old told s mid new next rest refused copied a b c running so n f p is = absurd (cc)
-refused_later says (for_description place cause) old told s mid new next rest refused copied a b c running so n f p is = absurd f
-refused_later says (for_binding place) old told s mid new next rest refused copied a b c running so n f p is = absurd f
 refused_later says for_query old told s mid new next rest refused copied a b c running so n f p is = absurd (let both : None ≡ Some f.0.search = sym n.0 ∙ f.0.opened in cc)
-refused_later says for_pattern old told s mid new next rest refused copied a b c running so n f p is = absurd f
-refused_later says after_failure old told s mid new next rest refused copied a b c running so n f p is = absurd f
-refused_later says after_exit old told s mid new next rest refused copied a b c running so n f p is = absurd f
-refused_later says of_no_call old told s mid new next rest refused copied a b c running so n f p is = absurd f
+refused_later says refusal old told s mid new next rest refused copied a b c running so n f p is = absurd f
 
 -- by want of memory to keep the refusal of one that is passed over: as where it was wanted at that one
 late_memory : {Q K : Type 0} (says : Says Q K) (refusal : Refusal) (old : Seen Q K) (told : Told Q K) (s mid new : Seen Q K) (next : Told Q K) (rest : List (Told Q K)) (refused : List Refusal) (copied a b c : Option (List ℕ)) → old.status ≡ status.Running → SoFar says old told a b s refused copied → IsNext s next rest → Fails says refusal (leaving s rest) next mid b c
@@ -269,22 +248,9 @@ refused_so says old told s m mid new next refused copied a b d c e of out runnin
 
 -- what is passed over is no fault of the sink
 pub passed_no_fault : (refusal : Refusal) → is_passed refusal ≡ true → IsSinkFault refusal → ⊥
-passed_no_fault for_memory p x = x
-passed_no_fault for_newline p x = x
-passed_no_fault (for_size cols rows) p x = x
 passed_no_fault (at_cleanup cause) p x = absurd (cc)
 passed_no_fault at_drawing p x = absurd (cc)
-passed_no_fault for_mode p x = x
-passed_no_fault (at_setup cause) p x = x
-passed_no_fault (for_hook_id hook id) p x = x
-passed_no_fault for_free_hook_id p x = x
-passed_no_fault (for_description place cause) p x = x
-passed_no_fault (for_binding place) p x = x
-passed_no_fault for_query p x = x
-passed_no_fault for_pattern p x = x
-passed_no_fault after_failure p x = x
-passed_no_fault after_exit p x = x
-passed_no_fault of_no_call p x = x
+passed_no_fault refusal p x = x
 
 -- the sink refused where that is said of a step that was refused late, and nothing where it is not
 pub late_rises : (of out : Refusal) (x y z : Option ℕ) → ((out ≡ of) × (is_passed of ≡ false)) ⊎ ((out ≡ for_memory) × (is_passed of ≡ true)) → Stays x y → (IsSinkFault of → Rises y z) → IsSinkFault out → Rises x z
@@ -308,20 +274,7 @@ IsOfStep refusal = Unit {0}
 pub refused_by : {Q K : Type 0} (says : Says Q K) (refusal : Refusal) (s : Seen Q K) (told : Told Q K) (new : Seen Q K) (a b : Option (List ℕ)) → Fails says refusal s told new a b → IsOfStep refusal
 refused_by says after_failure s told new a b f = f
 refused_by says after_exit s told new a b f = f
-refused_by says for_memory s told new a b f = tt
-refused_by says for_newline s told new a b f = tt
-refused_by says (for_size cols rows) s told new a b f = tt
-refused_by says for_mode s told new a b f = tt
-refused_by says (at_setup cause) s told new a b f = tt
-refused_by says (for_hook_id hook id) s told new a b f = tt
-refused_by says for_free_hook_id s told new a b f = tt
-refused_by says (for_description place cause) s told new a b f = tt
-refused_by says (for_binding place) s told new a b f = tt
-refused_by says for_query s told new a b f = tt
-refused_by says for_pattern s told new a b f = tt
-refused_by says (at_cleanup cause) s told new a b f = tt
-refused_by says at_drawing s told new a b f = tt
-refused_by says of_no_call s told new a b f = tt
+refused_by says refusal s told new a b f = tt
 
 -- so the step is refused for neither
 pub failed_never : (e of : MinusError) (now : Status) → now ≡ status.Running → IsOfStep (refusal_of of) → ((e ≡ of) × (is_passed (refusal_of of) ≡ false)) ⊎ ((e ≡ Memory) × (is_passed (refusal_of of) ≡ true)) → (e ≡ Failed) ↔ (now ≡ status.Failed)

@@ -3,7 +3,7 @@ use Rattle.std.proofs.Common.{◌≡◌, ℕ, ◌+◌, true, false, List, [], �
 use Rattle.std.specs.List.{last_or}
 use Rattle.std.proofs.lemmas.List.{append-nil, reverse-append, length_push, map_push}
 use Rattle.minus_term.specs.declared.error.MinusError.{MinusError}
-use Rattle.minus_term.specs.Refusals.{Refusal, refusal_of, for_memory, for_newline, for_hook_id, for_free_hook_id, for_size, for_description, for_binding, for_query, for_mode, after_failure, after_exit, at_setup, at_cleanup, at_drawing, for_pattern, of_no_call}
+use Rattle.minus_term.specs.Refusals.{Refusal, refusal_of, for_memory, for_newline, for_hook_id, for_free_hook_id, for_size, for_query, after_failure, after_exit, at_cleanup, at_drawing}
 use Rattle.minus.specs.declared.answer.Answer.{Answer}
 use Rattle.minus.specs.declared.status.Status.TheVariants as status
 use Rattle.minus.specs.Answers.{ends_run}
@@ -82,15 +82,10 @@ leaves_refused says after_failure a b reached new told passed h k r = untouched 
 leaves_refused says after_exit a b reached new told passed h k r = untouched a b reached new passed h.1 k r
 leaves_refused says (at_cleanup cause) a b reached new told passed h k r = let both : status.Failed ≡ status.Running = sym (ap (λ (x : Seen _ _). x.status) h.1.failed) ∙ r in cc
 leaves_refused says at_drawing a b reached new told passed h k r = let both : status.Failed ≡ status.Running = sym (ap (λ (x : Seen _ _). x.status) h.1.failed) ∙ r in cc
-leaves_refused says for_mode a b reached new told passed h k r = absurd h
-leaves_refused says (at_setup cause) a b reached new told passed h k r = absurd h
 leaves_refused says (for_hook_id hook id) a b reached new told passed h k r = untouched a b reached new passed h.2 k r
 leaves_refused says for_free_hook_id a b reached new told passed h k r = untouched a b reached new passed h.2 k r
-leaves_refused says (for_description place cause) a b reached new told passed h k r = absurd h
-leaves_refused says (for_binding place) a b reached new told passed h k r = absurd h
 leaves_refused says for_query a b reached new told passed h k r = untouched a b reached new passed h.2 k r
-leaves_refused says for_pattern a b reached new told passed h k r = absurd h
-leaves_refused says of_no_call a b reached new told passed h k r = absurd h
+leaves_refused says refusal a b reached new told passed h k r = absurd h
 
 -- ---- a run so far
 

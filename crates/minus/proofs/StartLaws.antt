@@ -7,7 +7,7 @@ use Rattle.minus_term.specs.declared.error.CleanupError.{CleanupError}
 use Rattle.minus_term.specs.declared.error.MinusError.{MinusError}
 use Rattle.minus_term.specs.Counts.{SinkSeen, AppendsFront, Stays, Rises}
 use Rattle.minus_term.specs.Terminal.{setup_bytes, cleanup_bytes}
-use Rattle.minus_term.specs.Refusals.{Refusal, for_memory, for_newline, for_hook_id, for_free_hook_id, for_size, for_description, for_binding, for_query, for_mode, after_failure, after_exit, at_setup, at_cleanup, at_drawing, for_pattern, of_no_call, refusal_of}
+use Rattle.minus_term.specs.Refusals.{Refusal, for_memory, for_newline, for_hook_id, for_free_hook_id, for_size, for_mode, at_setup, at_drawing, for_pattern, refusal_of}
 use Rattle.minus_term.specs.Written.{written_all}
 use Rattle.minus_term.proofs.WrittenLaws.{written_all-nil}
 use Rattle.minus_state.specs.Control.{Control, IsClamped}
@@ -22,7 +22,7 @@ use Rattle.minus.specs.declared.session.Core.{Core}
 use Rattle.minus_state.specs.declared.hooks.HookId.{HookId}
 use Rattle.minus.specs.Handing.{ids_after, IsFreeFor}
 use Rattle.minus.specs.Outcomes.{IsUnformed}
-use Rattle.minus.specs.Table.{Wanted, sets_data, appends_data, moves_mark, resizes, exits, ignores, sets_prompt, sends_message, shows_prompt, follows, types, restores_prompt, redraws_prompt, redraws_page, hands_over, sets_numbers, sets_wrapping, shifts, starts_selection, updates_selection, clears_selection, copies_selection, shows_help, moves_to_next_match, moves_to_prev_match, searches, fetches_query, handed, HasNewline, IsPossible}
+use Rattle.minus.specs.Table.{Wanted, moves_mark, sets_prompt, sends_message, handed, HasNewline, IsPossible}
 use Rattle.minus.specs.Starts.{first_control, CanStart, CanBegin, CannotStart, IsUnregistered, IsUnchecked, IsUntaken, IsFormRefused, IsStartFault, IsStartRefused, IsEarly, IsShowRefused, CleansUp, DrawsOff, DrawingBreaksOff, ShowBreaksOff, StartBreaksOff, BeginsAndMoves, StartLeavesItsPage, first_mark, first_move, move_ops}
 use Rattle.minus.specs.Works.{Work}
 use Rattle.minus.proofs.CommandLaws.{draws_for}
@@ -34,39 +34,13 @@ use Rattle.minus.proofs.DrawnLaws.{whole_shows, first_drawn, page_leaves}
 pub start_broken : (refusal : Refusal) (a b : Option (List ℕ)) (m n : Option ℕ) (bytes drawing : List ℕ) (terminal : Bool) (c : Control) → c.search ≡ None → 1 ≤ c.rows → bytes ≡ drawing → drawing ≡ written_all (whole_page c) → IsShowRefused refusal terminal → ShowBreaksOff refusal a b m n bytes → StartBreaksOff refusal a b m n c
 start_broken (at_setup cause) a b m n bytes drawing terminal c closed some e g r h = h
 start_broken at_drawing a b m n bytes drawing terminal c closed some e g r h = inl (whole_page c, subst (λ (x : List ℕ). DrawingBreaksOff a b m n x) (e ∙ g) h, whole_shows c closed some)
-start_broken for_memory a b m n bytes drawing terminal c closed some e g r h = absurd h
-start_broken for_newline a b m n bytes drawing terminal c closed some e g r h = absurd h
-start_broken (for_size cols rows) a b m n bytes drawing terminal c closed some e g r h = absurd h
-start_broken for_mode a b m n bytes drawing terminal c closed some e g r h = absurd h
-start_broken after_failure a b m n bytes drawing terminal c closed some e g r h = absurd h
-start_broken after_exit a b m n bytes drawing terminal c closed some e g r h = absurd h
-start_broken (at_cleanup cause) a b m n bytes drawing terminal c closed some e g r h = absurd h
-start_broken (for_hook_id hook id) a b m n bytes drawing terminal c closed some e g r h = absurd h
-start_broken for_free_hook_id a b m n bytes drawing terminal c closed some e g r h = absurd h
-start_broken (for_description place cause) a b m n bytes drawing terminal c closed some e g r h = absurd h
-start_broken (for_binding place) a b m n bytes drawing terminal c closed some e g r h = absurd h
-start_broken for_query a b m n bytes drawing terminal c closed some e g r h = absurd h
-start_broken for_pattern a b m n bytes drawing terminal c closed some e g r h = absurd h
-start_broken of_no_call a b m n bytes drawing terminal c closed some e g r h = absurd h
+start_broken refusal a b m n bytes drawing terminal c closed some e g r h = absurd h
 
 -- what is refused at a terminal is refused of a start that can be, and not before the terminal was asked for anything
 pub shown_at_start : {Q K : Type 0} (refusal : Refusal) (mode : RunMode) (cols rows : ℕ) (waiting : List (Wanted Q K)) (terminal : Bool) → CanBegin mode cols rows waiting → IsShowRefused refusal terminal → IsStartRefused refusal mode cols rows waiting terminal × (IsEarly refusal → ⊥)
 shown_at_start (at_setup cause) mode cols rows waiting terminal can h = ((can, h), λ early. early)
 shown_at_start at_drawing mode cols rows waiting terminal can h = ((can, h), λ early. early)
-shown_at_start for_memory mode cols rows waiting terminal can h = absurd h
-shown_at_start for_newline mode cols rows waiting terminal can h = absurd h
-shown_at_start (for_size x y) mode cols rows waiting terminal can h = absurd h
-shown_at_start for_mode mode cols rows waiting terminal can h = absurd h
-shown_at_start after_failure mode cols rows waiting terminal can h = absurd h
-shown_at_start after_exit mode cols rows waiting terminal can h = absurd h
-shown_at_start (at_cleanup cause) mode cols rows waiting terminal can h = absurd h
-shown_at_start (for_hook_id hook id) mode cols rows waiting terminal can h = absurd h
-shown_at_start for_free_hook_id mode cols rows waiting terminal can h = absurd h
-shown_at_start (for_description place cause) mode cols rows waiting terminal can h = absurd h
-shown_at_start (for_binding place) mode cols rows waiting terminal can h = absurd h
-shown_at_start for_query mode cols rows waiting terminal can h = absurd h
-shown_at_start for_pattern mode cols rows waiting terminal can h = absurd h
-shown_at_start of_no_call mode cols rows waiting terminal can h = absurd h
+shown_at_start refusal mode cols rows waiting terminal can h = absurd h
 
 -- the cleanup, whatever came of it
 pub cleaned_up : (r : Result (Unit {0}) CleanupError) (a b : Option (List ℕ)) (m n : Option ℕ) → OnOk r (Appends a b cleanup_bytes) → OnOk r (Stays m n) → AppendsFront a b cleanup_bytes → OnErr r (Rises m n) → CleansUp a b m n
@@ -116,15 +90,7 @@ form_refused for_newline mode cols rows waiting terminal bytes count first h = (
 form_refused (for_hook_id hook id) mode cols rows waiting terminal bytes count first h = (h, tt, refl, λ fault. fault)
 form_refused for_free_hook_id mode cols rows waiting terminal bytes count first h = (h, tt, refl, λ fault. fault)
 form_refused for_pattern mode cols rows waiting terminal bytes count first h = (h, tt, refl, λ fault. fault)
-form_refused (for_description place cause) mode cols rows waiting terminal bytes count first h = absurd h.1
-form_refused (for_binding place) mode cols rows waiting terminal bytes count first h = absurd h.1
-form_refused for_query mode cols rows waiting terminal bytes count first h = absurd h.1
-form_refused after_failure mode cols rows waiting terminal bytes count first h = absurd h.1
-form_refused after_exit mode cols rows waiting terminal bytes count first h = absurd h.1
-form_refused (at_setup cause) mode cols rows waiting terminal bytes count first h = absurd h.1
-form_refused (at_cleanup cause) mode cols rows waiting terminal bytes count first h = absurd h.1
-form_refused at_drawing mode cols rows waiting terminal bytes count first h = absurd h.1
-form_refused of_no_call mode cols rows waiting terminal bytes count first h = absurd h.1
+form_refused refusal mode cols rows waiting terminal bytes count first h = absurd h.1
 
 pub form_is_early : {Q K : Type 0} (refusal : Refusal) (cols rows : ℕ) (waiting : List (Wanted Q K)) → IsFormRefused refusal Static cols rows waiting → IsEarly refusal
 form_is_early refusal cols rows waiting h = (form_refused refusal Static cols rows waiting true None None (first_control cols rows waiting) h).1
@@ -157,38 +123,13 @@ refused_with {S = S} {P = P} {H = H} {E = E} {Q = Q} {K = K} seen pager mode col
 pub cannot_start : {Q K : Type 0} (refusal : Refusal) (mode : RunMode) (cols rows : ℕ) (waiting : List (Wanted Q K)) → CannotStart refusal mode cols rows → IsFormRefused refusal mode cols rows waiting
 cannot_start for_mode mode cols rows waiting h = h
 cannot_start (for_size x y) mode cols rows waiting h = inl h
-cannot_start for_memory mode cols rows waiting h = absurd h
-cannot_start for_newline mode cols rows waiting h = absurd h
-cannot_start (for_hook_id hook id) mode cols rows waiting h = absurd h
-cannot_start for_free_hook_id mode cols rows waiting h = absurd h
-cannot_start (for_description place cause) mode cols rows waiting h = absurd h
-cannot_start (for_binding place) mode cols rows waiting h = absurd h
-cannot_start for_query mode cols rows waiting h = absurd h
-cannot_start after_failure mode cols rows waiting h = absurd h
-cannot_start after_exit mode cols rows waiting h = absurd h
-cannot_start (at_setup cause) mode cols rows waiting h = absurd h
-cannot_start (at_cleanup cause) mode cols rows waiting h = absurd h
-cannot_start at_drawing mode cols rows waiting h = absurd h
-cannot_start for_pattern mode cols rows waiting h = absurd h
-cannot_start of_no_call mode cols rows waiting h = absurd h
+cannot_start refusal mode cols rows waiting h = absurd h
 
 pub unregistered : {Q K : Type 0} (refusal : Refusal) (mode : RunMode) (cols rows : ℕ) (waiting : List (Wanted Q K)) → IsUnregistered refusal mode cols rows → IsFormRefused refusal mode cols rows waiting
 unregistered for_memory mode cols rows waiting h = (h, tt)
 unregistered for_mode mode cols rows waiting h = h
 unregistered (for_size x y) mode cols rows waiting h = inl h
-unregistered for_newline mode cols rows waiting h = absurd h
-unregistered (for_hook_id hook id) mode cols rows waiting h = absurd h
-unregistered for_free_hook_id mode cols rows waiting h = absurd h
-unregistered (for_description place cause) mode cols rows waiting h = absurd h
-unregistered (for_binding place) mode cols rows waiting h = absurd h
-unregistered for_query mode cols rows waiting h = absurd h
-unregistered after_failure mode cols rows waiting h = absurd h
-unregistered after_exit mode cols rows waiting h = absurd h
-unregistered (at_setup cause) mode cols rows waiting h = absurd h
-unregistered (at_cleanup cause) mode cols rows waiting h = absurd h
-unregistered at_drawing mode cols rows waiting h = absurd h
-unregistered for_pattern mode cols rows waiting h = absurd h
-unregistered of_no_call mode cols rows waiting h = absurd h
+unregistered refusal mode cols rows waiting h = absurd h
 
 -- one whose commands cannot be taken over
 pub untaken : {Q K : Type 0} (refusal : Refusal) (mode : RunMode) (cols rows : ℕ) (waiting : List (Wanted Q K)) → CanStart mode cols rows → IsUntaken refusal [] waiting → IsFormRefused refusal mode cols rows waiting
@@ -197,17 +138,7 @@ untaken for_newline mode cols rows waiting can h = (can, h)
 untaken (for_size x y) mode cols rows waiting can h = inr (can, h)
 untaken (for_hook_id hook id) mode cols rows waiting can h = (can, h)
 untaken for_free_hook_id mode cols rows waiting can h = (can, h)
-untaken for_mode mode cols rows waiting can h = absurd h
-untaken (for_description place cause) mode cols rows waiting can h = absurd h
-untaken (for_binding place) mode cols rows waiting can h = absurd h
-untaken for_query mode cols rows waiting can h = absurd h
-untaken after_failure mode cols rows waiting can h = absurd h
-untaken after_exit mode cols rows waiting can h = absurd h
-untaken (at_setup cause) mode cols rows waiting can h = absurd h
-untaken (at_cleanup cause) mode cols rows waiting can h = absurd h
-untaken at_drawing mode cols rows waiting can h = absurd h
-untaken for_pattern mode cols rows waiting can h = absurd h
-untaken of_no_call mode cols rows waiting can h = absurd h
+untaken refusal mode cols rows waiting can h = absurd h
 
 -- a start with a classifier of the session's own at first
 pub first_start : {S P H E Q K F : Type 0} (IsFirst : K → Type 0) (seen : S → SinkSeen) (pager : PagerOf P H E Q K) (mode : RunMode) (cols rows : ℕ) (sink : S) (classifier : K) (r : Result (Core S P H E Q K) F) → IsFirst classifier →
@@ -220,19 +151,7 @@ pub unformed_refused : {Q K : Type 0} (refusal : Refusal) (mode : RunMode) (cols
 unformed_refused for_memory mode cols rows waiting can h = (can.can, tt)
 unformed_refused for_pattern mode cols rows waiting can h = can
 unformed_refused (for_size x y) mode cols rows waiting can h = inl (can.can.runs, h.0, h.1, h.2)
-unformed_refused for_newline mode cols rows waiting can h = absurd h
-unformed_refused (for_hook_id hook id) mode cols rows waiting can h = absurd h
-unformed_refused for_free_hook_id mode cols rows waiting can h = absurd h
-unformed_refused (for_description place cause) mode cols rows waiting can h = absurd h
-unformed_refused (for_binding place) mode cols rows waiting can h = absurd h
-unformed_refused for_query mode cols rows waiting can h = absurd h
-unformed_refused for_mode mode cols rows waiting can h = absurd h
-unformed_refused after_failure mode cols rows waiting can h = absurd h
-unformed_refused after_exit mode cols rows waiting can h = absurd h
-unformed_refused (at_setup cause) mode cols rows waiting can h = absurd h
-unformed_refused (at_cleanup cause) mode cols rows waiting can h = absurd h
-unformed_refused at_drawing mode cols rows waiting can h = absurd h
-unformed_refused of_no_call mode cols rows waiting can h = absurd h
+unformed_refused refusal mode cols rows waiting can h = absurd h
 
 -- ---- the commands that wait
 
@@ -243,17 +162,7 @@ untaken_here for_newline ids w ws h = inl h
 untaken_here (for_size x y) ids w ws h = inl h
 untaken_here (for_hook_id hook id) ids w ws h = inl h
 untaken_here for_free_hook_id ids w ws h = inl h
-untaken_here for_mode ids w ws h = absurd h
-untaken_here (for_description place cause) ids w ws h = absurd h
-untaken_here (for_binding place) ids w ws h = absurd h
-untaken_here for_query ids w ws h = absurd h
-untaken_here after_failure ids w ws h = absurd h
-untaken_here after_exit ids w ws h = absurd h
-untaken_here (at_setup cause) ids w ws h = absurd h
-untaken_here (at_cleanup cause) ids w ws h = absurd h
-untaken_here at_drawing ids w ws h = absurd h
-untaken_here for_pattern ids w ws h = absurd h
-untaken_here of_no_call ids w ws h = absurd h
+untaken_here refusal ids w ws h = absurd h
 
 -- or of those that it follows, where it is taken over
 pub untaken_later : {Q K : Type 0} (refusal : Refusal) (ids : List HookId) (w : Wanted Q K) (ws : List (Wanted Q K)) → IsPossible w → IsFreeFor ids (handed w) → IsUntaken refusal (ids_after ids (handed w)) ws → IsUntaken refusal ids (w ∷ ws)
@@ -262,17 +171,7 @@ untaken_later for_newline ids w ws possible free h = inr (possible, free, h)
 untaken_later (for_size x y) ids w ws possible free h = inr (possible, free, h)
 untaken_later (for_hook_id hook id) ids w ws possible free h = inr (possible, free, h)
 untaken_later for_free_hook_id ids w ws possible free h = inr (possible, free, h)
-untaken_later for_mode ids w ws possible free h = absurd h
-untaken_later (for_description place cause) ids w ws possible free h = absurd h
-untaken_later (for_binding place) ids w ws possible free h = absurd h
-untaken_later for_query ids w ws possible free h = absurd h
-untaken_later after_failure ids w ws possible free h = absurd h
-untaken_later after_exit ids w ws possible free h = absurd h
-untaken_later (at_setup cause) ids w ws possible free h = absurd h
-untaken_later (at_cleanup cause) ids w ws possible free h = absurd h
-untaken_later at_drawing ids w ws possible free h = absurd h
-untaken_later for_pattern ids w ws possible free h = absurd h
-untaken_later of_no_call ids w ws possible free h = absurd h
+untaken_later refusal ids w ws possible free h = absurd h
 
 -- a page that was drawn whole on a sink, or a beginning of it
 pub redrawn : (a b : Option (List ℕ)) (bytes : List ℕ) (c : Control) → c.search ≡ None → 1 ≤ c.rows → bytes ≡ written_all (whole_page c) → Appends a b bytes → Redraws a b c
@@ -356,46 +255,10 @@ none_open (Some x) e = absurd (let wrong : true ≡ false = e in cc)
 has_none : {Q K X : Type 0} (w : Wanted Q K) → IsPossible w → HasNewline w → X
 has_none (sets_prompt text) possible has = absurd (let wrong : false ≡ true = sym possible ∙ has in cc)
 has_none (sends_message text) possible has = absurd (let wrong : false ≡ true = sym possible ∙ has in cc)
-has_none (sets_data text) possible has = absurd has
-has_none (appends_data text) possible has = absurd has
-has_none (moves_mark mark) possible has = absurd has
-has_none (resizes cols rows) possible has = absurd has
-has_none exits possible has = absurd has
-has_none ignores possible has = absurd has
-has_none (shows_prompt is_shown) possible has = absurd has
-has_none (follows follow) possible has = absurd has
-has_none (types character) possible has = absurd has
-has_none restores_prompt possible has = absurd has
-has_none redraws_prompt possible has = absurd has
-has_none redraws_page possible has = absurd has
-has_none (hands_over handing) possible has = absurd has
-has_none (sets_numbers numbers) possible has = absurd has
-has_none (sets_wrapping wrapping) possible has = absurd has
-has_none (shifts left) possible has = absurd has
-has_none (starts_selection x y) possible has = absurd has
-has_none (updates_selection x y) possible has = absurd has
-has_none clears_selection possible has = absurd has
-has_none copies_selection possible has = absurd has
-has_none (shows_help text) possible has = absurd has
-has_none (moves_to_next_match jump) possible has = absurd has
-has_none (moves_to_prev_match jump) possible has = absurd has
-has_none (searches mode) possible has = absurd has
-has_none fetches_query possible has = absurd has
+has_none w possible has = absurd has
 
 pub possible_memory : {Q K : Type 0} (refusal : Refusal) (w : Wanted Q K) → IsPossible w → IsUnformed refusal w → refusal ≡ for_memory
 possible_memory for_memory w possible h = refl
 possible_memory for_newline w possible h = has_none w possible h
 possible_memory (for_size cols rows) w possible h = absurd (h.1 (subst IsPossible h.0 possible))
-possible_memory for_mode w possible h = absurd h
-possible_memory (for_hook_id hook id) w possible h = absurd h
-possible_memory for_free_hook_id w possible h = absurd h
-possible_memory (for_description place cause) w possible h = absurd h
-possible_memory (for_binding place) w possible h = absurd h
-possible_memory for_query w possible h = absurd h
-possible_memory after_failure w possible h = absurd h
-possible_memory after_exit w possible h = absurd h
-possible_memory (at_setup cause) w possible h = absurd h
-possible_memory (at_cleanup cause) w possible h = absurd h
-possible_memory at_drawing w possible h = absurd h
-possible_memory for_pattern w possible h = absurd h
-possible_memory of_no_call w possible h = absurd h
+possible_memory refusal w possible h = absurd h

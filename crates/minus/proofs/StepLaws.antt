@@ -8,7 +8,7 @@ use Rattle.minus_term.specs.Operations.{Op}
 use Rattle.minus_term.specs.declared.error.MinusError.{MinusError}
 use Rattle.minus_term.specs.declared.event.Event.{Event}
 use Rattle.minus_term.specs.declared.error.CleanupError.{CleanupError}
-use Rattle.minus_term.specs.Refusals.{Refusal, for_memory, for_newline, for_hook_id, for_free_hook_id, for_size, for_description, for_binding, for_query, for_mode, after_failure, after_exit, at_setup, at_cleanup, at_drawing, for_pattern, of_no_call, refusal_of}
+use Rattle.minus_term.specs.Refusals.{Refusal, for_memory, for_hook_id, for_free_hook_id, for_query, at_cleanup, at_drawing, refusal_of}
 use Rattle.minus_term.specs.Terminal.{cleanup_bytes, CleanupBreaksOff}
 use Rattle.minus_term.specs.Written.{written_all}
 use Rattle.minus_term.proofs.WrittenLaws.{written_all-nil}
@@ -187,19 +187,7 @@ unhanded : {Q K : Type 0} (says : Says Q K) (refusal : Refusal) (s : Seen Q K) (
 unhanded says for_memory s told handing a closed wants h = ((refl, refl), λ sink. sink)
 unhanded says (for_hook_id hook id) s told handing a closed wants h = (((hands_over handing, wants, (closed, (ap hands_over h.0, h.1))), (refl, refl)), λ sink. sink)
 unhanded says for_free_hook_id s told handing a closed wants h = (((hands_over handing, wants, (closed, (handing, refl, h))), (refl, refl)), λ sink. sink)
-unhanded says for_newline s told handing a closed wants h = absurd h
-unhanded says (for_size cols rows) s told handing a closed wants h = absurd h
-unhanded says for_query s told handing a closed wants h = absurd h
-unhanded says for_mode s told handing a closed wants h = absurd h
-unhanded says (at_setup cause) s told handing a closed wants h = absurd h
-unhanded says (for_description place cause) s told handing a closed wants h = absurd h
-unhanded says (for_binding place) s told handing a closed wants h = absurd h
-unhanded says for_pattern s told handing a closed wants h = absurd h
-unhanded says after_failure s told handing a closed wants h = absurd h
-unhanded says after_exit s told handing a closed wants h = absurd h
-unhanded says of_no_call s told handing a closed wants h = absurd h
-unhanded says (at_cleanup cause) s told handing a closed wants h = absurd h
-unhanded says at_drawing s told handing a closed wants h = absurd h
+unhanded says refusal s told handing a closed wants h = absurd h
 
 pub unhanded_take : {S P H E Q K : Type 0} (sink : S → SinkSeen) (says : Says Q K) (old new : Core S P H E Q K) (told : Told Q K) (handing : Handing Q K) (e : MinusError) → (seen_of old).control.search ≡ None → Asks says (seen_of old) told (hands_over handing) → IsUnhanded (refusal_of e) (seen_of old).kept.ids handing → seen_of new ≡ seen_of old → new.sink ≡ old.sink
     → IsUntakenOf sink says old told new e
@@ -219,20 +207,7 @@ unhanded_take {S = S} {Q = Q} {K = K} sink says old new told handing e closed as
 unkeyed : {Q K : Type 0} (says : Says Q K) (refusal : Refusal) (s : Seen Q K) (event : Event) (o : OpenSearch) (a : Option (List ℕ)) → s.control.search ≡ Some o → IsUnkeyed refusal o (edit_of event) → Fails says refusal s (an_event event) s a a × (IsSinkFault refusal → ⊥)
 unkeyed says for_memory s event o a searching h = ((refl, refl), λ sink. sink)
 unkeyed says for_query s event o a searching h = ((record { search = o; event = event; opened = searching; key = refl; full = h }, (refl, refl)), λ sink. sink)
-unkeyed says for_newline s event o a searching h = absurd h
-unkeyed says (for_size cols rows) s event o a searching h = absurd h
-unkeyed says for_mode s event o a searching h = absurd h
-unkeyed says (at_setup cause) s event o a searching h = absurd h
-unkeyed says (for_hook_id hook id) s event o a searching h = absurd h
-unkeyed says for_free_hook_id s event o a searching h = absurd h
-unkeyed says (for_description place cause) s event o a searching h = absurd h
-unkeyed says (for_binding place) s event o a searching h = absurd h
-unkeyed says for_pattern s event o a searching h = absurd h
-unkeyed says after_failure s event o a searching h = absurd h
-unkeyed says after_exit s event o a searching h = absurd h
-unkeyed says of_no_call s event o a searching h = absurd h
-unkeyed says (at_cleanup cause) s event o a searching h = absurd h
-unkeyed says at_drawing s event o a searching h = absurd h
+unkeyed says refusal s event o a searching h = absurd h
 
 pub unkeyed_take : {S P H E Q K : Type 0} (sink : S → SinkSeen) (says : Says Q K) (old : Core S P H E Q K) (event : Event) (o : OpenSearch) (e : MinusError) → (seen_of old).control.search ≡ Some o → IsUnkeyed (refusal_of e) o (edit_of event) → IsUntakenOf sink says old (an_event event) old e
 unkeyed_take sink says old event o e searching h =

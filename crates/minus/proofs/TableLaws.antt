@@ -8,10 +8,9 @@ use Rattle.minus_state.specs.declared.search.SearchMode.{SearchMode}
 use Rattle.minus_state.specs.Prompting.{opened_by}
 use Rattle.minus_state.specs.SearchMode.{char_of}
 use Rattle.minus_state.specs.MatchJumps.{told_at, next_match, next_match_row, prev_match, prev_match_row}
-use Rattle.minus.specs.Table.{Wanted, sets_data, appends_data, moves_mark, resizes, exits, ignores, sets_prompt}
-use Rattle.minus.specs.Table.{sends_message, shows_prompt, follows, types, restores_prompt, redraws_prompt, redraws_page}
-use Rattle.minus.specs.Table.{hands_over, sets_numbers, sets_wrapping, shifts, starts_selection, updates_selection}
-use Rattle.minus.specs.Table.{clears_selection, copies_selection, shows_help, moves_to_next_match, moves_to_prev_match, searches, fetches_query}
+use Rattle.minus.specs.Table.{Wanted, sets_data, appends_data, resizes, exits}
+use Rattle.minus.specs.Table.{types, restores_prompt}
+use Rattle.minus.specs.Table.{shows_help, moves_to_next_match, moves_to_prev_match, searches, fetches_query}
 use Rattle.minus.specs.Table.{Effect, effect, moves, hook_after, end_hook, opens_search, tells_match, moved, moved_by, changed_by, lets_prefix_go}
 use Rattle.minus.specs.Works.{ResizesAreFull}
 use Rattle.minus.specs.Starts.{taken_all, first_control}
@@ -24,33 +23,8 @@ clamp_still c h = let m : min c.mark (top c) ≡ c.mark = omega (arith, h) in ap
 
 -- nothing but an exit exits
 only_exits : {Q K : Type 0} (c : Control) (w : Wanted Q K) → (effect c w).is_exit ≡ true → w ≡ exits
-only_exits c (sets_data text) e = absurd (let both : false ≡ true = e in cc)
-only_exits c (appends_data text) e = absurd (let both : false ≡ true = e in cc)
-only_exits c (moves_mark mark) e = absurd (let both : false ≡ true = e in cc)
-only_exits c (resizes cols rows) e = absurd (let both : false ≡ true = e in cc)
 only_exits c exits e = refl
-only_exits c ignores e = absurd (let both : false ≡ true = e in cc)
-only_exits c (sets_prompt text) e = absurd (let both : false ≡ true = e in cc)
-only_exits c (sends_message text) e = absurd (let both : false ≡ true = e in cc)
-only_exits c (shows_prompt is_shown) e = absurd (let both : false ≡ true = e in cc)
-only_exits c (follows follow) e = absurd (let both : false ≡ true = e in cc)
-only_exits c (types character) e = absurd (let both : false ≡ true = e in cc)
-only_exits c restores_prompt e = absurd (let both : false ≡ true = e in cc)
-only_exits c redraws_prompt e = absurd (let both : false ≡ true = e in cc)
-only_exits c redraws_page e = absurd (let both : false ≡ true = e in cc)
-only_exits c (hands_over handing) e = absurd (let both : false ≡ true = e in cc)
-only_exits c (sets_numbers numbers) e = absurd (let both : false ≡ true = e in cc)
-only_exits c (sets_wrapping wrapping) e = absurd (let both : false ≡ true = e in cc)
-only_exits c (shifts left) e = absurd (let both : false ≡ true = e in cc)
-only_exits c (starts_selection a b) e = absurd (let both : false ≡ true = e in cc)
-only_exits c (updates_selection a b) e = absurd (let both : false ≡ true = e in cc)
-only_exits c clears_selection e = absurd (let both : false ≡ true = e in cc)
-only_exits c copies_selection e = absurd (let both : false ≡ true = e in cc)
-only_exits c (shows_help text) e = absurd (let both : false ≡ true = e in cc)
-only_exits c (moves_to_next_match jump) e = absurd (let both : false ≡ true = e in cc)
-only_exits c (moves_to_prev_match jump) e = absurd (let both : false ≡ true = e in cc)
-only_exits c (searches mode) e = absurd (let both : false ≡ true = e in cc)
-only_exits c fetches_query e = absurd (let both : false ≡ true = e in cc)
+only_exits c w e = absurd (let both : false ≡ true = e in cc)
 
 exits_still : (Q K : Type 0) (c : Control) (help : Option Saved) → (let k : Control = record c { help = help } in IsClamped k → (effect {Q = Q} {K = K} k exits).is_exit ≡ true → changed_by (effect {Q = Q} {K = K} k exits) ≡ k)
 exits_still Q K c None h e = clamp_still (record c { help = None }) h
@@ -105,33 +79,13 @@ cleared_opening : (c : Control) (clears : Bool) (mode : SearchMode) → opens_se
 cleared_opening c clears mode = ap (λ (k : Control). let e : Effect = record (opens_search c mode) { changed = k } in e) (opened_typed c clears mode (char_of mode))
 
 cleared_effect : {Q K : Type 0} (c : Control) (clears : Bool) (w : Wanted Q K) → (clears ≡ true → lets_prefix_go w ≡ true) → effect (cleared clears c) w ≡ cleared_by clears (effect c w)
-cleared_effect c clears (sets_data text) h = refl
-cleared_effect c clears (appends_data text) h = refl
-cleared_effect c clears (moves_mark mark) h = refl
-cleared_effect c clears (resizes cols rows) h = refl
 cleared_effect {Q = Q} {K = K} c clears exits h = cleared_exit Q K c clears c.help
-cleared_effect c clears ignores h = refl
-cleared_effect c clears (sets_prompt text) h = refl
-cleared_effect c clears (sends_message text) h = refl
-cleared_effect c clears (shows_prompt is_shown) h = refl
-cleared_effect c clears (follows follow) h = refl
 cleared_effect {Q = Q} {K = K} c clears (types character) h = typed_on Q K c clears character h
 cleared_effect {Q = Q} {K = K} c clears restores_prompt h = cleared_restored Q K c clears c.help
-cleared_effect c clears redraws_prompt h = refl
-cleared_effect c clears redraws_page h = refl
-cleared_effect c clears (hands_over handing) h = refl
-cleared_effect c clears (sets_numbers numbers) h = refl
-cleared_effect c clears (sets_wrapping wrapping) h = refl
-cleared_effect c clears (shifts left) h = refl
-cleared_effect c clears (starts_selection x y) h = refl
-cleared_effect c clears (updates_selection x y) h = refl
-cleared_effect c clears clears_selection h = refl
-cleared_effect c clears copies_selection h = refl
 cleared_effect {Q = Q} {K = K} c clears (shows_help text) h = cleared_help Q K c clears text c.help
-cleared_effect c clears (moves_to_next_match jump) h = refl
-cleared_effect c clears (moves_to_prev_match jump) h = refl
 cleared_effect c clears (searches mode) h = cleared_opening c clears mode
 cleared_effect c clears fetches_query h = cleared_opening c clears c.mode
+cleared_effect c clears w h = refl
 
 cleared_move : (c : Control) (clears : Bool) (move : Option ℕ) → moved (cleared clears c) move ≡ cleared clears (moved c move)
 cleared_move c clears None = refl
@@ -156,32 +110,7 @@ cleared_exits c clears w h = sym (ap (λ (e : Effect). e.is_exit) (cleared_effec
 -- nor whether it moves the mark, and what hook is called then
 same_moves : {Q K : Type 0} (c : Control) (clears : Bool) (w : Wanted Q K) → moves (cleared clears c) w ≡ moves c w
 same_moves c clears (sets_data text) = refl
-same_moves c clears (appends_data text) = refl
-same_moves c clears (moves_mark mark) = refl
-same_moves c clears (resizes cols rows) = refl
-same_moves c clears exits = refl
-same_moves c clears ignores = refl
-same_moves c clears (sets_prompt text) = refl
-same_moves c clears (sends_message text) = refl
-same_moves c clears (shows_prompt is_shown) = refl
-same_moves c clears (follows follow) = refl
-same_moves c clears (types character) = refl
-same_moves c clears restores_prompt = refl
-same_moves c clears redraws_prompt = refl
-same_moves c clears redraws_page = refl
-same_moves c clears (hands_over handing) = refl
-same_moves c clears (sets_numbers numbers) = refl
-same_moves c clears (sets_wrapping wrapping) = refl
-same_moves c clears (shifts left) = refl
-same_moves c clears (starts_selection x y) = refl
-same_moves c clears (updates_selection x y) = refl
-same_moves c clears clears_selection = refl
-same_moves c clears copies_selection = refl
-same_moves c clears (shows_help text) = refl
-same_moves c clears (moves_to_next_match jump) = refl
-same_moves c clears (moves_to_prev_match jump) = refl
-same_moves c clears (searches mode) = refl
-same_moves c clears fetches_query = refl
+same_moves c clears w = refl
 
 pub cleared_hook : {Q K : Type 0} (c : Control) (clears : Bool) (w : Wanted Q K) → (clears ≡ true → lets_prefix_go w ≡ true) → hook_after (cleared clears c) w ≡ hook_after c w
 cleared_hook c clears w h =
@@ -213,33 +142,16 @@ opened_size c mode (Some character) = record { same_cols = refl; same_rows = ref
 
 -- what is not drawn in full keeps the size
 pub resizes_full_lem : {Q K : Type 0} → ResizesAreFull Q K
-resizes_full_lem c (sets_data text) e = record { same_cols = refl; same_rows = refl }
 resizes_full_lem {Q = Q} {K = K} c (appends_data text) e = added_size Q K c c.help text
-resizes_full_lem c (moves_mark mark) e = record { same_cols = refl; same_rows = refl }
 resizes_full_lem c (resizes cols rows) e = absurd (let both : true ≡ false = e in cc)
 resizes_full_lem c exits e = let size = left_size c c.help in record { same_cols = size.same_cols; same_rows = size.same_rows }
-resizes_full_lem c ignores e = record { same_cols = refl; same_rows = refl }
-resizes_full_lem c (sets_prompt text) e = record { same_cols = refl; same_rows = refl }
-resizes_full_lem c (sends_message text) e = record { same_cols = refl; same_rows = refl }
-resizes_full_lem c (shows_prompt is_shown) e = record { same_cols = refl; same_rows = refl }
-resizes_full_lem c (follows follow) e = record { same_cols = refl; same_rows = refl }
-resizes_full_lem c (types character) e = record { same_cols = refl; same_rows = refl }
 resizes_full_lem c restores_prompt e = let size = restored_size c c.help in record { same_cols = size.same_cols; same_rows = size.same_rows }
-resizes_full_lem c redraws_prompt e = record { same_cols = refl; same_rows = refl }
-resizes_full_lem c redraws_page e = record { same_cols = refl; same_rows = refl }
-resizes_full_lem c (hands_over handing) e = record { same_cols = refl; same_rows = refl }
-resizes_full_lem c (sets_numbers numbers) e = record { same_cols = refl; same_rows = refl }
-resizes_full_lem c (sets_wrapping wrapping) e = record { same_cols = refl; same_rows = refl }
-resizes_full_lem c (shifts left) e = record { same_cols = refl; same_rows = refl }
-resizes_full_lem c (starts_selection x y) e = record { same_cols = refl; same_rows = refl }
-resizes_full_lem c (updates_selection x y) e = record { same_cols = refl; same_rows = refl }
-resizes_full_lem c clears_selection e = record { same_cols = refl; same_rows = refl }
-resizes_full_lem c copies_selection e = record { same_cols = refl; same_rows = refl }
 resizes_full_lem c (shows_help text) e = absurd (let both : true ≡ false = e in cc)
 resizes_full_lem c (moves_to_next_match jump) e = told_size c (next_match c jump) (next_match_row c jump)
 resizes_full_lem c (moves_to_prev_match jump) e = told_size c (prev_match c jump) (prev_match_row c jump)
 resizes_full_lem c (searches mode) e = opened_size c mode (char_of mode)
 resizes_full_lem c fetches_query e = opened_size c c.mode (char_of c.mode)
+resizes_full_lem c w e = record { same_cols = refl; same_rows = refl }
 
 -- ---- commands that wait for a start
 
@@ -259,30 +171,7 @@ pub without_move : {Q K : Type 0} (c : Control) (w : Wanted Q K) → (let m : Co
 without_move {Q = Q} {K = K} c (appends_data text) = append_unmoved Q K c text c.help c.settings.follow
 without_move c (moves_to_next_match jump) = match_unmoved c (next_match c jump) (next_match_row c jump)
 without_move c (moves_to_prev_match jump) = match_unmoved c (prev_match c jump) (prev_match_row c jump)
-without_move c (sets_data text) = refl
-without_move c (moves_mark mark) = refl
-without_move c (resizes cols rows) = refl
-without_move c exits = refl
-without_move c ignores = refl
-without_move c (sets_prompt text) = refl
-without_move c (sends_message text) = refl
-without_move c (shows_prompt is_shown) = refl
-without_move c (follows follow) = refl
-without_move c (types character) = refl
-without_move c restores_prompt = refl
-without_move c redraws_prompt = refl
-without_move c redraws_page = refl
-without_move c (hands_over handing) = refl
-without_move c (sets_numbers numbers) = refl
-without_move c (sets_wrapping wrapping) = refl
-without_move c (shifts left) = refl
-without_move c (starts_selection x y) = refl
-without_move c (updates_selection x y) = refl
-without_move c clears_selection = refl
-without_move c copies_selection = refl
-without_move c (shows_help text) = refl
-without_move c (searches mode) = refl
-without_move c fetches_query = refl
+without_move c w = refl
 
 -- each leaves the mark clamped
 taken_clamped : {Q K : Type 0} (c : Control) (ws : List (Wanted Q K)) → IsClamped c → IsClamped (taken_all c ws)
@@ -302,33 +191,9 @@ opens_for c w = None
 
 -- such a request does nothing else
 pub opens_as : {Q K : Type 0} (c : Control) (w : Wanted Q K) (mode : SearchMode) → opens_for c w ≡ Some mode → effect c w ≡ opens_search c mode
-opens_as c (sets_data text) mode e = absurd (let both : None ≡ Some mode = e in cc)
-opens_as c (appends_data text) mode e = absurd (let both : None ≡ Some mode = e in cc)
-opens_as c (moves_mark mark) mode e = absurd (let both : None ≡ Some mode = e in cc)
-opens_as c (resizes cols rows) mode e = absurd (let both : None ≡ Some mode = e in cc)
-opens_as c exits mode e = absurd (let both : None ≡ Some mode = e in cc)
-opens_as c ignores mode e = absurd (let both : None ≡ Some mode = e in cc)
-opens_as c (sets_prompt text) mode e = absurd (let both : None ≡ Some mode = e in cc)
-opens_as c (sends_message text) mode e = absurd (let both : None ≡ Some mode = e in cc)
-opens_as c (shows_prompt is_shown) mode e = absurd (let both : None ≡ Some mode = e in cc)
-opens_as c (follows follow) mode e = absurd (let both : None ≡ Some mode = e in cc)
-opens_as c (types character) mode e = absurd (let both : None ≡ Some mode = e in cc)
-opens_as c restores_prompt mode e = absurd (let both : None ≡ Some mode = e in cc)
-opens_as c redraws_prompt mode e = absurd (let both : None ≡ Some mode = e in cc)
-opens_as c redraws_page mode e = absurd (let both : None ≡ Some mode = e in cc)
-opens_as c (hands_over handing) mode e = absurd (let both : None ≡ Some mode = e in cc)
-opens_as c (sets_numbers numbers) mode e = absurd (let both : None ≡ Some mode = e in cc)
-opens_as c (sets_wrapping wrapping) mode e = absurd (let both : None ≡ Some mode = e in cc)
-opens_as c (shifts left) mode e = absurd (let both : None ≡ Some mode = e in cc)
-opens_as c (starts_selection x y) mode e = absurd (let both : None ≡ Some mode = e in cc)
-opens_as c (updates_selection x y) mode e = absurd (let both : None ≡ Some mode = e in cc)
-opens_as c clears_selection mode e = absurd (let both : None ≡ Some mode = e in cc)
-opens_as c copies_selection mode e = absurd (let both : None ≡ Some mode = e in cc)
-opens_as c (shows_help text) mode e = absurd (let both : None ≡ Some mode = e in cc)
-opens_as c (moves_to_next_match jump) mode e = absurd (let both : None ≡ Some mode = e in cc)
-opens_as c (moves_to_prev_match jump) mode e = absurd (let both : None ≡ Some mode = e in cc)
 opens_as c (searches other) mode e = let same : other ≡ mode = cc in ap (opens_search c) same
 opens_as c fetches_query mode e = let same : c.mode ≡ mode = cc in ap (opens_search c) same
+opens_as c w mode e = absurd (let both : None ≡ Some mode = e in cc)
 
 -- no other request opens or closes it
 left_search : (c : Control) (help : Option Saved) → (left_help c help).search ≡ c.search
@@ -344,33 +209,12 @@ turned_search c None text = refl
 turned_search c (Some saved) text = refl
 
 pub changed_search : {Q K : Type 0} (c : Control) (w : Wanted Q K) → opens_for c w ≡ None → (effect c w).changed.search ≡ c.search
-changed_search c (sets_data text) e = refl
-changed_search c (appends_data text) e = refl
-changed_search c (moves_mark mark) e = refl
-changed_search c (resizes cols rows) e = refl
 changed_search c exits e = left_search c c.help
-changed_search c ignores e = refl
-changed_search c (sets_prompt text) e = refl
-changed_search c (sends_message text) e = refl
-changed_search c (shows_prompt is_shown) e = refl
-changed_search c (follows follow) e = refl
-changed_search c (types character) e = refl
 changed_search c restores_prompt e = restored_search c c.help
-changed_search c redraws_prompt e = refl
-changed_search c redraws_page e = refl
-changed_search c (hands_over handing) e = refl
-changed_search c (sets_numbers numbers) e = refl
-changed_search c (sets_wrapping wrapping) e = refl
-changed_search c (shifts left) e = refl
-changed_search c (starts_selection x y) e = refl
-changed_search c (updates_selection x y) e = refl
-changed_search c clears_selection e = refl
-changed_search c copies_selection e = refl
 changed_search c (shows_help text) e = turned_search c c.help (unwrap_or text [])
-changed_search c (moves_to_next_match jump) e = refl
-changed_search c (moves_to_prev_match jump) e = refl
 changed_search c (searches mode) e = absurd (let both : Some mode ≡ None = e in cc)
 changed_search c fetches_query e = absurd (let both : Some c.mode ≡ None = e in cc)
+changed_search c w e = refl
 
 moved_search : (c : Control) (move : Option ℕ) → (moved c move).search ≡ c.search
 moved_search c None = refl

@@ -2,7 +2,7 @@
 use Rattle.std.proofs.Common.{◌≡◌, ℕ, true, List, ◌∷◌, ◌++◌, [], Option, None, Some, is_some, string_bytes, String, Global, refl, sym, subst, inl, inr}
 use Rattle.std.specs.Option.{option_map}
 use Rattle.minus_term.specs.Counts.{SinkSeen, Stays}
-use Rattle.minus_term.specs.Refusals.{Refusal, refusal_of, for_memory, for_newline, for_hook_id, for_free_hook_id, for_size, for_description, for_binding, for_query, for_mode, after_failure, after_exit, at_setup, at_cleanup, at_drawing, for_pattern, of_no_call}
+use Rattle.minus_term.specs.Refusals.{Refusal, refusal_of, for_newline, for_size}
 use Rattle.minus_term.specs.declared.error.MinusError.{MinusError}
 use Rattle.minus.specs.Says.{Says}
 use Rattle.minus.specs.declared.session.Core.{Core}
@@ -42,20 +42,7 @@ kept_take sink says old new told of searching waits h =
 faulty : {Q K : Type 0} (says : Says Q K) (refusal : Refusal) (s : Seen Q K) (told : Told Q K) (a : Option (List ℕ)) (w : Wanted Q K) → Wants says s s.control.search told w → IsFault refusal w → Fails says refusal s told s a a × (IsSinkFault refusal → ⊥)
 faulty says for_newline s told a w wants fault = (((w, wants, fault), (refl, refl)), λ sink. sink)
 faulty says (for_size cols rows) s told a w wants fault = (((w, wants, fault), (refl, refl)), λ sink. sink)
-faulty says for_mode s told a w wants fault = absurd fault
-faulty says (at_setup cause) s told a w wants fault = absurd fault
-faulty says (for_hook_id hook id) s told a w wants fault = absurd fault
-faulty says for_free_hook_id s told a w wants fault = absurd fault
-faulty says (for_description place cause) s told a w wants fault = absurd fault
-faulty says (for_binding place) s told a w wants fault = absurd fault
-faulty says for_query s told a w wants fault = absurd fault
-faulty says for_pattern s told a w wants fault = absurd fault
-faulty says after_failure s told a w wants fault = absurd fault
-faulty says after_exit s told a w wants fault = absurd fault
-faulty says of_no_call s told a w wants fault = absurd fault
-faulty says (at_cleanup cause) s told a w wants fault = absurd fault
-faulty says at_drawing s told a w wants fault = absurd fault
-faulty says for_memory s told a w wants fault = absurd fault
+faulty says refusal s told a w wants fault = absurd fault
 
 unkept : {Q K : Type 0} (says : Says Q K) (refusal : Refusal) (s : Seen Q K) (told : Told Q K) (a : Option (List ℕ)) (w : Wanted Q K) → Wants says s s.control.search told w → checked_as told ≡ Some w → IsUnkept refusal told → Fails says refusal s told s a a × (IsSinkFault refusal → ⊥)
 unkept says refusal s told a w wants checked (inl memory) = rw memory ((refl, refl), λ fault. fault)

@@ -88,8 +88,10 @@ fn end_hook(moves: bool, change: &Change, screen: &Screen) -> Option<Hook>
     None
 }
 
-// What comes of a request, before the mark is clamped and the typed prefix goes.
-pub(crate) fn form<P: Parts>(
+// What comes of a request, as `form` says it, where it is a rare one. It stands apart: whenever a function is called it
+// pays for the room of each change that it may make.
+#[inline(never)]
+fn form_any<P: Parts>(
     state: &PagerState,
     alloc: Global,
     request: Request<P>,
@@ -157,6 +159,75 @@ pub(crate) fn form<P: Parts>(
             alloc,
             state.search_state.search_mode,
         )?)),
+    }
+}
+
+// What comes of a request, as `form` says it, where it draws the page or is a rare one. It stands apart, as `form_any`.
+#[inline(never)]
+fn form_page<P: Parts>(
+    state: &PagerState,
+    alloc: Global,
+    request: Request<P>,
+) -> Result<Outcome, MinusError>
+    ensures leads { IfOk result (λ o. Leads state.now o.change
+        (moved_by (effect (control_of state.now) (wanted_by request)))) }
+    ensures redraw { IfOk result (λ o. IsFormed state.now →
+        o.change.redraw ≡ (effect (control_of state.now) (wanted_by request)).redraw) }
+    ensures copied { IfOk result (λ o. IsFormed state.now → option_map string_bytes o.copied
+        ≡ (effect (control_of state.now) (wanted_by request)).copies) }
+    ensures exits { IfOk result (λ o. o.exits ≡ (effect (control_of state.now) (wanted_by request)).is_exit) }
+    ensures possible { OnOk result (IsPossible (wanted_by request)) }
+    ensures unformed { IfErr result (λ e. IsUnformed (refusal_of e) (wanted_by request)) }
+{
+    match request {
+        Request::RedrawPage => Ok(Outcome::of(state.redrawn(Redraw::Whole))),
+        request => form_any(state, alloc, request),
+    }
+}
+
+// What comes of a request, as `form` says it, where it moves no mark. It stands apart, as `form_any`.
+#[inline(never)]
+fn form_text<P: Parts>(
+    state: &PagerState,
+    alloc: Global,
+    request: Request<P>,
+) -> Result<Outcome, MinusError>
+    ensures leads { IfOk result (λ o. Leads state.now o.change
+        (moved_by (effect (control_of state.now) (wanted_by request)))) }
+    ensures redraw { IfOk result (λ o. IsFormed state.now →
+        o.change.redraw ≡ (effect (control_of state.now) (wanted_by request)).redraw) }
+    ensures copied { IfOk result (λ o. IsFormed state.now → option_map string_bytes o.copied
+        ≡ (effect (control_of state.now) (wanted_by request)).copies) }
+    ensures exits { IfOk result (λ o. o.exits ≡ (effect (control_of state.now) (wanted_by request)).is_exit) }
+    ensures possible { OnOk result (IsPossible (wanted_by request)) }
+    ensures unformed { IfErr result (λ e. IsUnformed (refusal_of e) (wanted_by request)) }
+{
+    match request {
+        Request::AppendText(text) => Ok(Outcome::of(state.added(alloc, text)?)),
+        request => form_page(state, alloc, request),
+    }
+}
+
+// What comes of a request, before the mark is clamped and the typed prefix goes. It forms only a move of the mark itself,
+// which takes little room.
+pub(crate) fn form<P: Parts>(
+    state: &PagerState,
+    alloc: Global,
+    request: Request<P>,
+) -> Result<Outcome, MinusError>
+    ensures leads { IfOk result (λ o. Leads state.now o.change
+        (moved_by (effect (control_of state.now) (wanted_by request)))) }
+    ensures redraw { IfOk result (λ o. IsFormed state.now →
+        o.change.redraw ≡ (effect (control_of state.now) (wanted_by request)).redraw) }
+    ensures copied { IfOk result (λ o. IsFormed state.now → option_map string_bytes o.copied
+        ≡ (effect (control_of state.now) (wanted_by request)).copies) }
+    ensures exits { IfOk result (λ o. o.exits ≡ (effect (control_of state.now) (wanted_by request)).is_exit) }
+    ensures possible { OnOk result (IsPossible (wanted_by request)) }
+    ensures unformed { IfErr result (λ e. IsUnformed (refusal_of e) (wanted_by request)) }
+{
+    match request {
+        Request::MoveMark(mark) => Ok(Outcome::of(state.moved(mark, Setting::Same))),
+        request => form_text(state, alloc, request),
     }
 }
 

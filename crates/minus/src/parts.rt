@@ -124,7 +124,7 @@ impl<P: Parts> PartsOf<P> {
 }
 
 impl<P: Calls> PartsOf<P> {
-    ghost use Rattle.std.specs.Prelude.{◌≡◌, option_map, string_bytes, IfOk, IfErr};
+    ghost use Rattle.std.specs.Prelude.{◌≡◌, option_map, string_bytes, IfOk, IfErr, OnOk};
     ghost use Rattle.minus_state.specs.States.{control_of};
     ghost use Rattle.minus.specs.Asked.{IsRequest, IsHelpText};
     ghost use Rattle.minus.specs.Reads.{wanted_by};
@@ -157,6 +157,22 @@ impl<P: Calls> PartsOf<P> {
             Request::ShowHelp(_) => Ok(Request::ShowHelp(self.help_text(alloc)?)),
             request => Ok(request),
         }
+    }
+
+    // Makes a request what is worked off: help gets its text.
+    pub(crate) fn set_help(
+        &self,
+        alloc: Global,
+        request: &mut Request<P>,
+    ) -> Result<(), MinusError>
+        ensures ok { OnOk result (IsRequest P.Classifier.says self.now.classifier
+            (control_of self.now.state).help (wanted_by request.old) (wanted_by request.new)) }
+        ensures memory { IfErr result (λ e. e ≡ MinusError.Memory) }
+    {
+        if let Request::ShowHelp(text) = request {
+            *text = self.help_text(alloc)?;
+        }
+        Ok(())
     }
 }
 

@@ -274,9 +274,8 @@ impl<S: OutputSink + Drop, P: Calls> Core<S, P> {
     {
         match input {
             InputOf::Command(command) => {
-                let request = self
-                    .parts
-                    .with_help(self.alloc, Request::of_command(command))?;
+                let mut request = Request::of_command(command);
+                self.parts.set_help(self.alloc, &mut request)?;
                 Ok((request, false))
             }
             InputOf::Event(event) => {
@@ -285,7 +284,8 @@ impl<S: OutputSink + Drop, P: Calls> Core<S, P> {
                     .classifier
                     .classify_input(event, &self.parts.state);
                 let answer = answer.unwrap_or(InputEvent::Ignore);
-                let request = self.parts.with_help(self.alloc, Request::of_event(answer))?;
+                let mut request = Request::of_event(answer);
+                self.parts.set_help(self.alloc, &mut request)?;
                 Ok((request, answer.clears_prefix()))
             }
         }

@@ -1,5 +1,5 @@
 -- A change that was put in its place.
-use Rattle.std.proofs.Common.{◌≡◌, ℕ, ◌-◌, ◌++◌, List, length, take, drop, Bool, Option, None, Some, String, Global, string_bytes, refl, sym, ap, ap₂, subst, ◌∙◌}
+use Rattle.std.proofs.Common.{◌≡◌, ℕ, ◌-◌, ◌++◌, List, length, take, drop, Bool, Option, None, Some, String, Box, Global, string_bytes, refl, sym, ap, ap₂, subst, ◌∙◌}
 use Rattle.std.specs.Option.{option_map, unwrap_or}
 use Rattle.std.proofs.lemmas.List.{length-map}
 use Rattle.regex.specs.Patterns.{Re}
@@ -48,8 +48,8 @@ found_next term s Same h = h.1
 found_next term s (Whole screen) h = h.1
 found_next term s (Pushed text pending) h =
     let (old, fresh) = h.1 in
-    ap₂ (λ (kept formed : List RowMatches). found_above pending.push.kept_rows kept ++ formed) old fresh
-    ∙ found_goes_on term s.document (string_bytes text) pending.push.numbers pending.push.cols pending.push h.0
+    ap₂ (λ (kept formed : List RowMatches). found_above pending.value.push.kept_rows kept ++ formed) old fresh
+    ∙ found_goes_on term s.document (string_bytes text) pending.value.push.numbers pending.value.push.cols pending.value.push h.0
 found_next term s (Found pattern findings) h = h.1
 found_next term s (SavedWhole text) h = h.1
 found_next term s (SavedMore text) h = h.1
@@ -93,10 +93,10 @@ formed_placed s t change new f h p = record {
 }
 
 -- a change to a text that was formed anew, under the term as it is
-pub change_anew : (s : PagerState) (change : Change) (next : Searched) (d : Document) (new : Control) → change.text ≡ Whole next → next ≡ searched (term_of s) d → d ≡ document_of new → change.mark ≡ new.mark → change.cols ≡ new.cols → change.rows ≡ new.rows → left_set change.setting s.left_mark ≡ new.left → ends_set change.setting (ends_of s) ≡ new.ends → term_of s ≡ new.term → change.search_mark ≡ new.search_mark
+pub change_anew : (s : PagerState) (change : Change) (next : Box Searched Global) (d : Document) (new : Control) → change.text ≡ Whole next → next.value ≡ searched (term_of s) d → d ≡ document_of new → change.mark ≡ new.mark → change.cols ≡ new.cols → change.rows ≡ new.rows → left_set change.setting s.left_mark ≡ new.left → ends_set change.setting (ends_of s) ≡ new.ends → term_of s ≡ new.term → change.search_mark ≡ new.search_mark
     → settings_after (settings_of s) (option_map string_bytes change.prefix) change.setting ≡ new.settings → help_set change.setting (aside_of s.saved) ≡ new.help → mode_set change.setting s.search_state.search_mode ≡ new.mode → search_set change.setting (search_of s) ≡ new.search → IsChange (control_of s) change new
 change_anew s change next d new is formed same m c r l e t n q h y z = record {
-  belongs = rw is (tt, subst (λ (x : Option Re). IsFoundBy x next) t (subst (λ (x : Searched). IsFoundBy (term_of s) x) (sym formed) refl));
+  belongs = rw is (tt, subst (λ (x : Option Re). IsFoundBy x next.value) t (subst (λ (x : Searched). IsFoundBy (term_of s) x) (sym formed) refl));
   document = ap (λ (n : NextText). next_document (document_of (control_of s)) n) is ∙ ap (λ (x : Searched). x.document) formed ∙ same;
   mark_is = m;
   cols_are = c;

@@ -23,7 +23,7 @@ use Rattle.minus_term.specs.Refusals.{Refusal, for_memory, for_size, for_pattern
 -- one thing that is set beside the text, and all others as they are
 abbrev pub prompt_set : Setting → List ℕ → List ℕ
 prompt_set (Prompt text) prompt = string_bytes text
-prompt_set (Switch next) prompt = string_bytes next.prompt
+prompt_set (Switch next) prompt = string_bytes next.value.prompt
 prompt_set setting prompt = prompt
 
 abbrev pub message_set : Setting → Option (List ℕ) → Option (List ℕ)
@@ -38,7 +38,7 @@ shown_set setting is_shown = is_shown
 
 abbrev pub follow_set : Setting → Bool → Bool
 follow_set (Follow next) follow = next
-follow_set (Switch next) follow = next.follow
+follow_set (Switch next) follow = next.value.follow
 follow_set setting follow = follow
 
 -- the direction of the last search, and the search prompt that is open, if one is
@@ -53,7 +53,7 @@ search_set setting search = search
 -- the left mark
 abbrev pub left_set : Setting → ℕ → ℕ
 left_set (Left next) left = next
-left_set (Switch next) left = next.left
+left_set (Switch next) left = next.value.left
 left_set setting left = left
 
 -- the ends of what is selected
@@ -63,7 +63,7 @@ ends_set setting ends = ends
 
 -- what is put aside, after help was opened or left, and after its text was changed before that
 abbrev pub help_set : Setting → Option Saved → Option Saved
-help_set (Switch next) help = aside_of next.saved
+help_set (Switch next) help = aside_of next.value.saved
 help_set setting help = help
 
 abbrev pub help_after : NextText → Setting → Option Saved → Option Saved

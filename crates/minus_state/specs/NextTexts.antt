@@ -14,8 +14,8 @@ use Rattle.minus_state.specs.declared.change.NextText.TheVariants.{Same, Whole, 
 -- the document that there will be
 abbrev pub next_document : Document → NextText → Document
 next_document d Same = d
-next_document d (Whole screen) = screen.document
-next_document d (Pushed text pending) = pushed d (string_bytes text) pending.push.numbers pending.push.cols
+next_document d (Whole screen) = screen.value.document
+next_document d (Pushed text pending) = pushed d (string_bytes text) pending.value.push.numbers pending.value.push.cols
 next_document d (Found pattern findings) = d
 next_document d (SavedWhole text) = d
 next_document d (SavedMore text) = d
@@ -32,8 +32,8 @@ next_term term (SavedMore text) = term
 -- what will be found in its rows, where this is found in those of the document
 abbrev pub next_found : List RowMatches → NextText → List RowMatches
 next_found found Same = found
-next_found found (Whole screen) = screen.found
-next_found found (Pushed text pending) = found_above pending.push.kept_rows found ++ pending.found
+next_found found (Whole screen) = screen.value.found
+next_found found (Pushed text pending) = found_above pending.value.push.kept_rows found ++ pending.value.found
 next_found found (Found pattern findings) = findings
 next_found found (SavedWhole text) = found
 next_found found (SavedMore text) = found
@@ -51,7 +51,7 @@ aside_with next help = help
 abbrev pub Belongs : Document → NextText → Type 0
 Belongs d Same = Unit {0}
 Belongs d (Whole screen) = Unit {0}
-Belongs d (Pushed text pending) = IsPending d (string_bytes text) pending.push.numbers pending.push.cols pending.push
+Belongs d (Pushed text pending) = IsPending d (string_bytes text) pending.value.push.numbers pending.value.push.cols pending.value.push
 Belongs d (Found pattern findings) = AreFoundIn 0 (rows_of d) findings
 Belongs d (SavedWhole text) = Unit {0}
 Belongs d (SavedMore text) = Unit {0}
@@ -59,8 +59,8 @@ Belongs d (SavedMore text) = Unit {0}
 -- a term finds what is kept as found in the rows that stay and in those that are formed
 abbrev pub IsSearchedFor : Option Re → Searched → NextText → Type 0
 IsSearchedFor term s Same = IsFoundBy term s
-IsSearchedFor term s (Whole screen) = IsFoundBy term screen
-IsSearchedFor term s (Pushed text pending) = IsFoundBy term s × IsFoundInPush term pending
+IsSearchedFor term s (Whole screen) = IsFoundBy term screen.value
+IsSearchedFor term s (Pushed text pending) = IsFoundBy term s × IsFoundInPush term pending.value
 IsSearchedFor term s (Found pattern findings) = findings ≡ found_by term 0 (rows_of s.document)
 IsSearchedFor term s (SavedWhole text) = IsFoundBy term s
 IsSearchedFor term s (SavedMore text) = IsFoundBy term s

@@ -1,5 +1,5 @@
 -- What events of the mouse select.
-use Rattle.std.specs.Prelude.{ℕ, ◌+◌, ◌-◌, ◌==◌, ◌&&◌, ◌||◌, nat_le, nat_lt, min, is_some, Bool, true, false, Option, None, Some, if◌then◌else◌}
+use Rattle.std.specs.Prelude.{ℕ, ◌+◌, ◌-◌, ◌==◌, ◌&&◌, ◌||◌, nat_le, nat_lt, min, is_some, not, Bool, true, false, Option, None, Some, if◌then◌else◌}
 use Rattle.minus_state.specs.declared.selection.Selection.{Selection}
 use Rattle.minus_state.specs.declared.selection.SelectionEnds.{SelectionEnds}
 use Rattle.minus_state.specs.View.{selected_at}
@@ -13,18 +13,19 @@ no_ends = record { anchor = None; selection = None }
 abbrev pub has_ends : SelectionEnds → Bool
 has_ends ends = is_some ends.anchor || is_some ends.selection
 
--- the end of a selection at a place of the page: none without a row of text, and none at the prompt's row or below
+-- the end of a selection at a place of the page: none while a term is searched for, none without a row of text, and none at the prompt's
+-- row or below
 abbrev pub end_at : Control → ℕ → ℕ → Option Selection
-end_at c x y = selected_at (document_of c) (record { upper_mark = c.mark; left_mark = c.left; rows = c.rows }) x y
+end_at c x y = if is_some c.term then None else selected_at (document_of c) (record { upper_mark = c.mark; left_mark = c.left; rows = c.rows }) x y
 
 -- a selection begins at an end, if there is one
 abbrev pub ends_begun : SelectionEnds → Option Selection → SelectionEnds
 ends_begun ends None = ends
 ends_begun ends (Some end) = record { anchor = Some end; selection = Some end }
 
--- whether a selection is led on: where one has begun, on a page that has rows of text
+-- whether a selection is led on: where one has begun, no term is searched for, and the page has rows of text
 abbrev pub is_led : Control → Bool
-is_led c = is_some c.ends.anchor && nat_lt 1 c.rows
+is_led c = (not (is_some c.term) && is_some c.ends.anchor) && nat_lt 1 c.rows
 
 -- at the first row of the page the mark goes up by a row, and at the prompt's row or below down by one, as far as the text goes
 abbrev pub mark_led_to : Control → ℕ → ℕ

@@ -1,4 +1,5 @@
 //! What a command leaves, formed beside the state.
+ghost use Rattle.std.specs.Prelude.{◌≡◌, IfOk};
 ghost use Rattle.minus_state.specs.Sizes.{IsSize};
 
 use crate::search::open_search::SearchStep;
@@ -6,6 +7,7 @@ use crate::selection::SelectionEnds;
 use crate::state::help::HelpSwitch;
 use minus_text::{Findings, PendingPush, RowsView, Screen};
 use regex::Regex;
+use std::alloc::{AllocError, Global};
 
 /// What a command asks to be drawn.
 #[derive(Clone, Copy)]
@@ -45,10 +47,10 @@ pub enum AppendStyle {
 pub enum NextText {
     /// The text on show stays, and what is put aside too.
     Same,
-    /// Another text with its rows.
-    Whole(Screen),
+    /// Another text with its rows. What is large stands in a box: each step moves a change several times.
+    Whole(Box<Screen>),
     /// This text is added, and these rows were formed for it.
-    Pushed(String, PendingPush),
+    Pushed(String, Box<PendingPush>),
     /// The text on show stays, and this pattern, the term from now on, was found so in its rows. It stands in a box, since
     /// a pattern is large and most changes have none.
     Found(Box<Regex>, Findings),
@@ -69,8 +71,8 @@ impl NextText {
         ensures { viewed result ≡ next_searched screen.now self.now }
     {
         match self {
-            NextText::Whole(next) => next.view(),
-            NextText::Pushed(text, pending) => screen.view_after(text.as_str(), pending),
+            NextText::Whole(next) => next.as_ref().view(),
+            NextText::Pushed(text, pending) => screen.view_after(text.as_str(), pending.as_ref()),
             NextText::Found(_, findings) => screen.view_of(findings),
             NextText::Same | NextText::SavedWhole(_) | NextText::SavedMore(_) => screen.view(),
         }
@@ -81,14 +83,22 @@ impl NextText {
         ensures { result ≡ length (next_found screen.now.found self.now) }
     {
         match self {
-            NextText::Whole(next) => next.match_count(),
-            NextText::Pushed(_, pending) => screen.match_count_after(pending),
+            NextText::Whole(next) => next.as_ref().match_count(),
+            NextText::Pushed(_, pending) => screen.match_count_after(pending.as_ref()),
             NextText::Found(_, findings) => findings.match_count(),
             NextText::Same | NextText::SavedWhole(_) | NextText::SavedMore(_) => {
                 screen.match_count()
             }
         }
     }
+}
+
+// A value in a box.
+pub(crate) fn boxed<T: Drop>(alloc: Global, value: T) -> Result<Box<T>, AllocError>
+    ensures { IfOk result (λ b. b.value ≡ value) }
+{
+    let value = Box::new(alloc, value)?;
+    Ok(value)
 }
 
 /// What there will be beside the text: all as it is, or one thing set anew; or what help sets, as it is opened or left.
@@ -109,7 +119,7 @@ pub enum Setting {
     /// The ends of what is selected.
     Ends(SelectionEnds),
     /// What help sets.
-    Switch(HelpSwitch),
+    Switch(Box<HelpSwitch>),
     /// What becomes of the search prompt.
     Search(SearchStep),
 }
@@ -125,7 +135,7 @@ impl Setting {
     {
         match self {
             Setting::Prompt(next) => next.as_str(),
-            Setting::Switch(switch) => switch.prompt.as_str(),
+            Setting::Switch(switch) => switch.as_ref().prompt.as_str(),
             _ => prompt,
         }
     }
@@ -158,7 +168,7 @@ impl Setting {
     {
         match self {
             Setting::Follow(next) => *next,
-            Setting::Switch(switch) => switch.follow,
+            Setting::Switch(switch) => switch.as_ref().follow,
             _ => follow,
         }
     }
@@ -169,7 +179,7 @@ impl Setting {
     {
         match self {
             Setting::Left(next) => *next,
-            Setting::Switch(switch) => switch.left,
+            Setting::Switch(switch) => switch.as_ref().left,
             _ => left,
         }
     }

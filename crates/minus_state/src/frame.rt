@@ -8,7 +8,7 @@ ghost use Rattle.minus_state.specs.ShownRow.{cropped_line, selected_range};
 ghost use Rattle.minus_state.specs.View.{prefix_in, cut_in};
 
 use crate::selection::{SelectionEnds, marked_range};
-use minus_text::{FormattedRow, Layout, Row, RowsView, crop_columns, prefix_columns};
+use minus_text::{FormattedRow, Layout, Row, RowsView, prefix_columns};
 use std::alloc::{AllocError, Global};
 
 // How a text is laid out, how many lines it has, and the left mark that it is shown from.
@@ -57,9 +57,8 @@ impl Frame {
     {
         let numbers = self.layout.numbers.is_on();
         let columns = self.layout.cols.saturating_sub(self.prefix());
-        let shown = crop_columns(alloc, text, self.left_mark, columns)?;
-        let row = FormattedRow::new(shown.as_str(), numbers, self.line_count, i + 1, true);
-        row.to_string(alloc)
+        let row = FormattedRow::new(text, numbers, self.line_count, i + 1, true);
+        row.to_cropped_row(alloc, self.left_mark, columns)
     }
 
     // The visible characters of a row, counted from 0, that are selected.

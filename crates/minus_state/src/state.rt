@@ -28,7 +28,7 @@ use crate::search::{SearchMode, SearchState};
 use crate::selection::{Selection, SelectionEnds};
 use crate::state::help::{HelpSwitch, Saved, add_aside, replace_aside};
 use minus_term::MinusError;
-use minus_text::{Layout, LineNumbers, Patterns, RowsView, Screen, Term};
+use minus_text::{Findings, Layout, LineNumbers, Patterns, RowsView, Screen, Term};
 use regex::Regex;
 use std::alloc::Global;
 
@@ -296,7 +296,7 @@ impl PagerState {
                 self.anchor = ends.anchor;
                 self.selection = ends.selection;
             }
-            Setting::Switch(switch) => self.switch_help(switch),
+            Setting::Switch(switch) => self.switch_help(Box::into_inner(switch)),
             Setting::Search(step) => self.place_search(step),
         }
     }
@@ -364,6 +364,34 @@ impl PagerState {
         self.saved = saved;
     }
 
+    // Puts what a pattern found in its place, and the pattern. It stands apart: a function pays for the room of its largest
+    // value whenever it is called.
+    #[inline(never)]
+    fn place_found(
+        &mut self,
+        alloc: Global,
+        pattern: Box<Regex>,
+        findings: Findings,
+    ) -> Result<(), MinusError>
+        ensures document { OnOk result (self.new.screen.document
+            ≡ next_document self.old.screen.document (NextText.Found pattern findings)) }
+        ensures found { OnOk result (IsSearchedFor (next_term (term_of self.old) (NextText.Found pattern findings))
+            self.old.screen (NextText.Found pattern findings) →
+            IsFoundBy (next_term (term_of self.old) (NextText.Found pattern findings)) self.new.screen) }
+        ensures term { OnOk result (term_of self.new ≡ next_term (term_of self.old) (NextText.Found pattern findings)) }
+        ensures aside { OnOk result (aside_of self.new.saved
+            ≡ aside_with (NextText.Found pattern findings) (aside_of self.old.saved)) }
+        ensures beside { OnOk result (KeepsBeside self.old self.new) }
+        ensures err { OnErr result (control_of self.new ≡ control_of self.old) }
+        ensures kept { OnErr result (self.new.screen ≡ self.old.screen) }
+        ensures memory { IfErr result (λ e. e ≡ MinusError.Memory) }
+    {
+        let term = searching(&self.patterns, Some(pattern.as_ref()));
+        self.screen.place_findings(alloc, findings, term)?;
+        self.term = Some(Box::into_inner(pattern));
+        Ok(())
+    }
+
     // Puts a text that was formed in its place, or where one is put aside. An `Err` leaves the text and its rows.
     fn place_text(&mut self, alloc: Global, text: NextText) -> Result<(), MinusError>
         ensures document { OnOk result (self.new.screen.document ≡ next_document self.old.screen.document text) }
@@ -379,20 +407,17 @@ impl PagerState {
         match text {
             NextText::Same => Ok(()),
             NextText::Whole(next) => {
-                self.screen = next;
+                self.screen = Box::into_inner(next);
                 Ok(())
             }
             NextText::Pushed(piece, pending) => {
                 let term = searching(&self.patterns, self.term.as_ref());
-                let _ = self.screen.place_push(alloc, &piece, pending, term)?;
+                let _ = self
+                    .screen
+                    .place_push(alloc, &piece, Box::into_inner(pending), term)?;
                 Ok(())
             }
-            NextText::Found(pattern, findings) => {
-                let term = searching(&self.patterns, Some(pattern.as_ref()));
-                self.screen.place_findings(alloc, findings, term)?;
-                self.term = Some(Box::into_inner(pattern));
-                Ok(())
-            }
+            NextText::Found(pattern, findings) => self.place_found(alloc, pattern, findings),
             NextText::SavedWhole(text) => {
                 replace_aside(&mut self.saved, text);
                 Ok(())

@@ -52,6 +52,24 @@ fn another_sink_gets_the_page(rt: HostRuntime) {
     assert_holds(&rt, is_exchanged(rt.alloc()));
 }
 
+// Whether a replaced sink comes back as it was, and later steps are drawn on the new one, with nothing before them.
+fn is_replaced(alloc: Global) -> bool {
+    let Some(mut session) = session_of_a(alloc) else {
+        return false;
+    };
+    let old = session.replace_sink(terminal(alloc));
+    let goes_on = number_of(alloc, &mut session, Asked::Shown(false)) == 0;
+    let (new, _) = session.finish();
+    goes_on
+        && old.inner.ends_with("\x1b[1;1H\x1b[2Ka".as_bytes())
+        && new.inner.starts_with("\x1b[4;1H\r\x1b[2K".as_bytes())
+}
+
+#[test]
+fn a_replaced_sink_has_what_follows(rt: HostRuntime) {
+    assert_holds(&rt, is_replaced(rt.alloc()));
+}
+
 // Whether an exchange is refused by this number, the sink that was given comes back empty, and the session has the size
 // that it had.
 fn refuses(

@@ -3,7 +3,7 @@ use crate::sessions::{
     Asked, PROMPT_ROW, Ran, TEN_LINES, Worked, assert_drawn, assert_shown, does, run, session_on,
     terminal,
 };
-use minus::{InputEvent, LineNumbers, PagerState};
+use minus::{InputEvent, KeyCode, LineNumbers, PagerState};
 use std::alloc::Global;
 
 const CLEAR: Asked<'static> = Asked::Does(InputEvent::ClearSelection);
@@ -38,7 +38,7 @@ fn selections_are_shown(rt: HostRuntime) {
 }
 
 // What the last step of a session draws.
-const DRAWN: [&Worked<'static>; 7] = [
+const DRAWN: [&Worked<'static>; 12] = [
     &Worked {
         name: "a selection is drawn in full",
         cols: 20,
@@ -93,6 +93,66 @@ const DRAWN: [&Worked<'static>; 7] = [
         cols: 20,
         rows: 3,
         asked: &[Asked::Push("abc"), Asked::Start(0, 0), CLEAR, COPY],
+        texts: &[],
+    },
+    &Worked {
+        name: "a selection of no text writes nothing",
+        cols: 20,
+        rows: 5,
+        asked: &[Asked::Start(0, 0)],
+        texts: &[],
+    },
+    &Worked {
+        name: "a selection under a term does not begin",
+        cols: 20,
+        rows: 5,
+        asked: &[
+            Asked::Push("abc"),
+            Asked::Key('/'),
+            Asked::Key('b'),
+            Asked::Pressed(KeyCode::Enter),
+            Asked::Start(1, 0),
+        ],
+        texts: &[],
+    },
+    &Worked {
+        name: "a selection under a term is not led on",
+        cols: 20,
+        rows: 5,
+        asked: &[
+            Asked::Push("abc"),
+            Asked::Start(1, 0),
+            Asked::Key('/'),
+            Asked::Key('b'),
+            Asked::Pressed(KeyCode::Enter),
+            Asked::Update(2, 0),
+        ],
+        texts: &[],
+    },
+    &Worked {
+        name: "a selection under a term moves no mark",
+        cols: 20,
+        rows: 5,
+        asked: &[
+            Asked::Push(TEN_LINES),
+            Asked::Start(1, 0),
+            Asked::Key('/'),
+            Asked::Key('0'),
+            Asked::Pressed(KeyCode::Enter),
+            Asked::Update(2, 4),
+        ],
+        texts: &[],
+    },
+    &Worked {
+        name: "a selection on a page of one row is not led on",
+        cols: 20,
+        rows: 5,
+        asked: &[
+            Asked::Push("abc"),
+            Asked::Start(1, 0),
+            Asked::Size(20, 1),
+            Asked::Update(2, 0),
+        ],
         texts: &[],
     },
 ];

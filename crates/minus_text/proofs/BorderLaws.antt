@@ -33,7 +33,7 @@ escape_alone zero = omega arith
 escape_alone (suc i) = omega arith
 
 -- no character is ESC where no byte is one
-chars_unescaped : (cs : List ℕ) → list_all is_unescaped (encode_utf8_all cs) ≡ true → list_all is_unescaped cs ≡ true
+pub chars_unescaped : (cs : List ℕ) → list_all is_unescaped (encode_utf8_all cs) ≡ true → list_all is_unescaped cs ≡ true
 chars_unescaped [] h = refl
 chars_unescaped (c ∷ cs) h =
     let both = and_parts (list_all is_unescaped (encode_utf8 c)) (list_all is_unescaped (encode_utf8_all cs)) (sym (list_all-append is_unescaped (encode_utf8 c) (encode_utf8_all cs)) ∙ h) in

@@ -46,12 +46,12 @@ pub spaces_bytes : (n : ℕ) → encode_utf8_all (concat (replicate n (32 ∷ []
 spaces_bytes n = ap encode_utf8_all (concat_spaces n) ∙ spaces_encode n
 
 -- nothing is shown yet
-none_shown : (left width : ℕ) (us : List (List ℕ)) → CropSoFar left width us 0 0 [] (encode_utf8_all (concat (shown_units left width [] us)))
-none_shown left width us = record { before = []; at_is = refl; last_is = refl; shown = refl }
+none_shown : (left width : ℕ) (us : List (List ℕ)) (row : List ℕ) → CropSoFar left width us 0 0 row (row ++ encode_utf8_all (concat (shown_units left width [] us)))
+none_shown left width us row = record { before = []; at_is = refl; last_is = refl; shown = refl }
 
-pub crop_begun : (left width : ℕ) (text row : List ℕ) (us : List (List ℕ)) → us ≡ text_units (chars text) → row ≡ [] → CropSoFar left width us 0 0 row (cropped left width text)
+pub crop_begun : (left width : ℕ) (text row : List ℕ) (us : List (List ℕ)) → us ≡ text_units (chars text) → CropSoFar left width us 0 0 row (row ++ cropped left width text)
 unfolding cropped
-crop_begun left width text row us e r = rw (e, r) (none_shown left width (text_units (chars text)))
+crop_begun left width text row us e = rw e (none_shown left width (text_units (chars text)) row)
 
 -- a unit that is shown as it is, and one that is not
 pub shown_whole : (left width at last : ℕ) (text : List ℕ) → IsUtf8 text → is_shown left width at last (chars text) ≡ true → encode_utf8_all (concat (shown_unit left width at last (chars text))) ≡ text

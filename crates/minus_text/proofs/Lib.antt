@@ -34,6 +34,7 @@ pub mod DigitsLaws
 pub mod SpacesLaws
 pub mod TextUnitsLaws
 pub mod CropLaws
+pub mod CropPlainLaws
 pub mod ShownColumnsLaws
 pub mod LineMapLaws
 pub mod LinesLaws

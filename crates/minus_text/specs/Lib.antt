@@ -20,6 +20,7 @@ pub mod FixedPatterns
 pub mod Escapes
 pub mod Highlight
 pub mod Shown
+pub mod Singles
 pub mod Found
 pub mod FoundRows
 pub mod Layouts

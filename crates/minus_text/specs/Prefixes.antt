@@ -33,6 +33,10 @@ unfoldable pub number_prefix : ℕ → ℕ → List ℕ
 number_prefix line_count line =
     replicate (padding line_count - length (decimal line) - 1) 32 ++ (27 ∷ codes "[1m") ++ decimal line ++ codes "." ++ (27 ∷ codes "[0m") ++ codes " "
 
+-- so many spaces, a number in bold with its stop, and a space
+abbrev pub numbered : ℕ → ℕ → List ℕ
+numbered spaces line = replicate spaces 32 ++ (27 ∷ codes "[1m") ++ decimal line ++ codes "." ++ (27 ∷ codes "[0m") ++ codes " "
+
 -- what stands before a row of a line, where numbers are on or not
 abbrev pub prefix : Bool → ℕ → ℕ → Bool → List ℕ
 prefix false line_count line is_first = []

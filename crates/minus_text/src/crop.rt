@@ -1,13 +1,15 @@
 //! Texts cut to some columns.
-ghost use Rattle.std.specs.Prelude.{◌≡◌, ◌≤◌, ◌==◌, ◌++◌, chars, string_bytes, if◌then◌else◌, IfOk, OnOk};
-ghost use Rattle.std.specs.List.{concat};
+ghost use Rattle.std.specs.Prelude.{◌≡◌, ◌≤◌, ◌+◌, ◌-◌, ◌==◌, ◌++◌, max, true, length, take, drop, chars, string_bytes, if◌then◌else◌, IfOk, IfSome, OnOk};
+ghost use Rattle.std.specs.List.{concat, list_all};
 ghost use Rattle.std.specs.Str.{encode_utf8_all};
+ghost use Rattle.minus_text.specs.Plain.{is_printable};
 ghost use Rattle.minus_text.specs.Units.{unit_columns, columns, begins_sequence};
 ghost use Rattle.minus_text.specs.Crop.{is_inside, columns_inside, is_shown_behind, is_shown, shown_unit, cropped, fitted, CroppedFits, FittedTextsFill};
 
 use crate::screen::Row;
 use crate::spaces::push_spaces;
 use crate::units::{Unit, Units};
+use crate::wrap::{are_printable, are_unescaped};
 use std::alloc::{AllocError, Global};
 
 /// Columns of a text that are shown: how many, from the column `left` on, counted from 0.
@@ -61,6 +63,18 @@ impl Window {
         self.is_inside(at, unit.columns)
     }
 
+    // Adds what is shown of characters of printable ASCII from the column `at` on.
+    fn push_run(self, row: &mut String, at: usize, run: &str) -> Result<(), AllocError>
+        requires { list_all is_printable run.now ≡ true }
+        ensures { OnOk result (string_bytes row.new ≡ string_bytes row.old
+            ++ take (self.left + self.width - max self.left at) (drop (self.left - at) run.now)) }
+    {
+        let rest = &run[self.left.saturating_sub(at).min(run.len())..];
+        let count = self.width.saturating_sub(at.saturating_sub(self.left));
+        row.push_str(&rest[..count.min(rest.len())])?;
+        Ok(())
+    }
+
     // Adds what is shown of a unit.
     fn push_unit(
         self,
@@ -91,6 +105,78 @@ fn last_columns(last: usize, columns: usize) -> usize
     if columns == 0 { last } else { columns }
 }
 
+// The columns of the last unit that has columns, where characters of printable ASCII follow.
+fn last_of_run(last: usize, run: &str) -> usize
+    ensures { result ≡ (if length run.now == 0 then last else 1) }
+{
+    if run.is_empty() { last } else { 1 }
+}
+
+// What is shown of a text without ESC, of which no other characters than printable ASCII stand in the columns up to the
+// first behind those that are shown: a part of it. No character behind that one is read, but for being ESC.
+fn plain_part(text: &str, left: usize, width: usize) -> Option<&str>
+    ensures { IfSome result (λ part. part.now ≡ cropped left width text.now) }
+{
+    let bytes = text.as_bytes();
+    let end = left.saturating_add(width);
+    if end < bytes.len() {
+        let (front, rest) = bytes.split_at(end + 1);
+        if are_printable(front) && are_unescaped(rest) {
+            return Some(&text[left..end]);
+        }
+        return None;
+    }
+    if are_printable(bytes) {
+        return Some(&text[left.min(bytes.len())..]);
+    }
+    None
+}
+
+// Adds what is shown of a text: of characters of printable ASCII all together, of any other unit by unit.
+fn push_units(
+    row: &mut String,
+    text: &str,
+    left: usize,
+    width: usize,
+) -> Result<(), AllocError>
+    ensures { OnOk result (string_bytes row.new ≡ string_bytes row.old ++ cropped left width text.now) }
+{
+    let window = Window { left, width };
+    let mut at = 0;
+    let mut last = 0;
+    let mut rest = Units::new(text);
+    loop {
+        let (run, behind) = rest.split_printable();
+        window.push_run(row, at, run)?;
+        last = last_of_run(last, run);
+        at += run.len();
+        let Some((unit, more)) = behind.split_first() else {
+            return Ok(());
+        };
+        window.push_unit(row, at, last, unit)?;
+        last = last_columns(last, unit.columns);
+        at += unit.columns;
+        rest = more;
+    }
+}
+
+/// Adds to a row what is shown of a text, as [`crop_columns`] gives it. An `Err` is for want of memory alone; it may
+/// leave some of it behind.
+pub fn push_cropped(
+    row: &mut String,
+    text: &str,
+    left: usize,
+    width: usize,
+) -> Result<(), AllocError>
+    ensures { OnOk result (string_bytes row.new ≡ string_bytes row.old ++ cropped left width text.now) }
+{
+    if let Some(part) = plain_part(text, left, width) {
+        row.push_str(part)?;
+        return Ok(());
+    }
+    push_units(row, text, left, width)
+}
+
 /// What is shown of a text, taken as one piece, in so many columns from the column `left` on, counted from
 /// 0. A unit with columns is shown if they are all among these, and else as a space for each of its columns
 /// that is; each `ESC[` sequence is shown; any other character without columns is shown with the last unit
@@ -99,17 +185,8 @@ pub fn crop_columns(alloc: Global, text: &str, left: usize, width: usize) -> Res
     ensures row { IfOk result (λ row. string_bytes row ≡ cropped left width text.now) }
     ensures fits { IfOk result (λ row. columns (string_bytes row) ≤ width) }
 {
-    let window = Window { left, width };
     let mut row = String::new(alloc);
-    let mut at = 0;
-    let mut last = 0;
-    let mut rest = Units::new(text);
-    while let Some((unit, more)) = rest.split_first() {
-        window.push_unit(&mut row, at, last, unit)?;
-        last = last_columns(last, unit.columns);
-        at += unit.columns;
-        rest = more;
-    }
+    push_cropped(&mut row, text, left, width)?;
     Ok(row)
 }
 

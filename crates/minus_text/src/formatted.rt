@@ -1,16 +1,24 @@
 //! Rows that print as they are stored.
-ghost use Rattle.std.specs.Prelude.{◌≡◌, map, option_map, replicate, false, IfOk, Some};
-ghost use Rattle.minus_text.specs.Prefixes.{prefix};
+ghost use Rattle.std.specs.Prelude.{◌≡◌, ◌+◌, ◌-◌, ◌++◌, length, string_bytes, map, option_map, replicate, false, IfOk, OnOk, Some};
+ghost use Rattle.std.specs.Fmt.{decimal};
+ghost use Rattle.minus_text.specs.Prefixes.{prefix, numbered};
 ghost use Rattle.minus_text.specs.Highlight.{highlighted, line_matches};
 ghost use Rattle.minus_text.specs.Shown.{shown_line};
 ghost use Rattle.minus_text.specs.FoundRows.{finder_pattern, pattern_of};
 ghost use Rattle.minus_text.specs.Formatted.{prefix_of, printed_row, printed_under, printed_searched, row_matches};
 
+use crate::crop::push_cropped;
 use crate::line_numbers::{digits, prefix_columns};
+use crate::screen::Row;
 use crate::search::escapes::part;
 use crate::search::{Finder, HighlightMatchesArgs, Term};
+use crate::spaces::push_spaces;
+use itoa::Buffer;
 use std::alloc::{AllocError, Global};
 use std::fmt;
+
+// Bytes enough for what stands before a row.
+const ROOM: usize = 48;
 
 // So many blanks.
 #[derive(Clone, Copy)]
@@ -36,13 +44,49 @@ pub(crate) struct RowPrefix {
     pub(crate) is_first: bool,
 }
 
+// Adds a line's number in bold and with a stop, at the right of so many columns with a blank behind it.
+fn push_number(out: &mut String, columns: usize, line: usize) -> Result<(), AllocError>
+    ensures { OnOk result (string_bytes out.new ≡ string_bytes out.old
+        ++ numbered (columns - (length (decimal line) + 2)) line) }
+{
+    let mut buffer = Buffer::new();
+    let number = buffer.format(line);
+    push_spaces(out, columns.saturating_sub(number.len() + 2))?;
+    out.push_str("\x1b[1m")?;
+    out.push_str(number)?;
+    out.push_str(".\x1b[0m ")
+}
+
 impl RowPrefix {
+    ghost use Rattle.std.specs.Prelude.{◌≡◌, ◌++◌, string_bytes, OnOk};
+    ghost use Rattle.minus_text.specs.Formatted.{prefix_of};
+
     pub(crate) const NONE: RowPrefix = RowPrefix {
         numbers: false,
         line_count: 0,
         line: 0,
         is_first: false,
     };
+
+    // Bytes enough for it.
+    pub(crate) fn room(self) -> usize {
+        if self.numbers { ROOM } else { 0 }
+    }
+
+    // Adds it to a row. An `Err` is for want of memory alone; it may leave some of it behind.
+    pub(crate) fn push_to(self, out: &mut String) -> Result<(), AllocError>
+        ensures { OnOk result (string_bytes out.new ≡ string_bytes out.old ++ prefix_of self) }
+    {
+        if !self.numbers {
+            return Ok(());
+        }
+        let columns = prefix_columns(true, self.line_count);
+        if self.is_first {
+            push_number(out, columns, self.line)?;
+            return Ok(());
+        }
+        push_spaces(out, columns)
+    }
 }
 
 impl fmt::Display for RowPrefix {
@@ -71,6 +115,11 @@ pub struct FormattedRow<'a> {
 }
 
 impl<'a> FormattedRow<'a> {
+    ghost use Rattle.std.specs.Prelude.{◌≡◌, ◌++◌, string_bytes, IfOk};
+    ghost use Rattle.minus_text.specs.Crop.{cropped};
+    ghost use Rattle.minus_text.specs.Prefixes.{prefix};
+    ghost use Rattle.minus_text.specs.Formatted.{prefix_of, printed_row};
+
     /// A row with this text of its own. Where numbers are on it has the number of its line before it,
     /// counted from 1, if it is the first row of the line, and as many blanks otherwise. The number, in
     /// bold and with a stop, stands at the right of as many columns as `line_count`, the lines of the
@@ -94,6 +143,38 @@ impl<'a> FormattedRow<'a> {
                 is_first,
             },
         }
+    }
+
+    /// What it prints, in memory that is taken once.
+    ///
+    /// # Errors
+    ///
+    /// [`AllocError`] where there is none.
+    pub fn to_row(self, alloc: Global) -> Result<Row, AllocError>
+        ensures { IfOk result (λ row. string_bytes row ≡ printed_row self.entry) }
+    {
+        let room = self.prefix.room().saturating_add(self.row.len());
+        let mut out = String::with_capacity(alloc, room)?;
+        self.prefix.push_to(&mut out)?;
+        out.push_str(self.row)?;
+        Ok(out)
+    }
+
+    /// What stands before it, and what is shown of its text in so many columns from the column `left` on, as
+    /// [`crop_columns`](crate::crop_columns) gives it, in memory that is mostly taken once.
+    ///
+    /// # Errors
+    ///
+    /// [`AllocError`] where there is none.
+    pub fn to_cropped_row(self, alloc: Global, left: usize, width: usize) -> Result<Row, AllocError>
+        ensures { IfOk result (λ row. string_bytes row ≡ prefix_of self.entry.prefix
+            ++ cropped left width self.entry.row.now) }
+    {
+        let room = self.prefix.room().saturating_add(self.row.len().min(width));
+        let mut out = String::with_capacity(alloc, room)?;
+        self.prefix.push_to(&mut out)?;
+        push_cropped(&mut out, self.row, left, width)?;
+        Ok(out)
     }
 }
 

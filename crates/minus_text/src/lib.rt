@@ -23,7 +23,7 @@ pub mod view;
 pub mod wrap;
 
 pub use buffers::{AppendableBuffer, ReusableRows};
-pub use crop::{Window, crop_columns, cropped_texts_fit, fit_columns, fitted_texts_fill};
+pub use crop::{Window, crop_columns, cropped_texts_fit, fit_columns, fitted_texts_fill, push_cropped};
 pub use format::{FormatOpts, format_lines_into, format_text_block};
 pub use formatted::{FormattedRow, SearchFormattedRow, format_search_rows};
 pub use layout::Layout;

@@ -1,10 +1,13 @@
 //! The units of a text taken as one piece: escape sequences and characters, one after another.
-ghost use Rattle.std.specs.Prelude.{◌≡◌, ◌==◌, ◌+◌, ◌*◌, ◌^◌, ◌<◌, ◌≤◌, [], ◌∷◌, ◌++◌, length, chars, IfSome, MatchOption};
+ghost use Rattle.std.specs.Prelude.{◌≡◌, ◌==◌, ◌+◌, ◌*◌, ◌^◌, ◌<◌, ◌≤◌, [], ◌∷◌, ◌++◌, length, true, chars, IfSome, MatchOption};
 ghost use Rattle.std.specs.Str.{encode_utf8_all};
+ghost use Rattle.std.specs.List.{list_all};
+ghost use Rattle.minus_text.specs.Plain.{is_printable};
+ghost use Rattle.minus_text.specs.Singles.{singles};
 ghost use Rattle.minus_text.specs.Units.{unit_columns, begins_sequence};
 ghost use Rattle.minus_text.specs.TextUnits.{text_units, units_left, bytes_left};
 
-use crate::wrap::{front, split_unit, strip_escape, without_spaces};
+use crate::wrap::{front, printable_front, split_unit, strip_escape, without_spaces};
 
 /// A unit of a text: an `ESC[` sequence, which takes no columns, or a character with its columns.
 #[derive(Clone, Copy)]
@@ -50,6 +53,20 @@ impl<'t> Units<'t> {
         ensures { result ≡ (length (units_left self.entry) == 0) }
     {
         self.body.is_empty() && self.spaces == 0
+    }
+
+    // The characters of printable ASCII at the front, each a unit, and what is left behind them.
+    pub(crate) fn split_printable(self) -> (&'t str, Units<'t>)
+        ensures units { units_left self.entry ≡ singles result.0.now ++ units_left result.1 }
+        ensures printable { list_all is_printable result.0.now ≡ true }
+        ensures bytes { bytes_left self.entry ≡ result.0.now ++ bytes_left result.1 }
+    {
+        let (run, rest) = self.body.split_at(printable_front(self.body));
+        let behind = Units {
+            body: rest,
+            spaces: self.spaces,
+        };
+        (run, behind)
     }
 
     /// The first unit, and what is left behind it.

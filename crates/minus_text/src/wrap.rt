@@ -1,5 +1,5 @@
 //! The rows that a line fills.
-ghost use Rattle.std.specs.Prelude.{◌≡◌, ℕ, ◌+◌, ◌*◌, ◌^◌, ◌<◌, ◌≤◌, List, [], ◌∷◌, ◌++◌, length, take, drop, map, chars, encode_utf8, false, nat_le, nat_lt, ◌||◌, ◌&&◌, ◌==◌, if◌then◌else◌, string_bytes, IsTrue, IfOk, IfSome, IfNone, OnOk, MatchOption};
+ghost use Rattle.std.specs.Prelude.{◌≡◌, ℕ, ◌+◌, ◌*◌, ◌^◌, ◌<◌, ◌≤◌, List, [], ◌∷◌, ◌++◌, length, take, drop, map, chars, encode_utf8, true, false, IsCharBoundary, nat_le, nat_lt, ◌||◌, ◌&&◌, ◌==◌, if◌then◌else◌, string_bytes, IsTrue, IfOk, IfSome, IfNone, OnOk, MatchOption};
 ghost use Rattle.std.specs.Char.{len_utf8};
 ghost use Rattle.std.specs.Str.{encode_utf8_all};
 ghost use Rattle.std.specs.List.{flat_map, prefix_len, position_or_len, sum_by, list_all};
@@ -76,15 +76,35 @@ fn char_columns(c: char) -> usize
     c.width().unwrap_or(0)
 }
 
+// Whether bytes are of printable ASCII alone.
+pub(crate) fn are_printable(bytes: &[u8]) -> bool
+    ensures { result ≡ list_all is_printable bytes.now }
+{
+    let mut printable = true;
+    for &b in bytes {
+        printable &= matches!(b, b' '..=b'~');
+    }
+    printable
+}
+
 // Whether a text is of printable ASCII alone.
 fn is_printable(text: &str) -> bool
     ensures { result ≡ list_all is_printable text.now }
 {
-    let mut printable = true;
-    for &b in text.as_bytes() {
-        printable &= matches!(b, b' '..=b'~');
+    are_printable(text.as_bytes())
+}
+
+// How many bytes at the front of a text are of printable ASCII.
+pub(crate) fn printable_front(text: &str) -> usize
+    ensures boundary { IsCharBoundary text.now result }
+    ensures printable { list_all is_printable (take result text.now) ≡ true }
+{
+    let bytes = text.as_bytes();
+    let mut at = 0;
+    while at < bytes.len() && matches!(bytes[at], b' '..=b'~') {
+        at += 1;
     }
-    printable
+    at
 }
 
 // Whether it has no hyphen either.
@@ -98,15 +118,22 @@ fn is_plain(text: &str) -> bool
     plain
 }
 
+// Whether no byte is ESC.
+pub(crate) fn are_unescaped(bytes: &[u8]) -> bool
+    ensures { result ≡ list_all is_unescaped bytes.now }
+{
+    let mut unescaped = true;
+    for &b in bytes {
+        unescaped &= b != 0x1b;
+    }
+    unescaped
+}
+
 // Whether a text has no ESC: a byte that is 27 is one wherever it stands.
 pub(crate) fn is_unescaped(text: &str) -> bool
     ensures { result ≡ list_all is_unescaped text.now }
 {
-    let mut unescaped = true;
-    for &b in text.as_bytes() {
-        unescaped &= b != 0x1b;
-    }
-    unescaped
+    are_unescaped(text.as_bytes())
 }
 
 // What follows the characters of a class at the start of a text.

@@ -1,7 +1,7 @@
 //! What changes of a state leave, formed beside it.
 ghost use Rattle.std.specs.Prelude.{◌≡◌, if◌then◌else◌};
 
-use crate::change::{Change, NextText, Redraw, Setting};
+use crate::change::{Change, NextText, Redraw, Setting, boxed};
 use crate::frame::Frame;
 use crate::state::{PagerState, formed, is_size, search_mark_anew};
 use minus_term::MinusError;
@@ -154,8 +154,9 @@ impl PagerState {
     {
         let next = self.formed(alloc, text, layout)?;
         let search_mark = search_mark_anew(next.view(), self.upper_mark);
+        let whole = boxed(alloc, next)?;
         Ok(Change {
-            text: NextText::Whole(next),
+            text: NextText::Whole(whole),
             mark: self.upper_mark,
             cols: self.cols,
             rows: self.rows,
@@ -235,8 +236,9 @@ impl PagerState {
         };
         let screen = self.formed(alloc, text, layout)?;
         let search_mark = search_mark_anew(screen.view(), self.upper_mark);
+        let whole = boxed(alloc, screen)?;
         Ok(Change {
-            text: NextText::Whole(screen),
+            text: NextText::Whole(whole),
             mark: self.upper_mark,
             cols,
             rows,
@@ -333,7 +335,8 @@ impl PagerState {
         let pending = self
             .screen
             .prepare_push(alloc, &text, self.line_numbers, self.cols, term)?;
-        let next = NextText::Pushed(text, pending);
+        let formed = boxed(alloc, pending)?;
+        let next = NextText::Pushed(text, formed);
         let mark = self.mark_after(&next);
         let keeps_rows = self.keeps_rows(&next);
         let search_mark = self.search_mark_behind(next.view(&self.screen), keeps_rows);

@@ -3,7 +3,7 @@ ghost use Rattle.std.specs.Prelude.{◌≡◌, string_bytes, OnOk, OnErr, IfErr}
 ghost use Rattle.minus_state.specs.Aside.{aside_of};
 ghost use Rattle.minus_state.specs.Help.{text_aside, more_aside};
 
-use crate::change::{Change, NextText, Redraw, Setting};
+use crate::change::{Change, NextText, Redraw, Setting, boxed};
 use crate::state::{PagerState, search_mark_anew};
 use minus_term::MinusError;
 use minus_text::{Layout, LineNumbers};
@@ -107,14 +107,16 @@ impl PagerState {
     {
         let next = self.formed(alloc, text, layout)?;
         let search_mark = search_mark_anew(next.view(), mark);
+        let whole = boxed(alloc, next)?;
+        let set = boxed(alloc, switch)?;
         Ok(Change {
-            text: NextText::Whole(next),
+            text: NextText::Whole(whole),
             mark,
             cols: self.cols,
             rows: self.rows,
             search_mark,
             prefix: None,
-            setting: Setting::Switch(switch),
+            setting: Setting::Switch(set),
             redraw: Redraw::Whole,
         })
     }

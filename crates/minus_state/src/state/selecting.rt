@@ -24,10 +24,13 @@ impl PagerState {
     ghost use Rattle.minus_state.specs.States.{control_of, ends_of, IsFormed};
     ghost use Rattle.minus_state.specs.Changes.{Leads};
 
-    // The end of a selection at a place of the page that begins at a mark.
+    // The end of a selection at a place of the page that begins at a mark; none while a term is searched for.
     fn end_at(&self, mark: usize, x: u16, y: u16) -> Option<Selection>
         ensures { IsFormed self.now → result ≡ end_at (record (control_of self.now) { mark = mark }) x y }
     {
+        if self.term.is_some() {
+            return None;
+        }
         let view = View {
             upper_mark: mark,
             left_mark: self.left_mark,
@@ -64,11 +67,11 @@ impl PagerState {
         self.begun(self.end_at(self.upper_mark, x, y))
     }
 
-    // Whether a selection is led on.
+    // Whether a selection is led on; none is while a term is searched for.
     fn is_led(&self) -> bool
         ensures { result ≡ is_led (control_of self.now) }
     {
-        self.anchor.is_some() && 1 < self.rows
+        self.term.is_none() && self.anchor.is_some() && 1 < self.rows
     }
 
     // Where the mark goes as a selection is led to a row of the page.

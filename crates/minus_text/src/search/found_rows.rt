@@ -6,23 +6,27 @@ ghost use Rattle.regex.specs.Strings.{regex_pattern};
 ghost use Rattle.minus_text.specs.Document.{rows_of};
 ghost use Rattle.minus_text.specs.Matches.{counts_first, match_at};
 ghost use Rattle.std.specs.Option.{unwrap_or};
-ghost use Rattle.minus_text.specs.Highlight.{line_matches};
+ghost use Rattle.minus_text.specs.Escapes.{CutsText};
+ghost use Rattle.minus_text.specs.Highlight.{line_matches, ordered, put_in};
 ghost use Rattle.minus_text.specs.Fragments.{rows_in};
 ghost use Rattle.minus_text.specs.Found.{found_in_rows, found_by, found_above, found_from, row_numbers, found_of_row, marked, IsPlaced, ArePlaced, Ascend, AreFoundIn};
 ghost use Rattle.minus_text.specs.FoundRows.{finder_pattern, matches_of, pattern_of};
 ghost use Rattle.minus_text.specs.FoundBy.{found_rows, found_in_some, numbers_with, HasRoomFor, FoundGoesOn};
 
-use crate::formatted::FormattedRow;
+use crate::formatted::{FormattedRow, RowPrefix};
 use crate::formed_push::FormedPush;
 use crate::screen::Row;
 use crate::search::found::{Finder, FoundRow};
-use crate::search::highlight::HighlightMatchesArgs;
+use crate::search::highlight::{HighlightMatchesArgs, push_marked};
 use crate::search::matches::counts_first;
 use crate::search::standing::all_stand;
 use crate::search::term::Term;
 use crate::store::Store;
 use std::alloc::{AllocError, Global};
 use std::collections::BTreeSet;
+
+// The bytes of a match's two markers.
+const MARKS: usize = 9;
 
 // The rows of a text that a term matches, in order, each with the places of its escape sequences and
 // of its matches. No pattern is kept.
@@ -174,6 +178,26 @@ fn add_numbers(numbers: &mut BTreeSet<usize>, found: &[FoundRow]) -> Result<(), 
         numbers.insert(row.row)?;
     }
     Ok(())
+}
+
+// A row without escape sequences: what stands before it, and its text with these matches in reverse, in memory that is
+// taken once.
+fn marked_row(
+    alloc: Global,
+    prefix: RowPrefix,
+    text: &str,
+    matches: &[(usize, usize)],
+) -> Result<Row, AllocError>
+    requires { CutsText text.now 0 matches.now }
+    ensures { IfOk result (λ row. string_bytes row ≡ prefix_of prefix
+        ++ put_in text.now 0 (ordered false matches.now [])) }
+{
+    let marks = matches.len().saturating_mul(MARKS);
+    let room = prefix.room().saturating_add(text.len()).saturating_add(marks);
+    let mut out = String::with_capacity(alloc, room)?;
+    prefix.push_to(&mut out)?;
+    push_marked(&mut out, text, matches)?;
+    Ok(out)
 }
 
 impl FoundRows {
@@ -382,11 +406,14 @@ impl FoundRows {
             ++ marked (found_of_row n (found_rows self.now)) row.entry.row.now) }
     {
         let Some(found) = self.of_row(n) else {
-            return row.to_string(alloc);
+            return row.to_row(alloc);
         };
         let text = row.row;
-        let shown = HighlightMatchesArgs::of_places(alloc, text, &found.escapes, &found.matches)?;
         let prefix = row.prefix;
+        if found.escapes.is_empty() {
+            return marked_row(alloc, prefix, text, found.matches.as_slice());
+        }
+        let shown = HighlightMatchesArgs::of_places(alloc, text, &found.escapes, &found.matches)?;
         format!(in alloc; "{prefix}{shown}")
     }
 }

@@ -1,5 +1,5 @@
 //! Lines with the matches of a pattern shown in reverse.
-ghost use Rattle.std.specs.Prelude.{◌≡◌, false, ◌++◌, ◌≤◌, map, length, drop, IfOk, OnOk, string_bytes};
+ghost use Rattle.std.specs.Prelude.{◌≡◌, [], false, ◌++◌, ◌≤◌, map, length, drop, IfOk, OnOk, string_bytes};
 ghost use Rattle.minus_text.specs.Escapes.{insert_of, outside, inside, CutsText};
 ghost use Rattle.minus_text.specs.Highlight.{count_before, before, behind, moved, closed, of_match, ordered, put_in, highlighted, line_matches, matches_text, StandIn, StandIn-prop, HighlightsAddMarkersAlone, OnlyMatchesAreHighlighted};
 ghost use Rattle.regex.specs.Strings.{regex_pattern, matcher_pattern};
@@ -106,6 +106,29 @@ fn ordered<'l>(
     }
     puts.extend_from_slice(&escapes[done..])?;
     Ok(puts)
+}
+
+// Adds a text with what stands between these places in reverse, to a row. An `Err` is for want of memory alone; it may
+// leave some of it behind.
+pub(crate) fn push_marked(
+    out: &mut String,
+    text: &str,
+    matches: &[(usize, usize)],
+) -> Result<(), AllocError>
+    requires { CutsText text.now 0 matches.now }
+    ensures { OnOk result (string_bytes out.new
+        ≡ string_bytes out.old ++ put_in text.now 0 (ordered false matches.now [])) }
+{
+    let mut at = 0;
+    for place in matches {
+        out.push_str(&text[at..place.0])?;
+        out.push_str(REVERSE_ON)?;
+        out.push_str(&text[place.0..place.1])?;
+        out.push_str(REVERSE_OFF)?;
+        at = place.1;
+    }
+    out.push_str(&text[at..])?;
+    Ok(())
 }
 
 /// A line with the matches of a pattern in it. It prints with each of them shown in reverse.

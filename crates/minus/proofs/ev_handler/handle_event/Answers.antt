@@ -1,5 +1,5 @@
 -- A command waits, or is done.
-use Rattle.std.proofs.Common.{false, Option, is_some, string_bytes, sym, ap, subst, ◌∙◌}
+use Rattle.std.proofs.Common.{Option, is_some, string_bytes, sym, ap, subst, ◌∙◌}
 use Rattle.std.proofs.lemmas.List.{append-nil}
 use Rattle.std.specs.Option.{option_map}
 use Rattle.minus_term.specs.Refusals.{refusal_of}
@@ -11,7 +11,7 @@ use Rattle.minus.specs.Asked.{IsRequest}
 use Rattle.minus.specs.EvHandler.{IsRequestTo, CannotHandle}
 use Rattle.minus.specs.Handing.{Handing, kept_after, classifier_after, condition_after, IsFreeFor}
 use Rattle.minus.specs.Reads.{io_of, kept_of, handing_of, wanted_by}
-use Rattle.minus.specs.Table.{Wanted, handed, hands_over}
+use Rattle.minus.specs.Table.{Wanted, hands_over}
 use Rattle.minus.proofs.EventLaws.{is_done, both_wait, cannot_form}
 use Rattle.minus.proofs.RequestLaws.{none_handed}
 use Rattle.minus.proofs.ev_handler.handle_event.Goals as goal

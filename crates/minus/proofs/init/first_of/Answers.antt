@@ -1,5 +1,5 @@
 -- The page is drawn in full, by a change that changes nothing.
-use Rattle.std.proofs.Common.{[], is_some, map, ap, subst, ◌∙◌}
+use Rattle.std.proofs.Common.{[], is_some, map, ap, subst, ◌∙◌, rules}
 use Rattle.minus_state.proofs.ChangeLaws.{unchanged}
 use Rattle.minus_state.specs.Control.{Control}
 use Rattle.minus_state.specs.States.{control_of}
@@ -38,3 +38,8 @@ invariant_of-result g c =
       moved = rw kept c.in_ok-movement.ensures.drawn;
       marked = rw kept c.in_ok-movement.ensures.mark;
     }
+
+pub returns-in_err-reserve-clause-refused : goal.returns-in_err-reserve-clause-refused
+returns-in_err-reserve-clause-refused g c =
+    let can = c.in_ok-check_start.ensures.can in
+    search (rules, can)

@@ -5,7 +5,7 @@ use Rattle.minus_text.specs.declared.line_numbers.LineNumbers.{LineNumbers}
 use Rattle.minus_text.specs.Document.{Document, rows_of, margin_in, pushed}
 use Rattle.minus_text.specs.Found.{found_by}
 use Rattle.minus_text.specs.Pending.{IsPending}
-use Rattle.minus_text.specs.Searched.{Searched, IsFoundBy, IsFoundInPush}
+use Rattle.minus_text.specs.Searched.{Searched, SearchedPush, IsFoundBy, IsFoundInPush}
 use Rattle.minus_state.specs.declared.change.NextText.{NextText}
 use Rattle.minus_state.specs.declared.change.NextText.TheVariants.{Pushed}
 use Rattle.minus_state.specs.declared.change.Redraw.TheVariants.{Appended, Whole}
@@ -22,15 +22,17 @@ returns-clause-next c = λ f.
     let state : PagerState = c.args.self.now in
     let k : Control = control_of state in
     let bytes : List ℕ = string_bytes c.args.text in
-    let pending = c.in_ok-pending.pending in
+    let pending : SearchedPush = c.in_ok-formed.formed.value in
+    let made : SearchedPush = c.in_ok-pending.pending in
+    let is : pending ≡ made = c.in_ok-formed.ensures in
     let told = c.in_ok-pending.ensures in
-    let text : NextText = Pushed c.args.text pending in
-    let own = subst (λ (b : List ℕ). IsPending state.screen.document b pending.push.numbers pending.push.cols pending.push) c.deref.ensures told.own in
+    let text : NextText = Pushed c.args.text c.in_ok-formed.formed in
+    let own = subst (λ (p : SearchedPush). IsPending state.screen.document bytes p.push.numbers p.push.cols p.push) (sym is) (subst (λ (b : List ℕ). IsPending state.screen.document b made.push.numbers made.push.cols made.push) c.deref.ensures told.own) in
     let old : IsFoundBy k.term state.screen = subst (λ (x : Searched). IsFoundBy k.term x) (sym f.screen) refl in
-    let fresh : IsFoundInPush k.term pending = subst (λ (t : Option Re). IsFoundInPush t pending) c.searching-term.ensures told.found in
+    let fresh : IsFoundInPush k.term pending = subst (λ (p : SearchedPush). IsFoundInPush k.term p) (sym is) (subst (λ (t : Option Re). IsFoundInPush t made) c.searching-term.ensures told.found) in
     let next : IsNext k.term state.screen text = (own, (old, fresh)) in
     let after : Document = document_of (record k { text = k.text ++ bytes }) in
-    let document : pushed (document_of k) bytes pending.push.numbers pending.push.cols ≡ after = ap₂ (λ (n : LineNumbers) (m : ℕ). pushed (document_of k) bytes n m) told.ok.its_numbers told.ok.its_cols in
+    let document : pushed (document_of k) bytes pending.push.numbers pending.push.cols ≡ after = ap (λ (p : SearchedPush). pushed (document_of k) bytes p.push.numbers p.push.cols) is ∙ ap₂ (λ (n : LineNumbers) (m : ℕ). pushed (document_of k) bytes n m) told.ok.its_numbers told.ok.its_cols in
     let here = ap (λ (d : Document). pushed d bytes pending.push.numbers pending.push.cols) (document_is state f) ∙ document in
     let keeps = c.keeps_rows-keeps_rows.ensures ∙ ap₂ (λ (a b : Document). margin_in a == margin_in b) here (document_is state f) ∙ sym (keeps_by_margin k bytes) in
     let found = ap (λ (x : Searched). x.found) c.view.ensures ∙ found_next k.term state.screen text next ∙ ap (λ (d : Document). found_by k.term 0 (rows_of d)) here in
@@ -55,8 +57,10 @@ returns-clause-redraw c = λ f.
     let state : PagerState = c.args.self.now in
     let k : Control = control_of state in
     let bytes : List ℕ = string_bytes c.args.text in
-    let pending = c.in_ok-pending.pending in
+    let pending : SearchedPush = c.in_ok-formed.formed.value in
+    let made : SearchedPush = c.in_ok-pending.pending in
+    let is : pending ≡ made = c.in_ok-formed.ensures in
     let told = c.in_ok-pending.ensures in
-    let here = ap (λ (d : Document). pushed d bytes pending.push.numbers pending.push.cols) (document_is state f) ∙ ap₂ (λ (n : LineNumbers) (m : ℕ). pushed (document_of k) bytes n m) told.ok.its_numbers told.ok.its_cols in
+    let here = ap (λ (d : Document). pushed d bytes pending.push.numbers pending.push.cols) (document_is state f) ∙ ap (λ (p : SearchedPush). pushed (document_of k) bytes p.push.numbers p.push.cols) is ∙ ap₂ (λ (n : LineNumbers) (m : ℕ). pushed (document_of k) bytes n m) told.ok.its_numbers told.ok.its_cols in
     let keeps = c.keeps_rows-keeps_rows.ensures ∙ ap₂ (λ (a b : Document). margin_in a == margin_in b) here (document_is state f) ∙ sym (keeps_by_margin k bytes) in
     c.append_redraw.ensures ∙ ap (λ (b : Bool). if b then Appended else Whole) keeps

@@ -7,7 +7,7 @@ use Rattle.minus_state.specs.MatchJumps.{next_match, next_match_row, prev_match,
 use Rattle.minus_state.specs.States.{control_of}
 use Rattle.minus_state.specs.declared.change.Change.{Change}
 use Rattle.minus.proofs.TableLaws.{added_as, told_as}
-use Rattle.minus.proofs.outcome.form.Goals as goal
+use Rattle.minus.proofs.outcome.form_any.Goals as goal
 
 pub returns-in-AppendText-clause-leads : goal.returns-in-AppendText-clause-leads
 returns-in-AppendText-clause-leads g c =

@@ -1,0 +1,5 @@
+-- Characters, each as a unit of its own.
+use Rattle.std.specs.Prelude.{ℕ, List, [], ◌∷◌, map}
+
+abbrev pub singles : List ℕ → List (List ℕ)
+singles cs = map (λ c. c ∷ []) cs
