@@ -1,32 +1,43 @@
 #!/usr/bin/env python3
-"""Measures what the pager spends on its works: instructions, their growth at double the size, and memory.
+"""Counts what the steps of a session take, beside those of the original Rust crate, like with like.
 
-usage: tools/measure.py [--only WORD,..] [--small] PROGRAM      (PROGRAM is crates/minus_show/out/minus_show, built by `rt run`)
+usage: tools/measure.py [--original FOLDER] [--before FILE] [--json FILE] [--into DOCUMENT] [--memory] [--only WORK,..]
+                        [--small] [--jobs N] [--profiles FOLDER] PROGRAM
 
-A work is a script of the program. Its instructions are counted by `valgrind --tool=callgrind` (apt-get install valgrind):
-those of a run, less those of reading the script, which are counted on the same script with a last line that is refused, and
-less both for the part of the script that only makes the document. So what is left is the session's work alone: forming,
-drawing and writing. `forming` is what of it is spent in forming text and putting it in place. Counts are exact, and the same on
-each machine with the same build. Memory is the greatest size of the process, less that of a run that is refused; it is taken of one push,
-since the program keeps what it prints after each input.
+PROGRAM is crates/minus_bench/out/minus_bench, built by `rt run`; FOLDER is what tools/original/build.sh built. Both are
+given one text and the same words, start a session of 80 columns and 24 rows over a sink that keeps nothing, and step it.
+What is counted, by `valgrind --tool=callgrind` (apt-get install valgrind), is the steps of a work alone, whole: not the
+making of the inputs, and nothing before. Counts are the same on each machine with the same build. Both programs tell what
+rows, lines, matches and mark they ended with; where they do not agree, a row stays without the original, and the tool
+says so and fails.
 
-The text is made up: words of 2 to 9 letters, lines of 60 to 100 bytes. docs/MEASURING.md has a table.
+The table is in Markdown: a row for each work, at its greatest size, with the instructions of each push, byte, line or act
+here and in the original. `growth` is that here, by the same at half the size: 1.00 where a work takes no longer for a
+longer text. --before adds what an earlier run kept by --json. --memory adds a table of the greatest sizes of the
+processes, and --into puts the tables into a document in the place of those with their heads. --profiles keeps callgrind's
+files, for callgrind_annotate.
 """
 import argparse
+import concurrent.futures
+import functools
+import itertools
+import json
+import os
 import re
 import subprocess
 import sys
 import tempfile
+from dataclasses import dataclass, field
+from typing import Callable
 
-PAGE = ["page", "80", "24"]
-FAULT = b"no such word\n"
-# What forms text. None calls another, since callgrind would stop counting there, and each is called at
-# two places or more, since the compiler puts what is called at one place into its caller.
-FORMING = ["store::Store::prepare_push", "screen::Screen::of_text"]
+# between two pushes of a text
+SEPARATOR = "\x1e"
+# the functions whose calls are counted: of a start, and of all other works
+COUNTED = {"here": ("minus::init::init_core::*", "minus_bench::work::work_off*"), "original": ("*::driver::counted",) * 2}
 
 
 class Words:
-    """Lines of made-up words, the same on each run."""
+    """Made-up words, the same on each run."""
 
     def __init__(self):
         self.state = 42
@@ -35,193 +46,396 @@ class Words:
         self.state = (self.state * 6364136223846793005 + 1442695040888963407) % 2**64
         return (self.state >> 33) % below
 
-    def line(self):
-        size, text = 60 + self.number(41), ""
+    def line(self, start=""):
+        """A line of 60 to 100 bytes that ends with a letter."""
+        size, text = 60 + self.number(41), start
         while len(text) < size:
             text += "".join(chr(97 + self.number(26)) for _ in range(2 + self.number(8))) + " "
-        return text[: size - 1] + "x"
+        return text[: size - 1] + "x" if text[size - 1] == " " else text[:size]
 
 
+@functools.lru_cache(maxsize=8)
 def lines(count):
+    """Lines of made-up words; each tenth begins with `needle`."""
     words = Words()
-    return [words.line() for _ in range(count)]
+    return [words.line("" if line % 10 else "needle ") for line in range(count)]
+
+
+def text(count):
+    return "".join(line + "\n" for line in lines(count))
 
 
 def block(size):
-    return "\n".join(lines(size // 60 + 2))[:size]
+    return text(size // 70 + 200)[:size]
 
 
-def wide(text):
-    """The same with a wide character in the place of each two letters."""
-    return re.sub("[a-z]{1,2}", lambda m: chr(0x4E00 + 31 * ord(m.group()[0]) % 5000), text)
-
-
-def accented(text):
-    return text.replace("e", "é").replace("a", "à")
-
-
-def coloured(text):
-    """The same with each word in a colour."""
-    return re.sub("[a-z]+", lambda m: f"\x1b[3{len(m.group()) % 8}m{m.group()}\x1b[0m", text)
-
-
-def push(text, word="push"):
-    escaped = text.replace("\\", "\\\\").replace("\n", "\\n").replace("\x1b", "\\e")
-    return f"{word} {escaped}\n".encode()
-
-
-def pushes(texts):
-    return b"".join(push(text) for text in texts)
-
-
-def pieces_of(text, size):
-    return [text[i : i + size] for i in range(0, len(text), size)]
-
-
-def numbered(count):
-    """A push of lines, so many and a page more."""
-    return push("".join(line + "\n" for line in lines(count + 24)))
-
-
-def short_lines(count):
-    """A push of so many lines of a few bytes, each with a letter `l` before its number."""
-    return push("".join(f"l{line}\n" for line in range(count)))
-
-
-def searched(text, query):
-    """A push of lines, and a query that is typed and taken."""
-    return text + f"key /\ntype {query}\nkey enter\n".encode()
-
-
-# Each work: what its number counts, the numbers, and a function from a number to two scripts: what makes the document,
-# and what is measured.
-WORKS = {
-    "lines": ("pushes of a line", [2500, 5000], lambda n: (b"", pushes(line + "\n" for line in lines(n)))),
-    "block": ("bytes in one push", [250_000, 500_000], lambda n: (b"", push(block(n)))),
-    "set": ("bytes set", [500_000, 1_000_000], lambda n: (b"", push(block(n), "set"))),
-    "pieces": (
-        "lines in pieces of 10 bytes",
-        [500, 1000],
-        lambda n: (b"", pushes(piece for line in lines(n) for piece in pieces_of(line + "\n", 10))),
-    ),
-    "tiny": (
-        "pushes of 10 bytes without newline",
-        [400, 800, 8000],
-        lambda n: (b"", pushes(pieces_of(" ".join(lines(n // 6 + 2))[: 10 * n], 10))),
-    ),
-    "tiny_coloured": (
-        "the same, coloured words",
-        [400, 800],
-        lambda n: (b"", pushes(pieces_of(coloured(" ".join(lines(n // 6 + 2)))[: 10 * n], 10))),
-    ),
-    "tiny_word": (
-        "the same, one word",
-        [400, 800],
-        lambda n: (b"", pushes(pieces_of("".join(lines(n // 6 + 2)).replace(" ", "x")[: 10 * n], 10))),
-    ),
-    "resize": (
-        "lines resized, twice",
-        [5000, 10_000],
-        lambda n: (push("".join(line + "\n" for line in lines(n))), b"resize 100 24\nresize 80 24\n"),
-    ),
-    "scroll": (
-        "scrolls by a row, by a command",
-        [1000, 2000],
-        lambda n: (numbered(n), b"".join(f"mark {row + 1}\n".encode() for row in range(n))),
-    ),
-    "keys": ("scrolls by a row, by the key j", [1000, 2000], lambda n: (numbered(n), b"key j\n" * n)),
-    "edits": (
-        "edits of a query that leads to the last of 5,000 lines",
-        [20, 40],
-        lambda n: (push("".join(line + "\n" for line in [*lines(4999), "4999"])) + b"key /\ntype 499\n", b"type 9\nkey backspace\n" * (n // 2)),
-    ),
-    "jumps": (
-        "jumps to the next match, in 10,000 rows that match",
-        [1000, 2000],
-        lambda n: (searched(short_lines(10_000), "l"), b"key n\n" * n),
-    ),
-    "far_jumps": (
-        "jumps to the next match, in 1,000,000 rows that match",
-        [1000],
-        lambda n: (searched(short_lines(1_000_000), "l"), b"key n\n" * n),
-    ),
-    "waiting": (
-        "pushes of a line that wait for the search prompt to close",
-        [1000, 2000],
-        lambda n: (short_lines(100) + b"key /\n", pushes(line + "\n" for line in lines(n)) + b"key esc\n"),
-    ),
-    "wide": ("bytes in one push, wide characters", [150_000, 300_000], lambda n: (b"", push(text_of(wide, n)))),
-    "accents": ("bytes in one push, accents", [150_000, 300_000], lambda n: (b"", push(text_of(accented, n)))),
-    "coloured": ("bytes in one push, coloured words", [150_000, 300_000], lambda n: (b"", push(text_of(coloured, n)))),
-}
-MEMORY = {"block": 10_000_000}
-
-
-def text_of(change, size):
-    """So many bytes, or a little fewer, of a changed text."""
+def changed(size, change):
+    """So many bytes of a changed text, or a little fewer."""
     return change(block(size)).encode()[:size].decode(errors="ignore")
 
 
-def stop_on_unknown(program):
-    """Ends where the program has no function of a name in FORMING, which callgrind would not tell of."""
-    with open(program, "rb") as it:
-        held = it.read()
-    # (a symbol's name ends in a zero byte)
-    unknown = [name for name in FORMING if f"minus_text::{name}\0".encode() not in held]
-    if unknown:
-        sys.exit(f"measure.py: {program} has no function of the name minus_text::{', nor minus_text::'.join(unknown)}: see FORMING")
+def wide(size):
+    """A wide character in the place of each second letter, and nothing in the place of the others."""
+    letters = itertools.count()
+    return changed(size, lambda it: re.sub("[a-z]", lambda m: chr(0x4E00 + 31 * ord(m[0]) % 5000) if next(letters) % 2 else "", it))
 
 
-def instructions(program, script, functions=()):
+def accents(size):
+    return changed(size, lambda it: it.replace("e", "é").replace("a", "à"))
+
+
+def coloured(size):
+    """Each word in a colour."""
+    return changed(size, lambda it: re.sub("[a-z]+", lambda m: f"\x1b[3{len(m[0]) % 8}m{m[0]}\x1b[0m", it))
+
+
+def dates(size):
+    """Each line begins with a date, and each seventh blank is a hyphen."""
+    dated = changed(size, lambda it: re.sub("^", "2026-11-27 09:15:42 ", it, flags=re.M))
+    return re.sub("((?: [^ ]*){6}) ", r"\1-", dated)
+
+
+def trailing(size):
+    return changed(size, lambda it: it.replace("\n", " \n"))
+
+
+def hyphens(size):
+    return changed(size, lambda it: it.replace(" ", "-"))
+
+
+def short(size):
+    """The first five letters of each line."""
+    return "".join(line[:5] + "\n" for line in block(size).split("\n"))
+
+
+def one_line(size):
+    return block(size).replace("\n", " ")
+
+
+def one_word(size):
+    return block(size).replace("\n", " ").replace(" ", "x")
+
+
+def long_rows(size):
+    """A page of 23 lines of so many bytes."""
+    line = one_line(size)
+    return (line + "\n") * 23
+
+
+def pushes(parts):
+    return SEPARATOR.join(parts)
+
+
+def pieces(it, size=10):
+    return [it[at : at + size] for at in range(0, len(it), size)]
+
+
+def line_pushes(count):
+    return pushes(line + "\n" for line in lines(count))
+
+
+def line_pieces(count):
+    return pushes(piece for line in lines(count) for piece in pieces(line + "\n"))
+
+
+def keys(query, end=()):
+    """The acts that type a query at the search prompt."""
+    return [f"key={key}" for key in ["/", *query, *end]]
+
+
+TAKEN = keys("needle", ["enter"])
+SELECTED = ["select=3,2", "lead=40,20"]
+MIDDLE = ["mark=2000"]
+
+
+@dataclass
+class Work:
+    """A work: what it is called, its sizes, the text at a size, and what is done; `each` is what its count is shared by."""
+
+    what: str
+    sizes: list
+    text: Callable
+    coming: str = "shown"
+    before: list = field(default_factory=list)
+    acts: list = field(default_factory=list)
+    turns: int = 0
+    each: str = "size"
+
+    def words(self):
+        return [self.coming, str(self.turns), *self.before, "--", *self.acts]
+
+    def shares(self, size, given):
+        return {"size": size, "turns": self.turns, "bytes": len(given)}[self.each]
+
+
+def of_pushes(what, sizes, made, before=()):
+    return Work(what, sizes, made, "pushed", list(before))
+
+
+def of_bytes(what, made, size=150_000, before=(), coming="pushed"):
+    return Work(what, [size // 2, size], made, coming, list(before), each="bytes")
+
+
+def of_lines(what, acts, before=(), sizes=(5000, 10_000)):
+    return Work(what, list(sizes), text, before=list(before), acts=acts, turns=len(acts))
+
+
+def of_acts(what, acts, before=(), turns=100, sizes=(5000, 10_000), made=text):
+    return Work(what, list(sizes), made, before=list(before), acts=acts, turns=turns, each="turns")
+
+
+WORKS = {
+    "push": of_pushes("push of a line", [5000, 10_000], line_pushes),
+    "push-numbers": of_pushes("push of a line, numbers", [2500, 5000], line_pushes, ["numbers"]),
+    "push-nowrap": of_pushes("push of a line, no wrapping", [2500, 5000], line_pushes, ["unwrapped"]),
+    "push-follow": of_pushes("push of a line, followed", [2500, 5000], line_pushes, ["following"]),
+    "push-term": of_pushes("push of a line, under a term", [5000, 10_000], line_pushes, TAKEN),
+    "push-term-many": of_pushes("push of a line, 100,000 under a term", [100_000], line_pushes, TAKEN),
+    "pieces": of_pushes("line in pieces of 10 bytes", [1000, 2000], line_pieces),
+    "tiny": of_pushes("push of 10 bytes, no newline", [400, 800], lambda n: pushes(pieces(one_line(10 * n)))),
+    "tiny-word": of_pushes("push of 10 bytes, one word", [400, 800], lambda n: pushes(pieces(one_word(10 * n)))),
+    "start": Work("push that waits for a start", [5000, 10_000], line_pushes, "waiting"),
+    "start-many": Work("push of 100,000 that wait for a start", [100_000], line_pushes, "waiting"),
+    "block": of_bytes("byte of one push", block, 1_000_000),
+    "set": of_bytes("byte of a text set", block, 1_000_000, coming="set"),
+    "dates": of_bytes("byte of one push, dates and hyphens", dates),
+    "hyphens": of_bytes("byte of one push, hyphens for blanks", hyphens),
+    "trailing": of_bytes("byte of one push, blanks at line ends", trailing),
+    "wide": of_bytes("byte of one push, wide characters", wide),
+    "accents": of_bytes("byte of one push, accents", accents),
+    "coloured": of_bytes("byte of one push, coloured words", coloured),
+    "short": of_bytes("byte of one push, 5 letters a line", short),
+    "oneline": of_bytes("byte of one push, one line", one_line, 1_000_000),
+    "scroll-cmd": of_acts("scroll by a row, by a command", ["next"], turns=1000),
+    "scroll": of_acts("scroll by a row, by the key `j`", ["key=j"], turns=1000),
+    "scroll-up": of_acts("scroll by a row, by the key `k`", ["key=k"], ["mark=1000"], turns=1000),
+    "pages": of_acts("page down or up", ["key=pagedown", "key=pageup"], MIDDLE),
+    "redraw": of_acts("page drawn", ["redraw"], MIDDLE),
+    "redraw-numbers": of_acts("page drawn, numbers", ["redraw"], ["numbers", *MIDDLE], sizes=(2500, 5000)),
+    "redraw-term": of_acts("page drawn, a term in nearly each row", ["redraw"], [*keys("e", ["enter"]), *MIDDLE], sizes=(2500, 5000)),
+    "redraw-sel": of_acts("page drawn, a selection", ["redraw"], [*MIDDLE, *SELECTED], sizes=(2500, 5000)),
+    "redraw-nowrap": of_acts("page drawn, no wrapping", ["redraw"], ["unwrapped", *MIDDLE], sizes=(2500, 5000)),
+    "redraw-long": of_acts("page drawn, no wrapping, lines of so many bytes", ["redraw"], ["unwrapped"], 10, (130_000, 260_000), long_rows),
+    "hscroll": of_acts("a column right or left", ["key=l", "key=h"], ["unwrapped"]),
+    "resize": of_lines("line, resized twice", ["size=100,24", "size=80,24"]),
+    "numbers-on": of_lines("line, numbers turned on", ["numbers"]),
+    "wrap-off": of_lines("line, wrapping turned off", ["unwrapped"]),
+    "help": of_acts("help opened or left", ["help"], turns=10),
+    "term": of_lines("line, a term taken", ["key=enter"], keys("needle")),
+    "next": of_acts("next match", ["key=n"], TAKEN, turns=500),
+    "prev": of_acts("previous match", ["key=p"], [*TAKEN, "key=5", "key=0", "key=0", "key=n"], turns=500),
+    "edits": of_acts("edit of a query, match in the last line", ["key=9", "key=backspace"], keys("499"), 40, (2500, 5000), lambda n: text(n - 1) + "4999\n"),
+    "edits-none": of_acts("edit of a query, no match", ["key=9", "key=backspace"], keys("zq"), 40, (2500, 5000), lambda n: text(n - 1) + "4999\n"),
+    "drag": of_acts("selection led on", ["drag"], ["select=3,2"]),
+    "copy": of_acts("10 rows copied", ["copy"], ["select=3,2", "lead=20,12"], 1, (10_000, 20_000)),
+}
+# greatest sizes of processes: a work, and its size
+MEMORY = {"push": 100_000, "block": 10_000_000, "set": 10_000_000, "tiny": 8000, "pieces": 20_000, "resize": 100_000}
+
+
+@dataclass
+class Run:
+    """What a program took for a work: instructions or bytes, and what it said at its end."""
+
+    taken: int
+    end: str
+
+
+def counted(program, side, work, size, profile=None):
+    """A run of a program by callgrind."""
     with tempfile.TemporaryDirectory() as folder, tempfile.TemporaryFile() as given:
-        given.write(script)
+        given.write(work.text(size).encode())
         given.seek(0)
-        flags = [f"--toggle-collect=minus_text::{name}" for name in functions]
-        flags += ["--collect-atstart=no"] if functions else []
-        command = ["valgrind", "--tool=callgrind", *flags, f"--callgrind-out-file={folder}/out", program, *PAGE]
-        run = subprocess.run(command, stdin=given, stdout=subprocess.DEVNULL, stderr=subprocess.PIPE, text=True)
-        return int(re.search(r"Collected : (\d+)", run.stderr).group(1))
+        functions = COUNTED[side][work.coming != "waiting"]
+        flags = ["--collect-atstart=no", f"--toggle-collect={functions}", f"--callgrind-out-file={profile or folder + '/out'}"]
+        command = ["valgrind", "--tool=callgrind", *flags, program, *work.words()]
+        run = subprocess.run(command, stdin=given, capture_output=True, text=True)
+        taken = parse_collected(run.stderr)
+        if run.returncode or not taken:
+            sys.exit(f"measure.py: {program} {' '.join(work.words())}: status {run.returncode}, {taken} instructions: {run.stderr[-300:]}")
+        return Run(taken, run.stdout)
 
 
-def work_of(program, before, work):
-    """The instructions of a script's work alone, and those of them that form text."""
-    counts = [instructions(program, script) for script in (before + work, before + work + FAULT, before, before + FAULT)]
-    forming = [instructions(program, script, FORMING) for script in (before + work, before)]
-    return counts[0] - counts[1] - (counts[2] - counts[3]), forming[0] - forming[1]
+def parse_collected(told):
+    """The instructions that callgrind tells of, or 0 where no function of the name was called."""
+    found = re.search(r"Collected : (\d+)", told)
+    return int(found[1]) if found else 0
 
 
-def memory(program, script):
-    """The greatest size of a process that runs a script, in bytes."""
+def greatest_size(program, side, work, size, profile=None):
+    """The greatest size of a process in bytes, less the text that it reads."""
     with tempfile.TemporaryFile() as given, tempfile.NamedTemporaryFile() as told:
-        given.write(script)
+        whole = work.text(size).encode()
+        given.write(whole)
         given.seek(0)
-        subprocess.run(["/usr/bin/time", "-q", "-f", "%M", "-o", told.name, program, *PAGE], stdin=given, stdout=subprocess.DEVNULL, stderr=subprocess.DEVNULL)
-        return int(told.read().split()[-1]) * 1024
+        command = ["/usr/bin/time", "-q", "-f", "%M", "-o", told.name, program, *work.words()]
+        run = subprocess.run(command, stdin=given, capture_output=True, text=True, check=True)
+        return Run(int(told.read().split()[-1]) * 1024 - len(whole), run.stdout)
+
+
+def grouped(number):
+    """A figure with commas, and a decimal where it is small."""
+    return f"{number:,.1f}" if number < 1000 else f"{number:,.0f}"
+
+
+@dataclass
+class Measured:
+    """What was measured of a work: the size, the instructions of each by program, and their growth."""
+
+    size: int
+    each: dict
+    growth: float | None
+
+
+def ratio(here, original):
+    """One by the other, where both are known."""
+    return f"{here / original:.2f}" if here and original else ""
+
+
+def row(name, work, measured, before):
+    """A row of the table; `before` has by name what an earlier run kept."""
+    here, original = measured.each["here"], measured.each.get("original")
+    earlier = before.get(name, {}).get("here")
+    figures = [grouped(each) if each else "" for each in (here, earlier, original)]
+    growth = f"{measured.growth:.2f}" if measured.growth else ""
+    return in_row([f"{work.what} (`{name}`)", f"{measured.size:,}", *figures, ratio(here, original), ratio(earlier, original), growth])
+
+
+def memory_row(name, taken):
+    """A row of the table of memory."""
+    sizes = [f"{taken[side] / 1e6:.1f}" if side in taken else "" for side in ("here", "original")]
+    return in_row([f"{WORKS[name].what} (`{name}`)", f"{MEMORY[name]:,}", *sizes, ratio(taken["here"], taken.get("original"))])
+
+
+def head_rows(head):
+    return [in_row(head), "|" + "---|" * len(head)]
+
+
+def in_row(cells):
+    """A row of a table in Markdown."""
+    return "|" + "".join(f" {cell} |" if cell else " |" for cell in cells)
+
+
+HEAD = ["work", "size", "here, each", "before, each", "original, each", "here / original", "before / original", "growth"]
+MEMORY_HEAD = ["work", "size", "here, MB", "original, MB", "here / original"]
+
+
+def alike(name, done):
+    """What the programs took, by program; where they ended with different pages, of this one alone."""
+    if len({run.end for run in done.values()}) > 1:
+        print(f"measure.py: {name}: the programs ended differently: {', '.join(run.end.strip() for run in done.values())}", file=sys.stderr)
+        return {"here": done["here"].taken}
+    return {side: run.taken for side, run in done.items()}
+
+
+def with_table(document, table):
+    """The document with a table in the place of the one that has the same head."""
+    rows = document.split("\n")
+    first = rows.index(table[0])
+    end = next(at for at in range(first, len(rows)) if not rows[at].startswith("|"))
+    return "\n".join(rows[:first] + table + rows[end:])
+
+
+class Measuring:
+    """The runs of all works, some at once."""
+
+    def __init__(self, given):
+        self.programs = {"here": given.program}
+        if given.original:
+            self.programs["original"] = os.path.join(given.original, "target/release/original")
+        self.profiles = given.profiles
+        if given.profiles:
+            os.makedirs(given.profiles, exist_ok=True)
+        self.all_alike = True
+        self.pool = concurrent.futures.ThreadPoolExecutor(given.jobs)
+
+    def runs(self, measure, name, size):
+        """The runs of a work at a size to come, by program."""
+
+        def one(side):
+            profile = os.path.join(self.profiles, f"{name}.{size}.{side}") if self.profiles else None
+            return self.pool.submit(measure, self.programs[side], side, WORKS[name], size, profile)
+
+        return {side: one(side) for side in self.programs}
+
+    def taken(self, runs, name):
+        """What the programs took for a work at a size."""
+        taken = alike(name, {side: run.result() for side, run in runs.items()})
+        self.all_alike = self.all_alike and len(taken) == len(runs)
+        return taken
+
+
+def each_of(name, size, taken):
+    work = WORKS[name]
+    shares = work.shares(size, work.text(size).encode() if work.each == "bytes" else b"")
+    return {side: count / shares for side, count in taken.items()}
+
+
+def table_of(measuring, names, given):
+    """The rows of the table, each printed as it comes."""
+    before = json.load(open(given.before)) if given.before else {}
+    sizes = {name: WORKS[name].sizes[:1] if given.small else WORKS[name].sizes for name in names}
+    runs = {(name, size): measuring.runs(counted, name, size) for name in names for size in sizes[name]}
+    kept = {}
+    yield from head_rows(HEAD)
+    for name in names:
+        each = [each_of(name, size, measuring.taken(runs[name, size], name)) for size in sizes[name]]
+        growth = each[-1]["here"] / each[0]["here"] if len(each) > 1 else None
+        kept[name] = {side: round(count, 2) for side, count in each[-1].items()}
+        yield row(name, WORKS[name], Measured(sizes[name][-1], each[-1], growth), before)
+    if given.json:
+        with open(given.json, "w") as it:
+            json.dump(kept, it, indent=1)
+
+
+def table_of_memory(measuring, names):
+    runs = {name: measuring.runs(greatest_size, name, MEMORY[name]) for name in names if name in MEMORY}
+    yield from head_rows(MEMORY_HEAD)
+    for name in runs:
+        yield memory_row(name, measuring.taken(runs[name], name))
+
+
+def printed(table, into):
+    """Prints a table, and puts it into a document."""
+    rows = []
+    for line in table:
+        print(line, flush=True)
+        rows.append(line)
+    print()
+    if into:
+        with open(into) as it:
+            document = with_table(it.read(), rows)
+        with open(into, "w") as it:
+            it.write(document)
 
 
 def main():
     parser = argparse.ArgumentParser(description=__doc__, formatter_class=argparse.RawDescriptionHelpFormatter)
     parser.add_argument("program")
+    parser.add_argument("--original", help="the folder of the built original")
+    parser.add_argument("--before", help="what an earlier run kept")
+    parser.add_argument("--json", help="where this run keeps its figures")
     parser.add_argument("--only", help="these works alone")
-    parser.add_argument("--small", action="store_true", help="the smallest number of each alone")
+    parser.add_argument("--small", action="store_true", help="the smallest size of each alone")
+    parser.add_argument("--jobs", type=int, default=os.cpu_count(), help="so many runs at once")
+    parser.add_argument("--memory", action="store_true", help="the greatest sizes of the processes too")
+    parser.add_argument("--into", help="the document whose tables are to be these")
+    parser.add_argument("--profiles", help="where callgrind's files are kept")
     given = parser.parse_args()
-    stop_on_unknown(given.program)
-    names = [name for name in WORKS if not given.only or name in given.only.split(",")]
-    print("| work | number | instructions | each | forming, each | growth |\n|---|---|---|---|---|---|")
-    for name in names:
-        what, numbers, make = WORKS[name]
-        last = None
-        for number in numbers[:1] if given.small else numbers:
-            spent, forming = work_of(given.program, *make(number))
-            growth = f"{spent / last[1]:.2f} for {number / last[0]:.0f}" if last else ""
-            print(f"| {what} | {number:,} | {spent:,} | {spent / number:,.1f} | {forming / number:,.1f} | {growth} |", flush=True)
-            last = number, spent
-    print("\n| memory | number | MB of text | MB, the script's aside |\n|---|---|---|---|")
-    for name, number in MEMORY.items():
-        if name in names and not given.small:
-            before, work = WORKS[name][2](number)
-            size = memory(given.program, before + work) - memory(given.program, before + work + FAULT)
-            print(f"| {WORKS[name][0]} | {number:,} | {len(work) / 1e6:.1f} | {size / 1e6:.1f} |", flush=True)
+    names = given.only.split(",") if given.only else list(WORKS)
+    unknown = [name for name in names if name not in WORKS]
+    if unknown:
+        sys.exit(f"measure.py: no work has the name {unknown[0]}")
+    if given.into and (given.only or given.small):
+        sys.exit("measure.py: a document takes the tables of all works alone")
+    measuring = Measuring(given)
+    try:
+        printed(table_of(measuring, names, given), given.into)
+        if given.memory:
+            printed(table_of_memory(measuring, names), given.into)
+    finally:
+        measuring.pool.shutdown(cancel_futures=True)
+    sys.exit(0 if measuring.all_alike else 1)
 
 
 if __name__ == "__main__":

@@ -1,7 +1,6 @@
 -- Bytes of operations, added one after another.
-use Rattle.std.proofs.Common.{◌≡◌, ℕ, zero, suc, min, drop, refl, arith, ◌+◌, ◌<◌, List, [], ◌∷◌, ◌++◌, length, map, take, get_or, sym, ap, ◌∙◌}
+use Rattle.std.proofs.Common.{◌≡◌, ℕ, zero, suc, refl, arith, ◌+◌, ◌<◌, List, [], ◌∷◌, ◌++◌, length, map, take, get_or, sym, ap, ◌∙◌}
 use Rattle.std.specs.List.{flat_map}
-use Rattle.std.proofs.Math.Seq.{drop-nil}
 use Rattle.std.proofs.lemmas.List.{map_more, length-map, length-take-le}
 use Rattle.std.proofs.lemmas.List.Concat.{flat_map-append}
 use Rattle.minus_term.specs.Append.{rows_anew}
@@ -14,18 +13,6 @@ use Rattle.minus_term.proofs.WrittenLaws.{ops_added}
 pub row_added : (old a b : List ℕ) (rows : List (List ℕ)) (row : List ℕ) → a ≡ old ++ written_all (flat_map row_ops rows) → b ≡ a ++ written_all (row_ops row) → b ≡ old ++ written_all (flat_map row_ops (rows ++ row ∷ []))
 row_added old a b rows row e f =
     ops_added old a b (flat_map row_ops rows) (row_ops row) e f ∙ ap (λ ops. old ++ written_all ops) (sym (flat_map-append row_ops rows (row ∷ [])))
-
--- one more row of a list
-pub rows_more : {X : Type 0} (f : X → List ℕ) (xs : List X) (i : ℕ) (d : X) (old a b : List ℕ) → i < length xs → a ≡ old ++ written_all (flat_map row_ops (map f (take i xs))) → b ≡ a ++ written_all (row_ops (f (get_or xs i d)))
-    → b ≡ old ++ written_all (flat_map row_ops (map f (take (i + 1) xs)))
-rows_more f xs i d old a b l e g =
-    row_added old a b (map f (take i xs)) (f (get_or xs i d)) e g ∙ ap (λ rs. old ++ written_all (flat_map row_ops rs)) (sym (map_more f xs i d l))
-
--- the rows from one on, or from the end where there are no more
-pub drop_all : {X : Type 0} (xs : List X) (n : ℕ) → drop (min n (length xs)) xs ≡ drop n xs
-drop_all [] n = let z : min n 0 ≡ 0 = omega arith in rw z (sym (drop-nil n))
-drop_all (x ∷ xs) zero = let z : min 0 (length (x ∷ xs)) ≡ 0 = omega arith in rw z refl
-drop_all (x ∷ xs) (suc n) = let z : min (suc n) (length (x ∷ xs)) ≡ suc (min n (length xs)) = omega arith in rw z (drop_all xs n)
 
 -- ---- rows of the page that are made blank
 

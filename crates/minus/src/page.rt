@@ -3,7 +3,6 @@ ghost use Rattle.std.specs.Prelude.{◌≡◌, ◌<◌, ◌++◌, [], length, re
 ghost use Rattle.minus_term.specs.FullRedraw.{page_of};
 ghost use Rattle.minus_state.specs.Showing.{row_text};
 
-use crate::prompt_drawing::shown_texts;
 use crate::search::OpenPrompt;
 use crate::state::PagerState;
 use minus_state::change::Change;
@@ -26,6 +25,17 @@ fn push_copies(
         rows.push(String::from_str(alloc, text.as_str())?)?;
     }
     Ok(())
+}
+
+// Rows of text as what is shown of them.
+fn shown_texts(alloc: Global, rows: &[String]) -> Result<Vec<ShownRow<'_>>, AllocError>
+    ensures { IfOk result (λ v. map row_text v.items ≡ map string_bytes rows.now) }
+{
+    let mut shown = Vec::new(alloc);
+    for row in rows {
+        shown.push(ShownRow::Own(row.as_str()))?;
+    }
+    Ok(shown)
 }
 
 // Adds so many blank rows.

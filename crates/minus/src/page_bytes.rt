@@ -1,75 +1,26 @@
 //! The bytes of pages: the operations that draw rows of a page, added to a buffer, as the lists of `minus_term` say
 //! them.
-ghost use Rattle.std.specs.Prelude.{◌≡◌, ℕ, List, [], ◌∷◌, ◌++◌, ◌+◌, ◌-◌, ◌^◌, ◌<◌, ◌≤◌, length, take, drop, if◌then◌else◌, bytes_eq, map, OnOk};
-ghost use Rattle.std.specs.List.{flat_map};
+ghost use Rattle.std.specs.Prelude.{◌≡◌, [], ◌∷◌, ◌++◌, ◌+◌, ◌-◌, ◌^◌, ◌<◌, ◌≤◌, length, if◌then◌else◌, bytes_eq, map, OnOk};
 ghost use Rattle.minus_term.specs.Append.{rows_anew};
 ghost use Rattle.minus_term.specs.Operations.{GoTo, ClearRow, Put};
 ghost use Rattle.minus_term.specs.Written.{written_all};
-ghost use Rattle.minus_term.specs.FullRedraw.{full_ops, prompt_ops, row_ops};
+ghost use Rattle.minus_term.specs.FullRedraw.{full_ops, prompt_ops};
 ghost use Rattle.minus_term.specs.Scroll.{down_ops, up_ops};
 ghost use Rattle.minus_term.specs.SearchPrompt.{closing_ops};
+ghost use Rattle.minus_state.specs.Changes.{IsFormedFor, shown_by};
 ghost use Rattle.minus_state.specs.Showing.{row_text};
 
+use crate::state::PagerState;
+use minus_state::change::Change;
 use minus_state::showing::ShownRow;
-use minus_term::{DrawOp, write_ops};
+use minus_term::{
+    DrawOp, write_closing_start, write_down_start, write_ops, write_page_start, write_prompt_row,
+    write_up_start,
+};
 use std::alloc::{AllocError, Global};
-
-// Adds a row of text, and goes to the next.
-pub(crate) fn push_row(alloc: Global, out: &mut Vec<u8>, row: &str) -> Result<(), AllocError>
-    ensures { OnOk result (out.new.items ≡ out.old.items ++ written_all (row_ops row.now)) }
-{
-    write_ops(
-        alloc,
-        out,
-        &[DrawOp::Return, DrawOp::Put(row), DrawOp::NextRow],
-    )
-}
-
-// Adds rows of text.
-pub(crate) fn push_rows(
-    alloc: Global,
-    out: &mut Vec<u8>,
-    shown: &[ShownRow<'_>],
-) -> Result<(), AllocError>
-    ensures { OnOk result (out.new.items ≡ out.old.items ++ written_all (flat_map row_ops (map row_text shown.now))) }
-{
-    for row in shown {
-        push_row(alloc, out, row.as_str())?;
-    }
-    Ok(())
-}
-
-// Adds the prompt row, the last of so many rows. An empty one is not put.
-pub(crate) fn push_prompt(
-    alloc: Global,
-    out: &mut Vec<u8>,
-    rows: u16,
-    prompt: &str,
-) -> Result<(), AllocError>
-    ensures { OnOk result (out.new.items ≡ out.old.items ++ written_all (prompt_ops rows prompt.now)) }
-{
-    if prompt.is_empty() {
-        return write_ops(
-            alloc,
-            out,
-            &[DrawOp::GoTo(0, rows), DrawOp::Return, DrawOp::ClearRow],
-        );
-    }
-    write_ops(
-        alloc,
-        out,
-        &[
-            DrawOp::GoTo(0, rows),
-            DrawOp::Return,
-            DrawOp::ClearRow,
-            DrawOp::Put(prompt),
-        ],
-    )
-}
 
 // Adds the prompt row, the last of so many rows, unless it is the one before.
 pub(crate) fn push_changed_prompt(
-    alloc: Global,
     out: &mut Vec<u8>,
     rows: u16,
     prompt: &str,
@@ -81,86 +32,84 @@ pub(crate) fn push_changed_prompt(
     if prompt == before {
         return Ok(());
     }
-    push_prompt(alloc, out, rows, prompt)
+    write_prompt_row(out, rows, prompt)
 }
 
-// Adds a whole page of so many rows: these rows of text from its top, and the prompt row.
+// Adds the whole page that a change of a state leads to: its rows of text from its top, and this prompt row.
 pub(crate) fn push_page(
+    state: &PagerState,
     alloc: Global,
     out: &mut Vec<u8>,
-    rows: u16,
-    shown: &[ShownRow<'_>],
+    change: &Change,
     prompt: &str,
 ) -> Result<(), AllocError>
-    ensures { OnOk result (out.new.items
-        ≡ out.old.items ++ written_all (full_ops rows (map row_text shown.now) prompt.now)) }
+    requires { IsFormedFor state.now change.now }
+    ensures { OnOk result (out.new.items ≡ out.old.items ++ written_all
+        (full_ops change.now.rows (shown_by state.now change.now) prompt.now)) }
 {
-    write_ops(alloc, out, &[DrawOp::GoTo(0, 0), DrawOp::ClearAll])?;
-    push_rows(alloc, out, shown)?;
-    push_prompt(alloc, out, rows, prompt)?;
+    write_page_start(out)?;
+    state.write_after(alloc, out, change, 0)?;
+    write_prompt_row(out, change.rows as u16, prompt)?;
     Ok(())
 }
 
-// Adds what closes the search prompt: its row is cleared and the cursor hidden, and the whole page is drawn.
+// Adds what closes the search prompt: its row is cleared and the cursor hidden, and the whole page that a change leads
+// to is drawn.
 pub(crate) fn push_closing(
+    state: &PagerState,
     alloc: Global,
     out: &mut Vec<u8>,
-    rows: u16,
-    shown: &[ShownRow<'_>],
+    change: &Change,
     prompt: &str,
 ) -> Result<(), AllocError>
-    ensures { OnOk result (out.new.items
-        ≡ out.old.items ++ written_all (closing_ops rows (map row_text shown.now) prompt.now)) }
+    requires { IsFormedFor state.now change.now }
+    ensures { OnOk result (out.new.items ≡ out.old.items ++ written_all
+        (closing_ops change.now.rows (shown_by state.now change.now) prompt.now)) }
 {
-    write_ops(
-        alloc,
-        out,
-        &[DrawOp::GoTo(0, rows), DrawOp::ClearRow, DrawOp::HideCursor],
-    )?;
-    push_page(alloc, out, rows, shown, prompt)?;
+    write_closing_start(out, change.rows as u16)?;
+    push_page(state, alloc, out, change, prompt)?;
     Ok(())
 }
 
-// Adds a move of the page's rows up by k: its last k rows of text, which these are, and the prompt row are put.
+// Adds a move of the page's rows up by k: the last k rows of text of the page that a change leads to, and the prompt
+// row, are put.
 pub(crate) fn push_scroll_down(
+    state: &PagerState,
     alloc: Global,
     out: &mut Vec<u8>,
-    rows: u16,
+    change: &Change,
     k: u16,
-    texts: &[ShownRow<'_>],
     prompt: &str,
 ) -> Result<(), AllocError>
-    requires some { 1 ≤ rows }
-    requires within { k ≤ rows - 1 }
-    ensures { OnOk result ((shown : List (List ℕ)) → map row_text texts.now ≡ drop (rows - 1 - k) shown →
-        out.new.items ≡ out.old.items ++ written_all (down_ops rows k shown prompt.now)) }
+    requires belongs { IsFormedFor state.now change.now }
+    requires within { k ≤ change.now.rows - 1 }
+    ensures { OnOk result (out.new.items ≡ out.old.items ++ written_all
+        (down_ops change.now.rows k (shown_by state.now change.now) prompt.now)) }
 {
-    let last = rows - k - 1;
-    write_ops(
-        alloc,
-        out,
-        &[DrawOp::ScrollUp(k), DrawOp::GoTo(0, last), DrawOp::ClearRow],
-    )?;
-    push_rows(alloc, out, texts)?;
-    push_prompt(alloc, out, rows, prompt)?;
+    let rows = change.rows as u16;
+    write_down_start(out, rows, k)?;
+    state.write_after(alloc, out, change, change.rows - 1 - k as usize)?;
+    write_prompt_row(out, rows, prompt)?;
     Ok(())
 }
 
-// Adds a move of the page's rows down by k: its first k rows of text, which these are, and the prompt row are put.
+// Adds a move of the page's rows down by k: the first k rows of text of the page that a change leads to, and the prompt
+// row, are put.
 pub(crate) fn push_scroll_up(
+    state: &PagerState,
     alloc: Global,
     out: &mut Vec<u8>,
-    rows: u16,
+    change: &Change,
     k: u16,
-    texts: &[ShownRow<'_>],
     prompt: &str,
 ) -> Result<(), AllocError>
-    ensures { OnOk result ((shown : List (List ℕ)) → map row_text texts.now ≡ take k shown →
-        out.new.items ≡ out.old.items ++ written_all (up_ops rows k shown prompt.now)) }
+    requires { IsFormedFor state.now change.now }
+    ensures { OnOk result (out.new.items ≡ out.old.items ++ written_all
+        (up_ops change.now.rows k (shown_by state.now change.now) prompt.now)) }
 {
-    write_ops(alloc, out, &[DrawOp::ScrollDown(k), DrawOp::GoTo(0, 0)])?;
-    push_rows(alloc, out, texts)?;
-    push_prompt(alloc, out, rows, prompt)?;
+    write_up_start(out, k)?;
+    state.write_between(alloc, out, change, 0, k as usize)?;
+    write_prompt_row(out, change.rows as u16, prompt)?;
     Ok(())
 }
 

@@ -160,11 +160,7 @@ impl<P: Calls> PartsOf<P> {
     }
 
     // Makes a request what is worked off: help gets its text.
-    pub(crate) fn set_help(
-        &self,
-        alloc: Global,
-        request: &mut Request<P>,
-    ) -> Result<(), MinusError>
+    pub(crate) fn set_help(&self, alloc: Global, request: &mut Request<P>) -> Result<(), MinusError>
         ensures ok { OnOk result (IsRequest P.Classifier.says self.now.classifier
             (control_of self.now.state).help (wanted_by request.old) (wanted_by request.new)) }
         ensures memory { IfErr result (λ e. e ≡ MinusError.Memory) }

@@ -1,5 +1,5 @@
 //! The drawings of an open search prompt, in a buffer.
-ghost use Rattle.std.specs.Prelude.{◌≡◌, ◌∷◌, ◌++◌, map, option_map, string_bytes, OnOk, IfOk};
+ghost use Rattle.std.specs.Prelude.{◌≡◌, ◌∷◌, ◌++◌, option_map, string_bytes, OnOk};
 ghost use Rattle.regex.specs.Strings.{regex_pattern};
 ghost use Rattle.minus_term.specs.FullRedraw.{full_ops};
 ghost use Rattle.minus_term.specs.Written.{written_all};
@@ -8,7 +8,6 @@ ghost use Rattle.minus_state.specs.Confirming.{confirmed, confirmed_by};
 ghost use Rattle.minus_state.specs.Control.{Control};
 ghost use Rattle.minus_state.specs.OpenSearches.{seen_search};
 ghost use Rattle.minus_state.specs.Page.{shown};
-ghost use Rattle.minus_state.specs.Showing.{row_text};
 ghost use Rattle.minus_state.specs.States.{control_of, IsFormed};
 ghost use Rattle.minus.specs.Drawings.{opening_under, cursor_under, edit_under, EditsAlone};
 ghost use Rattle.minus.specs.Previews.{view_seen};
@@ -17,9 +16,8 @@ use crate::page_bytes::push_page;
 use crate::search::OpenPrompt;
 use crate::state::PagerState;
 use minus_state::change::{Change, Setting};
-use minus_state::showing::ShownRow;
 use minus_state::{OpenSearch, SearchStep, confirmed_rows};
-use minus_term::{write_search_cursor, write_search_opening};
+use minus_term::{write_page, write_search_cursor, write_search_opening};
 use regex::Regex;
 use std::alloc::{AllocError, Global};
 
@@ -115,17 +113,6 @@ pub(crate) fn push_cursor(
     write_search_cursor(alloc, out, change.rows as u16, cursor)
 }
 
-// Rows of text as what is shown of them.
-pub(crate) fn shown_texts(alloc: Global, rows: &[String]) -> Result<Vec<ShownRow<'_>>, AllocError>
-    ensures { IfOk result (λ v. map row_text v.items ≡ map string_bytes rows.now) }
-{
-    let mut shown = Vec::new(alloc);
-    for row in rows {
-        shown.push(ShownRow::Own(row.as_str()))?;
-    }
-    Ok(shown)
-}
-
 // Adds the page of a state that shows where a pattern leads, with this in its last row.
 fn push_preview(
     state: &PagerState,
@@ -140,8 +127,7 @@ fn push_preview(
         (full_ops rows (shown (confirmed (control_of state.now) (regex_pattern pattern.now))) typed.now)) }
 {
     let found = confirmed_rows(alloc, state, pattern)?;
-    let texts = shown_texts(alloc, &found)?;
-    push_page(alloc, out, rows, &texts, typed)
+    write_page(out, rows, &found, typed)
 }
 
 // Adds the page that a change of the search prompt alone leads to, with this in its last row, where it shows where a
@@ -161,13 +147,12 @@ fn push_previewed(
         out.new.items ≡ out.old.items ++ written_all
         (full_ops new.rows (shown (confirmed_by new (option_map (λ r. regex_pattern r.now) preview.entry))) typed.now)) }
 {
-    let rows = change.rows as u16;
     match preview {
-        Some(pattern) => push_preview(state, alloc, out, rows, pattern, typed),
-        None => {
-            let texts = state.shown_after(alloc, change, 0)?;
-            push_page(alloc, out, rows, &texts, typed)
+        Some(pattern) => {
+            let rows = change.rows as u16;
+            push_preview(state, alloc, out, rows, pattern, typed)
         }
+        None => push_page(state, alloc, out, change, typed),
     }
 }
 

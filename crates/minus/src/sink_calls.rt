@@ -11,11 +11,10 @@ ghost use Rattle.minus_state.specs.Changes.{IsChange, IsFormedFor, shown_by};
 ghost use Rattle.minus.specs.Drawings.{whole_page, page_rows, append_from, scroll_to};
 ghost use Rattle.minus_state.specs.States.{IsFormed, control_of};
 
-use crate::page_bytes::{push_prompt, push_rows};
 use crate::state::PagerState;
 use crate::step_drawing::{Drawing, draw_page, push_append};
 use minus_state::change::{Change, NextText, Redraw};
-use minus_term::{MinusError, OutputSink, draw_bytes};
+use minus_term::{MinusError, OutputSink, draw_bytes, write_prompt_row};
 use std::alloc::{AllocError, Global};
 
 /// Draws the prompt row in the last of so many rows. An empty one is not put.
@@ -36,7 +35,7 @@ pub fn write_prompt<W: OutputSink>(
     ensures err { IfErr result (λ e. WriteRefuses W.seen e out.old out.new (written_all (prompt_ops rows text.now))) }
 {
     let mut bytes = Vec::new(alloc);
-    push_prompt(alloc, &mut bytes, rows, text)?;
+    write_prompt_row(&mut bytes, rows, text)?;
     draw_bytes(out, &bytes)?;
     Ok(())
 }
@@ -161,9 +160,8 @@ fn written_page(alloc: Global, state: &PagerState, change: &Change) -> Result<Ve
     requires { IsFormedFor state.now change.now }
     ensures { IfOk result (λ bytes. bytes.items ≡ written_all (flat_map row_ops (shown_by state.now change.now))) }
 {
-    let shown = state.shown_after(alloc, change, 0)?;
     let mut bytes = Vec::new(alloc);
-    push_rows(alloc, &mut bytes, &shown)?;
+    state.write_after(alloc, &mut bytes, change, 0)?;
     Ok(bytes)
 }
 

@@ -13,13 +13,12 @@ ghost use Rattle.minus.specs.StaticPager.{IsPaged, IsFirstPaged, IsUnpaged};
 use crate::hooks::{ExitCall, HookCall};
 use crate::init::{First, StartErrorOf, first_of, first_register, open, prepare};
 use crate::input::{ActionCall, Classifier};
-use crate::page_bytes::push_row;
 use crate::pager::PagerOf;
 use crate::parts::{Boxes, Calls, Keyed, Parts};
 use crate::search::ConditionCall;
 use crate::session::Core;
 use crate::state::{PagerState, RunMode};
-use minus_term::{MinusError, OutputSink, draw_bytes, write_bytes};
+use minus_term::{MinusError, OutputSink, draw_bytes, write_bytes, write_row};
 use std::alloc::{AllocError, Global};
 use std::io;
 
@@ -48,7 +47,7 @@ fn push_stored_row(
         ≡ out.old.items ++ written_all (row_ops (get_or (stored_rows (control_of state.now)) row []))) }
 {
     match state.screen.formatted_row(alloc, row)? {
-        Some(text) => push_row(alloc, out, &text),
+        Some(text) => write_row(out, &text),
         None => Ok(()),
     }
 }

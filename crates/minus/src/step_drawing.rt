@@ -11,12 +11,12 @@ ghost use Rattle.minus_state.specs.States.{control_of, IsFormed};
 ghost use Rattle.minus_state.specs.Changes.{IsChange, IsFormedFor, shown_by};
 
 use crate::page_bytes::{
-    push_changed_prompt, push_closing, push_page, push_prompt, push_rows_anew, push_scroll_down,
-    push_scroll_up,
+    push_changed_prompt, push_closing, push_page, push_rows_anew, push_scroll_down, push_scroll_up,
 };
 use crate::prompt_drawing::{push_cursor, push_edit, push_opening};
 use crate::state::PagerState;
 use minus_state::change::{Change, Redraw};
+use minus_term::write_prompt_row;
 use std::alloc::{AllocError, Global};
 
 // How a change is drawn over the page before it. What does not draw the prompt row is followed by it where it has
@@ -96,11 +96,11 @@ impl Drawing {
 }
 
 // Adds the rows of text that come onto the page that a change leads to as the mark moves, and the prompt row.
-fn push_scroll<'a>(
-    state: &'a PagerState,
+fn push_scroll(
+    state: &PagerState,
     alloc: Global,
     out: &mut Vec<u8>,
-    change: &'a Change,
+    change: &Change,
     from: usize,
     to: usize,
     prompt: &str,
@@ -109,15 +109,13 @@ fn push_scroll<'a>(
     ensures { OnOk result (out.new.items ≡ out.old.items ++ written_all
         (scroll_ops change.now.rows from to (shown_by state.now change.now) prompt.now)) }
 {
-    let (rows, most) = (change.rows as u16, change.rows - 1);
+    let most = change.rows - 1;
     if from <= to {
         let k = (to - from).min(most);
-        let texts = state.shown_after(alloc, change, most - k)?;
-        return push_scroll_down(alloc, out, rows, k as u16, &texts, prompt);
+        return push_scroll_down(state, alloc, out, change, k as u16, prompt);
     }
     let k = (from - to).min(most);
-    let texts = state.shown_between(alloc, change, 0, k)?;
-    push_scroll_up(alloc, out, rows, k as u16, &texts, prompt)
+    push_scroll_up(state, alloc, out, change, k as u16, prompt)
 }
 
 // Adds the rows of the page that a change leads to from one on, where so many rows of text were shown.
@@ -179,22 +177,16 @@ fn push_drawing<'a>(
 {
     match drawing {
         Drawing::Nothing => Ok(()),
-        Drawing::Full => {
-            let shown = state.shown_after(alloc, change, 0)?;
-            push_page(alloc, out, change.rows as u16, &shown, prompt)
-        }
+        Drawing::Full => push_page(state, alloc, out, change, prompt),
         Drawing::Scroll { from, to } => push_scroll(state, alloc, out, change, from, to, prompt),
         Drawing::Append { first, old_count } => push_append(
             state, alloc, out, change, first, old_count,
         ),
-        Drawing::Prompt => push_prompt(alloc, out, change.rows as u16, prompt),
+        Drawing::Prompt => write_prompt_row(out, change.rows as u16, prompt),
         Drawing::Opening => push_opening(state, alloc, out, change),
         Drawing::Cursor => push_cursor(state, alloc, out, change),
         Drawing::Edit => push_edit(state, alloc, out, change),
-        Drawing::Closing => {
-            let shown = state.shown_after(alloc, change, 0)?;
-            push_closing(alloc, out, change.rows as u16, &shown, prompt)
-        }
+        Drawing::Closing => push_closing(state, alloc, out, change, prompt),
     }
 }
 
@@ -219,7 +211,7 @@ pub(crate) fn push_step<'a>(
     if drawing.draws_prompt() {
         return Ok(());
     }
-    push_changed_prompt(alloc, out, change.rows as u16, prompt, before)?;
+    push_changed_prompt(out, change.rows as u16, prompt, before)?;
     Ok(())
 }
 

@@ -8,9 +8,8 @@ ghost use Rattle.minus_term.specs.Written.{written_all};
 ghost use Rattle.minus_text.specs.Prefixes.{is_on};
 ghost use Rattle.minus.specs.WrittenRows.{row_from, written_row, lines_ops, lines_of_page, text_ops};
 
-use crate::page_bytes::push_row;
 use minus_state::get_horizontal_scroll_bounds;
-use minus_term::{DrawOp, MinusError, OutputSink, draw_bytes, write_ops};
+use minus_term::{MinusError, OutputSink, draw_bytes, write_page_start, write_row};
 use minus_text::{LineNumbers, Row, crop_columns, prefix_columns};
 use std::alloc::{AllocError, Global};
 use std::convert::AsStr;
@@ -59,10 +58,10 @@ fn push_shown(
         (written_row style.wrapping style.cols style.left_mark style.numbers style.line_count row.now))) }
 {
     if style.wrapping {
-        return push_row(alloc, bytes, row);
+        return write_row(bytes, row);
     }
     let shown = row_from(alloc, row, style)?;
-    push_row(alloc, bytes, shown.as_str())
+    write_row(bytes, shown.as_str())
 }
 
 // Adds what is shown of stored rows.
@@ -168,7 +167,7 @@ fn push_text<L: AsStr>(
         (text_ops upper_mark rows style.wrapping style.cols style.left_mark style.numbers style.line_count
         (map L.text lines.now))) }
 {
-    write_ops(alloc, bytes, &[DrawOp::GoTo(0, 0), DrawOp::ClearAll])?;
+    write_page_start(bytes)?;
     push_lines(alloc, bytes, lines_of_page(lines, upper_mark, rows), style)?;
     Ok(())
 }

@@ -3,6 +3,7 @@
 mod errors;
 mod events;
 mod operations;
+mod parts;
 mod sinks;
 mod terminal;
 mod writes;

@@ -5,6 +5,7 @@ mod found;
 mod highlights;
 mod layouts;
 mod pieces;
+mod places;
 mod rows;
 mod screens;
 mod search;

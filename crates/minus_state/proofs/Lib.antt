@@ -5,6 +5,7 @@ pub mod ShownRowLaws
 pub mod ShownRowsLaws
 pub mod ShownLaws
 pub mod ShowingLaws
+pub mod WritingLaws
 pub mod SelectingLaws
 pub mod ChangeLaws
 pub mod AppendLaws

@@ -19,6 +19,7 @@ pub mod ShownPrompt
 pub mod Page
 pub mod NextTexts
 pub mod Showing
+pub mod Writing
 pub mod Events
 pub mod States
 pub mod Changes

@@ -1,14 +1,15 @@
 //! What stands around the text of a row: the number before it, and the columns that it has.
-ghost use Rattle.std.specs.Prelude.{◌≡◌, ◌<◌, ◌+◌, ◌^◌, ℕ, string_bytes, IfOk};
+ghost use Rattle.std.specs.Prelude.{◌≡◌, ◌<◌, ◌+◌, ◌^◌, ℕ, string_bytes, IfOk, IfSome};
 ghost use Rattle.minus_text.specs.Document.{Document};
+ghost use Rattle.minus_text.specs.Formatted.{prefix_of, printed_row};
 ghost use Rattle.minus_text.specs.Views.{viewed};
 ghost use Rattle.minus_state.specs.Frame.{frame_of};
 ghost use Rattle.minus_state.specs.Selection.{ends_in_order};
-ghost use Rattle.minus_state.specs.ShownRow.{cropped_line, selected_range};
+ghost use Rattle.minus_state.specs.ShownRow.{columns_for_text, cropped_line, line_prefix, selected_range};
 ghost use Rattle.minus_state.specs.View.{prefix_in, cut_in};
 
 use crate::selection::{SelectionEnds, marked_range};
-use minus_text::{FormattedRow, Layout, Row, RowsView, prefix_columns};
+use minus_text::{FormattedRow, Layout, Row, RowText, RowsView, prefix_columns};
 use std::alloc::{AllocError, Global};
 
 // How a text is laid out, how many lines it has, and the left mark that it is shown from.
@@ -48,17 +49,49 @@ impl Frame {
         self.left_mark
     }
 
-    // What is shown of a line that is one row, counted from 0, with this text: of the text what stands from the left
-    // mark on.
-    pub(crate) fn cropped_line(self, alloc: Global, i: usize, text: &str) -> Result<Row, AllocError>
+    // The columns that are left for the text of a row.
+    fn columns(self) -> usize
+        ensures { (d : Document) (left : ℕ) → self ≡ frame_of d left → result ≡ columns_for_text d }
+    {
+        self.layout.cols.saturating_sub(self.prefix())
+    }
+
+    // A line that is one row, counted from 0, with this in the place of its text.
+    fn line(self, i: usize, text: &str) -> FormattedRow<'_>
         requires { i + 1 < 2 ^ 64 }
-        ensures { IfOk result (λ row. (d : Document) (left : ℕ) → self ≡ frame_of d left →
-            string_bytes row ≡ cropped_line d left i text.now) }
+        ensures prefix { (d : Document) (left : ℕ) → self ≡ frame_of d left →
+            prefix_of result.prefix ≡ line_prefix d i }
+        ensures row { result.row.now ≡ text.now }
     {
         let numbers = self.layout.numbers.is_on();
-        let columns = self.layout.cols.saturating_sub(self.prefix());
-        let row = FormattedRow::new(text, numbers, self.line_count, i + 1, true);
-        row.to_cropped_row(alloc, self.left_mark, columns)
+        FormattedRow::new(text, numbers, self.line_count, i + 1, true)
+    }
+
+    // What is shown of a line that is one row, counted from 0, with this text, where that is a part of the text.
+    pub(crate) fn cropped_part<'t>(self, i: usize, text: RowText<'t>) -> Option<FormattedRow<'t>>
+        requires { i + 1 < 2 ^ 64 }
+        ensures { IfSome result (λ row. (d : Document) (left : ℕ) → self ≡ frame_of d left →
+            printed_row row ≡ cropped_line d left i text.entry.text.now) }
+    {
+        let part = text.shown_part(self.left_mark, self.columns())?;
+        Some(self.line(i, part))
+    }
+
+    // What is shown of a line that is one row, counted from 0, with this text: of the text what stands from the left
+    // mark on.
+    pub(crate) fn cropped_text(
+        self,
+        alloc: Global,
+        i: usize,
+        text: RowText<'_>,
+    ) -> Result<Row, AllocError>
+        requires { i + 1 < 2 ^ 64 }
+        ensures { IfOk result (λ row. (d : Document) (left : ℕ) → self ≡ frame_of d left →
+            string_bytes row ≡ cropped_line d left i text.entry.text.now) }
+    {
+        let mut row = self.line(i, "").to_row(alloc)?;
+        text.push_cropped(&mut row, self.left_mark, self.columns())?;
+        Ok(row)
     }
 
     // The visible characters of a row, counted from 0, that are selected.

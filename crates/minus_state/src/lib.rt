@@ -19,6 +19,7 @@ pub mod showing;
 pub mod state;
 pub mod view;
 pub mod visible;
+mod writing;
 
 pub use change::{AppendStyle, Change, NextText, Redraw, Setting};
 pub use copied::extract_selection;

@@ -10,7 +10,7 @@ ghost use Rattle.minus_state.specs.Showing.{row_text};
 use crate::frame::Frame;
 use crate::selection::SelectionEnds;
 use crate::visible::highlight_visible_range;
-use minus_text::{Row, RowsView};
+use minus_text::{Row, RowText, RowsView};
 use std::alloc::{AllocError, Global};
 
 /// What is shown of a row: its own text as it stands, or a text that was put together.
@@ -94,18 +94,18 @@ impl<'s> ShownRows<'s> {
     }
 
     // A line that is its one row, counted from 0, from the left mark on, if there is one.
-    fn cropped(self, alloc: Global, i: usize) -> Result<Option<Row>, AllocError>
+    pub(crate) fn cropped(self, alloc: Global, i: usize) -> Result<Option<Row>, AllocError>
         requires { i + 1 < 2 ^ 64 }
         ensures { IfOk result (λ row. (term : Option Re) → IsFoundAt term (viewed self.entry.view) i →
             option_map string_bytes row
             ≡ cropped_row term (viewed self.entry.view).document self.entry.left_mark i) }
     {
         let frame = Frame::of(self.view, self.left_mark);
-        if let Some(text) = self.view.plain_text(i) {
-            return Ok(Some(frame.cropped_line(alloc, i, text)?));
+        if let Some(text) = self.view.unmatched(i) {
+            return Ok(Some(frame.cropped_text(alloc, i, text)?));
         }
         match self.view.highlighted_row(alloc, i)? {
-            Some(text) => Ok(Some(frame.cropped_line(alloc, i, text.as_str())?)),
+            Some(text) => Ok(Some(frame.cropped_text(alloc, i, RowText::new(text.as_str()))?)),
             None => Ok(None),
         }
     }

@@ -10,4 +10,5 @@ pub mod SinkLaws
 pub mod WritesLaws
 pub mod TerminalLaws
 pub mod WrittenLaws
+pub mod PartLaws
 pub mod NormalFormLaws

@@ -35,8 +35,8 @@ pub enum DrawOp<'a> {
     HideCursor,
 }
 
-/// Adds bytes, or on an error none of them.
-fn push_bytes(out: &mut Vec<u8>, bytes: &[u8]) -> Result<(), AllocError>
+// Adds bytes, or on an error none of them.
+pub(crate) fn push_bytes(out: &mut Vec<u8>, bytes: &[u8]) -> Result<(), AllocError>
     ensures ok { OnOk result (out.new.items ≡ out.old.items ++ bytes.now) }
     ensures err { OnErr result (out.new.items ≡ out.old.items) }
 {
@@ -82,7 +82,7 @@ fn write_escape(bytes: &mut [u8; ROOM], end: usize) -> usize
 
 // Adds the bytes that move the cursor to the column x and the row y, or on an error none of them.
 #[tactic(auto, unfolding(crate::specs::Written::written))]
-fn push_go_to(out: &mut Vec<u8>, x: u16, y: u16) -> Result<(), AllocError>
+pub(crate) fn push_go_to(out: &mut Vec<u8>, x: u16, y: u16) -> Result<(), AllocError>
     ensures ok { OnOk result (out.new.items ≡ out.old.items ++ written (GoTo x y)) }
     ensures err { OnErr result (out.new.items ≡ out.old.items) }
 {
@@ -98,7 +98,7 @@ fn push_go_to(out: &mut Vec<u8>, x: u16, y: u16) -> Result<(), AllocError>
 }
 
 // Adds the bytes that move the rows by n, with the direction's letter, or on an error none of them; none for 0.
-fn push_scroll(out: &mut Vec<u8>, n: u16, letter: u8) -> Result<(), AllocError>
+pub(crate) fn push_scroll(out: &mut Vec<u8>, n: u16, letter: u8) -> Result<(), AllocError>
     ensures ok { OnOk result (out.new.items ≡ out.old.items ++ scroll_bytes n (letter ∷ [])) }
     ensures err { OnErr result (out.new.items ≡ out.old.items) }
 {

@@ -7,7 +7,8 @@ ghost use Rattle.minus_term.specs.SearchPrompt.{EditShowsItsPage, ClosingShowsIt
 ghost use Rattle.minus_term.specs.Written.{written_all};
 
 use crate::draw::{DrawOp, write_ops};
-use crate::full_redraw::push_page;
+use crate::full_redraw::write_page;
+use crate::page_parts::write_closing_start;
 use std::alloc::{AllocError, Global};
 use std::convert::AsStr;
 
@@ -73,7 +74,7 @@ pub fn write_search_edit<R: AsStr>(
     ensures { OnOk result (out.new.items
         ≡ out.old.items ++ written_all (edit_ops rows (map R.text shown.now) typed.now cursor)) }
 {
-    push_page(alloc, out, rows, shown, typed)?;
+    write_page(out, rows, shown, typed)?;
     write_search_cursor(alloc, out, rows, cursor)?;
     Ok(())
 }
@@ -94,12 +95,8 @@ pub fn write_search_closing<R: AsStr>(
     ensures { OnOk result (out.new.items
         ≡ out.old.items ++ written_all (closing_ops rows (map R.text shown.now) prompt.now)) }
 {
-    write_ops(
-        alloc,
-        out,
-        &[DrawOp::GoTo(0, rows), DrawOp::ClearRow, DrawOp::HideCursor],
-    )?;
-    push_page(alloc, out, rows, shown, prompt)?;
+    write_closing_start(out, rows)?;
+    write_page(out, rows, shown, prompt)?;
     Ok(())
 }
 

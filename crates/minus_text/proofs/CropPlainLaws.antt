@@ -1,13 +1,13 @@
 -- Laws on what is shown of characters of which each is a unit: a part of them, where they are of printable ASCII.
-use Rattle.std.proofs.Common.{◌≡◌, ℕ, zero, suc, ◌+◌, ◌-◌, ◌<◌, ◌≤◌, ◌==◌, ◌&&◌, Bool, true, false, not, eqb, leb, nat_le, min, max, List, [], ◌∷◌, ◌++◌, length, map, take, drop, replicate, chars, if◌then◌else◌, arith, refl, sym, ap, ◌∙◌, append_assoc, inl, inr}
+use Rattle.std.proofs.Common.{◌≡◌, ℕ, zero, suc, ◌+◌, ◌-◌, ◌<◌, ◌≤◌, ◌==◌, true, false, not, eqb, nat_le, max, List, [], ◌∷◌, ◌++◌, length, take, drop, replicate, chars, if◌then◌else◌, arith, refl, sym, ap, ◌∙◌, append_assoc, inl, inr}
 use Rattle.std.specs.List.{concat, sum_by, list_all}
 use Rattle.std.specs.Str.{IsAscii, IsUtf8, IsCharBoundary, encode_utf8_all}
-use Rattle.std.proofs.lemmas.Bool.{cases_Bool, cases_lt, and_parts, and_from, and_left, and_right, le-leb, lt-leb, eqb-true, ne_eqb, cond-false}
+use Rattle.std.proofs.lemmas.Bool.{cases_Bool, cases_lt, and_parts, and_from, and_left, and_right, le-leb, lt-leb, ne_eqb}
 use Rattle.std.proofs.lemmas.Bool.Decides.{nat_tests}
-use Rattle.std.proofs.lemmas.List.{append-nil, take-append-drop, length-append, length-take, length-drop, map-append, take_all, take-take, drop-take, drop_min, take-map, drop-map}
+use Rattle.std.proofs.lemmas.List.{append-nil, take-append-drop, map-append}
 use Rattle.std.proofs.lemmas.List.Folds.{list_all-append}
 use Rattle.std.proofs.lemmas.List.Sums.{sum_by-append, sum_by-cons}
-use Rattle.std.proofs.lemmas.Str.{chars-append, chars-IsAscii, chars-nil, encodes-IsAscii, encodes-chars, encodes-append, IsUtf8-from_ascii, IsUtf8-drop, IsCharBoundary-from_take}
+use Rattle.std.proofs.lemmas.Str.{chars-append, chars-IsAscii, encodes-IsAscii, encodes-chars, encodes-append, IsUtf8-from_ascii, IsCharBoundary-from_take}
 use Rattle.minus_text.specs.Plain.{is_printable, is_unescaped}
 use Rattle.minus_text.specs.Units.{char_columns, begins_sequence, units, unit_len, unit_columns, body_of}
 use Rattle.minus_text.specs.TextUnits.{text_units}
@@ -44,7 +44,7 @@ units_front (c ∷ cs) ds h =
     let cut : units (c ∷ rest) ≡ (c ∷ []) ∷ units rest = cuts_first unit_len unit_rule (c ∷ rest) (c ∷ []) rest (omega arith) (rw len refl) (rw len refl) in
     cut ∙ ap (λ us. (c ∷ []) ∷ us) (units_front cs ds both.1)
 
-units_single : (cs : List ℕ) → list_all is_unescaped cs ≡ true → units cs ≡ singles cs
+pub units_single : (cs : List ℕ) → list_all is_unescaped cs ≡ true → units cs ≡ singles cs
 units_single cs h = ap units (sym (append-nil cs)) ∙ units_front cs [] h ∙ ap (λ us. singles cs ++ us) (cuts-nil unit_len) ∙ append-nil (singles cs)
 
 singles_spaces : (n : ℕ) → singles (replicate n 32) ≡ replicate n (32 ∷ [])
@@ -213,7 +213,7 @@ last_some (c ∷ cs) h l =
     other zero z = absurd cc
     other (suc n) z = omega arith
 
-printable_unescaped : (cs : List ℕ) → list_all is_printable cs ≡ true → list_all is_unescaped cs ≡ true
+pub printable_unescaped : (cs : List ℕ) → list_all is_printable cs ≡ true → list_all is_unescaped cs ≡ true
 printable_unescaped [] h = refl
 printable_unescaped (c ∷ cs) h =
     let both = and_parts (is_printable c) (list_all is_printable cs) h in

@@ -13,7 +13,7 @@ use Rattle.minus_text.specs.Fragments.{rows_in}
 use Rattle.minus_text.specs.Pending.{Pending, IsPending}
 use Rattle.minus_text.specs.Highlight.{line_matches, line_match_places}
 use Rattle.minus_text.specs.Escapes.{escape_places}
-use Rattle.minus_text.specs.Found.{RowMatches, found_in_rows, found_by, found_above, found_of_row, IsPlaced, IsPlacedIn, ArePlaced, Ascend, AreFoundIn}
+use Rattle.minus_text.specs.Found.{RowMatches, found_in_rows, found_by, found_above, found_of_row, IsPlaced, IsPlacedSome, IsPlacedIn, ArePlaced, Ascend, AreFoundIn}
 use Rattle.minus_text.specs.FoundRows.{matches_of}
 use Rattle.minus_text.proofs.PendingLaws.{get_front, get_behind}
 use Rattle.std.proofs.lemmas.List.{length-take-le}
@@ -72,6 +72,27 @@ place_above row (f ∷ fs) (suc n) le h k =
     let t : nat_le row f.row ≡ false = grind (arith, nat_tests, b) in
     let one : suc n ≡ 1 + n = omega arith in
     rw t (one ∙ ap (λ m. 1 + m) (place_above row fs n (omega (arith, le)) (λ i d l. h (suc i) d (omega (arith, l))) (λ i d l m. k (suc i) d (omega (arith, l)) (omega (arith, m)))))
+
+-- so many rows stand above one: the last of them does, and the first that follows does not
+pub above_here : (row : ℕ) (fs : List FoundRow) (n : ℕ) → Ascend 0 (map matches_of fs) → n ≤ length fs → ((d : FoundRow) → 0 < n → (get_or fs (n - 1) d).row < row) → ((d : FoundRow) → n < length fs → row ≤ (get_or fs n d).row)
+    → n ≡ position_or_len (λ (f : RowMatches). nat_le row f.row) (map matches_of fs)
+above_here row fs n h le before behind =
+    place_above row fs n le
+    (λ k d l. (
+    let rise = rows_rise 0 fs h k (n - 1) d (omega (arith, l)) (omega (arith, l, le)) in
+    let less : (get_or fs k d).row < row = omega (arith, rise, before d (omega (arith, l))) in
+    grind (arith, nat_tests, less)
+    ))
+    (λ k d l m. (
+    let rise = rows_rise 0 fs h n k d l m in
+    let more : row ≤ (get_or fs k d).row = omega (arith, rise, behind d (omega (arith, l, m))) in
+    grind (arith, nat_tests, more)
+    ))
+
+-- what was found in a row stands there
+pub placed_some : (row : List ℕ) (found : Option RowMatches) → IfSome found (λ r. IsPlaced row r) → IsPlacedSome row found
+placed_some row None h = tt
+placed_some row (Some r) h = h
 
 -- ---- a row by its number
 

@@ -22,7 +22,7 @@ unfolding line_places
 places_of_some cols line some = let other : eqb (length (chars line)) 0 ≡ false = ne_eqb (length (chars line)) 0 (λ z. omega arith) in rw other refl
 
 -- places counted from further on
-places_moved : (n at : ℕ) (runs : List (List Piece)) → places (n + at) runs ≡ map (moved n) (places at runs)
+pub places_moved : (n at : ℕ) (runs : List (List Piece)) → places (n + at) runs ≡ map (moved n) (places at runs)
 places_moved n at [] = refl
 places_moved n at (run ∷ runs) =
     let e : (n + at) + length (encode_utf8_all (row_text run)) ≡ n + (at + length (encode_utf8_all (row_text run))) = omega arith in

@@ -34,7 +34,12 @@ pub mod DigitsLaws
 pub mod SpacesLaws
 pub mod TextUnitsLaws
 pub mod CropLaws
+pub mod RowTextsLaws
 pub mod CropPlainLaws
+pub mod CutSeamsLaws
+pub mod CutRowLaws
+pub mod CutPlacesLaws
+pub mod CutRowsLaws
 pub mod ShownColumnsLaws
 pub mod LineMapLaws
 pub mod LinesLaws

@@ -6,8 +6,8 @@ use Rattle.std.proofs.lemmas.Bool.{cases_Bool, eqb-true, cases_lt}
 use Rattle.std.specs.Str.{IsUtf8, IsCharBoundary}
 use Rattle.std.proofs.lemmas.Str.{IsCharBoundary-start, IsCharBoundary-after_ascii}
 use Rattle.std.proofs.lemmas.List.{length-take-le, length-drop, length-append, get_or_append_left}
-use Rattle.std.proofs.lemmas.List.Sums.{sum_by-cons}
-use Rattle.minus_text.specs.Lines.{Cut, onto, cut, LinesAreCut}
+use Rattle.std.proofs.lemmas.List.Sums.{sum_by-cons, position_or_len_is}
+use Rattle.minus_text.specs.Lines.{Cut, onto, cut, behind, LinesAreCut}
 use Rattle.minus_text.specs.Kept.{bytes_of}
 
 -- whether a byte is a newline
@@ -26,6 +26,12 @@ cut-append (b ∷ xs) ys = elim (cases_Bool (eqb b 10)) [
         onto b (c ++ (cut (o ++ ys)).closed) (cut (o ++ ys)).open_line ≡ record { closed = (onto b c o).closed ++ (cut ((onto b c o).open_line ++ ys)).closed; open_line = (cut ((onto b c o).open_line ++ ys)).open_line }
     onto-append b [] o ys e = rw e refl
     onto-append b (x ∷ c) o ys e = refl
+
+no_newline : (b : ℕ) → (nl b ≡ true → ⊥) → nl b ≡ false
+no_newline b h = elim (cases_Bool (eqb b 10)) [
+  | inl t ↦ absurd (h t)
+  | inr f ↦ f
+]
 
 -- where the first newline is
 position_no : (b : ℕ) (bs : List ℕ) → eqb b 10 ≡ false → position_or_len nl (b ∷ bs) ≡ suc (position_or_len nl bs)
@@ -60,6 +66,17 @@ cut_none (b ∷ bs) e = elim (cases_Bool (eqb b 10)) [
   | inl t ↦ let z = position_yes b bs t in absurd (omega arith)
   | inr f ↦ let h = position_no b bs f in rw (f, cut_none bs (omega arith)) refl
 ]
+
+-- the first newline, where each byte was asked
+pub newline_at : (bs : List ℕ) (k : ℕ) → k < length bs → ((i : ℕ) → 0 ≤ i → i < k → nl (get_or bs i 0) ≡ true → ⊥) → nl (get_or bs k 0) ≡ true → position_or_len nl bs ≡ k
+newline_at bs k l before here = position_or_len_is nl bs k 0 (omega (arith, l)) (λ i a. no_newline (get_or bs i 0) (before i (omega arith) a)) (λ a. here)
+
+pub newline_nowhere : (bs : List ℕ) → ((i : ℕ) → 0 ≤ i → i < length bs → nl (get_or bs i 0) ≡ true → ⊥) → position_or_len nl bs ≡ length bs
+newline_nowhere bs none = position_or_len_is nl bs (length bs) 0 (omega arith) (λ i a. no_newline (get_or bs i 0) (none i (omega arith) a)) (λ a. absurd (omega (arith, a)))
+
+-- the line before it, and what follows it
+pub cut_at_newline : (bs : List ℕ) (k : ℕ) → k < length bs → position_or_len nl bs ≡ k → cut bs ≡ behind (take k bs) (cut (drop (k + 1) bs))
+cut_at_newline bs k l e = cut_first bs (omega (arith, l, e)) ∙ ap (λ n. behind (take n bs) (cut (drop (n + 1) bs))) e
 
 -- a text is split at its newlines as std splits it
 parts : (bs : List ℕ) → slice_split nl bs ≡ (cut bs).closed ++ (cut bs).open_line ∷ []

@@ -96,7 +96,7 @@ some_pieces [] cs e l = let z : 0 ≡ length cs = ap length e in absurd (omega a
 some_pieces (p ∷ ps) cs e l = omega arith
 
 -- all pieces are one run
-one_run : (cols : ℕ) (ps : List Piece) → 0 < length ps → run_columns ps ≤ cols → ps ∷ [] ≡ (the_rows cols ps).runs
+pub one_run : (cols : ℕ) (ps : List Piece) → 0 < length ps → run_columns ps ≤ cols → ps ∷ [] ≡ (the_rows cols ps).runs
 one_run cols ps some fits =
     let are : AreRuns (fits_row cols) ps (ps ∷ []) = ([], sym (append-nil ps), record { some = some; fitting = or_right (nat_le (length ps) 1) (nat_le (run_columns ps) cols) (le-leb (run_columns ps) cols fits); full = tt }, refl) in
     (the_rows cols ps).only (ps ∷ []) are
@@ -191,12 +191,12 @@ no_joint (c ∷ cs) before h =
     and_false true = refl
     and_false false = refl
 
-some_units : (us : List (List ℕ)) (cs : List ℕ) → concat us ≡ cs → 0 < length cs → 0 < length us
+pub some_units : (us : List (List ℕ)) (cs : List ℕ) → concat us ≡ cs → 0 < length cs → 0 < length us
 some_units [] cs e l = let z : 0 ≡ length cs = ap length e in absurd (omega arith)
 some_units (u ∷ us) cs e l = omega arith
 
 -- a part that fits is one front
-one_front : (cols : ℕ) (cs : List ℕ) → 0 < length cs → sum_by unit_columns (units cs) ≤ cols → units cs ∷ [] ≡ fronts cols cs
+pub one_front : (cols : ℕ) (cs : List ℕ) → 0 < length cs → sum_by unit_columns (units cs) ≤ cols → units cs ∷ [] ≡ fronts cols cs
 one_front cols cs some fits =
     let us : List (List ℕ) = units cs in
     let are : AreRuns (fits_front cols) us (us ∷ []) = ([], sym (append-nil us), record { some = some_units us cs (units_join cs) some; fitting = or_left (nat_le (sum_by unit_columns us) cols) (nat_le (count_by is_wide us) 1) (le-leb (sum_by unit_columns us) cols fits); full = tt }, refl) in

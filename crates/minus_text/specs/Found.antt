@@ -53,6 +53,11 @@ marked (Some r) row = put_in (outside row 0 r.escapes) 0 (ordered false r.matche
 abbrev pub IsPlaced : List ℕ → RowMatches → Type 0
 IsPlaced row r = CutsText row 0 r.escapes × CutsText (outside row 0 r.escapes) 0 r.matches
 
+-- the places of what was found in a row, if something was
+abbrev pub IsPlacedSome : List ℕ → Option RowMatches → Type 0
+IsPlacedSome row None = Unit {0}
+IsPlacedSome row (Some r) = IsPlaced row r
+
 -- these places stand in the row that has their number, among rows of which the first has a number
 abbrev pub IsPlacedIn : ℕ → List (List ℕ) → RowMatches → Type 0
 IsPlacedIn first rows r = (i : ℕ) (row : List ℕ) → r.row ≡ first + i → slice_get rows i ≡ Some row → IsPlaced row r
@@ -79,3 +84,7 @@ ArePlaced-prop first rows (r ∷ rs) = hlevel (CutsText-prop, ArePlaced-prop fir
 pub Ascend-prop : (first : ℕ) (found : List RowMatches) → IsProp (Ascend first found)
 Ascend-prop first [] = hlevel
 Ascend-prop first (r ∷ rs) = hlevel (le_prop, Ascend-prop (r.row + 1) rs)
+
+pub IsPlacedSome-prop : (row : List ℕ) (found : Option RowMatches) → IsProp (IsPlacedSome row found)
+IsPlacedSome-prop row None = hlevel
+IsPlacedSome-prop row (Some r) = hlevel CutsText-prop

@@ -2,6 +2,7 @@
 pub mod Cuts
 pub mod Units
 pub mod Plain
+pub mod RowText
 pub mod Runs
 pub mod RunsLaws
 pub mod TheRuns
@@ -43,5 +44,7 @@ pub mod Searched
 pub mod Words
 pub mod NextPushes
 pub mod Views
+pub mod ViewedRows
 pub mod LineParts
 pub mod RowHomes
+pub mod LineCuts

@@ -15,6 +15,7 @@ use crate::formed_push::FormedPush;
 use crate::layout::{Layout, Wrap};
 use crate::line_numbers::{LineNumbers, prefix_columns};
 use crate::lines::newlines;
+use crate::row_text::escapes_end;
 use crate::screen::FormatResult;
 use crate::search::{Finder, Term};
 use std::alloc::{AllocError, Global};
@@ -124,6 +125,7 @@ impl FormattedBlock {
         let formed = form(alloc, &text, start, wrap)?;
         let unfinished = first_row + formed.rows.len() - formed.finished.rows;
         let longest = formed.longest;
+        let escapes_end = escapes_end(0, 0, &text);
         Ok(FormattedBlock {
             formed: FormedPush {
                 tail: text,
@@ -132,6 +134,7 @@ impl FormattedBlock {
                 wrap,
                 numbers: layout.numbers,
                 cols: layout.cols,
+                escapes_end,
             },
             layout,
             lines_before,

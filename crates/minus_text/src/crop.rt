@@ -1,11 +1,13 @@
 //! Texts cut to some columns.
-ghost use Rattle.std.specs.Prelude.{◌≡◌, ◌≤◌, ◌+◌, ◌-◌, ◌==◌, ◌++◌, max, true, length, take, drop, chars, string_bytes, if◌then◌else◌, IfOk, IfSome, OnOk};
+ghost use Rattle.std.specs.Prelude.{◌≡◌, ◌≤◌, ◌+◌, ◌-◌, ◌==◌, ◌++◌, max, true, length, take, drop, chars, string_bytes, if◌then◌else◌, IfOk, IfSome, OnOk, IsTrue, ℕ, List};
 ghost use Rattle.std.specs.List.{concat, list_all};
 ghost use Rattle.std.specs.Str.{encode_utf8_all};
-ghost use Rattle.minus_text.specs.Plain.{is_printable};
+ghost use Rattle.minus_text.specs.Plain.{is_printable, is_unescaped};
+ghost use Rattle.minus_text.specs.RowText.{IsUnescapedFrom};
 ghost use Rattle.minus_text.specs.Units.{unit_columns, columns, begins_sequence};
 ghost use Rattle.minus_text.specs.Crop.{is_inside, columns_inside, is_shown_behind, is_shown, shown_unit, cropped, fitted, CroppedFits, FittedTextsFill};
 
+use crate::row_text::RowText;
 use crate::screen::Row;
 use crate::spaces::push_spaces;
 use crate::units::{Unit, Units};
@@ -112,16 +114,29 @@ fn last_of_run(last: usize, run: &str) -> usize
     if run.is_empty() { last } else { 1 }
 }
 
-// What is shown of a text without ESC, of which no other characters than printable ASCII stand in the columns up to the
-// first behind those that are shown: a part of it. No character behind that one is read, but for being ESC.
-fn plain_part(text: &str, left: usize, width: usize) -> Option<&str>
+// Whether what stands behind a place of a text has no ESC: that is known from a place before, or each byte is read.
+fn is_unescaped_behind(rest: &[u8], at: usize, escapes_end: usize) -> bool
+    ensures { IsTrue result → (text : List ℕ) → IsUnescapedFrom escapes_end text → rest.now ≡ drop at text →
+        list_all is_unescaped rest.now ≡ true }
+{
+    if escapes_end <= at {
+        return true;
+    }
+    are_unescaped(rest)
+}
+
+// What is shown of a text without ESC behind the columns that are shown, of which no other characters than printable ASCII
+// stand in the columns up to the first behind: a part of it. Where it is known that the text has no ESC from a place before
+// on, no character behind that one is read.
+fn plain_part(text: &str, left: usize, width: usize, escapes_end: usize) -> Option<&str>
+    requires { IsUnescapedFrom escapes_end text.now }
     ensures { IfSome result (λ part. part.now ≡ cropped left width text.now) }
 {
     let bytes = text.as_bytes();
     let end = left.saturating_add(width);
     if end < bytes.len() {
         let (front, rest) = bytes.split_at(end + 1);
-        if are_printable(front) && are_unescaped(rest) {
+        if are_printable(front) && is_unescaped_behind(rest, end + 1, escapes_end) {
             return Some(&text[left..end]);
         }
         return None;
@@ -133,12 +148,7 @@ fn plain_part(text: &str, left: usize, width: usize) -> Option<&str>
 }
 
 // Adds what is shown of a text: of characters of printable ASCII all together, of any other unit by unit.
-fn push_units(
-    row: &mut String,
-    text: &str,
-    left: usize,
-    width: usize,
-) -> Result<(), AllocError>
+fn push_units(row: &mut String, text: &str, left: usize, width: usize) -> Result<(), AllocError>
     ensures { OnOk result (string_bytes row.new ≡ string_bytes row.old ++ cropped left width text.now) }
 {
     let window = Window { left, width };
@@ -160,21 +170,39 @@ fn push_units(
     }
 }
 
-/// Adds to a row what is shown of a text, as [`crop_columns`] gives it. An `Err` is for want of memory alone; it may
-/// leave some of it behind.
-pub fn push_cropped(
-    row: &mut String,
-    text: &str,
-    left: usize,
-    width: usize,
-) -> Result<(), AllocError>
+// Adds to a row what is shown of a text, as `crop_columns` gives it. An `Err` is for want of memory alone; it may leave
+// some of it behind.
+fn push_cropped(row: &mut String, text: &str, left: usize, width: usize) -> Result<(), AllocError>
     ensures { OnOk result (string_bytes row.new ≡ string_bytes row.old ++ cropped left width text.now) }
 {
-    if let Some(part) = plain_part(text, left, width) {
-        row.push_str(part)?;
-        return Ok(());
+    RowText::new(text).push_cropped(row, left, width)
+}
+
+impl<'t> RowText<'t> {
+    ghost use Rattle.std.specs.Prelude.{◌≡◌, ◌++◌, string_bytes, IfSome, OnOk};
+    ghost use Rattle.minus_text.specs.Crop.{cropped};
+
+    /// What is shown of it in so many columns from the column `left` on, as [`crop_columns`] gives it, where that is a part
+    /// of it: where no other characters than printable ASCII stand in the columns up to the first behind these, and no
+    /// escape sequence behind. Nothing of that is read where it is known to have none.
+    pub fn shown_part(self, left: usize, width: usize) -> Option<&'t str>
+        ensures { IfSome result (λ part. part.now ≡ cropped left width self.entry.text.now) }
+    {
+        plain_part(self.text, left, width, self.escapes_end)
     }
-    push_units(row, text, left, width)
+
+    /// Adds to a row what is shown of it in so many columns from the column `left` on, as [`crop_columns`] gives it. An
+    /// `Err` is for want of memory alone; it may leave some of it behind.
+    pub fn push_cropped(self, row: &mut String, left: usize, width: usize) -> Result<(), AllocError>
+        ensures { OnOk result (string_bytes row.new
+            ≡ string_bytes row.old ++ cropped left width self.entry.text.now) }
+    {
+        if let Some(part) = self.shown_part(left, width) {
+            row.push_str(part)?;
+            return Ok(());
+        }
+        push_units(row, self.text, left, width)
+    }
 }
 
 /// What is shown of a text, taken as one piece, in so many columns from the column `left` on, counted from

@@ -7,8 +7,8 @@ ghost use Rattle.minus_text.specs.Shown.{shown_line};
 ghost use Rattle.minus_text.specs.FoundRows.{finder_pattern, pattern_of};
 ghost use Rattle.minus_text.specs.Formatted.{prefix_of, printed_row, printed_under, printed_searched, row_matches};
 
-use crate::crop::push_cropped;
 use crate::line_numbers::{digits, prefix_columns};
+use crate::push_text::PushText;
 use crate::screen::Row;
 use crate::search::escapes::part;
 use crate::search::{Finder, HighlightMatchesArgs, Term};
@@ -45,20 +45,21 @@ pub(crate) struct RowPrefix {
 }
 
 // Adds a line's number in bold and with a stop, at the right of so many columns with a blank behind it.
-fn push_number(out: &mut String, columns: usize, line: usize) -> Result<(), AllocError>
-    ensures { OnOk result (string_bytes out.new ≡ string_bytes out.old
+fn push_number<T: PushText>(out: &mut T, columns: usize, line: usize) -> Result<(), AllocError>
+    ensures { OnOk result (T.bytes out.new ≡ T.bytes out.old
         ++ numbered (columns - (length (decimal line) + 2)) line) }
 {
     let mut buffer = Buffer::new();
     let number = buffer.format(line);
     push_spaces(out, columns.saturating_sub(number.len() + 2))?;
-    out.push_str("\x1b[1m")?;
-    out.push_str(number)?;
-    out.push_str(".\x1b[0m ")
+    out.push_text("\x1b[1m")?;
+    out.push_text(number)?;
+    out.push_text(".\x1b[0m ")?;
+    Ok(())
 }
 
 impl RowPrefix {
-    ghost use Rattle.std.specs.Prelude.{◌≡◌, ◌++◌, string_bytes, OnOk};
+    ghost use Rattle.std.specs.Prelude.{◌≡◌, ◌++◌, OnOk};
     ghost use Rattle.minus_text.specs.Formatted.{prefix_of};
 
     pub(crate) const NONE: RowPrefix = RowPrefix {
@@ -74,8 +75,8 @@ impl RowPrefix {
     }
 
     // Adds it to a row. An `Err` is for want of memory alone; it may leave some of it behind.
-    pub(crate) fn push_to(self, out: &mut String) -> Result<(), AllocError>
-        ensures { OnOk result (string_bytes out.new ≡ string_bytes out.old ++ prefix_of self) }
+    pub(crate) fn push_to<T: PushText>(self, out: &mut T) -> Result<(), AllocError>
+        ensures { OnOk result (T.bytes out.new ≡ T.bytes out.old ++ prefix_of self) }
     {
         if !self.numbers {
             return Ok(());
@@ -85,7 +86,8 @@ impl RowPrefix {
             push_number(out, columns, self.line)?;
             return Ok(());
         }
-        push_spaces(out, columns)
+        push_spaces(out, columns)?;
+        Ok(())
     }
 }
 
@@ -115,8 +117,7 @@ pub struct FormattedRow<'a> {
 }
 
 impl<'a> FormattedRow<'a> {
-    ghost use Rattle.std.specs.Prelude.{◌≡◌, ◌++◌, string_bytes, IfOk};
-    ghost use Rattle.minus_text.specs.Crop.{cropped};
+    ghost use Rattle.std.specs.Prelude.{◌≡◌, ◌++◌, string_bytes, IfOk, OnOk};
     ghost use Rattle.minus_text.specs.Prefixes.{prefix};
     ghost use Rattle.minus_text.specs.Formatted.{prefix_of, printed_row};
 
@@ -145,6 +146,26 @@ impl<'a> FormattedRow<'a> {
         }
     }
 
+    // Adds it to a row, or to the bytes of a drawing. An `Err` is for want of memory alone; it may leave some of it behind.
+    fn push_to<T: PushText>(self, out: &mut T) -> Result<(), AllocError>
+        ensures { OnOk result (T.bytes out.new ≡ T.bytes out.old ++ printed_row self.entry) }
+    {
+        self.prefix.push_to(out)?;
+        out.push_text(self.row)?;
+        Ok(())
+    }
+
+    /// Adds what it prints to the bytes of a drawing.
+    ///
+    /// # Errors
+    ///
+    /// [`AllocError`] where there is no memory for it: a beginning of it was added.
+    pub fn write_to(self, out: &mut Vec<u8>) -> Result<(), AllocError>
+        ensures { OnOk result (out.new.items ≡ out.old.items ++ printed_row self.entry) }
+    {
+        self.push_to(out)
+    }
+
     /// What it prints, in memory that is taken once.
     ///
     /// # Errors
@@ -155,25 +176,7 @@ impl<'a> FormattedRow<'a> {
     {
         let room = self.prefix.room().saturating_add(self.row.len());
         let mut out = String::with_capacity(alloc, room)?;
-        self.prefix.push_to(&mut out)?;
-        out.push_str(self.row)?;
-        Ok(out)
-    }
-
-    /// What stands before it, and what is shown of its text in so many columns from the column `left` on, as
-    /// [`crop_columns`](crate::crop_columns) gives it, in memory that is mostly taken once.
-    ///
-    /// # Errors
-    ///
-    /// [`AllocError`] where there is none.
-    pub fn to_cropped_row(self, alloc: Global, left: usize, width: usize) -> Result<Row, AllocError>
-        ensures { IfOk result (λ row. string_bytes row ≡ prefix_of self.entry.prefix
-            ++ cropped left width self.entry.row.now) }
-    {
-        let room = self.prefix.room().saturating_add(self.row.len().min(width));
-        let mut out = String::with_capacity(alloc, room)?;
-        self.prefix.push_to(&mut out)?;
-        push_cropped(&mut out, self.row, left, width)?;
+        self.push_to(&mut out)?;
         Ok(out)
     }
 }

@@ -1,16 +1,17 @@
 //! Rows formed of a text, beside what is kept.
-ghost use Rattle.std.specs.Prelude.{◌≡◌, ℕ, List, ◌+◌, ◌-◌, ◌^◌, ◌<◌, ◌≤◌, ◌∷◌, [], ◌++◌, length, drop, max, IsTrue, IfOk, OnOk, MatchOption};
+ghost use Rattle.std.specs.Prelude.{◌≡◌, ℕ, List, ◌+◌, ◌-◌, ◌^◌, ◌<◌, ◌≤◌, ◌∷◌, [], ◌++◌, length, drop, max, IsTrue, IfOk, OnOk};
 ghost use Rattle.std.specs.Str.{IsUtf8, IsCharBoundary};
 ghost use Rattle.minus_text.specs.Lines.{cut, whole};
-ghost use Rattle.minus_text.specs.Layouts.{own_rows, own_places};
+ghost use Rattle.minus_text.specs.Layouts.{own_rows};
 ghost use Rattle.minus_text.specs.Units.{columns};
 ghost use Rattle.minus_text.specs.Kept.{line_stored, IsPrepared, GoesOnInSome, IsBorderOfEach};
 ghost use Rattle.minus_text.specs.Forms.{IsBegun, IsFormOfLines};
 
 use crate::layout::Wrap;
+use crate::line_cuts::push_printable;
 use crate::lines::{split_line, without_return};
 use crate::lines_row_map::LinesRowMap;
-use crate::wrap::{Span, columns, is_one_row, is_unescaped, settled, wrap_line};
+use crate::wrap::{Span, columns, is_unescaped, settled, wrap_line};
 use std::alloc::{AllocError, Global};
 
 // How far lines go that a newline ends: how many lines, rows and bytes, and the columns of the
@@ -125,22 +126,6 @@ struct Forming {
     longest: usize,
 }
 
-// The columns that a line is to be wrapped to; none where it is one row, all of it.
-fn wrapped_to(line: &str, wrap: Wrap) -> Option<usize>
-    ensures { MatchOption result (own_places wrap line.now ≡ record { start = 0; end = length line.now } ∷ [])
-        (λ cols. wrap ≡ Wrap.At cols) }
-{
-    match wrap {
-        Wrap::At(cols) => {
-            if is_one_row(line, cols) {
-                return None;
-            }
-            Some(cols)
-        }
-        Wrap::Off => None,
-    }
-}
-
 // Adds the rows of a line that begins at a place of the text.
 fn push_rows(
     alloc: Global,
@@ -153,13 +138,16 @@ fn push_rows(
     ensures items { OnOk result (rows.new.items ≡ rows.old.items ++ line_stored wrap at line.now) }
     ensures len { OnOk result (length rows.new.items ≡ length rows.old.items + length (own_rows wrap line.now)) }
 {
-    let Some(cols) = wrapped_to(line, wrap) else {
+    let Wrap::At(cols) = wrap else {
         rows.push(Span {
             start: at,
             end: at + line.len(),
         })?;
         return Ok(());
     };
+    if push_printable(rows, at, line, cols)? {
+        return Ok(());
+    }
     let places = wrap_line(alloc, line, cols)?;
     for part in &places {
         rows.push(Span {

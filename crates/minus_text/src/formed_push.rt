@@ -7,6 +7,7 @@ use crate::formed::{Formed, Restart};
 use crate::layout::{Layout, Wrap};
 use crate::line_numbers::LineNumbers;
 use crate::lines_row_map::LinesRowMap;
+use crate::row_text::RowText;
 use std::marker::Model;
 
 // What a push would form, beside the rows that would stay.
@@ -20,12 +21,15 @@ pub(crate) struct FormedPush {
     // The numbers and columns of the push.
     pub(crate) numbers: LineNumbers,
     pub(crate) cols: usize,
+    // A place from which on no byte of the tail is ESC.
+    pub(crate) escapes_end: usize,
 }
 
 impl Model for FormedPush {
     ghost use Rattle.std.specs.Prelude.{◌+◌, string_bytes};
     ghost use Rattle.minus_text.specs.Pending.{Pending};
     ghost use Rattle.minus_text.specs.Kept.{IsPreparedPush};
+    ghost use Rattle.minus_text.specs.RowText.{IsUnescapedFrom};
 
     ghost Value = { Pending };
 
@@ -39,7 +43,8 @@ impl Model for FormedPush {
       cols = p.cols;
     } };
 
-    ghost invariant = { λ p. IsPreparedPush p.wrap (string_bytes p.tail) p.start p.formed };
+    ghost invariant = { λ p. IsPreparedPush p.wrap (string_bytes p.tail) p.start p.formed
+        × IsUnescapedFrom p.escapes_end (string_bytes p.tail) };
 }
 
 impl FormedPush {
@@ -105,13 +110,26 @@ impl FormedPush {
     }
 
     // The text of a row that is formed, counted from 0.
-    pub(crate) fn row_text(&self, i: usize) -> Option<&str>
-        ensures { option_map (λ r. r.now) result ≡ slice_get (rows_in self.now.tail) i }
+    pub(crate) fn row(&self, i: usize) -> Option<RowText<'_>>
+        ensures { option_map (λ r. r.text.now) result ≡ slice_get (rows_in self.now.tail) i }
     {
         let at = self.start.finished.bytes + self.start.bytes;
         let text = self.tail.as_str();
         match self.formed.rows.get(i) {
-            Some(row) => Some(&text[row.start - at..row.end - at]),
+            Some(row) => Some(RowText {
+                text: &text[row.start - at..row.end - at],
+                escapes_end: self.escapes_end.saturating_sub(row.start - at),
+            }),
+            None => None,
+        }
+    }
+
+    // It alone, where nothing is asked of its escape sequences.
+    pub(crate) fn row_text(&self, i: usize) -> Option<&str>
+        ensures { option_map (λ r. r.now) result ≡ slice_get (rows_in self.now.tail) i }
+    {
+        match self.row(i) {
+            Some(row) => Some(row.text),
             None => None,
         }
     }

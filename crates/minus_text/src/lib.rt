@@ -9,10 +9,13 @@ mod formatted;
 mod formed;
 mod formed_push;
 pub mod layout;
+mod line_cuts;
 pub mod line_numbers;
 pub mod lines;
 pub mod lines_row_map;
 pub mod pending;
+mod push_text;
+pub mod row_text;
 pub mod screen;
 mod seams;
 pub mod search;
@@ -20,10 +23,11 @@ mod spaces;
 mod store;
 pub mod units;
 pub mod view;
+mod viewed_row;
 pub mod wrap;
 
 pub use buffers::{AppendableBuffer, ReusableRows};
-pub use crop::{Window, crop_columns, cropped_texts_fit, fit_columns, fitted_texts_fill, push_cropped};
+pub use crop::{Window, crop_columns, cropped_texts_fit, fit_columns, fitted_texts_fill};
 pub use format::{FormatOpts, format_lines_into, format_text_block};
 pub use formatted::{FormattedRow, SearchFormattedRow, format_search_rows};
 pub use layout::Layout;
@@ -33,6 +37,7 @@ pub use lines::{
 };
 pub use lines_row_map::LinesRowMap;
 pub use pending::PendingPush;
+pub use row_text::RowText;
 pub use screen::searching::Findings;
 pub use screen::{
     FormatResult, Line, OwnedTextBlock, Row, Rows, Screen, TextBlock, line_map_ascends, pushes_join,
@@ -45,6 +50,7 @@ pub use search::{
 };
 pub use units::{Unit, Units};
 pub use view::RowsView;
+pub use viewed_row::{RowPlace, ViewedRow};
 pub use wrap::{
     Span, columns, format_line, pieces_join, rows_are_determined, rows_fit,
     words_are_cut_at_joints, wrap_line,

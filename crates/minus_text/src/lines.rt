@@ -7,6 +7,7 @@ ghost use Rattle.minus_text.specs.LinePlaces.{joined_lines, last_line_end};
 ghost use Rattle.minus_text.specs.LineParts.{PartsAreOfLines};
 ghost use Rattle.minus_text.specs.RowHomes.{RowsStandInLines};
 
+use memchr::memchr;
 use std::alloc::{AllocError, Global};
 
 // A line without the carriage return at its end.
@@ -38,8 +39,8 @@ pub(crate) fn split_line(text: &str) -> Option<(&str, &str)>
         (λ x. cut text.now ≡ behind x.0.now (cut x.1.now)) }
     ensures room { IfSome result (λ x. (length x.0.now + 1) + length x.1.now ≡ length text.now) }
 {
-    match text.split_once('\n') {
-        Some((first, rest)) => Some((first, rest)),
+    match memchr(b'\n', text.as_bytes()) {
+        Some(place) => Some((&text[..place], &text[place + 1..])),
         None => None,
     }
 }

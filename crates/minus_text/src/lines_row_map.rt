@@ -1,5 +1,5 @@
 //! A map from each line to the number of its first row.
-ghost use Rattle.std.specs.Prelude.{◌≡◌, ℕ, ◌+◌, ◌^◌, ◌<◌, ◌≤◌, ◌==◌, List, [], ◌∷◌, ◌++◌, length, map, take, slice_get, slice_index, OnOk, OnErr, MatchOption};
+ghost use Rattle.std.specs.Prelude.{◌≡◌, ℕ, true, ◌+◌, ◌^◌, ◌<◌, ◌≤◌, ◌==◌, List, [], ◌∷◌, ◌++◌, length, map, take, slice_get, slice_index, OnOk, OnErr, MatchOption};
 ghost use Rattle.std.specs.List.{All};
 ghost use Rattle.std.specs.List.Sorted.{IsStrictlyIncreasing};
 ghost use Rattle.minus_text.specs.LineMaps.{entries_kept, IsLineOfRow, IsLineIn};
@@ -49,6 +49,17 @@ fn line_of_row(first_rows: &[usize], row: usize) -> Option<usize>
         Ok(line) => Some(line),
         Err(after) => Some(after.saturating_sub(1)),
     }
+}
+
+// Whether a row stands from where a line begins on, and before where the next one does.
+fn is_in_line(first_rows: &[usize], row: usize, line: usize) -> bool
+    ensures { result ≡ true → IsLineOfRow first_rows.now row line }
+{
+    if line >= first_rows.len() || row < first_rows[line] {
+        return false;
+    }
+    let next = line + 1;
+    next == first_rows.len() || row < first_rows[next]
 }
 
 // How many entries stay before more are put behind them.
@@ -129,6 +140,21 @@ impl LinesRowMap {
             Some(line) => Some(line),
             None => None,
         }
+    }
+
+    // The line that `row_to_line` gives: it is known at once where it is near, or the next one.
+    pub(crate) fn row_to_line_near(&self, row: usize, near: usize) -> Option<usize>
+        ensures { MatchOption result (self.now ≡ []) (λ line. IsLineOfRow self.now row line) }
+    {
+        let first_rows = self.first_rows.as_slice();
+        if is_in_line(first_rows, row, near) {
+            return Some(near);
+        }
+        let next = near.saturating_add(1);
+        if is_in_line(first_rows, row, next) {
+            return Some(next);
+        }
+        self.row_to_line(row)
     }
 
     // The line of a row, and whether the line begins with it, where other entries stand behind the

@@ -1,6 +1,7 @@
 //! Spaces.
-ghost use Rattle.std.specs.Prelude.{◌≡◌, ◌++◌, replicate, OnOk, string_bytes};
+ghost use Rattle.std.specs.Prelude.{◌≡◌, ◌++◌, replicate, OnOk};
 
+use crate::push_text::PushText;
 use std::alloc::AllocError;
 
 // Spaces for a row of the most usual width.
@@ -8,13 +9,13 @@ const SPACES: &str =
     "                                                                                ";
 
 // Adds so many spaces. An `Err` is for want of memory alone; it may leave some of them behind.
-pub(crate) fn push_spaces(out: &mut String, count: usize) -> Result<(), AllocError>
-    ensures { OnOk result (string_bytes out.new ≡ string_bytes out.old ++ replicate count 32) }
+pub(crate) fn push_spaces<T: PushText>(out: &mut T, count: usize) -> Result<(), AllocError>
+    ensures { OnOk result (T.bytes out.new ≡ T.bytes out.old ++ replicate count 32) }
 {
     let mut left = count;
     while left > 0 {
         let piece = left.min(SPACES.len());
-        out.push_str(&SPACES[..piece])?;
+        out.push_text(&SPACES[..piece])?;
         left -= piece;
     }
     Ok(())

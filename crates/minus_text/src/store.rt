@@ -19,6 +19,7 @@ use crate::layout::{Layout, Wrap};
 use crate::line_numbers::{LineNumbers, prefix_columns};
 use crate::lines::newlines;
 use crate::lines_row_map::LinesRowMap;
+use crate::row_text::{RowText, escapes_end};
 use crate::screen::FormatResult;
 use crate::seams::last_seam;
 use crate::wrap::Span;
@@ -38,6 +39,8 @@ pub(crate) struct Store {
     finished: Finished,
     longest: usize,
     border: Border,
+    // A place from which on no byte of the text is ESC.
+    escapes_end: usize,
 }
 
 // By hand: a derived drop would stand anew in the proof of each function that lets one go.
@@ -51,6 +54,7 @@ impl Drop for Store {
             finished: _,
             longest: _,
             border: _,
+            escapes_end: _,
         } = self;
     }
 }
@@ -61,13 +65,15 @@ impl Model for Store {
     ghost use Rattle.minus_text.specs.Layouts.{wrap_of};
     ghost use Rattle.minus_text.specs.Document.{Document};
     ghost use Rattle.minus_text.specs.Kept.{IsFormed};
+    ghost use Rattle.minus_text.specs.RowText.{IsUnescapedFrom};
 
     ghost Value = { Document };
 
     ghost view = { λ s. record { text = string_bytes s.text; layout = s.layout } };
 
     ghost invariant = { λ s. IsFormed (string_bytes s.text) (wrap_of s.layout (length (lines (string_bytes s.text))))
-        s.rows.items s.first_rows s.finished s.longest s.border };
+        s.rows.items s.first_rows s.finished s.longest s.border
+        × IsUnescapedFrom s.escapes_end (string_bytes s.text) };
 }
 
 // Whether columns stay, and what numbers take of them.
@@ -203,6 +209,7 @@ impl Store {
             finished: Finished::START,
             longest: 0,
             border: Border::START,
+            escapes_end: 0,
         }
     }
 
@@ -227,6 +234,7 @@ impl Store {
             Restart::START,
             wrap,
         )?;
+        let escapes_end = escapes_end(0, 0, &text);
         let store = Store {
             text,
             layout,
@@ -235,6 +243,7 @@ impl Store {
             finished: formed.finished,
             longest: formed.longest,
             border: formed.border,
+            escapes_end,
         };
         Ok((store, told(alloc, Restart::START, formed, true)))
     }
@@ -297,12 +306,25 @@ impl Store {
     }
 
     // The text of a row, counted from 0, without what stands before it. It takes no memory.
-    pub(crate) fn row_text(&self, i: usize) -> Option<&str>
-        ensures { option_map (λ r. r.now) result ≡ slice_get (rows_of self.now) i }
+    pub(crate) fn row(&self, i: usize) -> Option<RowText<'_>>
+        ensures { option_map (λ r. r.text.now) result ≡ slice_get (rows_of self.now) i }
     {
         let text = self.text.as_str();
         match self.rows.get(i) {
-            Some(row) => Some(&text[row.start..row.end]),
+            Some(row) => Some(RowText {
+                text: &text[row.start..row.end],
+                escapes_end: self.escapes_end.saturating_sub(row.start),
+            }),
+            None => None,
+        }
+    }
+
+    // It alone, where nothing is asked of its escape sequences.
+    pub(crate) fn row_text(&self, i: usize) -> Option<&str>
+        ensures { option_map (λ r. r.now) result ≡ slice_get (rows_of self.now) i }
+    {
+        match self.row(i) {
+            Some(row) => Some(row.text),
             None => None,
         }
     }
@@ -317,11 +339,11 @@ impl Store {
         }
     }
 
-    // What stands before the text of a row, counted from 0.
-    pub(crate) fn row_prefix(&self, i: usize) -> RowPrefix
+    // What stands before the text of a row, counted from 0. Its line is looked for near a line first.
+    pub(crate) fn row_prefix(&self, i: usize, near: usize) -> RowPrefix
         ensures { IsPrefixOf self.now i (prefix_of result) }
     {
-        let Some(line) = self.first_rows.row_to_line(i) else {
+        let Some(line) = self.first_rows.row_to_line_near(i, near) else {
             return RowPrefix::NONE;
         };
         RowPrefix {
@@ -455,6 +477,7 @@ impl Store {
         self.finished = formed.finished;
         self.longest = formed.longest_behind(start);
         self.border = formed.border;
+        self.escapes_end = escapes_end(self.escapes_end, len, piece);
         Ok(told(alloc, start, formed, clean))
     }
 
@@ -479,6 +502,7 @@ impl Store {
         ensures err { OnErr result (self.new ≡ self.old) }
     {
         let clean = attaches_nothing(self.finished, self.text.len(), plan);
+        let escapes_end = escapes_end(self.escapes_end, self.text.len(), piece);
         self.text.reserve(piece.len())?;
         replace_rows(&mut self.rows, &mut self.first_rows, start, &formed)?;
         push_str_reserved(&mut self.text, piece);
@@ -486,6 +510,7 @@ impl Store {
         self.finished = formed.finished;
         self.longest = formed.longest_behind(start);
         self.border = formed.border;
+        self.escapes_end = escapes_end;
         Ok(told(alloc, start, formed, clean))
     }
 
@@ -543,6 +568,7 @@ impl Store {
         let start = self.restart(plan);
         let tail = self.tail(alloc, start.finished.bytes + start.bytes, text)?;
         let formed = form(alloc, &tail, start, plan.wrap)?;
+        let escapes_end = escapes_end(0, 0, &tail);
         Ok(FormedPush {
             tail,
             start,
@@ -550,6 +576,7 @@ impl Store {
             wrap: plan.wrap,
             numbers,
             cols,
+            escapes_end,
         })
     }
 
@@ -581,6 +608,7 @@ impl Store {
             wrap: _,
             numbers,
             cols,
+            escapes_end: _,
         } = pending;
         drop(tail);
         let plan = self.plan(text, numbers, cols);

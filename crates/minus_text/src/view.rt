@@ -1,15 +1,19 @@
 //! The rows of a text, or those that a push of it would leave, and what was found in them.
+ghost use Rattle.std.specs.Prelude.{◌≡◌, option_map, string_bytes, IfOk};
 ghost use Rattle.minus_text.specs.Document.{rows_of};
 ghost use Rattle.minus_text.specs.Found.{ArePlaced, Ascend, ArePlaced-prop, Ascend-prop};
 ghost use Rattle.minus_text.specs.FoundBy.{found_rows};
 ghost use Rattle.minus_text.specs.NextPushes.{IsPendingBehind, IsPendingBehind-prop};
+ghost use Rattle.minus_text.specs.ViewedRows.{viewed_text};
 
 use crate::formatted::{FormattedRow, RowPrefix};
 use crate::layout::Layout;
 use crate::pending::PendingPush;
+use crate::row_text::RowText;
 use crate::screen::Row;
 use crate::search::found_rows::FoundRows;
 use crate::store::Store;
+use crate::viewed_row::{RowPlace, ViewedRow};
 use std::alloc::{AllocError, Global};
 
 // A push that is not made yet: its text, and what was formed and found for it.
@@ -31,6 +35,16 @@ pub struct RowsView<'s> {
     pub(crate) ghost pending: { IsPendingBehind store.now next } by { IsPendingBehind-prop store.now next },
 }
 
+// A row as one of its own, if there is one.
+fn row_of(alloc: Global, row: Option<ViewedRow<'_>>) -> Result<Option<Row>, AllocError>
+    ensures { IfOk result (λ r. option_map string_bytes r ≡ option_map viewed_text row.entry) }
+{
+    match row {
+        Some(row) => Ok(Some(row.to_row(alloc)?)),
+        None => Ok(None),
+    }
+}
+
 impl<'s> RowsView<'s> {
     ghost use Rattle.std.specs.Prelude.{◌≡◌, ◌==◌, ℕ, List, Some, length, string_bytes, option_map, slice_get, IfOk, IfSome};
     ghost use Rattle.std.specs.List.{position_or_len};
@@ -40,6 +54,7 @@ impl<'s> RowsView<'s> {
     ghost use Rattle.minus_text.specs.Matches.{counts_first, nearest, nth_match};
     ghost use Rattle.minus_text.specs.Searched.{IsRowBehind, IsStoredRow, IsHighlightedRow};
     ghost use Rattle.minus_text.specs.Views.{viewed};
+    ghost use Rattle.minus_text.specs.ViewedRows.{viewed_text};
 
     /// The number of rows. It takes no memory.
     pub fn len(self) -> usize
@@ -85,27 +100,42 @@ impl<'s> RowsView<'s> {
         }
     }
 
-    /// The text of a row, counted from 0, without what stands before it and without markers. It takes no memory.
-    pub fn text(self, i: usize) -> Option<&'s str>
-        ensures { option_map (λ r. r.now) result ≡ slice_get (rows_of (viewed self.entry).document) i }
+    /// The text of a row, counted from 0, without what stands before it and without markers, and a place from which on
+    /// it has no escape sequence. It takes no memory.
+    pub fn row_text(self, i: usize) -> Option<RowText<'s>>
+        ensures { option_map (λ r. r.text.now) result ≡ slice_get (rows_of (viewed self.entry).document) i }
     {
         let Some(next) = self.next else {
-            return self.store.row_text(i);
+            return self.store.row(i);
         };
         let push = next.pending.push();
         let kept = push.kept_rows();
         if i < kept {
-            return self.store.row_text(i);
+            return self.store.row(i);
         }
-        push.row_text(i - kept)
+        push.row(i - kept)
     }
 
-    // What stands before the text of a row, counted from 0.
-    fn prefix(self, i: usize) -> RowPrefix
+    /// The text of a row, counted from 0, without what stands before it and without markers. It takes no memory.
+    pub fn text(self, i: usize) -> Option<&'s str>
+        ensures { option_map (λ r. r.now) result ≡ slice_get (rows_of (viewed self.entry).document) i }
+    {
+        match self.row_text(i) {
+            Some(row) => Some(row.text),
+            None => None,
+        }
+    }
+
+    // What stands before the text of a row, counted from 0. Its line is looked for near a line first; without numbers
+    // none is looked for.
+    fn prefix(self, i: usize, near: usize) -> RowPrefix
         ensures { IsPrefixOf (viewed self.entry).document i (prefix_of result) }
     {
+        if !self.layout().numbers.is_on() {
+            return RowPrefix::NONE;
+        }
         let Some(next) = self.next else {
-            return self.store.row_prefix(i);
+            return self.store.row_prefix(i, near);
         };
         let push = next.pending.push();
         let behind = push.first_rows();
@@ -139,22 +169,29 @@ impl<'s> RowsView<'s> {
         formed
     }
 
-    // A row, counted from 0, if there is one: this before its text, and its text with its matches in reverse.
-    fn row_behind(
-        self,
-        alloc: Global,
-        prefix: RowPrefix,
-        i: usize,
-    ) -> Result<Option<Row>, AllocError>
-        ensures { IfOk result (λ row. IsRowBehind (prefix_of prefix) (viewed self.entry) i
-            (option_map string_bytes row)) }
+    // A row, counted from 0, if there is one, with this before its text. How many rows match above it is looked for near
+    // some number first, and put there.
+    fn row_behind(self, prefix: RowPrefix, i: usize, near: &mut usize) -> Option<ViewedRow<'s>>
+        ensures { IsRowBehind (prefix_of prefix) (viewed self.entry) i (option_map viewed_text result) }
     {
         let Some(row) = self.text(i) else {
-            return Ok(None);
+            return None;
         };
-        let found = self.found_at(i);
-        let text = found.format_row(alloc, i, FormattedRow { row, prefix })?;
-        Ok(Some(text))
+        let found = self.found_at(i).of_row(i, near);
+        Some(ViewedRow {
+            row: FormattedRow { row, prefix },
+            found,
+        })
+    }
+
+    /// A row as it is stored, counted from 0, if there is one: what stands before its text, and its text with its
+    /// matches in reverse. It takes no memory. It is looked for near a place first, which is moved on to it.
+    pub fn row(self, i: usize, place: &mut RowPlace) -> Option<ViewedRow<'s>>
+        ensures { IsStoredRow (viewed self.entry) i (option_map viewed_text result) }
+    {
+        let prefix = self.prefix(i, place.line);
+        place.line = prefix.line.saturating_sub(1);
+        self.row_behind(prefix, i, &mut place.found)
     }
 
     /// A row as it is stored, counted from 0, if there is one: what stands before its text, and its text with its
@@ -166,7 +203,9 @@ impl<'s> RowsView<'s> {
     pub fn formatted_row(self, alloc: Global, i: usize) -> Result<Option<Row>, AllocError>
         ensures { IfOk result (λ row. IsStoredRow (viewed self.entry) i (option_map string_bytes row)) }
     {
-        self.row_behind(alloc, self.prefix(i), i)
+        let mut place = RowPlace::TOP;
+        let row = self.row(i, &mut place);
+        row_of(alloc, row)
     }
 
     /// The text of a row, counted from 0, if there is one, with its matches in reverse and nothing before it.
@@ -177,7 +216,9 @@ impl<'s> RowsView<'s> {
     pub fn highlighted_row(self, alloc: Global, i: usize) -> Result<Option<Row>, AllocError>
         ensures { IfOk result (λ row. IsHighlightedRow (viewed self.entry) i (option_map string_bytes row)) }
     {
-        self.row_behind(alloc, RowPrefix::NONE, i)
+        let mut near = 0;
+        let row = self.row_behind(RowPrefix::NONE, i, &mut near);
+        row_of(alloc, row)
     }
 
     /// The text of a row, counted from 0, if there is one and nothing was found in it: so it is with its matches in
@@ -185,10 +226,19 @@ impl<'s> RowsView<'s> {
     pub fn plain_text(self, i: usize) -> Option<&'s str>
         ensures { IfSome result (λ text. IsHighlightedRow (viewed self.entry) i (Some text.now)) }
     {
-        let text = self.text(i)?;
-        match self.found_at(i).of_row(i) {
+        let row = self.unmatched(i)?;
+        Some(row.text)
+    }
+
+    /// It with a place from which on it has no escape sequence.
+    pub fn unmatched(self, i: usize) -> Option<RowText<'s>>
+        ensures { IfSome result (λ row. IsHighlightedRow (viewed self.entry) i (Some row.text.now)) }
+    {
+        let row = self.row_text(i)?;
+        let mut near = 0;
+        match self.found_at(i).of_row(i, &mut near) {
             Some(_) => None,
-            None => Some(text),
+            None => Some(row),
         }
     }
 

@@ -496,7 +496,7 @@ fn fit(alloc: Global, pieces: &[Measured], cols: usize) -> Result<Vec<Span>, All
 }
 
 // Whether a line of printable ASCII is one row, all of it: it fits and does not end with a space.
-pub(crate) fn is_one_row(line: &str, cols: usize) -> bool
+fn is_one_row(line: &str, cols: usize) -> bool
     ensures { IsTrue result → line_places cols line.now ≡ record { start = 0; end = length line.now } ∷ [] }
 {
     if line.len() <= cols && !line.ends_with(' ') {

@@ -80,7 +80,7 @@ const NUMBERED_LINE: Shown<'static> = Shown {
     ..CROPPED
 };
 
-const SHOWN: [&Shown<'static>; 15] = [
+const SHOWN: [&Shown<'static>; 18] = [
     // rows are shown from the left mark on
     &CROPPED,
     &Shown {
@@ -115,6 +115,23 @@ const SHOWN: [&Shown<'static>; 15] = [
             ..UNWRAPPED
         },
         row: "a▲b",
+        ..CROPPED
+    },
+    // a sequence stands behind what is shown, or in a later row, or an accent right behind the last column
+    &Shown {
+        text: "abcdefgh\x1b[0m",
+        row: "abcd\x1b[0m",
+        ..CROPPED
+    },
+    &Shown {
+        text: "abcdefgh\n\x1b[31mred\x1b[0m",
+        row: "abcd",
+        ..CROPPED
+    },
+    &Shown {
+        text: "abcde\u{301}fgh",
+        left_mark: 1,
+        row: "bcde\u{301}",
         ..CROPPED
     },
     // the left mark stands in the match, or behind it

@@ -7,6 +7,7 @@ use crate::change::{Change, NextText, Redraw, Setting};
 use crate::prompt::{PromptRow, format_prompt};
 use crate::showing::{ShownRow, ShownRows};
 use crate::state::PagerState;
+use minus_text::RowPlace;
 use std::alloc::{AllocError, Global};
 
 // Puts a shown row at the end, if there is one.
@@ -22,7 +23,10 @@ fn push_shown<'a>(rows: &mut Vec<ShownRow<'a>>, row: Option<ShownRow<'a>>) -> Re
 
 impl PagerState {
     ghost use Rattle.std.specs.Prelude.{◌≡◌, None, true, ◌+◌, ◌^◌, ◌<◌, length, map, take, drop, string_bytes, IfOk};
+    ghost use Rattle.std.specs.List.{flat_map};
     ghost use Rattle.std.specs.Option.{option_map, unwrap_or};
+    ghost use Rattle.minus_term.specs.FullRedraw.{row_ops};
+    ghost use Rattle.minus_term.specs.Written.{written_all};
     ghost use Rattle.minus_state.specs.Control.{Control, first_changed};
     ghost use Rattle.minus_state.specs.ShownPrompt.{prompt_row};
     ghost use Rattle.minus_state.specs.PromptRow.{seen_prompt};
@@ -175,6 +179,54 @@ impl PagerState {
         ensures { IfOk result (λ v. map row_text v.items ≡ drop first (shown_by self.now change.now)) }
     {
         self.shown_between(alloc, change, first, change.rows - 1)
+    }
+
+    /// Adds the rows of text on the page that a change leads to, from one of them on and before another, both counted
+    /// from 0 at the top of the page, to the bytes of a drawing: each is put from the first column of its row on.
+    ///
+    /// # Errors
+    ///
+    /// [`AllocError`] where there is no memory for the bytes: a beginning of them was added.
+    pub fn write_between(
+        &self,
+        alloc: Global,
+        out: &mut Vec<u8>,
+        change: &Change,
+        first: usize,
+        end: usize,
+    ) -> Result<(), AllocError>
+        requires { IsFormedFor self.now change.now }
+        ensures { OnOk result (out.new.items ≡ out.old.items ++ written_all
+            (flat_map row_ops (drop first (take end (shown_by self.now change.now))))) }
+    {
+        let count = self.count_after(change).min(end);
+        let start = first.min(count);
+        let showing = self.showing(change);
+        let mut place = RowPlace::TOP;
+        for i in start..count {
+            showing.write_shown(alloc, out, change.mark + i, &mut place)?;
+        }
+        Ok(())
+    }
+
+    /// Adds the rows of text on the page that a change leads to, from one of them on, counted from 0 at the top of the
+    /// page, to the bytes of a drawing: each is put from the first column of its row on.
+    ///
+    /// # Errors
+    ///
+    /// [`AllocError`] where there is no memory for the bytes: a beginning of them was added.
+    pub fn write_after(
+        &self,
+        alloc: Global,
+        out: &mut Vec<u8>,
+        change: &Change,
+        first: usize,
+    ) -> Result<(), AllocError>
+        requires { IsFormedFor self.now change.now }
+        ensures { OnOk result (out.new.items ≡ out.old.items ++ written_all
+            (flat_map row_ops (drop first (shown_by self.now change.now)))) }
+    {
+        self.write_between(alloc, out, change, first, change.rows - 1)
     }
 
     /// The first row that an append may change, counted from 0: the first one of the line that no newline ends, or the

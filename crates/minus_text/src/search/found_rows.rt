@@ -1,32 +1,25 @@
 //! The rows of a text that a term matches.
-ghost use Rattle.std.specs.Prelude.{◌≡◌, ℕ, false, ◌+◌, ◌-◌, ◌≤◌, List, [], ◌++◌, length, map, take, drop, option_map, nat_le, slice_get, string_bytes, IfOk, IfSome, OnOk, ◌<◌, ◌^◌};
-ghost use Rattle.minus_text.specs.Formatted.{prefix_of};
+ghost use Rattle.std.specs.Prelude.{◌≡◌, ℕ, true, false, ◌+◌, ◌-◌, ◌≤◌, List, [], ◌++◌, length, map, take, drop, option_map, nat_le, slice_get, slice_index_or, IfOk, OnOk, ◌<◌, ◌^◌};
 ghost use Rattle.std.specs.List.{position_or_len};
 ghost use Rattle.regex.specs.Strings.{regex_pattern};
 ghost use Rattle.minus_text.specs.Document.{rows_of};
 ghost use Rattle.minus_text.specs.Matches.{counts_first, match_at};
 ghost use Rattle.std.specs.Option.{unwrap_or};
-ghost use Rattle.minus_text.specs.Escapes.{CutsText};
-ghost use Rattle.minus_text.specs.Highlight.{line_matches, ordered, put_in};
+ghost use Rattle.minus_text.specs.Highlight.{line_matches};
 ghost use Rattle.minus_text.specs.Fragments.{rows_in};
-ghost use Rattle.minus_text.specs.Found.{found_in_rows, found_by, found_above, found_from, row_numbers, found_of_row, marked, IsPlaced, ArePlaced, Ascend, AreFoundIn};
+ghost use Rattle.minus_text.specs.Found.{found_in_rows, found_by, found_above, found_from, row_numbers, found_of_row, ArePlaced, Ascend, AreFoundIn};
 ghost use Rattle.minus_text.specs.FoundRows.{finder_pattern, matches_of, pattern_of};
+ghost use Rattle.minus_text.specs.declared.search.found.FoundRow.{FoundRow};
 ghost use Rattle.minus_text.specs.FoundBy.{found_rows, found_in_some, numbers_with, HasRoomFor, FoundGoesOn};
 
-use crate::formatted::{FormattedRow, RowPrefix};
 use crate::formed_push::FormedPush;
-use crate::screen::Row;
 use crate::search::found::{Finder, FoundRow};
-use crate::search::highlight::{HighlightMatchesArgs, push_marked};
 use crate::search::matches::counts_first;
 use crate::search::standing::all_stand;
 use crate::search::term::Term;
 use crate::store::Store;
 use std::alloc::{AllocError, Global};
 use std::collections::BTreeSet;
-
-// The bytes of a match's two markers.
-const MARKS: usize = 9;
 
 // The rows of a text that a term matches, in order, each with the places of its escape sequences and
 // of its matches. No pattern is kept.
@@ -180,24 +173,57 @@ fn add_numbers(numbers: &mut BTreeSet<usize>, found: &[FoundRow]) -> Result<(), 
     Ok(())
 }
 
-// A row without escape sequences: what stands before it, and its text with these matches in reverse, in memory that is
-// taken once.
-fn marked_row(
-    alloc: Global,
-    prefix: RowPrefix,
-    text: &str,
-    matches: &[(usize, usize)],
-) -> Result<Row, AllocError>
-    requires { CutsText text.now 0 matches.now }
-    ensures { IfOk result (λ row. string_bytes row ≡ prefix_of prefix
-        ++ put_in text.now 0 (ordered false matches.now [])) }
+// Whether the last of so many of these rows, if there is one, stands above a row.
+fn is_last_above(found: &[FoundRow], row: usize, count: usize) -> bool
+    requires { count ≤ length found.now }
+    ensures { result ≡ true → (d : FoundRow) → 0 < count → (slice_index_or found.now (count - 1) d).row < row }
 {
-    let marks = matches.len().saturating_mul(MARKS);
-    let room = prefix.room().saturating_add(text.len()).saturating_add(marks);
-    let mut out = String::with_capacity(alloc, room)?;
-    prefix.push_to(&mut out)?;
-    push_marked(&mut out, text, matches)?;
-    Ok(out)
+    if count == 0 {
+        return true;
+    }
+    found[count - 1].row < row
+}
+
+// Whether the row behind so many of these, if there is one, stands not above a row.
+fn is_next_not_above(found: &[FoundRow], row: usize, count: usize) -> bool
+    requires { count ≤ length found.now }
+    ensures { result ≡ true → (d : FoundRow) → count < length found.now → row ≤ (slice_index_or found.now count d).row }
+{
+    if count == found.len() {
+        return true;
+    }
+    row <= found[count].row
+}
+
+// Whether so many of these rows stand above one.
+fn are_above(found: &[FoundRow], row: usize, count: usize) -> bool
+    requires { Ascend 0 (map matches_of found.now) }
+    ensures value { result ≡ true → count ≡ position_or_len (λ f. nat_le row f.row) (map matches_of found.now) }
+    ensures few { result ≡ true → count ≤ length found.now }
+{
+    if count > found.len() {
+        return false;
+    }
+    if !is_last_above(found, row, count) {
+        return false;
+    }
+    is_next_not_above(found, row, count)
+}
+
+// How many of these rows stand above one: it is known at once where these are as many as near, or one more.
+fn count_above_near(found: &[FoundRow], row: usize, near: usize) -> usize
+    requires { Ascend 0 (map matches_of found.now) }
+    ensures value { result ≡ position_or_len (λ f. nat_le row f.row) (map matches_of found.now) }
+    ensures few { result ≤ length found.now }
+{
+    if are_above(found, row, near) {
+        return near;
+    }
+    let next = near.saturating_add(1);
+    if are_above(found, row, next) {
+        return next;
+    }
+    count_above(found, row)
 }
 
 impl FoundRows {
@@ -378,12 +404,14 @@ impl FoundRows {
         }
     }
 
-    // What was found in the row with a number.
-    pub(crate) fn of_row(&self, n: usize) -> Option<&FoundRow>
+    // What was found in the row with a number. How many rows stand above it is looked for near some number first, and
+    // put there.
+    pub(crate) fn of_row(&self, n: usize, near: &mut usize) -> Option<&FoundRow>
         requires { Ascend 0 (found_rows self.now) }
         ensures { option_map (λ f. matches_of f.now) result ≡ found_of_row n (found_rows self.now) }
     {
-        let at = count_above(self.rows.as_slice(), n);
+        let at = count_above_near(self.rows.as_slice(), n, *near);
+        *near = at;
         let Some(found) = self.rows.get(at) else {
             return None;
         };
@@ -391,30 +419,6 @@ impl FoundRows {
             return Some(found);
         }
         None
-    }
-
-    // The row with a number as it prints: what stands before it, and its text with its matches shown in reverse.
-    pub(crate) fn format_row(
-        &self,
-        alloc: Global,
-        n: usize,
-        row: FormattedRow<'_>,
-    ) -> Result<Row, AllocError>
-        requires ascend { Ascend 0 (found_rows self.now) }
-        requires placed { IfSome (found_of_row n (found_rows self.now)) (λ r. IsPlaced row.row.now r) }
-        ensures { IfOk result (λ text. string_bytes text ≡ prefix_of row.entry.prefix
-            ++ marked (found_of_row n (found_rows self.now)) row.entry.row.now) }
-    {
-        let Some(found) = self.of_row(n) else {
-            return row.to_row(alloc);
-        };
-        let text = row.row;
-        let prefix = row.prefix;
-        if found.escapes.is_empty() {
-            return marked_row(alloc, prefix, text, found.matches.as_slice());
-        }
-        let shown = HighlightMatchesArgs::of_places(alloc, text, &found.escapes, &found.matches)?;
-        format!(in alloc; "{prefix}{shown}")
     }
 }
 

@@ -4,6 +4,7 @@ ghost use Rattle.minus_text.specs.Escapes.{insert_of, outside, inside, CutsText}
 ghost use Rattle.minus_text.specs.Highlight.{count_before, before, behind, moved, closed, of_match, ordered, put_in, highlighted, line_matches, matches_text, StandIn, StandIn-prop, HighlightsAddMarkersAlone, OnlyMatchesAreHighlighted};
 ghost use Rattle.regex.specs.Strings.{regex_pattern, matcher_pattern};
 
+use crate::push_text::PushText;
 use crate::search::escapes::{Insert, Parted, match_places, part, part_line};
 use crate::search::patterns::Patterns;
 use regex::{Matcher, Regex};
@@ -110,24 +111,24 @@ fn ordered<'l>(
 
 // Adds a text with what stands between these places in reverse, to a row. An `Err` is for want of memory alone; it may
 // leave some of it behind.
-pub(crate) fn push_marked(
-    out: &mut String,
+pub(crate) fn push_marked<T: PushText>(
+    out: &mut T,
     text: &str,
     matches: &[(usize, usize)],
 ) -> Result<(), AllocError>
     requires { CutsText text.now 0 matches.now }
-    ensures { OnOk result (string_bytes out.new
-        ≡ string_bytes out.old ++ put_in text.now 0 (ordered false matches.now [])) }
+    ensures { OnOk result (T.bytes out.new
+        ≡ T.bytes out.old ++ put_in text.now 0 (ordered false matches.now [])) }
 {
     let mut at = 0;
     for place in matches {
-        out.push_str(&text[at..place.0])?;
-        out.push_str(REVERSE_ON)?;
-        out.push_str(&text[place.0..place.1])?;
-        out.push_str(REVERSE_OFF)?;
+        out.push_text(&text[at..place.0])?;
+        out.push_text(REVERSE_ON)?;
+        out.push_text(&text[place.0..place.1])?;
+        out.push_text(REVERSE_OFF)?;
         at = place.1;
     }
-    out.push_str(&text[at..])?;
+    out.push_text(&text[at..])?;
     Ok(())
 }
 

@@ -12,4 +12,4 @@ returns-then-eq c =
 pub returns : goal.returns
 returns c =
     let other : bytes_eq c.args.prompt.now c.args.before.now ≡ false = sym c.eq.ensures ∙ c.if-eq.false in
-    rw other c.push_prompt.ensures
+    rw other c.write_prompt_row.ensures

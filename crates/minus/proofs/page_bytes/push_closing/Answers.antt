@@ -1,10 +1,13 @@
 -- The row and the cursor, and the page.
-use Rattle.std.proofs.Common.{[], ◌∷◌, map}
+use Rattle.std.proofs.Common.{[], ◌∷◌}
 use Rattle.minus_term.specs.FullRedraw.{full_ops}
 use Rattle.minus_term.specs.Operations.{GoTo, ClearRow, HideCursor}
 use Rattle.minus_term.proofs.WrittenLaws.{ops_added}
-use Rattle.minus_state.specs.Showing.{row_text}
+use Rattle.minus_state.specs.Changes.{shown_by}
+use Rattle.minus_state.specs.declared.change.Change.{Change}
 use Rattle.minus.proofs.page_bytes.push_closing.Goals as goal
 
 pub returns : goal.returns
-returns c = ops_added _ _ _ (GoTo 0 c.args.rows ∷ ClearRow ∷ HideCursor ∷ []) (full_ops c.args.rows (map row_text c.args.shown.now) c.args.prompt.now) c.in_ok-write_ops.ensures c.in_ok-push_page.ensures
+returns c =
+    let change : Change = c.args.change.now in
+    ops_added _ _ _ (GoTo 0 change.rows ∷ ClearRow ∷ HideCursor ∷ []) (full_ops change.rows (shown_by c.args.state.now change) c.args.prompt.now) c.in_ok-write_closing_start.ensures c.in_ok-push_page.ensures

@@ -3,11 +3,10 @@ use Rattle.std.proofs.Common.{ℕ, List, ◌++◌, map, string_bytes, ap, ◌∙
 use Rattle.std.proofs.lemmas.Result.{on_ok_weaker}
 use Rattle.minus_term.specs.FullRedraw.{full_ops}
 use Rattle.minus_term.specs.Written.{written_all}
-use Rattle.minus_state.specs.Showing.{row_text}
 use Rattle.minus.proofs.prompt_drawing.push_preview.Goals as goal
 
 pub returns : goal.returns
 returns c =
     let out : List ℕ = c.args.out.now.items in
-    let texts = ap (map row_text) c.deref-2.ensures.value ∙ c.in_ok-texts.ensures ∙ ap (map string_bytes) c.deref.ensures.value ∙ c.in_ok-found.ensures c.requires in
-    on_ok_weaker c.push_page.result (λ e. e ∙ ap (λ (ts : List (List ℕ)). out ++ written_all (full_ops c.args.rows ts c.args.typed.now)) texts) c.push_page.ensures
+    let texts = ap (map string_bytes) c.deref.ensures.value ∙ c.in_ok-found.ensures c.requires in
+    on_ok_weaker c.write_page.result (λ e. e ∙ ap (λ (ts : List (List ℕ)). out ++ written_all (full_ops c.args.rows ts c.args.typed.now)) texts) c.write_page.ensures

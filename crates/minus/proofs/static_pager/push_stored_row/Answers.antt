@@ -9,7 +9,7 @@ use Rattle.minus.proofs.static_pager.push_stored_row.Goals as goal
 pub returns-in-Some : goal.returns-in-Some
 returns-in-Some c =
     let text = c.deref.ensures ∙ stored_is c.args.state.now c.args.row _ (string_bytes c.in-Some.text) c.requires.formed c.in_ok-text.ensures (ap (option_map string_bytes) c.in-Some.is) in
-    on_ok c.push_row.result (λ h. h ∙ ap (λ (r : List ℕ). c.args.out.now.items ++ written_all (row_ops r)) text) c.push_row.ensures
+    on_ok c.write_row.result (λ h. h ∙ ap (λ (r : List ℕ). c.args.out.now.items ++ written_all (row_ops r)) text) c.write_row.ensures
 
 pub returns-in-None : goal.returns-in-None
 returns-in-None c = stored_not c.args.state.now c.args.row _ c.requires.formed c.in_ok-text.ensures c.requires.inside (ap (option_map string_bytes) c.in-None.is)

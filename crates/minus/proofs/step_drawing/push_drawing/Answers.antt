@@ -1,5 +1,5 @@
 -- What is drawn is the page of the control that the change leads to.
-use Rattle.std.proofs.Common.{ℕ, List, ◌++◌, map, sym, ap, subst, ◌∙◌}
+use Rattle.std.proofs.Common.{ℕ, List, ◌++◌, sym, ap, subst, ◌∙◌}
 use Rattle.std.proofs.lemmas.Result.{on_ok_weaker}
 use Rattle.minus_term.proofs.WrittenLaws.{no_op}
 use Rattle.minus_term.specs.FullRedraw.{full_ops}
@@ -8,7 +8,6 @@ use Rattle.minus_term.specs.SearchPrompt.{closing_ops}
 use Rattle.minus_term.specs.Written.{written_all}
 use Rattle.minus_state.specs.Page.{shown}
 use Rattle.minus_state.specs.States.{control_of}
-use Rattle.minus_state.specs.Showing.{row_text}
 use Rattle.minus_state.proofs.ChangeLaws.{shown_is}
 use Rattle.minus.specs.Drawings.{ops_of, IsDrawable}
 use Rattle.minus.specs.declared.step_drawing.Drawing.{Drawing}
@@ -32,24 +31,22 @@ returns-in-Edit c =
     let out : List ℕ = c.args.out.now.items in
     on_ok_weaker c.push_edit.result (λ e new h can same. (e new h (subst (λ (d : Drawing). IsDrawable d (control_of c.args.state.now) new) c.in-Edit.is can) ∙ sym (ap (λ (d : Drawing). out ++ written_all (ops_of d new)) c.in-Edit.is))) c.push_edit.ensures
 
-pub returns-in_ok-shown-in-Closing : goal.returns-in_ok-shown-in-Closing
-returns-in_ok-shown-in-Closing c =
+pub returns-in-Closing : goal.returns-in-Closing
+returns-in-Closing c =
     let out : List ℕ = c.args.out.now.items in
-    let rows = ap (map row_text) c.deref-in-Closing.ensures.value ∙ c.in_ok-shown-in-Closing.ensures in
     on_ok_weaker c.push_closing.result (λ e new h can same.
     e
-    ∙ ap (λ (texts : List (List ℕ)). out ++ written_all (closing_ops c.args.change.now.rows texts c.args.prompt.now)) (rows ∙ shown_is c.args.state.now c.args.change.now new c.requires.formed h)
+    ∙ ap (λ (texts : List (List ℕ)). out ++ written_all (closing_ops c.args.change.now.rows texts c.args.prompt.now)) (shown_is c.args.state.now c.args.change.now new c.requires.formed h)
     ∙ ap (λ (n : ℕ). out ++ written_all (closing_ops n (shown new) c.args.prompt.now)) h.rows_are
     ∙ ap (λ (row : List ℕ). out ++ written_all (closing_ops new.rows (shown new) row)) same
     ∙ sym (ap (λ (d : Drawing). out ++ written_all (ops_of d new)) c.in-Closing.is)) c.push_closing.ensures
 
-pub returns-in_ok-shown-in-Full : goal.returns-in_ok-shown-in-Full
-returns-in_ok-shown-in-Full c =
+pub returns-in-Full : goal.returns-in-Full
+returns-in-Full c =
     let out : List ℕ = c.args.out.now.items in
-    let rows = ap (map row_text) c.deref.ensures.value ∙ c.in_ok-shown-in-Full.ensures in
     on_ok_weaker c.push_page.result (λ e new h can same.
     e
-    ∙ ap (λ (texts : List (List ℕ)). out ++ written_all (full_ops c.args.change.now.rows texts c.args.prompt.now)) (rows ∙ shown_is c.args.state.now c.args.change.now new c.requires.formed h)
+    ∙ ap (λ (texts : List (List ℕ)). out ++ written_all (full_ops c.args.change.now.rows texts c.args.prompt.now)) (shown_is c.args.state.now c.args.change.now new c.requires.formed h)
     ∙ ap (λ (n : ℕ). out ++ written_all (full_ops n (shown new) c.args.prompt.now)) h.rows_are
     ∙ ap (λ (row : List ℕ). out ++ written_all (full_ops new.rows (shown new) row)) same
     ∙ sym (ap (λ (d : Drawing). out ++ written_all (ops_of d new)) c.in-Full.is)) c.push_page.ensures

@@ -1,5 +1,5 @@
 -- The columns are bytes, as far as they are read.
-use Rattle.std.proofs.Common.{◌≡◌, ◌+◌, ◌-◌, ◌<◌, ◌≤◌, ◌++◌, ℕ, List, length, take, drop, min, true, sym, ap, arith, ◌∙◌}
+use Rattle.std.proofs.Common.{◌≡◌, ◌+◌, ◌-◌, ◌<◌, ◌++◌, ℕ, List, length, take, drop, min, true, sym, ap, arith, ◌∙◌}
 use Rattle.std.specs.List.{list_all}
 use Rattle.std.specs.Str.{IsUtf8}
 use Rattle.std.proofs.lemmas.List.{take-append-drop, length-drop, length-take-le, take_all, take-take, drop-take, drop_min}
@@ -20,8 +20,8 @@ part_of left width n text front rest part u e l f r p q s =
     let short : take width (drop left front) ≡ take width (drop left text) = ap (take width) cut ∙ take-take width (width + 1) (drop left text) (omega arith) in
     s ∙ sym short ∙ sym here ∙ ap (cropped left width) whole
 
-pub returns-then-are_unescaped : goal.returns-then-are_unescaped
-returns-then-are_unescaped c =
+pub returns-then-is_unescaped_behind : goal.returns-then-is_unescaped_behind
+returns-then-is_unescaped_behind c =
     let text = c.args.text.now in
     let left = c.args.left in
     let width = c.args.width in
@@ -31,10 +31,11 @@ returns-then-are_unescaped c =
     let more : left + width < length text = omega (arith, end, c.if-end-bytes.true, size) in
     let front = c.split_at.ensures.front ∙ ap (take (c.saturating_add-end.result + 1)) c.as_bytes-bytes.ensures.value in
     let back = c.split_at.ensures.back ∙ ap (drop (c.saturating_add-end.result + 1)) c.as_bytes-bytes.ensures.value in
+    let free = c.is_unescaped_behind.ensures c.if-is_unescaped_behind.true text c.requires back in
     let gap : c.saturating_add-end.result - left ≡ width = omega (arith, end) in
     let part = c.range.ensures.value ∙ ap (λ (k : ℕ). take k (drop left text)) gap in
     part_of left width (c.saturating_add-end.result + 1) text c.split_at.result.0.now c.split_at.result.1.now c.range.result.now c.utf8.text n more front back
-    (sym c.are_printable.ensures ∙ c.if-are_printable.true) (sym c.are_unescaped.ensures ∙ c.if-are_unescaped.true) part
+    (sym c.are_printable.ensures ∙ c.if-are_printable.true) free part
 
 -- and of one that ends before
 pub returns-then-are_printable-2 : goal.returns-then-are_printable-2

@@ -1,5 +1,5 @@
 -- Characters of printable ASCII, and one more unit.
-use Rattle.std.proofs.Common.{◌≡◌, ◌≤◌, ◌+◌, ◌*◌, ◌++◌, chars, length, string_bytes, arith, refl, ap, ◌∙◌}
+use Rattle.std.proofs.Common.{◌≡◌, ◌+◌, ◌++◌, chars, length, string_bytes, arith, refl, ap, ◌∙◌}
 use Rattle.std.proofs.lemmas.List.{length-append}
 use Rattle.minus_text.specs.TextUnits.{units_left, bytes_left}
 use Rattle.minus_text.specs.Crop.{cropped}

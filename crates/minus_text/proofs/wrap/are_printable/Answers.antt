@@ -1,4 +1,4 @@
-use Rattle.std.proofs.Common.{◌<◌, length, arith, rules}
+use Rattle.std.proofs.Common.{◌<◌, length, rules}
 use Rattle.std.proofs.lemmas.List.Folds.{list_all_more}
 use Rattle.minus_text.specs.Plain.{is_printable}
 use Rattle.minus_text.proofs.wrap.are_printable.Goals as goal

@@ -1,5 +1,5 @@
 -- One more byte passes, or not.
-use Rattle.std.proofs.Common.{◌<◌, ℕ, Bool, length, get_or, ◌&&◌, not, eqb, sym, ap, arith, ◌∙◌}
+use Rattle.std.proofs.Common.{◌<◌, Bool, length, get_or, ◌&&◌, not, eqb, sym, ap, ◌∙◌}
 use Rattle.std.proofs.lemmas.List.Folds.{list_all_more}
 use Rattle.minus_text.specs.Plain.{is_unescaped}
 use Rattle.minus_text.proofs.wrap.are_unescaped.Goals as goal

@@ -1,8 +1,9 @@
 -- What is formed of the text alone.
-use Rattle.std.proofs.Common.{◌≡◌, ◌+◌, ◌-◌, [], length, refl, ap, ◌∙◌, arith}
+use Rattle.std.proofs.Common.{rules, subst, ◌≡◌, ◌+◌, ◌-◌, [], length, refl, ap, ◌∙◌, arith}
 use Rattle.std.specs.Str.Lines.{lines}
 use Rattle.std.specs.String.{string_bytes}
 use Rattle.std.proofs.lemmas.Str.{IsUtf8-string_bytes}
+use Rattle.minus_text.specs.RowText.{IsUnescapedFrom}
 use Rattle.minus_text.specs.Layouts.{margin, wrapped}
 use Rattle.minus_text.proofs.ScreenLaws.{form-unfinished}
 use Rattle.minus_text.proofs.BlockLaws.{fresh_restart, fresh_form, block_formed}
@@ -27,3 +28,9 @@ invariant_of-result-2 c =
     let size : c.len.result ≡ length c.in_ok-formed.formed.rows.items = c.len.ensures ∙ c.in_ok-formed.formed.rows.ok.0 in
     block_formed _ c.args.layout c.args.lines_before _ c.in_ok-formed.formed.longest c.args.first_row c.of-wrap.result text c.in_ok-formed.formed refl kept refl wrap h
     (ap (λ n. (c.args.first_row + n) - c.in_ok-formed.formed.finished.rows) size) refl c.requires.lines
+
+-- the text is searched for its last ESC
+pub invariant_of-result : goal.invariant_of-result
+invariant_of-result c =
+    let escapes : IsUnescapedFrom c.escapes_end-escapes_end.result (string_bytes c.args.text) = subst (λ t. IsUnescapedFrom c.escapes_end-escapes_end.result t) c.deref-3.ensures (c.escapes_end-escapes_end.ensures [] refl refl) in
+    search (rules, escapes)

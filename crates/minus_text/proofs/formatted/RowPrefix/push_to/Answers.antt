@@ -1,5 +1,5 @@
 -- The blanks, and then the number in bold.
-use Rattle.std.proofs.Common.{◌≡◌, ◌+◌, ◌-◌, ◌++◌, ℕ, Bool, true, length, string_bytes, arith, refl, ap, ◌∙◌}
+use Rattle.std.proofs.Common.{◌≡◌, ◌+◌, ◌-◌, ◌++◌, ℕ, Bool, true, length, arith, ap, ◌∙◌}
 use Rattle.std.specs.Fmt.{decimal}
 use Rattle.std.proofs.lemmas.Bool.{not-false}
 use Rattle.minus_text.specs.Prefixes.{padding, numbered, number_prefix, prefix}
@@ -12,7 +12,7 @@ number_put numbers first count line n on one e =
     rw (on, one) (ap (λ k. numbered k line) spaces)
 
 pub returns-then-self : goal.returns-then-self
-returns-then-self c =
+returns-then-self g c =
     let p = c.args.self in
     let put = number_put p.numbers p.is_first p.line_count p.line c.prefix_columns-columns.result (not-false p.numbers c.if-not-self.false) c.if-self.true c.prefix_columns-columns.ensures.value in
-    c.in_ok-push_number.ensures ∙ ap (λ bs. string_bytes c.args.out.now ++ bs) put
+    c.in_ok-push_number.ensures ∙ ap (λ bs. g.T.PushText.bytes c.args.out.now ++ bs) put

@@ -5,4 +5,4 @@ pub returns-clause-value : goal.returns-clause-value
 returns-clause-value c = search rules
 
 pub returns-clause-few : goal.returns-clause-few
-returns-clause-few c = let few = c.self.invariant.1 in search (rules, few)
+returns-clause-few c = let few = c.self.invariant.0.1 in search (rules, few)

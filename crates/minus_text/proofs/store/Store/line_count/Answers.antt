@@ -4,4 +4,4 @@ use Rattle.minus_text.proofs.ScreenLaws.{formed-lines}
 use Rattle.minus_text.proofs.store.Store.line_count.Goals as goal
 
 pub returns : goal.returns
-returns c = c.len.ensures.value ∙ formed-lines (string_bytes c.self.inside.text) c.self.inside.layout c.self.inside.rows.items c.self.inside.first_rows c.self.inside.finished c.self.inside.longest c.self.inside.border c.args.self.now c.self.view_is c.self.invariant
+returns c = c.len.ensures.value ∙ formed-lines (string_bytes c.self.inside.text) c.self.inside.layout c.self.inside.rows.items c.self.inside.first_rows c.self.inside.finished c.self.inside.longest c.self.inside.border c.args.self.now c.self.view_is c.self.invariant.0

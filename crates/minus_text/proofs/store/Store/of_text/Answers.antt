@@ -4,6 +4,7 @@ use Rattle.std.specs.Str.Lines.{lines}
 use Rattle.std.specs.String.{string_bytes}
 use Rattle.std.proofs.lemmas.Str.{IsCharBoundary-from_drop}
 use Rattle.minus_text.specs.Layouts.{wrap_of}
+use Rattle.minus_text.specs.RowText.{IsUnescapedFrom}
 use Rattle.minus_text.specs.Kept.{IsFormOf, IsFormed}
 use Rattle.minus_text.proofs.ScreenLaws.{from_start, whole_form, whole_formed, formed-ascends, form-unfinished}
 use Rattle.minus_text.proofs.FormatResultLaws.{tells_whole}
@@ -25,8 +26,11 @@ invariant_of-store c =
     let wrap : c.wrap_for-wrap.result ≡ wrap_of c.args.layout (length (lines text)) = c.wrap_for-wrap.ensures ∙ ap (λ t. wrap_of c.args.layout (length (lines t))) c.deref.ensures in
     let form : IsFormOf c.wrap_for-wrap.result [] c.deref-2.result.now from_start c.in_ok-formed.formed = whole_form c.deref-2.result.now c.wrap_for-wrap.result c.in_ok-formed.formed c.deref-2.utf8 c.in_ok-formed.ensures.formed in
     let form : IsFormOf c.wrap_for-wrap.result [] text from_start c.in_ok-formed.formed = rw c.deref-2.ensures at form in
-    subst (λ w. IsFormed text w c.form_end.new.rows.items c.form_end.new.first_rows c.in_ok-formed.formed.finished c.in_ok-formed.formed.longest c.in_ok-formed.formed.border) wrap
-    (whole_formed text c.wrap_for-wrap.result c.form_end.new.rows.items c.form_end.new.first_rows c.in_ok-formed.formed form c.in_ok-formed.ensures.rows c.in_ok-formed.ensures.first_rows)
+    let escapes = subst (λ t. IsUnescapedFrom c.escapes_end-escapes_end.result t) c.deref-3.ensures (c.escapes_end-escapes_end.ensures [] refl refl) in (
+      subst (λ w. IsFormed text w c.form_end.new.rows.items c.form_end.new.first_rows c.in_ok-formed.formed.finished c.in_ok-formed.formed.longest c.in_ok-formed.formed.border) wrap
+          (whole_formed text c.wrap_for-wrap.result c.form_end.new.rows.items c.form_end.new.first_rows c.in_ok-formed.formed form c.in_ok-formed.ensures.rows c.in_ok-formed.ensures.first_rows),
+      escapes,
+    )
 
 pub told-requires-clause-finished : goal.told-requires-clause-finished
 told-requires-clause-finished c =

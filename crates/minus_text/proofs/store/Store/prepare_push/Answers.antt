@@ -1,8 +1,9 @@
 -- What is formed beside is what a push of the text forms.
-use Rattle.std.proofs.Common.{◌+◌, length, drop, ap, subst, arith, ◌∙◌}
+use Rattle.std.proofs.Common.{rules, refl, [], ◌+◌, length, drop, ap, subst, arith, ◌∙◌}
 use Rattle.std.specs.String.{string_bytes}
 use Rattle.std.proofs.lemmas.List.{length-append, length-drop}
 use Rattle.minus_text.specs.declared.formed.Plan.{Plan}
+use Rattle.minus_text.specs.RowText.{IsUnescapedFrom}
 use Rattle.minus_text.specs.Kept.{IsRestartOf, line_going_on, piece_behind}
 use Rattle.minus_text.proofs.ScreenLaws.{push_start}
 use Rattle.minus_text.proofs.PendingLaws.{prepared_pending, plan_keeps}
@@ -45,3 +46,9 @@ returns-clause-prepared c =
       wrapping = ap (λ (p : Plan). p.wrap) c.plan-plan.ensures;
       follows = c.in_ok-tail.ensures;
     }
+
+-- the tail is searched for its last ESC
+pub invariant_of-result : goal.invariant_of-result
+invariant_of-result c =
+    let escapes : IsUnescapedFrom c.escapes_end-escapes_end.result (string_bytes c.in_ok-tail.tail) = subst (λ t. IsUnescapedFrom c.escapes_end-escapes_end.result t) c.deref-2.ensures (c.escapes_end-escapes_end.ensures [] refl refl) in
+    search (rules, escapes)

@@ -12,6 +12,7 @@ use Rattle.minus_text.specs.declared.formed.Border.{Border}
 use Rattle.minus_text.specs.declared.layout.Layout.{Layout}
 use Rattle.minus_text.specs.Layouts.{wrap_of}
 use Rattle.minus_text.specs.Document.{Document, wrap_in}
+use Rattle.minus_text.specs.RowText.{IsUnescapedFrom}
 use Rattle.minus_text.specs.Kept.{IsFormed, IsFormOf, IsRestartOf, kept_lines, line_going_on, piece_behind}
 use Rattle.minus_text.proofs.ScreenLaws.{front_is, push_start, pushed_tail, push_formed, formed-ascends, form-unfinished}
 use Rattle.minus_text.proofs.FormatResultLaws.{tells_push}
@@ -54,7 +55,7 @@ form_end-requires-clause-ascends c = λ f p.
     let all = c.deref.ensures ∙ c.in_ok-push_str.ensures.bytes in
     let tail = pushed_tail (string_bytes c.self.inside.text) c.args.piece.now c.deref.result.now c.restart-start.result c.args.plan all (IsUtf8-string_bytes c.self.inside.text) c.utf8.piece place start in
     let text = (push_start (string_bytes c.self.inside.text) c.args.plan c.restart-start.result c.args.piece.now (IsUtf8-string_bytes c.self.inside.text) c.utf8.piece start).0 in
-    let front = front_is (string_bytes c.self.inside.text) c.args.piece.now (wrap_of c.self.inside.layout (length (lines (string_bytes c.self.inside.text)))) c.self.inside.rows.items c.self.inside.first_rows c.self.inside.finished c.self.inside.longest c.self.inside.border c.restart-start.result c.args.plan (IsUtf8-string_bytes c.self.inside.text) c.self.invariant keeps start in
+    let front = front_is (string_bytes c.self.inside.text) c.args.piece.now (wrap_of c.self.inside.layout (length (lines (string_bytes c.self.inside.text)))) c.self.inside.rows.items c.self.inside.first_rows c.self.inside.finished c.self.inside.longest c.self.inside.border c.restart-start.result c.args.plan (IsUtf8-string_bytes c.self.inside.text) c.self.invariant.0 keeps start in
     let formed = p.its_form (line_going_on (string_bytes c.self.inside.text) c.args.plan) (piece_behind (string_bytes c.self.inside.text) c.args.plan c.args.piece.now) start.restarts text tail.1 in
     let news : List Span = take (c.restart-start.result.finished.rows + c.restart-start.result.rows) c.self.inside.rows.items ++ f.rows.items in
     let firsts : List ℕ = take c.restart-start.result.finished.lines c.self.inside.first_rows ++ f.first_rows in
@@ -90,13 +91,15 @@ invariant_of-self-2 c =
     let all = c.deref.ensures ∙ c.in_ok-push_str.ensures.bytes in
     let tail = pushed_tail (string_bytes c.self.inside.text) c.args.piece.now c.deref.result.now c.restart-start.result c.args.plan all (IsUtf8-string_bytes c.self.inside.text) c.utf8.piece place start in
     let text = (push_start (string_bytes c.self.inside.text) c.args.plan c.restart-start.result c.args.piece.now (IsUtf8-string_bytes c.self.inside.text) c.utf8.piece start).0 in
-    let front = front_is (string_bytes c.self.inside.text) c.args.piece.now (wrap_of c.self.inside.layout (length (lines (string_bytes c.self.inside.text)))) c.self.inside.rows.items c.self.inside.first_rows c.self.inside.finished c.self.inside.longest c.self.inside.border c.restart-start.result c.args.plan (IsUtf8-string_bytes c.self.inside.text) c.self.invariant keeps start in
+    let front = front_is (string_bytes c.self.inside.text) c.args.piece.now (wrap_of c.self.inside.layout (length (lines (string_bytes c.self.inside.text)))) c.self.inside.rows.items c.self.inside.first_rows c.self.inside.finished c.self.inside.longest c.self.inside.border c.restart-start.result c.args.plan (IsUtf8-string_bytes c.self.inside.text) c.self.invariant.0 keeps start in
     let formed = c.in-Ok.ensures.formed.its_form (line_going_on (string_bytes c.self.inside.text) c.args.plan) (piece_behind (string_bytes c.self.inside.text) c.args.plan c.args.piece.now) start.restarts text tail.1 in
     let is = push_formed (string_bytes c.self.inside.text) c.args.piece.now (string_bytes c.push_str.new.self) c.args.plan.wrap c.self.inside.rows.items c.form_end.new.rows.items c.self.inside.first_rows c.form_end.new.first_rows c.restart-start.result (kept_lines (string_bytes c.self.inside.text) c.args.plan) (line_going_on (string_bytes c.self.inside.text) c.args.plan) (piece_behind (string_bytes c.self.inside.text) c.args.plan c.args.piece.now) c.in-Ok.formed c.longest_behind-self-inside.result
     front c.in_ok-push_str.ensures.bytes formed c.in-Ok.ensures.rows c.in-Ok.ensures.first_rows c.longest_behind-self-inside.ensures in
     let wrap : c.args.plan.wrap ≡ wrap_of c.args.layout (length (lines (string_bytes c.push_str.new.self))) =
     c.requires.wrap ∙ ap (λ (x : Document). wrap_of c.args.layout (length (lines (x.text ++ c.args.piece.now)))) (sym c.self.view_is) ∙ ap (λ t. wrap_of c.args.layout (length (lines t))) (sym c.in_ok-push_str.ensures.bytes) in
-    subst (λ w. IsFormed (string_bytes c.push_str.new.self) w c.form_end.new.rows.items c.form_end.new.first_rows c.in-Ok.formed.finished c.longest_behind-self-inside.result c.in-Ok.formed.border) wrap is
+    let len : c.len-len.result ≡ length (string_bytes c.self.inside.text) = c.len-len.ensures ∙ c.self.inside.text.bytes.ok.0 in
+    let escapes = subst (λ t. IsUnescapedFrom c.escapes_end-self-inside.result t) (sym c.in_ok-push_str.ensures.bytes) (c.escapes_end-self-inside.ensures (string_bytes c.self.inside.text) len c.self.invariant.1) in
+    (subst (λ w. IsFormed (string_bytes c.push_str.new.self) w c.form_end.new.rows.items c.form_end.new.first_rows c.in-Ok.formed.finished c.longest_behind-self-inside.result c.in-Ok.formed.border) wrap is, escapes)
 
 pub returns-clause-told : goal.returns-clause-told
 returns-clause-told c =
@@ -111,13 +114,16 @@ returns-clause-told c =
     let t = c.told.ensures in
     let same : (string_bytes c.self.inside.text) ≡ c.args.self.now.text = ap (λ (x : Document). x.text) c.self.view_is in
     tells_push (string_bytes c.self.inside.text) c.args.piece.now (wrap_of c.self.inside.layout (length (lines (string_bytes c.self.inside.text)))) c.self.inside.rows.items c.self.inside.first_rows c.self.inside.finished c.self.inside.longest c.self.inside.border c.restart-start.result c.in-Ok.formed _ c.args.self.now c.args.plan
-    same c.self.invariant c.requires.keeps r.start (subst (λ x. IsFormOf c.args.plan.wrap (line_going_on x c.args.plan) (piece_behind x c.args.plan c.args.piece.now) c.restart-start.result c.in-Ok.formed) same formed)
+    same c.self.invariant.0 c.requires.keeps r.start (subst (λ x. IsFormOf c.args.plan.wrap (line_going_on x c.args.plan) (piece_behind x c.args.plan c.args.piece.now) c.restart-start.result c.in-Ok.formed) same formed)
     t.lines t.rows t.unfinished t.matches t.map t.longest
     (t.clean ∙ c.attaches_nothing-clean.ensures ∙ ap (λ n. cond c.args.plan.keeps (eqb c.self.inside.finished.bytes n) true) bytes)
 
 -- a push that fails leaves the text as it was
 pub invariant_of-self : goal.invariant_of-self
-invariant_of-self c = still _ _ c.self.inside.layout _ _ _ _ c.self.inside.finished c.self.inside.longest c.self.inside.border c.in_err-push_str.ensures.bytes refl refl c.self.invariant
+invariant_of-self c = (
+  still _ _ c.self.inside.layout _ _ _ _ c.self.inside.finished c.self.inside.longest c.self.inside.border c.in_err-push_str.ensures.bytes refl refl c.self.invariant.0,
+  subst (λ t. IsUnescapedFrom c.self.inside.escapes_end t) (sym c.in_err-push_str.ensures.bytes) c.self.invariant.1,
+)
 
 pub returns-in_err-push_str-clause-ok : goal.returns-in_err-push_str-clause-ok
 returns-in_err-push_str-clause-ok c = IfOk-from_err _ _ c.from_residual.ensures.0
@@ -141,8 +147,10 @@ form_end-requires-clause-rows c = c.restart-start.ensures.rows
 pub invariant_of-self-in-Err : goal.invariant_of-self-in-Err
 invariant_of-self-in-Err c =
     let len : c.len-len.result ≡ length (string_bytes c.self.inside.text) = c.len-len.ensures ∙ c.self.inside.text.bytes.ok.0 in
-    let back = c.truncate.ensures.bytes ∙ ap (take c.len-len.result) c.in_ok-push_str.ensures.bytes ∙ take_at (string_bytes c.self.inside.text) c.args.piece.now c.len-len.result (sym len) in
-    still _ _ c.self.inside.layout _ _ _ _ c.self.inside.finished c.self.inside.longest c.self.inside.border back c.in-Err.ensures.rows_stay c.in-Err.ensures.first_rows_stay c.self.invariant
+    let back = c.truncate.ensures.bytes ∙ ap (take c.len-len.result) c.in_ok-push_str.ensures.bytes ∙ take_at (string_bytes c.self.inside.text) c.args.piece.now c.len-len.result (sym len) in (
+      still _ _ c.self.inside.layout _ _ _ _ c.self.inside.finished c.self.inside.longest c.self.inside.border back c.in-Err.ensures.rows_stay c.in-Err.ensures.first_rows_stay c.self.invariant.0,
+      subst (λ t. IsUnescapedFrom c.self.inside.escapes_end t) (sym back) c.self.invariant.1,
+    )
 
 pub returns-in-Err-clause-err : goal.returns-in-Err-clause-err
 returns-in-Err-clause-err c =

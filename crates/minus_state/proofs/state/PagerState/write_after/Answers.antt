@@ -1,0 +1,12 @@
+-- The first few of the rows that are shown are these.
+use Rattle.std.proofs.Common.{◌≡◌, ◌-◌, ◌++◌, List, ℕ, drop, OnOk, subst, arith}
+use Rattle.std.specs.List.{flat_map}
+use Rattle.std.proofs.lemmas.List.{take-take}
+use Rattle.minus_term.specs.FullRedraw.{row_ops}
+use Rattle.minus_term.specs.Written.{written_all}
+use Rattle.minus_state.proofs.state.PagerState.write_after.Goals as goal
+
+pub returns : goal.returns
+returns c =
+    let most = c.args.change.now.rows - 1 in
+    subst (λ (texts : List (List ℕ)). OnOk c.write_between.result (c.write_between.new.out.items ≡ c.args.out.now.items ++ written_all (flat_map row_ops (drop c.args.first texts)))) (take-take most most _ (omega arith)) c.write_between.ensures
