@@ -158,7 +158,7 @@ settles_character cs rest c width e n m w = record {
 }
 
 -- the body of a text behind a character that is no space
-body_behind : (front : List ℕ) (f : ℕ) (ds : List ℕ) → eqb f 32 ≡ false → body_of ((front ++ f ∷ []) ++ ds) ≡ (front ++ f ∷ []) ++ body_of ds
+pub body_behind : (front : List ℕ) (f : ℕ) (ds : List ℕ) → eqb f 32 ≡ false → body_of ((front ++ f ∷ []) ++ ds) ≡ (front ++ f ∷ []) ++ body_of ds
 body_behind [] f ds e = rw e refl
 body_behind (c ∷ front) f ds e =
     let more = body_behind front f ds e in

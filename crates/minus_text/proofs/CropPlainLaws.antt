@@ -4,21 +4,21 @@ use Rattle.std.specs.List.{concat, sum_by, list_all}
 use Rattle.std.specs.Str.{IsAscii, IsUtf8, IsCharBoundary, encode_utf8_all}
 use Rattle.std.proofs.lemmas.Bool.{cases_Bool, cases_lt, and_parts, and_from, and_left, and_right, le-leb, lt-leb, ne_eqb}
 use Rattle.std.proofs.lemmas.Bool.Decides.{nat_tests}
-use Rattle.std.proofs.lemmas.List.{append-nil, take-append-drop, map-append}
+use Rattle.std.proofs.lemmas.List.{append-nil, map-append}
 use Rattle.std.proofs.lemmas.List.Folds.{list_all-append}
 use Rattle.std.proofs.lemmas.List.Sums.{sum_by-append, sum_by-cons}
-use Rattle.std.proofs.lemmas.Str.{chars-append, chars-IsAscii, encodes-IsAscii, encodes-chars, encodes-append, IsUtf8-from_ascii, IsCharBoundary-from_take}
+use Rattle.std.proofs.lemmas.Str.{chars-append, chars-IsAscii, encodes-IsAscii, encodes-append, IsUtf8-from_ascii, IsCharBoundary-from_take}
 use Rattle.minus_text.specs.Plain.{is_printable, is_unescaped}
 use Rattle.minus_text.specs.Units.{char_columns, begins_sequence, units, unit_len, unit_columns, body_of}
 use Rattle.minus_text.specs.TextUnits.{text_units}
 use Rattle.minus_text.specs.Singles.{singles}
-use Rattle.minus_text.specs.Crop.{last_columns, is_inside, columns_inside, is_shown_behind, is_shown, shown_unit, shown_units, cropped}
+use Rattle.minus_text.specs.Crop.{last_columns, is_inside, columns_inside, is_shown_behind, is_shown, shown_unit, shown_units}
 use Rattle.minus_text.proofs.CutsLaws.{cuts-nil, cuts_first}
 use Rattle.minus_text.proofs.FrontsLaws.{concat-append}
 use Rattle.minus_text.proofs.UnitsLaws.{unit_rule}
 use Rattle.minus_text.proofs.PlainLaws.{printable_column, printable_ascii}
-use Rattle.minus_text.proofs.BorderLaws.{chars_unescaped}
 use Rattle.minus_text.proofs.TextUnitsLaws.{body_and_spaces}
+use Rattle.minus_text.proofs.RowTextsLaws.{all_take, all_drop}
 use Rattle.minus_text.proofs.CropLaws.{CropSoFar, last_columns-push}
 
 -- ---- characters without ESC are units
@@ -74,7 +74,7 @@ shown_append left width before (u ∷ us) vs =
 
 -- ---- printable characters: those in the columns that are shown
 
-single_columns : (c : ℕ) → is_printable c ≡ true → unit_columns (c ∷ []) ≡ 1
+pub single_columns : (c : ℕ) → is_printable c ≡ true → unit_columns (c ∷ []) ≡ 1
 single_columns c h = omega (arith, sum_by-cons char_columns c [], printable_column c h)
 
 -- a character of one column is shown as it is, or not at all
@@ -193,25 +193,11 @@ shown_behind left width before (c ∷ cs) h some =
 
 -- ---- a text that begins with printable characters
 
-singles_columns : (cs : List ℕ) → list_all is_printable cs ≡ true → sum_by unit_columns (singles cs) ≡ length cs
+pub singles_columns : (cs : List ℕ) → list_all is_printable cs ≡ true → sum_by unit_columns (singles cs) ≡ length cs
 singles_columns [] h = refl
 singles_columns (c ∷ cs) h =
     let both = and_parts (is_printable c) (list_all is_printable cs) h in
     omega (arith, sum_by-cons unit_columns (c ∷ []) (singles cs), single_columns c both.0, singles_columns cs both.1)
-
-last_some : (cs : List ℕ) → list_all is_printable cs ≡ true → 0 < length cs → 0 < last_columns (singles cs)
-last_some [] h l = absurd (omega arith)
-last_some (c ∷ cs) h l =
-    let both = and_parts (is_printable c) (list_all is_printable cs) h in
-    let one = single_columns c both.0 in
-    elim (cases_Bool (eqb (last_columns (singles cs)) 0)) [
-      | inl z ↦ rw (z, one) (omega arith)
-      | inr z ↦ rw z (other (last_columns (singles cs)) z)
-    ]
-  where
-    other : (n : ℕ) → eqb n 0 ≡ false → 0 < n
-    other zero z = absurd cc
-    other (suc n) z = omega arith
 
 pub printable_unescaped : (cs : List ℕ) → list_all is_printable cs ≡ true → list_all is_unescaped cs ≡ true
 printable_unescaped [] h = refl
@@ -221,45 +207,6 @@ printable_unescaped (c ∷ cs) h =
   where
     here : (c : ℕ) → is_printable c ≡ true → is_unescaped c ≡ true
     here c h = grind (arith, nat_tests, h)
-
-ascii_take : (bs : List ℕ) (n : ℕ) → list_all is_printable bs ≡ true → list_all is_printable (take n bs) ≡ true
-ascii_take bs n h = (and_parts (list_all is_printable (take n bs)) (list_all is_printable (drop n bs)) (sym (list_all-append is_printable (take n bs) (drop n bs)) ∙ ap (list_all is_printable) (take-append-drop n bs) ∙ h)).0
-
-ascii_drop : (bs : List ℕ) (n : ℕ) → list_all is_printable bs ≡ true → list_all is_printable (drop n bs) ≡ true
-ascii_drop bs n h = (and_parts (list_all is_printable (take n bs)) (list_all is_printable (drop n bs)) (sym (list_all-append is_printable (take n bs) (drop n bs)) ∙ ap (list_all is_printable) (take-append-drop n bs) ∙ h)).1
-
--- the part in the columns that are shown, where the text goes on behind them, without ESC
-pub cropped_front : (left width : ℕ) (front rest : List ℕ) → IsUtf8 (front ++ rest) → list_all is_printable front ≡ true → list_all is_unescaped rest ≡ true → left + width < length front → cropped left width (front ++ rest) ≡ take width (drop left front)
-unfolding cropped
-cropped_front left width front rest u p r l =
-    let text : List ℕ = front ++ rest in
-    let small : IsAscii front = printable_ascii front p in
-    let free : list_all is_unescaped text ≡ true = list_all-append is_unescaped front rest ∙ and_from (list_all is_unescaped front) (list_all is_unescaped rest) (printable_unescaped front p) r in
-    let all : list_all is_unescaped (chars text) ≡ true = chars_unescaped (chars text) (rw (encodes-chars text u) free) in
-    let split : chars text ≡ front ++ chars rest = chars-append front rest (IsUtf8-from_ascii front small) ∙ ap (λ cs. cs ++ chars rest) (chars-IsAscii front small) in
-    let us : text_units (chars text) ≡ singles front ++ singles (chars rest) = text_units_single (chars text) all ∙ ap singles split ∙ map-append (λ (c : ℕ). c ∷ []) front (chars rest) in
-    let sum : left + width < sum_by unit_columns (singles front) = omega (arith, l, singles_columns front p) in
-    let behind : concat (shown_units left width (singles front) (singles (chars rest))) ≡ [] = shown_behind left width (singles front) (chars rest) sum (last_some front p (omega (arith, l))) in
-    let here = shown_printable left width 0 [] front refl p in
-    let n : left + width - max left 0 ≡ width = omega arith in
-    let d : left - 0 ≡ left = omega arith in
-    let shown : concat (shown_units left width [] (text_units (chars text))) ≡ take width (drop left front) =
-    ap (λ vs. concat (shown_units left width [] vs)) us ∙ ap concat (shown_append left width [] (singles front) (singles (chars rest))) ∙ concat-append (shown_units left width [] (singles front)) (shown_units left width (singles front) (singles (chars rest)))
-    ∙ ap (λ xs. concat (shown_units left width [] (singles front)) ++ xs) behind ∙ append-nil (concat (shown_units left width [] (singles front))) ∙ here ∙ ap (λ k. take k (drop (left - 0) front)) n ∙ ap (λ k. take width (drop k front)) d in
-    ap encode_utf8_all shown ∙ encodes-IsAscii (take width (drop left front)) (printable_ascii (take width (drop left front)) (ascii_take (drop left front) width (ascii_drop front left p)))
-
--- and where it ends before
-pub cropped_printable : (left width : ℕ) (text : List ℕ) → list_all is_printable text ≡ true → cropped left width text ≡ take width (drop left text)
-unfolding cropped
-cropped_printable left width text p =
-    let small : IsAscii text = printable_ascii text p in
-    let us : text_units (chars text) ≡ singles text = ap text_units (chars-IsAscii text small) ∙ text_units_single text (printable_unescaped text p) in
-    let here = shown_printable left width 0 [] text refl p in
-    let n : left + width - max left 0 ≡ width = omega arith in
-    let d : left - 0 ≡ left = omega arith in
-    let shown : concat (shown_units left width [] (text_units (chars text))) ≡ take width (drop left text) =
-    ap (λ vs. concat (shown_units left width [] vs)) us ∙ here ∙ ap (λ k. take k (drop (left - 0) text)) n ∙ ap (λ k. take width (drop k text)) d in
-    ap encode_utf8_all shown ∙ encodes-IsAscii (take width (drop left text)) (printable_ascii (take width (drop left text)) (ascii_take (drop left text) width (ascii_drop text left p)))
 
 -- ---- printable characters among others
 
@@ -285,7 +232,7 @@ crop_run left width rest more run at last at' last' out out' whole s e p a l o =
     let next : List (List ℕ) = shown_units left width (s.before ++ us) more in
     let part : List ℕ = take (left + width - max left at) (drop (left - at) run) in
     let shown : concat now ≡ part = shown_printable left width at s.before run s.at_is p in
-    let small : IsAscii part = printable_ascii part (ascii_take (drop (left - at) run) (left + width - max left at) (ascii_drop run (left - at) p)) in
+    let small : IsAscii part = printable_ascii part (all_take is_printable (drop (left - at) run) (left + width - max left at) (all_drop is_printable run (left - at) p)) in
     let bytes : encode_utf8_all (concat now) ≡ part = ap encode_utf8_all shown ∙ encodes-IsAscii part small in
     let split : encode_utf8_all (concat (shown_units left width s.before rest)) ≡ part ++ encode_utf8_all (concat next) =
     ap (λ vs. encode_utf8_all (concat (shown_units left width s.before vs))) e ∙ ap (λ vs. encode_utf8_all (concat vs)) (shown_append left width s.before us more) ∙ ap encode_utf8_all (concat-append now next)

@@ -1,5 +1,6 @@
 -- Laws of the rows of lines, their first rows and their longest line.
 use Rattle.std.proofs.Common.{◌≡◌, ℕ, zero, suc, ◌+◌, Bool, true, false, eqb, cond, List, [], ◌∷◌, ◌++◌, length, max, refl, sym, ap, ◌∙◌, arith, append_assoc, inl, inr}
+use Rattle.std.specs.List.{concat}
 use Rattle.std.specs.List.Sorted.{IsStrictlyIncreasing}
 use Rattle.std.specs.Str.Lines.{lines}
 use Rattle.std.proofs.lemmas.Bool.{cases_Bool}
@@ -8,7 +9,7 @@ use Rattle.std.proofs.lemmas.List.Concat.{flat_map-append}
 use Rattle.minus_text.specs.declared.layout.Wrap.{Wrap}
 use Rattle.minus_text.specs.Layouts.{own_rows, relaid}
 use Rattle.minus_text.specs.Lines.{finished_lines, unfinished_line}
-use Rattle.minus_text.specs.Document.{Document, rows_of_lines, first_rows, open_rows, longest_of, wrap_in, rows_of, stored_rows, line_map, longest, pushed, PushesJoin, LineMapAscends}
+use Rattle.minus_text.specs.Document.{Document, rows_of_lines, first_rows, open_rows, longest_of, wrap_in, rows_of, stored_rows, line_map, longest, pushed, pushed_all, PushesJoin, PiecesPushJoined, LineMapAscends}
 use Rattle.minus_text.proofs.LayoutLaws.{own_rows-some}
 use Rattle.minus_text.proofs.LinesLaws.{lines-cut}
 
@@ -57,6 +58,13 @@ pushes-join d one two whole a b numbers cols e f g =
       same_count = ap (λ (x : Document). length (lines x.text)) both;
       same_longest = ap longest both;
     }
+
+pub pieces_push_joined_lem : PiecesPushJoined
+pieces_push_joined_lem d [] numbers cols some = absurd (omega arith)
+pieces_push_joined_lem d (piece ∷ []) numbers cols some = ap (λ text. pushed d text numbers cols) (sym (append-nil piece))
+pieces_push_joined_lem d (piece ∷ next ∷ pieces) numbers cols some =
+    pieces_push_joined_lem (pushed d piece numbers cols) (next ∷ pieces) numbers cols (omega arith)
+    ∙ ap (λ text. let r : Document = record { text = text; layout = relaid d.layout numbers cols } in r) (append_assoc d.text piece (concat (next ∷ pieces)))
 
 -- the rows of a text are those of its finished lines and its unfinished ones
 pub length-rows_of_lines : (text : List ℕ) (wrap : Wrap) → length (rows_of_lines wrap (lines text)) ≡ length (rows_of_lines wrap (finished_lines text)) + length (open_rows wrap (unfinished_line text))

@@ -50,6 +50,8 @@ pub mod PlacesLaws
 pub mod PreparedLaws
 pub mod SeamLaws
 pub mod BorderLaws
+pub mod MarkedPartLaws
+pub mod ShownMatchesLaws
 pub mod ScreenLaws
 pub mod RowTextLaws
 pub mod FormatResultLaws
@@ -58,6 +60,7 @@ pub mod PendingLaws
 pub mod LineCountLaws
 pub mod StoredLaws
 pub mod LinePlacesLaws
+mod MeasuredLaws
 pub mod BlockLaws
 pub mod FoundInLaws
 pub mod SearchedLaws

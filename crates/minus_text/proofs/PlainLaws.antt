@@ -10,7 +10,7 @@ use Rattle.std.proofs.lemmas.List.Folds.{list_all-append}
 use Rattle.std.proofs.lemmas.List.Sums.{sum_by-cons}
 use Rattle.std.proofs.lemmas.Str.{chars-IsAscii, encodes-IsAscii, chars-nil}
 use Rattle.unicode_width.specs.Width.{char_width}
-use Rattle.minus_text.specs.Plain.{is_printable, is_plain}
+use Rattle.minus_text.specs.Plain.{is_printable}
 use Rattle.minus_text.specs.Units.{char_columns, begins_sequence, units, unit_len, unit_columns, body_of, text_columns, columns}
 use Rattle.minus_text.specs.Runs.{AreRuns}
 use Rattle.minus_text.specs.TheRuns.{the_runs}
@@ -39,13 +39,6 @@ printable_small c h = grind (arith, nat_tests, h)
 
 printable_no_escape : (c : ℕ) → is_printable c ≡ true → eqb c 27 ≡ false
 printable_no_escape c h = grind (arith, nat_tests, h)
-
-plain_printable : (cs : List ℕ) → list_all is_plain cs ≡ true → list_all is_printable cs ≡ true
-plain_printable [] h = refl
-plain_printable (c ∷ cs) h =
-    let one = and_parts (is_plain c) (list_all is_plain cs) h in
-    let here = and_parts (is_printable c) (not (eqb c 45)) one.0 in
-    rw (here.0) (plain_printable cs one.1)
 
 pub printable_ascii : (bs : List ℕ) → list_all is_printable bs ≡ true → IsAscii bs
 printable_ascii [] h i = omega arith
@@ -172,24 +165,7 @@ columns_plain text h =
     let body : sum_by unit_columns (units (body_of text)) ≡ length (concat (units (body_of text))) = units_plain (units (body_of text)) (rw joined (body_printable text h)) in
     rw same (omega (arith, body, ap length joined, body_length text))
 
--- ---- a word without hyphens that fits
-
-no_joint : (cs : List ℕ) (before : Bool) → list_all is_plain cs ≡ true → part_len_after before cs ≡ length cs
-no_joint [] before h = refl
-no_joint (c ∷ cs) before h =
-    let one = and_parts (is_plain c) (list_all is_plain cs) h in
-    let here = and_parts (is_printable c) (not (eqb c 45)) one.0 in
-    let no_hyphen : eqb c 45 ≡ false = other (eqb c 45) here.1 in
-    let none : (before && (eqb c 45 && begins_alphanumeric cs)) ≡ false = rw no_hyphen (and_false before) in
-    rw none (omega (arith, no_joint cs (is_ascii_alphanumeric c) one.1))
-  where
-    other : (b : Bool) → not b ≡ true → b ≡ false
-    other false e = refl
-    other true e = absurd cc
-
-    and_false : (b : Bool) → (b && false) ≡ false
-    and_false true = refl
-    and_false false = refl
+-- ---- a part that fits
 
 pub some_units : (us : List (List ℕ)) (cs : List ℕ) → concat us ≡ cs → 0 < length cs → 0 < length us
 some_units [] cs e l = let z : 0 ≡ length cs = ap length e in absurd (omega arith)
@@ -201,40 +177,6 @@ one_front cols cs some fits =
     let us : List (List ℕ) = units cs in
     let are : AreRuns (fits_front cols) us (us ∷ []) = ([], sym (append-nil us), record { some = some_units us cs (units_join cs) some; fitting = or_left (nat_le (sum_by unit_columns us) cols) (nat_le (count_by is_wide us) 1) (le-leb (sum_by unit_columns us) cols fits); full = tt }, refl) in
     (the_runs (fits_front cols) (front_rule cols) us).only (us ∷ []) are
-
--- a part of printable ASCII that fits measures its bytes
-pub printable_part : (cols spaces : ℕ) (part : List ℕ) → list_all is_printable part ≡ true → length part ≤ cols
-    → (let m : Measured = record { len = length part; width = length part; spaces = spaces } in m) ∷ [] ≡ map measure (with_spaces (fronts cols (chars part)) spaces)
-printable_part cols spaces [] h few =
-    let none : units [] ≡ [] = cuts-nil unit_len in
-    let nil : [] ≡ fronts cols [] = (the_runs (fits_front cols) (front_rule cols) (units [])).only [] none in
-    rw chars-nil (ap (λ bs. map measure (with_spaces bs spaces)) nil)
-printable_part cols spaces (b ∷ bs) printable few =
-    let part : List ℕ = b ∷ bs in
-    let small : IsAscii part = printable_ascii part printable in
-    let same : chars part ≡ part = chars-IsAscii part small in
-    let joined : concat (units part) ≡ part = units_join part in
-    let width : sum_by unit_columns (units part) ≡ length part = units_plain (units part) (rw joined printable) ∙ ap length joined in
-    let front : units part ∷ [] ≡ fronts cols part = one_front cols part (omega arith) (omega arith) in
-    let bytes : length (encode_utf8_all (concat (units part))) ≡ length part = ap (λ xs. length (encode_utf8_all xs)) joined ∙ ap length (encodes-IsAscii part small) in
-    rw same (same_measure (length part) (length (encode_utf8_all (concat (units part)))) (sum_by unit_columns (units part)) (sym bytes) (sym width) ∙ ap (λ fs. map measure (with_spaces fs spaces)) front)
-  where
-    same_measure : (a n w : ℕ) → a ≡ n → a ≡ w → (let m : Measured = record { len = a; width = a; spaces = spaces } in m) ∷ [] ≡ record { len = n; width = w; spaces = spaces } ∷ []
-    same_measure a n w e f = rw (← e, ← f) refl
-
-pub printable_last : (cols spaces : ℕ) (part : List ℕ) (old news : List Measured) → list_all is_printable part ≡ true → length part ≤ cols → news ≡ old ++ record { len = length part; width = length part; spaces = spaces } ∷ []
-    → news ≡ old ++ map measure (with_spaces (fronts cols (chars part)) spaces)
-printable_last cols spaces part old news h few pushed = pushed ∙ ap (λ ms. old ++ ms) (printable_part cols spaces part h few)
-
--- a word without hyphens is one part
-no_parts : (body : List ℕ) → list_all is_plain body ≡ true → part_len_after false (chars body) ≡ length (chars body)
-no_parts body h = let same : chars body ≡ body = chars-IsAscii body (printable_ascii body (plain_printable body h)) in rw same (no_joint body false h)
-
--- so one piece is all of it
-pub plain_last : (cols spaces : ℕ) (body : List ℕ) (old news : List Measured) → list_all is_plain body ≡ true → length body ≤ cols → news ≡ old ++ record { len = length body; width = length body; spaces = spaces } ∷ []
-    → news ≡ old ++ map measure (with_spaces (flat_map (fronts cols) (parts (chars body))) spaces)
-plain_last cols spaces body old news h few pushed =
-    word_last cols spaces old old news (chars body) (chars body) (no_parts body h) (printable_last cols spaces body old news (plain_printable body h) few pushed) refl
 
 -- a row that is all of its line, or the row of no text
 pub whole_row : (cols : ℕ) (line : List ℕ) → length line ≤ cols → list_all is_printable line ≡ true → ((xs : List ℕ) → line ≡ xs ++ 32 ∷ [] → ⊥) → line_places cols line ≡ record { start = 0; end = length line } ∷ []

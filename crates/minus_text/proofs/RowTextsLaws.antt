@@ -9,10 +9,11 @@ use Rattle.memchr.specs.Find.{Nowhere, Passes, is_byte}
 use Rattle.minus_text.specs.Plain.{is_unescaped}
 use Rattle.minus_text.specs.RowText.{IsUnescapedFrom}
 
-all_take : (p : ℕ → Bool) (xs : List ℕ) (n : ℕ) → list_all p xs ≡ true → list_all p (take n xs) ≡ true
+-- a part of a text
+pub all_take : (p : ℕ → Bool) (xs : List ℕ) (n : ℕ) → list_all p xs ≡ true → list_all p (take n xs) ≡ true
 all_take p xs n h = (and_parts (list_all p (take n xs)) (list_all p (drop n xs)) (sym (list_all-append p (take n xs) (drop n xs)) ∙ ap (list_all p) (take-append-drop n xs) ∙ h)).0
 
-all_drop : (p : ℕ → Bool) (xs : List ℕ) (n : ℕ) → list_all p xs ≡ true → list_all p (drop n xs) ≡ true
+pub all_drop : (p : ℕ → Bool) (xs : List ℕ) (n : ℕ) → list_all p xs ≡ true → list_all p (drop n xs) ≡ true
 all_drop p xs n h = (and_parts (list_all p (take n xs)) (list_all p (drop n xs)) (sym (list_all-append p (take n xs) (drop n xs)) ∙ ap (list_all p) (take-append-drop n xs) ∙ h)).1
 
 -- from a later place on
@@ -21,7 +22,6 @@ unescaped_later e n text l h =
     let sum : e + (n - e) ≡ n = omega (arith, l) in
     ap (λ k. list_all is_unescaped (drop k text)) (sym sum) ∙ ap (list_all is_unescaped) (sym (drop-drop (n - e) e text)) ∙ all_drop is_unescaped (drop e text) (n - e) h
 
--- a part of a text
 part_cut : (k n : ℕ) (xs : List ℕ) → list_all is_unescaped (drop k xs) ≡ true → list_all is_unescaped (drop k (take n xs)) ≡ true
 part_cut k n xs h = elim (cases_lt n k) [
   | inl l ↦ ap (list_all is_unescaped) (drop_all k (take n xs) (omega (arith, l, length-take n xs)))

@@ -11,9 +11,11 @@ use Rattle.minus_text.specs.Prefixes.{is_on, prefix}
 use Rattle.minus_text.specs.Layouts.{own_rows}
 use Rattle.minus_text.specs.Document.{Document, rows_of_lines, rows_of, line_count, wrap_in, stored_line, stored_lines, stored_rows, IsPrefixOf}
 use Rattle.minus_text.specs.Escapes.{stripped, escapes, escape_places}
-use Rattle.minus_text.specs.Highlight.{highlighted, line_matches, line_match_places}
+use Rattle.minus_text.specs.Highlight.{highlighted, line_matches, line_match_places, ordered, put_in}
 use Rattle.minus_text.specs.Found.{RowMatches, found_by, found_of_row, marked}
 use Rattle.minus_text.specs.Searched.{Searched, shown_for, stored_lines_for, stored_rows_for, IsRowBehind}
+use Rattle.minus_text.specs.ShownMatches.{reversed_in, highlighted_within, shown_within, marked_within}
+use Rattle.minus_text.proofs.MatchPlacesLaws.{no_place}
 use Rattle.minus_text.proofs.PendingLaws.{get_behind}
 use Rattle.minus_text.proofs.StoredLaws.{row_in_line, at_front, none_alike, length-stored_line}
 use Rattle.minus_text.proofs.MarkersLaws.{no_match_no_change}
@@ -32,6 +34,28 @@ marked_is (Some re) rows first i n row found is at e =
     rw (is, here) (elim (cases_Bool (line_matches re row)) [
       | inl hit ↦ rw hit (marked_hit re n row)
       | inr miss ↦ rw miss (sym (no_match_no_change re false row miss))
+    ])
+
+-- and so it is with what is shown of it in some columns
+within_hit : (re : Re) (left width n : ℕ) (row : List ℕ) → marked_within left width (Some (record { row = n; escapes = escape_places row; matches = line_match_places re row })) row ≡ highlighted_within re left width row
+unfolding highlighted_within stripped escapes
+within_hit re left width n row = refl
+
+within_miss : (re : Re) (left width : ℕ) (row : List ℕ) → line_matches re row ≡ false → row ≡ highlighted_within re left width row
+unfolding highlighted_within highlighted line_matches
+within_miss re left width row miss =
+    let none : line_match_places re row ≡ [] = no_place re (stripped row) miss in
+    sym (no_match_no_change re false row miss) ∙ ap (λ ms. put_in (stripped row) 0 (ordered false ms (escapes row))) none
+    ∙ sym (ap (λ ms. reversed_in left width (stripped row) ms (escapes row)) none)
+
+pub marked_within_is : (term : Option Re) (left width : ℕ) (rows : List (List ℕ)) (i : ℕ) (row : List ℕ) → slice_get rows i ≡ Some row → marked_within left width (found_of_row i (found_by term 0 rows)) row ≡ shown_within term left width row
+marked_within_is None left width rows i row e = refl
+marked_within_is (Some re) left width rows i row e =
+    let at : i ≡ 0 + i = omega arith in
+    let here = found_of re 0 rows i i row at e in
+    rw here (elim (cases_Bool (line_matches re row)) [
+      | inl hit ↦ rw hit (within_hit re left width i row)
+      | inr miss ↦ rw miss (within_miss re left width row miss)
     ])
 
 -- ---- what stands before a row stands before it under each term

@@ -1,6 +1,6 @@
 -- A document: a text and the layout of its rows, and what follows from them.
-use Rattle.std.specs.Prelude.{◌≡◌, ℕ, ◌+◌, ◌==◌, ◌&&◌, Bool, true, false, List, [], ◌∷◌, ◌++◌, length, map, max, Some, slice_get, if◌then◌else◌}
-use Rattle.std.specs.List.{flat_map}
+use Rattle.std.specs.Prelude.{◌≡◌, ℕ, ◌+◌, ◌<◌, ◌==◌, ◌&&◌, Bool, true, false, List, [], ◌∷◌, ◌++◌, length, map, max, Some, slice_get, if◌then◌else◌}
+use Rattle.std.specs.List.{flat_map, concat}
 use Rattle.std.specs.List.Sorted.{IsStrictlyIncreasing}
 use Rattle.std.specs.Str.Lines.{lines}
 use Rattle.minus_text.specs.declared.layout.Wrap.{Wrap}
@@ -101,6 +101,16 @@ pub record LooksTheSame (d e : Document) : Type 0 where
 abbrev pub PushesJoin : Type 0
 PushesJoin = (d one two whole : Document) (a b : List ℕ) (numbers : LineNumbers) (cols : ℕ)
     → one ≡ pushed d a numbers cols → two ≡ pushed one b numbers cols → whole ≡ pushed d (a ++ b) numbers cols → LooksTheSame two whole
+
+-- pieces that are pushed one after another, with numbers and columns for all
+abbrev pub pushed_all : Document → List (List ℕ) → LineNumbers → ℕ → Document
+pushed_all d [] numbers cols = d
+pushed_all d (piece ∷ pieces) numbers cols = pushed_all (pushed d piece numbers cols) pieces numbers cols
+
+-- to push some pieces one after another is to push them joined
+abbrev pub PiecesPushJoined : Type 0
+PiecesPushJoined = (d : Document) (pieces : List (List ℕ)) (numbers : LineNumbers) (cols : ℕ)
+    → 0 < length pieces → pushed_all d pieces numbers cols ≡ pushed d (concat pieces) numbers cols
 
 -- each line begins at a later row than the line before it
 abbrev pub LineMapAscends : Type 0

@@ -45,6 +45,9 @@ pub mod Words
 pub mod NextPushes
 pub mod Views
 pub mod ViewedRows
+pub mod ShownMatches
+pub mod Walks
+pub mod MatchedTexts
 pub mod LineParts
 pub mod RowHomes
 pub mod LineCuts

@@ -1,15 +1,13 @@
 -- Pieces as the code measures them: bytes of the body, columns of the body, spaces after it.
-use Rattle.std.specs.Prelude.{◌≡◌, ℕ, ◌+◌, ◌-◌, ◌<◌, ◌||◌, Bool, not, nat_le, List, [], ◌∷◌, ◌++◌, length, take, replicate}
+use Rattle.std.specs.Prelude.{◌≡◌, ℕ, ◌+◌, ◌-◌, ◌<◌, ◌||◌, Bool, nat_le, List, [], ◌∷◌, ◌++◌, length, take, replicate}
 use Rattle.std.specs.List.{sum_by, concat}
 use Rattle.std.specs.Str.{encode_utf8_all}
 use Rattle.minus_text.specs.declared.wrap.Span.{Span}
 use Rattle.minus_text.specs.declared.wrap.Measured.{Measured}
-use Rattle.minus_text.specs.declared.wrap.Class.{Class}
-use Rattle.minus_text.specs.declared.wrap.Class.TheVariants.{Spaces, Parameters}
 use Rattle.minus_text.specs.Runs.{IsRun}
-use Rattle.minus_text.specs.Units.{units, unit_columns, is_final}
+use Rattle.minus_text.specs.Units.{units, unit_columns}
 use Rattle.minus_text.specs.Fronts.{fits_front}
-use Rattle.minus_text.specs.Pieces.{Piece, piece_columns, is_space, parts, words, body_len}
+use Rattle.minus_text.specs.Pieces.{Piece, piece_columns, parts, words, body_len}
 
 abbrev pub measure : Piece → Measured
 measure p = record { len = length (encode_utf8_all (concat p.body)); width = piece_columns p; spaces = p.spaces }
@@ -35,11 +33,6 @@ end_of at (m ∷ n ∷ ms) = end_of (at + size m) (n ∷ ms)
 abbrev pub measured_places : ℕ → List (List Measured) → List Span
 measured_places at [] = []
 measured_places at (run ∷ runs) = record { start = at; end = end_of at run } ∷ measured_places (at + sum_by size run) runs
-
--- what a stretch of characters is made of
-abbrev pub class_test : Class → ℕ → Bool
-class_test Spaces = is_space
-class_test Parameters = λ c. not (is_final c)
 
 -- the first unit of some characters, its columns, and what follows it
 pub record SplitsUnit (cs : List ℕ) (width : ℕ) (rest : List ℕ) : Type 0 where

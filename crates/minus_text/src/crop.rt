@@ -5,6 +5,7 @@ ghost use Rattle.std.specs.Str.{encode_utf8_all};
 ghost use Rattle.minus_text.specs.Plain.{is_printable, is_unescaped};
 ghost use Rattle.minus_text.specs.RowText.{IsUnescapedFrom};
 ghost use Rattle.minus_text.specs.Units.{unit_columns, columns, begins_sequence};
+ghost use Rattle.minus_text.specs.ShownMatches.{meets, IsPlainTo};
 ghost use Rattle.minus_text.specs.Crop.{is_inside, columns_inside, is_shown_behind, is_shown, shown_unit, cropped, fitted, CroppedFits, FittedTextsFill};
 
 use crate::row_text::RowText;
@@ -63,6 +64,21 @@ impl Window {
             return self.is_shown_behind(at, last);
         }
         self.is_inside(at, unit.columns)
+    }
+
+    // Whether some of the columns from one on up to another are shown.
+    pub(crate) fn meets(self, start: usize, end: usize) -> bool
+        ensures { result ≡ meets self.left self.width start end }
+    {
+        let from = self.left.max(start);
+        from < end && from - self.left < self.width
+    }
+
+    // Whether a column stands behind those that are shown.
+    pub(crate) fn is_behind(self, column: usize) -> bool
+        ensures { IsTrue result → self.left + self.width ≤ column }
+    {
+        self.left <= column && self.width <= column - self.left
     }
 
     // Adds what is shown of characters of printable ASCII from the column `at` on.
@@ -125,30 +141,40 @@ fn is_unescaped_behind(rest: &[u8], at: usize, escapes_end: usize) -> bool
     are_unescaped(rest)
 }
 
-// What is shown of a text without ESC behind the columns that are shown, of which no other characters than printable ASCII
-// stand in the columns up to the first behind: a part of it. Where it is known that the text has no ESC from a place before
-// on, no character behind that one is read.
+// Whether a text is printable ASCII up to the first column behind those that are shown, and has no ESC. Where it is known
+// to have none from a place before on, no character behind that one is read.
+fn is_plain_in(text: &str, window: Window, escapes_end: usize) -> bool
+    requires { IsUnescapedFrom escapes_end text.now }
+    ensures { IsTrue result → IsPlainTo (window.left + window.width) text.now }
+{
+    let bytes = text.as_bytes();
+    let end = window.left.saturating_add(window.width);
+    if bytes.len() <= end {
+        return are_printable(bytes);
+    }
+    let (front, rest) = bytes.split_at(end + 1);
+    are_printable(front) && is_unescaped_behind(rest, end + 1, escapes_end)
+}
+
+// What is shown of such a text: a part of it.
 fn plain_part(text: &str, left: usize, width: usize, escapes_end: usize) -> Option<&str>
     requires { IsUnescapedFrom escapes_end text.now }
     ensures { IfSome result (λ part. part.now ≡ cropped left width text.now) }
 {
-    let bytes = text.as_bytes();
-    let end = left.saturating_add(width);
-    if end < bytes.len() {
-        let (front, rest) = bytes.split_at(end + 1);
-        if are_printable(front) && is_unescaped_behind(rest, end + 1, escapes_end) {
-            return Some(&text[left..end]);
-        }
+    if !is_plain_in(text, Window { left, width }, escapes_end) {
         return None;
     }
-    if are_printable(bytes) {
-        return Some(&text[left.min(bytes.len())..]);
-    }
-    None
+    let end = left.saturating_add(width).min(text.len());
+    Some(&text[left.min(end)..end])
 }
 
 // Adds what is shown of a text: of characters of printable ASCII all together, of any other unit by unit.
-fn push_units(row: &mut String, text: &str, left: usize, width: usize) -> Result<(), AllocError>
+pub(crate) fn push_units(
+    row: &mut String,
+    text: &str,
+    left: usize,
+    width: usize,
+) -> Result<(), AllocError>
     ensures { OnOk result (string_bytes row.new ≡ string_bytes row.old ++ cropped left width text.now) }
 {
     let window = Window { left, width };
@@ -179,7 +205,8 @@ fn push_cropped(row: &mut String, text: &str, left: usize, width: usize) -> Resu
 }
 
 impl<'t> RowText<'t> {
-    ghost use Rattle.std.specs.Prelude.{◌≡◌, ◌++◌, string_bytes, IfSome, OnOk};
+    ghost use Rattle.std.specs.Prelude.{◌≡◌, ◌+◌, ◌++◌, string_bytes, IfSome, IsTrue, OnOk};
+    ghost use Rattle.minus_text.specs.ShownMatches.{IsPlainTo};
     ghost use Rattle.minus_text.specs.Crop.{cropped};
 
     /// What is shown of it in so many columns from the column `left` on, as [`crop_columns`] gives it, where that is a part
@@ -189,6 +216,13 @@ impl<'t> RowText<'t> {
         ensures { IfSome result (λ part. part.now ≡ cropped left width self.entry.text.now) }
     {
         plain_part(self.text, left, width, self.escapes_end)
+    }
+
+    // Whether its columns are its bytes, up to the first behind those that are shown.
+    pub(crate) fn is_plain_in(self, window: Window) -> bool
+        ensures { IsTrue result → IsPlainTo (window.left + window.width) self.entry.text.now }
+    {
+        is_plain_in(self.text, window, self.escapes_end)
     }
 
     /// Adds to a row what is shown of it in so many columns from the column `left` on, as [`crop_columns`] gives it. An

@@ -13,6 +13,7 @@ mod line_cuts;
 pub mod line_numbers;
 pub mod lines;
 pub mod lines_row_map;
+mod matched_text;
 pub mod pending;
 mod push_text;
 pub mod row_text;
@@ -36,8 +37,10 @@ pub use lines::{
     join_lines, last_line_end, lines_are_cut, parts_are_of_lines, rows_stand_in_lines,
 };
 pub use lines_row_map::LinesRowMap;
+pub use matched_text::MatchedText;
 pub use pending::PendingPush;
 pub use row_text::RowText;
+pub use screen::pieces::{join_pieces, pieces_push_joined};
 pub use screen::searching::Findings;
 pub use screen::{
     FormatResult, Line, OwnedTextBlock, Row, Rows, Screen, TextBlock, line_map_ascends, pushes_join,

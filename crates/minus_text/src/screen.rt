@@ -13,6 +13,7 @@ ghost use Rattle.minus_text.specs.FoundBy.{found_rows};
 ghost use Rattle.minus_text.specs.Searched.{searched, IsFoundBy, IsFoundInPush, IsStoredRow, IsHighlightedRow};
 ghost use Rattle.regex.specs.Patterns.{Re};
 
+pub mod pieces;
 pub mod searching;
 
 use crate::formed_push::FormedPush;

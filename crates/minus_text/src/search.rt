@@ -5,6 +5,7 @@ pub(crate) mod found_rows;
 pub mod highlight;
 pub mod matches;
 pub mod patterns;
+pub(crate) mod shown_matches;
 mod standing;
 pub mod term;
 pub mod words;

@@ -8,6 +8,7 @@ ghost use Rattle.minus_text.specs.ViewedRows.{viewed_text};
 
 use crate::formatted::{FormattedRow, RowPrefix};
 use crate::layout::Layout;
+use crate::matched_text::MatchedText;
 use crate::pending::PendingPush;
 use crate::row_text::RowText;
 use crate::screen::Row;
@@ -51,6 +52,7 @@ impl<'s> RowsView<'s> {
     ghost use Rattle.minus_text.specs.Document.{rows_of, line_count, IsPrefixOf};
     ghost use Rattle.minus_text.specs.Formatted.{prefix_of};
     ghost use Rattle.minus_text.specs.Found.{Ascend, IsPlaced, found_of_row, row_numbers};
+    ghost use Rattle.minus_text.specs.MatchedTexts.{IsMatchedRow};
     ghost use Rattle.minus_text.specs.Matches.{counts_first, nearest, nth_match};
     ghost use Rattle.minus_text.specs.Searched.{IsRowBehind, IsStoredRow, IsHighlightedRow};
     ghost use Rattle.minus_text.specs.Views.{viewed};
@@ -240,6 +242,18 @@ impl<'s> RowsView<'s> {
             Some(_) => None,
             None => Some(row),
         }
+    }
+
+    /// The text of a row, counted from 0, if there is one, with its matches. It takes no memory.
+    pub fn matched_text(self, i: usize) -> Option<MatchedText<'s>>
+        ensures { IsMatchedRow (viewed self.entry) i result }
+    {
+        let Some(text) = self.row_text(i) else {
+            return None;
+        };
+        let mut near = 0;
+        let found = self.found_at(i).of_row(i, &mut near);
+        Some(MatchedText { text, found })
     }
 
     /// A row, counted from 0, if there is one that is stored as its own text: it has no number, and nothing was found

@@ -5,14 +5,14 @@ ghost use Rattle.std.specs.Str.{encode_utf8_all};
 ghost use Rattle.std.specs.List.{flat_map, prefix_len, position_or_len, sum_by, list_all};
 ghost use Rattle.std.specs.Option.{SomeIff};
 ghost use Rattle.minus_text.specs.Units.{char_columns, is_final, begins_sequence, units, unit_columns, body_of, columns};
-ghost use Rattle.minus_text.specs.Plain.{is_printable, is_plain, is_unescaped};
+ghost use Rattle.minus_text.specs.Plain.{is_printable, is_unescaped, is_unhyphened};
 ghost use Rattle.minus_text.specs.Runs.{IsRun, AreRuns};
-ghost use Rattle.minus_text.specs.Pieces.{pieces, body_len, parts, fronts, with_spaces, part_len_after, begins_alphanumeric};
+ghost use Rattle.minus_text.specs.Pieces.{pieces, is_space, body_len, parts, fronts, with_spaces, part_len_after, begins_alphanumeric};
 ghost use Rattle.minus_text.specs.Kept.{IsBorder};
 ghost use Rattle.minus_text.specs.Settled.{SettlesFirst};
 ghost use Rattle.minus_text.specs.Joints.{WordsAreCutAtJoints};
 ghost use Rattle.minus_text.specs.Rows.{line_places, line_rows, ArePlaces, RowsAreDetermined, PiecesJoin, RowsFit};
-ghost use Rattle.minus_text.specs.Measures.{measure, size, end_of, fits_measured, measured_places, class_test, SplitsUnit, SplitsFront, SplitsPart, SplitsWord};
+ghost use Rattle.minus_text.specs.Measures.{measure, size, end_of, fits_measured, measured_places, SplitsUnit, SplitsFront, SplitsPart, SplitsWord};
 
 use crate::formed::Border;
 use crate::screen::{Line, Rows};
@@ -34,24 +34,6 @@ struct Measured {
     len: usize,
     width: usize,
     spaces: usize,
-}
-
-// What a stretch of characters is made of: spaces alone, or what an escape sequence has before its end.
-#[derive(Clone, Copy)]
-enum Class {
-    Spaces,
-    Parameters,
-}
-
-impl Class {
-    fn has(self, c: char) -> bool
-        ensures { result ≡ class_test self c }
-    {
-        match self {
-            Class::Spaces => c == ' ',
-            Class::Parameters => !matches!(c, '\x40'..='\x7e'),
-        }
-    }
 }
 
 // The first character of a text, and what follows it.
@@ -96,6 +78,7 @@ fn is_printable(text: &str) -> bool
 
 // How many bytes at the front of a text are of printable ASCII.
 pub(crate) fn printable_front(text: &str) -> usize
+    ensures within { result ≤ length text.now }
     ensures boundary { IsCharBoundary text.now result }
     ensures printable { list_all is_printable (take result text.now) ≡ true }
 {
@@ -107,15 +90,15 @@ pub(crate) fn printable_front(text: &str) -> usize
     at
 }
 
-// Whether it has no hyphen either.
-fn is_plain(text: &str) -> bool
-    ensures { result ≡ list_all is_plain text.now }
+// Whether a text has no hyphen: a byte that is 45 is one wherever it stands.
+fn is_unhyphened(text: &str) -> bool
+    ensures { result ≡ list_all is_unhyphened text.now }
 {
-    let mut plain = true;
+    let mut unhyphened = true;
     for &b in text.as_bytes() {
-        plain &= matches!(b, b' '..=b'~') && b != b'-';
+        unhyphened &= b != b'-';
     }
-    plain
+    unhyphened
 }
 
 // Whether no byte is ESC.
@@ -136,14 +119,14 @@ pub(crate) fn is_unescaped(text: &str) -> bool
     are_unescaped(text.as_bytes())
 }
 
-// What follows the characters of a class at the start of a text.
-fn past(text: &str, class: Class) -> &str
-    ensures chars { chars result.now ≡ drop (prefix_len (class_test class) (chars text.now)) (chars text.now) }
+// What follows the spaces at the start of a text.
+fn past_spaces(text: &str) -> &str
+    ensures chars { chars result.now ≡ drop (prefix_len is_space (chars text.now)) (chars text.now) }
     ensures room { length result.now ≤ length text.now }
 {
     let mut rest = text;
     while let Some((c, more)) = split_char(rest) {
-        if !class.has(c) {
+        if c != ' ' {
             return rest;
         }
         rest = more;
@@ -164,12 +147,26 @@ fn past_body(text: &str) -> &str
     &text[at..]
 }
 
+// What an escape sequence has from its final character on, where its `ESC[` is gone: a byte that ends
+// one does so wherever it stands.
+fn past_parameters(text: &str) -> &str
+    ensures chars { chars result.now ≡ drop (position_or_len is_final (chars text.now)) (chars text.now) }
+    ensures room { length result.now ≤ length text.now }
+{
+    let bytes = text.as_bytes();
+    let mut at = 0;
+    while at < bytes.len() && !matches!(bytes[at], b'\x40'..=b'\x7e') {
+        at += 1;
+    }
+    &text[at..]
+}
+
 // What follows the end of an escape sequence whose `ESC[` is gone.
 fn past_sequence(text: &str) -> &str
     ensures chars { chars result.now ≡ drop (position_or_len is_final (chars text.now) + 1) (chars text.now) }
     ensures room { length result.now ≤ length text.now }
 {
-    let end = past(text, Class::Parameters);
+    let end = past_parameters(text);
     match split_char(end) {
         Some((_, rest)) => rest,
         None => end,
@@ -230,7 +227,7 @@ fn split_settled(text: &str) -> Option<(usize, &str)>
     let Some(inside) = strip_escape(text) else {
         return None;
     };
-    match split_char(past(inside, Class::Parameters)) {
+    match split_char(past_parameters(inside)) {
         Some((_, after)) => Some((0, after)),
         None => None,
     }
@@ -274,6 +271,35 @@ fn split_front(part: &str, cols: usize) -> (usize, &str)
     (width, rest)
 }
 
+// The columns of the characters of printable ASCII at the front of a text, or else of its first
+// unit, and what follows them.
+fn split_columns(text: &str) -> Option<(usize, &str)>
+    ensures columns { MatchOption result (chars text.now ≡ []) (λ x. sum_by unit_columns (units (chars text.now))
+        ≡ x.0 + sum_by unit_columns (units (chars x.1.now))) }
+    ensures room { IfSome result (λ x. x.0 + 2 * length x.1.now ≤ 2 * length text.now) }
+    ensures less { IfSome result (λ x. length x.1.now < length text.now) }
+{
+    let front = printable_front(text);
+    if front > 0 {
+        return Some((front, &text[front..]));
+    }
+    split_unit(text)
+}
+
+// The columns of the units of a text.
+fn units_columns(text: &str) -> usize
+    ensures value { result ≡ sum_by unit_columns (units (chars text.now)) }
+    ensures few { result ≤ 2 * length text.now }
+{
+    let mut width = 0;
+    let mut rest = text;
+    while let Some((more, after)) = split_columns(rest) {
+        width += more;
+        rest = after;
+    }
+    width
+}
+
 // Adds the pieces of a part: its fronts, the last of which has the spaces.
 fn push_part(
     pieces: &mut Vec<Measured>,
@@ -285,12 +311,9 @@ fn push_part(
         ++ map measure (with_spaces (fronts cols (chars part.now)) spaces)) }
 {
     let len = part.len();
-    if len <= cols && is_printable(part) {
-        pieces.push(Measured {
-            len,
-            width: len,
-            spaces,
-        })?;
+    let width = units_columns(part);
+    if width <= cols {
+        pieces.push(Measured { len, width, spaces })?;
         return Ok(());
     }
     let mut rest = part;
@@ -363,13 +386,8 @@ fn push_word(
     ensures { OnOk result (pieces.new.items ≡ pieces.old.items
         ++ map measure (with_spaces (flat_map (fronts cols) (parts (chars body.now))) spaces)) }
 {
-    let len = body.len();
-    if len <= cols && is_plain(body) {
-        pieces.push(Measured {
-            len,
-            width: len,
-            spaces,
-        })?;
+    if is_unhyphened(body) {
+        push_part(pieces, body, spaces, cols)?;
         return Ok(());
     }
     let mut rest = body;
@@ -396,7 +414,7 @@ fn split_word(line: &str) -> Word<'_>
     ensures less { 0 < length line.now → length result.rest.now < length line.now }
 {
     let after = past_body(line);
-    let rest = past(after, Class::Spaces);
+    let rest = past_spaces(after);
     Word {
         body: front(line, after),
         spaces: after.len() - rest.len(),
@@ -550,20 +568,6 @@ pub(crate) fn without_spaces(text: &str) -> &str
         body = front;
     }
     body
-}
-
-// The columns of the units of a text.
-fn units_columns(text: &str) -> usize
-    ensures value { result ≡ sum_by unit_columns (units (chars text.now)) }
-    ensures few { result ≤ 2 * length text.now }
-{
-    let mut width = 0;
-    let mut rest = text;
-    while let Some((more, after)) = split_unit(rest) {
-        width += more;
-        rest = after;
-    }
-    width
 }
 
 // The columns of the characters of a text.

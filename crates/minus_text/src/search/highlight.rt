@@ -4,16 +4,18 @@ ghost use Rattle.minus_text.specs.Escapes.{insert_of, outside, inside, CutsText}
 ghost use Rattle.minus_text.specs.Highlight.{count_before, before, behind, moved, closed, of_match, ordered, put_in, highlighted, line_matches, matches_text, StandIn, StandIn-prop, HighlightsAddMarkersAlone, OnlyMatchesAreHighlighted};
 ghost use Rattle.regex.specs.Strings.{regex_pattern, matcher_pattern};
 
+use crate::crop::Window;
 use crate::push_text::PushText;
 use crate::search::escapes::{Insert, Parted, match_places, part, part_line};
 use crate::search::patterns::Patterns;
+use crate::search::shown_matches::shown_matches;
 use regex::{Matcher, Regex};
 use std::alloc::{AllocError, Global};
 use std::fmt;
 
-const REVERSE_ON: &str = "\x1b[7m";
+pub(crate) const REVERSE_ON: &str = "\x1b[7m";
 
-const REVERSE_OFF: &str = "\x1b[27m";
+pub(crate) const REVERSE_OFF: &str = "\x1b[27m";
 
 // How many of the escape sequences stand before a place.
 fn count_before(escapes: &[Insert<'_>], place: usize) -> usize
@@ -154,6 +156,7 @@ impl Drop for HighlightMatchesArgs<'_> {
 
 impl<'l> HighlightMatchesArgs<'l> {
     ghost use Rattle.minus_text.specs.Shown.{shown_line, highlighted_parted};
+    ghost use Rattle.minus_text.specs.ShownMatches.{reversed_in};
 
     /// Finds the matches of a pattern in a line, which are those of the line without its escape
     /// sequences. These stay where they stand if the highlight is to be accurate; else those inside
@@ -213,6 +216,31 @@ impl<'l> HighlightMatchesArgs<'l> {
     {
         let Parted { text, escapes } = part(alloc, row, escape_places)?;
         let puts = ordered(alloc, matches, &escapes, false)?;
+        Ok(HighlightMatchesArgs {
+            text,
+            puts,
+            is_match: true,
+        })
+    }
+
+    // A row in which matches and escape sequences were found at these places, of which the matches are put in that are
+    // shown in some columns, not accurately.
+    pub(crate) fn of_shown(
+        alloc: Global,
+        row: &'l str,
+        escape_places: &[(usize, usize)],
+        matches: &[(usize, usize)],
+        window: Window,
+    ) -> Result<Self, AllocError>
+        requires escapes { CutsText row.now 0 escape_places.now }
+        requires matches { CutsText (outside row.now 0 escape_places.now) 0 matches.now }
+        ensures { IfOk result (λ h. shown_line h
+            ≡ reversed_in window.left window.width (outside row.now 0 escape_places.now) matches.now
+            (inside row.now 0 0 escape_places.now)) }
+    {
+        let Parted { text, escapes } = part(alloc, row, escape_places)?;
+        let shown = shown_matches(alloc, &text, window, matches)?;
+        let puts = ordered(alloc, &shown, &escapes, false)?;
         Ok(HighlightMatchesArgs {
             text,
             puts,

@@ -1,9 +1,9 @@
--- A part of printable ASCII that fits is one piece; else one more front of the part is a piece, and the last one has the spaces.
+-- A part that fits is one piece; else one more front of the part is a piece, and the last one has the spaces.
 use Rattle.std.proofs.Common.{◌<◌, ◌-◌, chars, length, arith, rules, refl, sym, ◌∙◌, ◌≢◌}
 use Rattle.std.proofs.lemmas.Bool.{eqb-true, eqb-false}
 use Rattle.std.specs.Str.{IsUtf8}
 use Rattle.minus_text.proofs.PartsLaws.{part_more, part_end}
-use Rattle.minus_text.proofs.PlainLaws.{printable_last}
+use Rattle.minus_text.proofs.MeasuredLaws.{part_fits}
 use Rattle.minus_text.proofs.wrap.push_part.Goals as goal
 
 pub returns-then-is_empty : goal.returns-then-is_empty
@@ -27,6 +27,6 @@ loop-more-preserved c =
           c.loop-more.invariant.utf8 text c.loop-more.invariant.so_far (c.split_front-width.ensures.front was) refl c.in_ok-push-3.ensures.items some;
     }
 
-pub returns-then-is_printable : goal.returns-then-is_printable
-returns-then-is_printable c =
-    printable_last c.args.cols c.args.spaces c.args.part.now c.args.pieces.now.items c.push.new.self.items (sym c.is_printable.ensures ∙ c.if-is_printable.true) (omega (arith, c.if-len-cols.true)) c.in_ok-push.ensures.items
+pub returns-then-width-cols : goal.returns-then-width-cols
+returns-then-width-cols c =
+    part_fits c.args.cols c.args.spaces c.units_columns-width.result c.args.part.now c.args.pieces.now.items c.push.new.self.items c.utf8.part c.units_columns-width.ensures.value (omega (arith, c.if-width-cols.true)) c.in_ok-push.ensures.items

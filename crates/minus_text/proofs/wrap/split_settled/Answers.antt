@@ -9,4 +9,4 @@ returns-then-c-ne27-clause-unit c =
 
 pub returns-in-Some-split_char-clause-unit : goal.returns-in-Some-split_char-clause-unit
 returns-in-Some-split_char-clause-unit c =
-    settles_sequence (chars c.args.text.now) (chars c.in-Some-strip_escape.inside.now) (chars c.past.result.now) (chars c.in-Some-split_char.after.now) _ c.in-Some-strip_escape.ensures.inside c.past.ensures.chars c.in-Some-split_char.ensures.chars
+    settles_sequence (chars c.args.text.now) (chars c.in-Some-strip_escape.inside.now) (chars c.past_parameters.result.now) (chars c.in-Some-split_char.after.now) _ c.in-Some-strip_escape.ensures.inside c.past_parameters.ensures.chars c.in-Some-split_char.ensures.chars

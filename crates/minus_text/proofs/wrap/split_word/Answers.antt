@@ -9,11 +9,11 @@ front-requires c = before_stretch c.args.line.now c.past_body-after.result.now (
 
 pub returns-clause-word : goal.returns-clause-word
 returns-clause-word c = λ some.
-    first_word c.args.line.now c.past_body-after.result.now c.past-rest.result.now c.front.result.now (length c.past_body-after.result.now - length c.past-rest.result.now)
-    c.utf8.line c.past_body-after.utf8 c.past-rest.utf8 c.front.utf8 some c.past_body-after.ensures.chars c.past-rest.ensures.chars c.front.ensures refl
+    first_word c.args.line.now c.past_body-after.result.now c.past_spaces-rest.result.now c.front.result.now (length c.past_body-after.result.now - length c.past_spaces-rest.result.now)
+    c.utf8.line c.past_body-after.utf8 c.past_spaces-rest.utf8 c.front.utf8 some c.past_body-after.ensures.chars c.past_spaces-rest.ensures.chars c.front.ensures refl
 
 pub returns-clause-less : goal.returns-clause-less
 returns-clause-less c = λ some.
-    word_less c.args.line.now c.past-rest.result.now (chars c.front.result.now) (length c.past_body-after.result.now - length c.past-rest.result.now) c.utf8.line c.past-rest.utf8
-    (first_word c.args.line.now c.past_body-after.result.now c.past-rest.result.now c.front.result.now (length c.past_body-after.result.now - length c.past-rest.result.now)
-    c.utf8.line c.past_body-after.utf8 c.past-rest.utf8 c.front.utf8 some c.past_body-after.ensures.chars c.past-rest.ensures.chars c.front.ensures refl)
+    word_less c.args.line.now c.past_spaces-rest.result.now (chars c.front.result.now) (length c.past_body-after.result.now - length c.past_spaces-rest.result.now) c.utf8.line c.past_spaces-rest.utf8
+    (first_word c.args.line.now c.past_body-after.result.now c.past_spaces-rest.result.now c.front.result.now (length c.past_body-after.result.now - length c.past_spaces-rest.result.now)
+    c.utf8.line c.past_body-after.utf8 c.past_spaces-rest.utf8 c.front.utf8 some c.past_body-after.ensures.chars c.past_spaces-rest.ensures.chars c.front.ensures refl)
