@@ -1,5 +1,5 @@
 -- A change that was put in its place.
-use Rattle.std.proofs.Common.{◌≡◌, ℕ, ◌-◌, ◌++◌, List, length, take, drop, Bool, Option, None, Some, String, Box, Global, string_bytes, refl, sym, ap, ap₂, subst, ◌∙◌}
+use Rattle.std.proofs.Common.{◌≡◌, ℕ, ◌-◌, ◌++◌, List, length, take, drop, Bool, Option, None, Some, String, Box, Result, Ok, Err, OnOk, OnErr, Global, string_bytes, refl, sym, ap, ap₂, subst, ◌∙◌}
 use Rattle.std.specs.Option.{option_map, unwrap_or}
 use Rattle.std.proofs.lemmas.List.{length-map}
 use Rattle.regex.specs.Patterns.{Re}
@@ -90,7 +90,20 @@ placed s t change new f h p =
 pub formed_placed : (s t : PagerState) (change : Change) (new : Control) → IsFormed s → IsChange (control_of s) change new → IsPlaced s change t → IsFormed t
 formed_placed s t change new f h p = record {
   screen = screen_placed s t change (formed_for s change new f h) p ∙ ap₂ searched h.term_is (document_next s change new f h) ∙ sym (ap (λ (c : Control). searched c.term (document_of c)) (placed s t change new f h p));
+  mode = p.mode;
 }
+
+-- a state that keeps its control, its rows and the direction that it tells is formed as before
+pub formed_kept : (s t : PagerState) → control_of t ≡ control_of s → t.screen ≡ s.screen → t.search_mode ≡ s.search_mode → IsFormed s → IsFormed t
+formed_kept s t same kept mode f = record {
+  screen = kept ∙ f.screen ∙ sym (ap (λ (c : Control). searched c.term (document_of c)) same);
+  mode = mode ∙ f.mode ∙ sym (ap (λ (c : Control). c.mode) same);
+}
+
+-- whatever came of a change that was put in its place, the state is formed
+pub formed_after : {E : Type 0} (r : Result (Unit {0}) E) (s t : PagerState) (change : Change) (new : Control) → OnOk r ((to : Control) → IsFormed s → IsChange (control_of s) change to → IsFormed t) → OnErr r (IsFormed s → IsFormed t) → (IsFormed s → IsChange (control_of s) change new) → IsFormed s → IsFormed t
+formed_after (Ok x) s t change new placed still leads f = placed new f (leads f)
+formed_after (Err e) s t change new placed still leads f = still f
 
 -- a change to a text that was formed anew, under the term as it is
 pub change_anew : (s : PagerState) (change : Change) (next : Box Searched Global) (d : Document) (new : Control) → change.text ≡ Whole next → next.value ≡ searched (term_of s) d → d ≡ document_of new → change.mark ≡ new.mark → change.cols ≡ new.cols → change.rows ≡ new.rows → left_set change.setting s.left_mark ≡ new.left → ends_set change.setting (ends_of s) ≡ new.ends → term_of s ≡ new.term → change.search_mark ≡ new.search_mark

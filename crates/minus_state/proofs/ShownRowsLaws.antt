@@ -7,7 +7,8 @@ use Rattle.std.proofs.lemmas.List.{length-take}
 use Rattle.regex.specs.Patterns.{Re}
 use Rattle.minus_text.specs.Crop.{cropped}
 use Rattle.minus_text.specs.Document.{Document, rows_of, line_count, unfinished_rows, pushed, keeps_rows, margin_in}
-use Rattle.minus_text.specs.Searched.{shown_for, stored_rows_for}
+use Rattle.minus_text.specs.Searched.{stored_rows_for}
+use Rattle.minus_text.specs.ShownMatches.{shown_within}
 use Rattle.minus_text.proofs.StoredKeptLaws.{prefix_alike, columns_alike, stored_kept, rows_stay, margin_kept, length-stored_for}
 use Rattle.minus_state.specs.declared.selection.Selection.{Selection}
 use Rattle.minus_state.specs.Selection.{marked_range}
@@ -35,7 +36,7 @@ unmarked_there term d left i l = elim (cases_Bool d.layout.wrapping) [
       (row.0, unmarked_on term d left i on ∙ row.1)
   | inr off ↦
       let row = some_at (rows_of d) i l in
-      (cropped_line d left i (shown_for term row.0), unmarked_off term d left i off ∙ ap (λ (o : Option (List ℕ)). option_map (cropped_line d left i) (option_map (shown_for term) o)) row.1)
+      (cropped_line d left i (shown_within term left (columns_for_text d) row.0), unmarked_off term d left i off ∙ ap (λ (o : Option (List ℕ)). option_map (cropped_line d left i) (option_map (shown_within term left (columns_for_text d)) o)) row.1)
 ]
 
 shown_there : (term : Option Re) (d : Document) (left : ℕ) (ends : Option (Selection × Selection)) (i : ℕ) → i < length (rows_of d) → (row : List ℕ) × (shown_row term d left ends i ≡ Some row)
@@ -154,14 +155,16 @@ below xs ys n i e l = sym (front_of xs n i l) ∙ ap (λ zs. slice_get zs i) e �
     front_of (z ∷ zs) (suc m) zero w = refl
     front_of (z ∷ zs) (suc m) (suc j) w = front_of zs m j (omega (arith, w))
 
-cropped_alike : (d : Document) (piece : List ℕ) (left i : ℕ) (o : Option (List ℕ)) → keeps_rows d piece d.layout.numbers d.layout.cols ≡ true → (let e : Document = pushed d piece d.layout.numbers d.layout.cols in option_map (cropped_line d left i) o ≡ option_map (cropped_line e left i) o)
-cropped_alike d piece left i None keeps = refl
-cropped_alike d piece left i (Some text) keeps =
+cropped_alike : (term : Option Re) (d : Document) (piece : List ℕ) (left i : ℕ) (o : Option (List ℕ)) → keeps_rows d piece d.layout.numbers d.layout.cols ≡ true → (let e : Document = pushed d piece d.layout.numbers d.layout.cols in
+    option_map (cropped_line d left i) (option_map (shown_within term left (columns_for_text d)) o) ≡ option_map (cropped_line e left i) (option_map (shown_within term left (columns_for_text e)) o))
+cropped_alike term d piece left i None keeps = refl
+cropped_alike term d piece left i (Some text) keeps =
     let e : Document = pushed d piece d.layout.numbers d.layout.cols in
     let margins : margin_in e ≡ margin_in d = margin_kept d piece keeps in
     let before : line_prefix d i ≡ line_prefix e i = prefix_alike d.layout.numbers (line_count d) (line_count e) (i + 1) true (sym margins) in
     let columns : prefix_in d ≡ prefix_in e = columns_alike d.layout.numbers (line_count d) (line_count e) (sym margins) in
-    ap (λ (p : List ℕ). Some (p ++ cropped left (columns_for_text d) text)) before ∙ ap (λ (n : ℕ). Some (line_prefix e i ++ cropped left (d.layout.cols - n) text)) columns
+    let shown : ℕ → List ℕ = λ n. cropped left (d.layout.cols - n) (shown_within term left (d.layout.cols - n) text) in
+    ap (λ (p : List ℕ). Some (p ++ shown (prefix_in d))) before ∙ ap (λ (n : ℕ). Some (line_prefix e i ++ shown n)) columns
 
 range_alike : (d : Document) (piece : List ℕ) (left : ℕ) (ends : Option (Selection × Selection)) (i : ℕ) → keeps_rows d piece d.layout.numbers d.layout.cols ≡ true → (let e : Document = pushed d piece d.layout.numbers d.layout.cols in selected_range d left ends i ≡ selected_range e left ends i)
 range_alike d piece left None i keeps = refl
@@ -180,8 +183,8 @@ unmarked_alike term d piece left i keeps l =
     elim (cases_Bool d.layout.wrapping) [
       | inl on ↦ unmarked_on term d left i on ∙ stored ∙ sym (unmarked_on term e left i on)
       | inr off ↦
-          unmarked_off term d left i off ∙ ap (λ (o : Option (List ℕ)). option_map (cropped_line d left i) (option_map (shown_for term) o)) own
-          ∙ cropped_alike d piece left i (option_map (shown_for term) (slice_get (rows_of e) i)) keeps ∙ sym (unmarked_off term e left i off)
+          unmarked_off term d left i off ∙ ap (λ (o : Option (List ℕ)). option_map (cropped_line d left i) (option_map (shown_within term left (columns_for_text d)) o)) own
+          ∙ cropped_alike term d piece left i (slice_get (rows_of e) i) keeps ∙ sym (unmarked_off term e left i off)
     ]
 
 -- the shown rows before the first that it changes stay

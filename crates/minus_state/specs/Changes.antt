@@ -133,7 +133,7 @@ pub record IsPlaced (s : PagerState) (change : Change) (t : PagerState) : Type 0
   pub ends : ends_of t ≡ ends_set change.setting (ends_of s)
   pub term : term_of t ≡ next_term (term_of s) change.text
   pub search_mark : t.search_mark ≡ change.search_mark
-  pub mode : t.search_mode ≡ mode_set change.setting s.search_mode
+  pub mode : t.search_mode ≡ t.search_state.search_mode
   pub search_mode : t.search_state.search_mode ≡ mode_set change.setting s.search_state.search_mode
   pub cols : t.cols ≡ change.cols
   pub rows : t.rows ≡ change.rows

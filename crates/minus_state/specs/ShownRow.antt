@@ -6,7 +6,8 @@ use Rattle.minus_text.specs.Crop.{cropped, columns_of}
 use Rattle.minus_text.specs.Prefixes.{is_on, prefix}
 use Rattle.regex.specs.Patterns.{Re}
 use Rattle.minus_text.specs.Document.{Document, rows_of, line_count}
-use Rattle.minus_text.specs.Searched.{shown_for, stored_rows_for}
+use Rattle.minus_text.specs.Searched.{stored_rows_for}
+use Rattle.minus_text.specs.ShownMatches.{shown_within}
 use Rattle.minus_state.specs.declared.selection.Selection.{Selection}
 use Rattle.minus_state.specs.Selection.{marked_range}
 use Rattle.minus_state.specs.View.{prefix_in, cut_in}
@@ -24,9 +25,9 @@ line_prefix d i = prefix (is_on d.layout.numbers) (line_count d) (i + 1) true
 abbrev pub cropped_line : Document → ℕ → ℕ → List ℕ → List ℕ
 cropped_line d left i text = line_prefix d i ++ cropped left (columns_for_text d) text
 
--- what is shown of it under a term, with the markers of its matches in its text
+-- what is shown of it under a term, with the markers of those of its matches that take some of these columns
 abbrev pub cropped_row : Option Re → Document → ℕ → ℕ → Option (List ℕ)
-cropped_row term d left i = option_map (cropped_line d left i) (option_map (shown_for term) (slice_get (rows_of d) i))
+cropped_row term d left i = option_map (cropped_line d left i) (option_map (shown_within term left (columns_for_text d)) (slice_get (rows_of d) i))
 
 -- a row without a selection: as it is stored, or, where lines are not wrapped, what is shown of its line
 abbrev pub unmarked_row : Option Re → Document → ℕ → ℕ → Option (List ℕ)

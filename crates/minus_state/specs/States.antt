@@ -47,9 +47,11 @@ control_of s = record {
   search = search_of s;
 }
 
--- the stored rows are those of the control's document, and what is kept as found in them is what its term finds
+-- the stored rows are those of the control's document, what is kept as found in them is what its term finds, and the direction of the
+-- last search is one
 pub record IsFormed (s : PagerState) : Type 0 where
   pub screen : s.screen ≡ searched (term_of s) (document_of (control_of s))
+  pub mode : s.search_mode ≡ (control_of s).mode
 
 -- the prompt, no message and no prefix; the prompt row is shown, and the page stays where it is at an append
 abbrev pub first_settings : Settings

@@ -1,7 +1,8 @@
 //! What stands around the text of a row: the number before it, and the columns that it has.
-ghost use Rattle.std.specs.Prelude.{◌≡◌, ◌<◌, ◌+◌, ◌^◌, ℕ, string_bytes, IfOk, IfSome};
+ghost use Rattle.std.specs.Prelude.{◌≡◌, ◌<◌, ◌+◌, ◌^◌, ◌++◌, ℕ, string_bytes, IfOk, OnOk};
 ghost use Rattle.minus_text.specs.Document.{Document};
-ghost use Rattle.minus_text.specs.Formatted.{prefix_of, printed_row};
+ghost use Rattle.minus_text.specs.Formatted.{prefix_of};
+ghost use Rattle.minus_text.specs.MatchedTexts.{text_within};
 ghost use Rattle.minus_text.specs.Views.{viewed};
 ghost use Rattle.minus_state.specs.Frame.{frame_of};
 ghost use Rattle.minus_state.specs.Selection.{ends_in_order};
@@ -9,7 +10,7 @@ ghost use Rattle.minus_state.specs.ShownRow.{columns_for_text, cropped_line, lin
 ghost use Rattle.minus_state.specs.View.{prefix_in, cut_in};
 
 use crate::selection::{SelectionEnds, marked_range};
-use minus_text::{FormattedRow, Layout, Row, RowText, RowsView, prefix_columns};
+use minus_text::{FormattedRow, Layout, MatchedText, Row, RowsView, Window, prefix_columns};
 use std::alloc::{AllocError, Global};
 
 // How a text is laid out, how many lines it has, and the left mark that it is shown from.
@@ -67,31 +68,49 @@ impl Frame {
         FormattedRow::new(text, numbers, self.line_count, i + 1, true)
     }
 
-    // What is shown of a line that is one row, counted from 0, with this text, where that is a part of the text.
-    pub(crate) fn cropped_part<'t>(self, i: usize, text: RowText<'t>) -> Option<FormattedRow<'t>>
-        requires { i + 1 < 2 ^ 64 }
-        ensures { IfSome result (λ row. (d : Document) (left : ℕ) → self ≡ frame_of d left →
-            printed_row row ≡ cropped_line d left i text.entry.text.now) }
+    // The columns of the text of a row that are shown.
+    fn window(self) -> Window
+        ensures { (d : Document) (left : ℕ) → self ≡ frame_of d left →
+            result ≡ record { left = left; width = columns_for_text d } }
     {
-        let part = text.shown_part(self.left_mark, self.columns())?;
-        Some(self.line(i, part))
+        Window {
+            left: self.left_mark,
+            width: self.columns(),
+        }
     }
 
     // What is shown of a line that is one row, counted from 0, with this text: of the text what stands from the left
     // mark on.
-    pub(crate) fn cropped_text(
+    pub(crate) fn cropped(
         self,
         alloc: Global,
         i: usize,
-        text: RowText<'_>,
+        text: MatchedText<'_>,
     ) -> Result<Row, AllocError>
         requires { i + 1 < 2 ^ 64 }
         ensures { IfOk result (λ row. (d : Document) (left : ℕ) → self ≡ frame_of d left →
-            string_bytes row ≡ cropped_line d left i text.entry.text.now) }
+            string_bytes row ≡ cropped_line d left i (text_within left (columns_for_text d) text.entry)) }
     {
         let mut row = self.line(i, "").to_row(alloc)?;
-        text.push_cropped(&mut row, self.left_mark, self.columns())?;
+        text.push_cropped(alloc, &mut row, self.window())?;
         Ok(row)
+    }
+
+    // Adds it to the bytes of a drawing.
+    pub(crate) fn write_cropped(
+        self,
+        alloc: Global,
+        out: &mut Vec<u8>,
+        i: usize,
+        text: MatchedText<'_>,
+    ) -> Result<(), AllocError>
+        requires { i + 1 < 2 ^ 64 }
+        ensures { OnOk result ((d : Document) (left : ℕ) → self ≡ frame_of d left → out.new.items
+            ≡ out.old.items ++ cropped_line d left i (text_within left (columns_for_text d) text.entry)) }
+    {
+        self.line(i, "").write_to(out)?;
+        text.write_cropped(alloc, out, self.window())?;
+        Ok(())
     }
 
     // The visible characters of a row, counted from 0, that are selected.

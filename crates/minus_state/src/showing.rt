@@ -10,7 +10,7 @@ ghost use Rattle.minus_state.specs.Showing.{row_text};
 use crate::frame::Frame;
 use crate::selection::SelectionEnds;
 use crate::visible::highlight_visible_range;
-use minus_text::{Row, RowText, RowsView};
+use minus_text::{Row, RowsView};
 use std::alloc::{AllocError, Global};
 
 /// What is shown of a row: its own text as it stands, or a text that was put together.
@@ -100,14 +100,11 @@ impl<'s> ShownRows<'s> {
             option_map string_bytes row
             ≡ cropped_row term (viewed self.entry.view).document self.entry.left_mark i) }
     {
-        let frame = Frame::of(self.view, self.left_mark);
-        if let Some(text) = self.view.unmatched(i) {
-            return Ok(Some(frame.cropped_text(alloc, i, text)?));
-        }
-        match self.view.highlighted_row(alloc, i)? {
-            Some(text) => Ok(Some(frame.cropped_text(alloc, i, RowText::new(text.as_str()))?)),
-            None => Ok(None),
-        }
+        let Some(text) = self.view.matched_text(i) else {
+            return Ok(None);
+        };
+        let row = Frame::of(self.view, self.left_mark).cropped(alloc, i, text)?;
+        Ok(Some(row))
     }
 
     // A row without a selection, counted from 0, if there is one.

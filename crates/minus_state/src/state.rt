@@ -119,7 +119,7 @@ pub struct PagerState {
     pub left_mark: usize,
     /// Where what is selected was led to.
     pub selection: Option<Selection>,
-    /// The direction of the last search, as [`SearchState::search_mode`] has it, which is the one to read.
+    /// The direction of the last search, as [`SearchState::search_mode`] has it: that is read, and this is set by it.
     pub search_mode: SearchMode,
     /// How a search stands.
     pub search_state: SearchState,
@@ -384,6 +384,7 @@ impl PagerState {
         ensures beside { OnOk result (KeepsBeside self.old self.new) }
         ensures err { OnErr result (control_of self.new ≡ control_of self.old) }
         ensures kept { OnErr result (self.new.screen ≡ self.old.screen) }
+        ensures mode { OnErr result (self.new.search_mode ≡ self.old.search_mode) }
         ensures memory { IfErr result (λ e. e ≡ MinusError.Memory) }
     {
         let term = searching(&self.patterns, Some(pattern.as_ref()));
@@ -402,6 +403,7 @@ impl PagerState {
         ensures beside { OnOk result (KeepsBeside self.old self.new) }
         ensures err { OnErr result (control_of self.new ≡ control_of self.old) }
         ensures kept { OnErr result (self.new.screen ≡ self.old.screen) }
+        ensures mode { OnErr result (self.new.search_mode ≡ self.old.search_mode) }
         ensures memory { IfErr result (λ e. e ≡ MinusError.Memory) }
     {
         match text {
@@ -449,6 +451,7 @@ impl PagerState {
             IsChange (control_of self.old) change new → IsFormed self.new) }
         ensures err { OnErr result (control_of self.new ≡ control_of self.old) }
         ensures kept { OnErr result (self.new.screen ≡ self.old.screen) }
+        ensures still { OnErr result (IsFormed self.old → IsFormed self.new) }
         ensures memory { IfErr result (λ e. e ≡ MinusError.Memory) }
     {
         let (mark, cols, rows) = (change.mark, change.cols, change.rows);
@@ -462,6 +465,7 @@ impl PagerState {
         self.search_mark = search_mark;
         self.place_prefix(prefix);
         self.place_setting(setting);
+        self.search_mode = self.search_state.search_mode;
         Ok(())
     }
 }

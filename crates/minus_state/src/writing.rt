@@ -1,31 +1,15 @@
 //! What is shown of the rows of a text, added to the bytes of a drawing. An `Err` is for want of memory alone; it may
 //! leave some of a row behind.
-ghost use Rattle.std.specs.Prelude.{◌≡◌, ◌++◌, OnOk};
-ghost use Rattle.minus_term.specs.FullRedraw.{row_ops};
-ghost use Rattle.minus_term.specs.Written.{written_all};
-ghost use Rattle.minus_text.specs.Formatted.{printed_row};
-
 use crate::frame::Frame;
 use crate::showing::ShownRows;
 use minus_term::{write_row, write_row_end, write_row_start};
-use minus_text::{FormattedRow, RowPlace};
+use minus_text::RowPlace;
 use std::alloc::{AllocError, Global};
 
-// Adds a row that prints.
-fn write_printed(out: &mut Vec<u8>, row: FormattedRow<'_>) -> Result<(), AllocError>
-    ensures { OnOk result (out.new.items ≡ out.old.items ++ written_all (row_ops (printed_row row.entry))) }
-{
-    write_row_start(out)?;
-    row.write_to(out)?;
-    write_row_end(out)?;
-    Ok(())
-}
-
 impl<'s> ShownRows<'s> {
-    ghost use Rattle.std.specs.Prelude.{◌≡◌, ◌++◌, ◌+◌, ◌^◌, ◌<◌, Option, Some, slice_get, OnOk, IfSome};
+    ghost use Rattle.std.specs.Prelude.{◌≡◌, ◌++◌, ◌+◌, ◌^◌, ◌<◌, Option, slice_get, OnOk};
     ghost use Rattle.regex.specs.Patterns.{Re};
     ghost use Rattle.minus_term.specs.Written.{written_all};
-    ghost use Rattle.minus_text.specs.Formatted.{printed_row};
     ghost use Rattle.minus_text.specs.Searched.{IsFoundAt, stored_rows_for};
     ghost use Rattle.minus_text.specs.Views.{viewed};
     ghost use Rattle.minus_state.specs.Selection.{ends_in_order};
@@ -53,18 +37,6 @@ impl<'s> ShownRows<'s> {
         Ok(())
     }
 
-    // What is shown of a line that is its one row, counted from 0, from the left mark on, if there is one and that is a
-    // part of its text.
-    fn cropped_part(self, i: usize) -> Option<FormattedRow<'s>>
-        requires { i + 1 < 2 ^ 64 }
-        ensures { IfSome result (λ row. (term : Option Re) → IsFoundAt term (viewed self.entry.view) i →
-            cropped_row term (viewed self.entry.view).document self.entry.left_mark i ≡ Some (printed_row row)) }
-    {
-        let text = self.view.unmatched(i)?;
-        let row = Frame::of(self.view, self.left_mark).cropped_part(i, text)?;
-        Some(row)
-    }
-
     // Adds a line that is its one row, counted from 0, from the left mark on, if there is one.
     fn write_cropped(self, alloc: Global, out: &mut Vec<u8>, i: usize) -> Result<(), AllocError>
         requires { i + 1 < 2 ^ 64 }
@@ -72,13 +44,12 @@ impl<'s> ShownRows<'s> {
             ≡ out.old.items ++ written_all (some_row_ops
             (cropped_row term (viewed self.entry.view).document self.entry.left_mark i))) }
     {
-        if let Some(row) = self.cropped_part(i) {
-            return write_printed(out, row);
-        }
-        let Some(row) = self.cropped(alloc, i)? else {
+        let Some(text) = self.view.matched_text(i) else {
             return Ok(());
         };
-        write_row(out, row.as_str())?;
+        write_row_start(out)?;
+        Frame::of(self.view, self.left_mark).write_cropped(alloc, out, i, text)?;
+        write_row_end(out)?;
         Ok(())
     }
 

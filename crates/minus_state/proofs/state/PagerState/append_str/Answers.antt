@@ -34,6 +34,7 @@ returns-clause-formed c = λ f.
     record {
       screen = ap₂ (λ (d : Document) (fs : List RowMatches). let x : Searched = record { document = d; found = fs } in x) is found
           ∙ sym (ap (λ (d : Document). let x : Document = record { text = d.text; layout = record { cols = s.cols; wrapping = d.layout.wrapping; numbers = s.line_numbers } } in let y : Searched = record { document = x; found = found_by (term_of s) 0 (rows_of x) } in y) is);
+      mode = f.mode;
     }
 
 pub returns-clause-style : goal.returns-clause-style

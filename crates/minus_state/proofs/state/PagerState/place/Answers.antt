@@ -1,5 +1,5 @@
 -- The parts of the change are put in their places, one after another.
-use Rattle.std.proofs.Common.{◌≡◌, Option, None, ℕ, List, String, Global, string_bytes, ap, subst, sym, ◌∙◌}
+use Rattle.std.proofs.Common.{◌≡◌, Option, None, ℕ, List, String, Global, string_bytes, refl, ap, subst, sym, ◌∙◌}
 use Rattle.std.specs.Option.{option_map}
 use Rattle.minus_text.specs.Document.{Document}
 use Rattle.minus_text.specs.Searched.{Searched, IsFoundBy}
@@ -12,14 +12,16 @@ use Rattle.minus_state.specs.States.{settings_of, ends_of, term_of, search_of}
 use Rattle.minus_state.specs.declared.change.NextText.{NextText}
 use Rattle.minus_state.specs.declared.selection.SelectionEnds.{SelectionEnds}
 use Rattle.minus_state.specs.declared.change.Setting.{Setting}
-use Rattle.minus_state.specs.declared.search.SearchMode.{SearchMode}
 use Rattle.minus_state.specs.declared.search.SearchState.{SearchState}
 use Rattle.minus_state.specs.OpenSearches.{OpenSearch}
 use Rattle.minus_state.specs.declared.state.PagerState.{PagerState}
 use Rattle.minus_state.proofs.ChangeLaws.{typed_after, placed, formed_placed}
 use Rattle.minus_state.proofs.state.PagerState.place.Goals as goal
 
-placed_so : (c : goal.After-place_setting) → IsPlaced c.args.self.now c.args.change c.place_setting.new.self
+abbrev left_by : (c : goal.After-self-3-1) → PagerState
+left_by c = let s : PagerState = c.place_setting.new.self in record s { search_mode = s.search_state.search_mode; sized = c.self-3-1.given.0 }
+
+placed_so : (c : goal.After-self-3-1) → IsPlaced c.args.self.now c.args.change (left_by c)
 placed_so c =
     let state : PagerState = c.args.self.now in
     let old : Settings = settings_of state in
@@ -42,7 +44,7 @@ placed_so c =
       ends = set.ends ∙ ap (λ (s : PagerState). ends_set given (ends_of s)) kept ∙ ap (λ (e : SelectionEnds). ends_set given e) text.beside.ends ∙ ap (λ (s : Setting). ends_set s (ends_of state)) parts.setting;
       term = ap (λ (s : PagerState). term_of s) set.rest ∙ ap (λ (s : PagerState). term_of s) kept ∙ text.term ∙ ap (λ (t : NextText). next_term (term_of state) t) is;
       search_mark = ap (λ (s : PagerState). s.search_mark) set.rest ∙ ap (λ (s : PagerState). s.search_mark) kept;
-      mode = set.mode ∙ ap (λ (s : PagerState). mode_set given s.search_mode) kept ∙ ap (λ (m : SearchMode). mode_set given m) text.beside.mode ∙ ap (λ (s : Setting). mode_set s state.search_mode) parts.setting;
+      mode = refl;
       search_mode = set.search_mode ∙ ap (λ (s : PagerState). mode_set given s.search_state.search_mode) kept ∙ ap (λ (s : SearchState). mode_set given s.search_mode) text.beside.search_state ∙ ap (λ (s : Setting). mode_set s state.search_state.search_mode) parts.setting;
       cols = ap (λ (s : PagerState). s.cols) set.rest ∙ ap (λ (s : PagerState). s.cols) kept;
       rows = ap (λ (s : PagerState). s.rows) set.rest ∙ ap (λ (s : PagerState). s.rows) kept;
@@ -64,7 +66,7 @@ pub returns-clause-placed : goal.returns-clause-placed
 returns-clause-placed c = placed_so c
 
 pub returns-clause-control : goal.returns-clause-control
-returns-clause-control c = λ new f h. placed c.args.self.now c.place_setting.new.self c.args.change new f h (placed_so c)
+returns-clause-control c = λ new f h. placed c.args.self.now (left_by c) c.args.change new f h (placed_so c)
 
 pub returns-clause-formed : goal.returns-clause-formed
-returns-clause-formed c = λ new f h. formed_placed c.args.self.now c.place_setting.new.self c.args.change new f h (placed_so c)
+returns-clause-formed c = λ new f h. formed_placed c.args.self.now (left_by c) c.args.change new f h (placed_so c)
