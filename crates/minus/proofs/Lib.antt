@@ -17,6 +17,7 @@ pub mod LoopLaws
 pub mod WaitLaws
 pub mod StepLaws
 pub mod StartLaws
+pub mod JoinedLaws
 pub mod RunLaws
 pub mod RefusalLaws
 pub mod RequestLaws

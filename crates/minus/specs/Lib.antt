@@ -22,6 +22,7 @@ pub mod Queued
 pub mod Unmoved
 pub mod EvHandler
 pub mod Starts
+pub mod Joined
 pub mod Answers
 pub mod SessionDrawings
 pub mod SessionSteps

@@ -28,9 +28,9 @@ ghost use Rattle.minus.specs.Table.{handed, IsPossible};
 use crate::commands::CommandOf;
 use crate::hooks::{ExitCall, Hook, HookCall, HookList};
 use crate::input::{ActionCall, Classifier, EventTable, FixedSeed};
+use crate::joined::next_taken;
 use crate::pager::PagerOf;
 use crate::parts::{Boxes, Calls, Keyed, Parts, PartsOf};
-use crate::request::Request;
 use crate::search::ConditionCall;
 use crate::session::Core;
 use crate::state::{PagerState, RunMode};
@@ -115,7 +115,8 @@ fn check_waiting<P: Parts>(alloc: Global, queue: &[CommandOf<P>]) -> Result<(), 
     Ok(())
 }
 
-// Takes over the commands that wait in a pager, but for what they hand over.
+// Takes over the commands that wait in a pager, but for what they hand over: neighbouring appends in one go, where they
+// may be.
 fn take_waiting<P: Parts>(
     alloc: Global,
     state: &mut PagerState,
@@ -128,9 +129,11 @@ fn take_waiting<P: Parts>(
     ensures formed { OnOk result (IsFormed state.new) }
     ensures memory { IfErr result (λ e. refusal_of e ≡ for_memory) }
 {
-    for command in queue {
-        let request = Request::copied(alloc, command)?;
+    let mut rest = queue;
+    while let Some((command, behind)) = rest.split_first() {
+        let (request, left) = next_taken(alloc, state, command, behind)?;
         let _ = take_over(state, alloc, request)?;
+        rest = left;
     }
     Ok(())
 }

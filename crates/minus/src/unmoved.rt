@@ -88,6 +88,7 @@ fn turn_search(state: &mut PagerState, mode: SearchMode)
 {
     clamp_mark(state);
     if mode.search_char().is_some() {
+        state.search_mode = mode;
         state.search_state.search_mode = mode;
         state.set_search_mark(0);
     }

@@ -1,5 +1,5 @@
 -- The commands that are left lead to what all do, and each of them can be taken over.
-use Rattle.std.proofs.Common.{◌≡◌, List, map, drop}
+use Rattle.std.proofs.Common.{◌≡◌, List, length, map}
 use Rattle.minus_state.specs.declared.hooks.HookId.{HookId}
 use Rattle.minus_state.specs.States.{IsFormed, control_of}
 use Rattle.minus.specs.Reads.{wanted_of}
@@ -8,7 +8,10 @@ use Rattle.minus.proofs.init.take_waiting.Given as goal
 
 abbrev pub invariant-loop-command : goal.invariant-loop-command
 invariant-loop-command g l =
-    let left = map wanted_of (drop l.command-index l.queue) in
+    let left = map wanted_of l.rest in
     IsFormed l.state
     × (taken_all (control_of l.state) left ≡ taken_all (control_of l.fn.state) (map wanted_of l.queue))
     × ((ids : List HookId) × CanTakeAll ids left)
+
+abbrev pub decreases-loop-command : goal.decreases-loop-command
+decreases-loop-command g l = length l.rest
