@@ -216,6 +216,7 @@ WORKS = {
     "redraw-sel": of_acts("page drawn, a selection", ["redraw"], [*MIDDLE, *SELECTED], sizes=(2500, 5000)),
     "redraw-nowrap": of_acts("page drawn, no wrapping", ["redraw"], ["unwrapped", *MIDDLE], sizes=(2500, 5000)),
     "redraw-long": of_acts("page drawn, no wrapping, lines of so many bytes", ["redraw"], ["unwrapped"], 10, (130_000, 260_000), long_rows),
+    "redraw-long-term": of_acts("the same, a term many times in each", ["redraw"], ["unwrapped", *keys("e", ["enter"])], 10, (130_000, 260_000), long_rows),
     "hscroll": of_acts("a column right or left", ["key=l", "key=h"], ["unwrapped"]),
     "resize": of_lines("line, resized twice", ["size=100,24", "size=80,24"]),
     "numbers-on": of_lines("line, numbers turned on", ["numbers"]),

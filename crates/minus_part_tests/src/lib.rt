@@ -7,6 +7,8 @@ pub mod asked;
 mod facts;
 #[cfg(test)]
 mod input;
+#[cfg(test)]
+mod memory;
 pub mod shown;
 #[cfg(test)]
 mod state;

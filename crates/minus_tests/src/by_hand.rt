@@ -11,20 +11,21 @@ use minus::{
 };
 use minus_callers::work_off;
 use minus_script::{DefaultKeys, ScriptKinds};
+use regex::Regex;
 use std::alloc::Global;
 
 // Parts, what waits for them, and their terminal.
 #[derive(Drop)]
-struct Driven {
+pub(crate) struct Driven {
     alloc: Global,
-    parts: PartsOf<ScriptKinds>,
+    pub(crate) parts: PartsOf<ScriptKinds>,
     queue: CommandQueueOf<ScriptKinds>,
-    sink: WithTty<Vec<u8>>,
+    pub(crate) sink: WithTty<Vec<u8>>,
     ghost formed: { IsFormed parts.state },
 }
 
 // Parts without a text, for 20 columns and four rows.
-fn without_text(alloc: Global) -> Option<Driven> {
+pub(crate) fn without_text(alloc: Global) -> Option<Driven> {
     let (Ok(state), Ok(keys)) = (PagerState::new(alloc, 20, 4), DefaultKeys::new(alloc)) else {
         return None;
     };
@@ -41,7 +42,7 @@ fn without_text(alloc: Global) -> Option<Driven> {
 
 impl Driven {
     // What a command answers; none where it is refused.
-    fn handle(&mut self, asked: Asked<'_>) -> Option<Handled> {
+    pub(crate) fn handle(&mut self, asked: Asked<'_>) -> Option<Handled> {
         let Ok(InputOf::Command(command)) = input(self.alloc, asked) else {
             return None;
         };
@@ -52,7 +53,7 @@ impl Driven {
     }
 
     // Whether a command is no exit, and these wait after it, in this order, and no others; none waits any more then.
-    fn lets_wait(&mut self, asked: Asked<'_>, commands: &[IoCommand]) -> bool {
+    pub(crate) fn lets_wait(&mut self, asked: Asked<'_>, commands: &[IoCommand]) -> bool {
         let Some(Handled { exited: false, .. }) = self.handle(asked) else {
             return false;
         };
@@ -65,8 +66,16 @@ impl Driven {
         self.queue.is_empty()
     }
 
+    // Whether rows are searched for a term from now on.
+    pub(crate) fn searches_for(&mut self, term: &str) -> bool {
+        match Regex::new(self.alloc, term) {
+            Ok(pattern) => self.parts.state.set_term(self.alloc, Some(pattern)).is_ok(),
+            Err(_) => false,
+        }
+    }
+
     // Whether a command is done, with all that waits for it.
-    fn does(&mut self, asked: Asked<'_>) -> bool {
+    pub(crate) fn does(&mut self, asked: Asked<'_>) -> bool {
         let Ok(InputOf::Command(command)) = input(self.alloc, asked) else {
             return false;
         };

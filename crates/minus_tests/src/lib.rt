@@ -59,4 +59,6 @@ mod starts;
 #[cfg(test)]
 mod states;
 #[cfg(test)]
+mod table_rows;
+#[cfg(test)]
 mod written_rows;

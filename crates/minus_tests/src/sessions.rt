@@ -1,9 +1,9 @@
 //! Sessions for the tests, started and stepped in one place. Where memory runs out, each answer is `false` or none.
 use crate::player::played;
 use minus::{
-    Calls, CommandOf, Core, Event, InputEvent, InputOf, IoCommand, KeyCode, KeyEvent, KeyEventKind,
-    KeyEventState, KeyModifiers, LineNumbers, MinusError, OutputSink, Page, PagerOf, RanOf,
-    RunMode, StartErrorOf, WithTty, init_core_with,
+    Calls, CommandOf, Core, Event, ExitStrategy, Hook, InputEvent, InputOf, IoCommand, KeyCode,
+    KeyEvent, KeyEventKind, KeyEventState, KeyModifiers, LineNumbers, MinusError, OutputSink, Page,
+    PagerOf, RanOf, RunMode, StartErrorOf, WithTty, init_core_with,
 };
 pub use minus_part_tests::asked::TEN_LINES;
 use minus_script::{DefaultKeys, ScriptKinds};
@@ -37,6 +37,7 @@ pub type StartError<S> = StartErrorOf<S, ScriptKinds>;
 #[derive(Clone, Copy)]
 pub enum Asked<'a> {
     Push(&'a str),
+    Set(&'a str),
     Mark(usize),
     Size(usize, usize),
     Prompt(&'a str),
@@ -59,6 +60,9 @@ pub enum Asked<'a> {
     Does(InputEvent),
     Io(IoCommand),
     Told(Event),
+    Strategy(ExitStrategy),
+    /// The callback of a hook goes that was added under an id.
+    Removed(Hook, u64),
     Exit,
 }
 
@@ -72,31 +76,34 @@ pub fn pressed(code: KeyCode) -> Event {
     })
 }
 
-/// The input that asks for it.
-pub fn input(alloc: Global, asked: Asked<'_>) -> Result<Input, AllocError> {
+/// The input that asks for it, in a session of any kinds.
+pub fn input<P: Calls>(alloc: Global, asked: Asked<'_>) -> Result<InputOf<P>, AllocError> {
     let command = match asked {
-        Asked::Push(text) => Command::AppendData(String::from_str(alloc, text)?),
-        Asked::Mark(row) => Command::UserInput(InputEvent::UpdateUpperMark(row)),
-        Asked::Size(cols, rows) => Command::UserInput(InputEvent::UpdateTermArea(cols, rows)),
-        Asked::Prompt(text) => Command::SetPrompt(String::from_str(alloc, text)?),
-        Asked::Message(text) => Command::SendMessage(String::from_str(alloc, text)?),
-        Asked::Shown(is_shown) => Command::ShowPrompt(is_shown),
-        Asked::Follow(follow) => Command::FollowOutput(follow),
-        Asked::Restored => Command::UserInput(InputEvent::RestorePrompt),
-        Asked::Typed(character) => Command::UserInput(InputEvent::Number(character)),
-        Asked::Numbers(numbers) => Command::SetLineNumbers(numbers),
-        Asked::Wrapped(wrapping) => Command::LineWrapping(wrapping),
-        Asked::Left(mark) => Command::UserInput(InputEvent::UpdateLeftMark(mark)),
-        Asked::Start(x, y) => Command::UserInput(InputEvent::StartSelection { x, y }),
-        Asked::Update(x, y) => Command::UserInput(InputEvent::UpdateSelection { x, y }),
-        Asked::Key(character) => return Ok(Input::Event(pressed(KeyCode::Char(character)))),
-        Asked::Pressed(code) => return Ok(Input::Event(pressed(code))),
-        Asked::Does(event) => Command::UserInput(event),
-        Asked::Io(command) => Command::Io(command),
-        Asked::Told(event) => return Ok(Input::Event(event)),
-        Asked::Exit => Command::UserInput(InputEvent::Exit),
+        Asked::Push(text) => CommandOf::AppendData(String::from_str(alloc, text)?),
+        Asked::Set(text) => CommandOf::SetData(String::from_str(alloc, text)?),
+        Asked::Mark(row) => CommandOf::UserInput(InputEvent::UpdateUpperMark(row)),
+        Asked::Size(cols, rows) => CommandOf::UserInput(InputEvent::UpdateTermArea(cols, rows)),
+        Asked::Prompt(text) => CommandOf::SetPrompt(String::from_str(alloc, text)?),
+        Asked::Message(text) => CommandOf::SendMessage(String::from_str(alloc, text)?),
+        Asked::Shown(is_shown) => CommandOf::ShowPrompt(is_shown),
+        Asked::Follow(follow) => CommandOf::FollowOutput(follow),
+        Asked::Restored => CommandOf::UserInput(InputEvent::RestorePrompt),
+        Asked::Typed(character) => CommandOf::UserInput(InputEvent::Number(character)),
+        Asked::Numbers(numbers) => CommandOf::SetLineNumbers(numbers),
+        Asked::Wrapped(wrapping) => CommandOf::LineWrapping(wrapping),
+        Asked::Left(mark) => CommandOf::UserInput(InputEvent::UpdateLeftMark(mark)),
+        Asked::Start(x, y) => CommandOf::UserInput(InputEvent::StartSelection { x, y }),
+        Asked::Update(x, y) => CommandOf::UserInput(InputEvent::UpdateSelection { x, y }),
+        Asked::Key(character) => return Ok(InputOf::Event(pressed(KeyCode::Char(character)))),
+        Asked::Pressed(code) => return Ok(InputOf::Event(pressed(code))),
+        Asked::Does(event) => CommandOf::UserInput(event),
+        Asked::Io(command) => CommandOf::Io(command),
+        Asked::Told(event) => return Ok(InputOf::Event(event)),
+        Asked::Strategy(strategy) => CommandOf::SetExitStrategy(strategy),
+        Asked::Removed(hook, id) => CommandOf::RemoveHook(hook, id),
+        Asked::Exit => CommandOf::UserInput(InputEvent::Exit),
     };
-    Ok(Input::Command(command))
+    Ok(InputOf::Command(command))
 }
 
 /// The inputs that ask for all of it.
@@ -292,8 +299,8 @@ fn are_there_and_go_on(before: &Option<Vec<u8>>, after: &Option<Vec<u8>>, texts:
     }
 }
 
-// Whether these texts are what the last of this asks for.
-fn draws(alloc: Global, cols: usize, rows: usize, asked: &[Asked<'_>], texts: &[&str]) -> bool {
+/// Whether these texts are what the last of this draws.
+pub fn draws(alloc: Global, cols: usize, rows: usize, asked: &[Asked<'_>], texts: &[&str]) -> bool {
     let Some((_, first)) = asked.split_last() else {
         return false;
     };

@@ -80,7 +80,20 @@ const NUMBERED_LINE: Shown<'static> = Shown {
     ..CROPPED
 };
 
-const SHOWN: [&Shown<'static>; 18] = [
+// One of three columns that is searched for a term, from a left mark in its match.
+const MATCHED: Shown<'static> = Shown {
+    text: "abcdef",
+    term: Some("cd"),
+    layout: Layout {
+        cols: 3,
+        ..UNWRAPPED
+    },
+    left_mark: 3,
+    row: "\x1b[7md\x1b[27mef",
+    ..CROPPED
+};
+
+const SHOWN: [&Shown<'static>; 27] = [
     // rows are shown from the left mark on
     &CROPPED,
     &Shown {
@@ -134,51 +147,81 @@ const SHOWN: [&Shown<'static>; 18] = [
         row: "bcde\u{301}",
         ..CROPPED
     },
-    // the left mark stands in the match, or behind it
+    // of the matches those are marked that take some of the columns shown: the left mark stands in the match, or behind it
+    &MATCHED,
     &Shown {
-        text: "abcdef",
-        term: Some("cd"),
-        layout: Layout {
-            cols: 3,
-            ..UNWRAPPED
-        },
-        left_mark: 3,
-        row: "\x1b[7md\x1b[27mef",
-        ..CROPPED
-    },
-    &Shown {
-        text: "abcdef",
-        term: Some("cd"),
-        layout: Layout {
-            cols: 3,
-            ..UNWRAPPED
-        },
         left_mark: 4,
-        row: "\x1b[7m\x1b[27mef",
-        ..CROPPED
+        row: "ef",
+        ..MATCHED
     },
-    // the match stands behind what is shown
+    // the match begins behind what is shown, or ends there, or is wider on both sides
     &Shown {
-        text: "abcdef",
         term: Some("e"),
-        layout: Layout {
-            cols: 3,
-            ..UNWRAPPED
-        },
-        row: "abc\x1b[7m\x1b[27m",
-        ..CROPPED
+        left_mark: 1,
+        row: "bcd",
+        ..MATCHED
     },
-    // half of the match's character is shown
+    &Shown {
+        term: Some("cde"),
+        left_mark: 1,
+        row: "b\x1b[7mcd\x1b[27m",
+        ..MATCHED
+    },
+    &Shown {
+        term: Some("bcdef"),
+        left_mark: 2,
+        row: "\x1b[7mcde\x1b[27m",
+        ..MATCHED
+    },
+    // of several matches one is shown, and no empty one
+    &Shown {
+        text: "abcabcabc",
+        term: Some("b"),
+        row: "a\x1b[7mb\x1b[27mc",
+        ..MATCHED
+    },
+    &Shown {
+        term: Some("c*"),
+        left_mark: 1,
+        row: "b\x1b[7mc\x1b[27md",
+        ..MATCHED
+    },
+    // half of the match's character is shown, or none of it
     &Shown {
         text: "日本",
         term: Some("日"),
-        layout: Layout {
-            cols: 3,
-            ..UNWRAPPED
-        },
         left_mark: 1,
         row: "\x1b[7m \x1b[27m本",
-        ..CROPPED
+        ..MATCHED
+    },
+    &Shown {
+        text: "ab日",
+        term: Some("日"),
+        left_mark: 0,
+        row: "ab\x1b[7m \x1b[27m",
+        ..MATCHED
+    },
+    &Shown {
+        text: "日abc本",
+        term: Some("日|本"),
+        left_mark: 2,
+        row: "abc",
+        ..MATCHED
+    },
+    // each escape sequence is shown, and those inside a match that is marked stand behind it
+    &Shown {
+        text: "\x1b[31mabcdef\x1b[0m",
+        term: Some("[af]"),
+        left_mark: 2,
+        row: "\x1b[31mcde\x1b[0m",
+        ..MATCHED
+    },
+    &Shown {
+        text: "a\x1b[31mb\x1b[1mc\x1b[0mde",
+        term: Some("bc|e"),
+        left_mark: 1,
+        row: "\x1b[7mbc\x1b[27m\x1b[31m\x1b[1m\x1b[0md",
+        ..MATCHED
     },
     // numbers stay before what is scrolled
     &Shown {
@@ -189,6 +232,12 @@ const SHOWN: [&Shown<'static>; 18] = [
     &Shown {
         left_mark: 6,
         row: "     \x1b[1m1.\x1b[0m ghij",
+        ..NUMBERED_LINE
+    },
+    &Shown {
+        term: Some("[bdg]"),
+        left_mark: 2,
+        row: "     \x1b[1m1.\x1b[0m c\x1b[7md\x1b[27mef",
         ..NUMBERED_LINE
     },
     // the left mark is taken from what is selected
