@@ -1,11 +1,12 @@
 -- What a key does to an open search prompt.
-use Rattle.std.specs.Prelude.{◌≡◌, ℕ, List, Bool, true, Option, None, Some, codes, if◌then◌else◌}
+use Rattle.std.specs.Prelude.{◌≡◌, ℕ, List, Bool, true, false, not, Option, None, Some, codes, if◌then◌else◌}
 use Rattle.regex.specs.Patterns.{Re}
 use Rattle.minus_term.specs.declared.event.Event.{Event}
 use Rattle.minus_term.specs.Refusals.{Refusal, for_memory, for_query}
 use Rattle.minus_state.specs.declared.change.Redraw.{Redraw}
 use Rattle.minus_state.specs.declared.change.Redraw.TheVariants.{Stays, Cursor, Edit, Closing}
 use Rattle.minus_state.specs.declared.search.keys.QueryEdit.{QueryEdit}
+use Rattle.minus_state.specs.declared.search.keys.QueryEdit.TheVariants.{Cancels, Confirms}
 use Rattle.minus_state.specs.declared.search.query.Fed.{Fed}
 use Rattle.minus_state.specs.declared.search.query.Fed.TheVariants.{Unchanged, Moved, Edited, Confirmed, Cancelled}
 use Rattle.minus_state.specs.declared.state.PagerState.{PagerState}
@@ -70,8 +71,21 @@ keyed_redraw o edit = redraw_by (told_by o edit)
 abbrev pub MayFind : {Q : Type 0} → Judges Q → Option Q → PagerState → OpenSearch → Event → Option Re → Type 0
 MayFind judges condition s o event found = MayFindBy (told_by o (edit_of event)) judges condition s o.prompt event found
 
--- why a key was not taken: for want of memory, or since it types a character to a query that has as many as it may have
+-- whether a key closes the prompt
+abbrev pub closes : QueryEdit → Bool
+closes Cancels = true
+closes Confirms = true
+closes edit = false
+
+-- whether a key closes the prompt and leaves its query
+abbrev pub leaves_query : OpenSearch → QueryEdit → Bool
+leaves_query o Cancels = true
+leaves_query o Confirms = not o.edited
+leaves_query o edit = false
+
+-- why a key was not taken: for want of memory, where it does not just leave the query, or since it types a character to a query that
+-- has as many as it may have
 abbrev pub IsUnkeyed : Refusal → OpenSearch → QueryEdit → Type 0
-IsUnkeyed for_memory o edit = Unit {0}
+IsUnkeyed for_memory o edit = leaves_query o edit ≡ false
 IsUnkeyed for_query o edit = refuses o.prompt.editor edit ≡ true
 IsUnkeyed refusal o edit = ⊥

@@ -364,6 +364,13 @@ impl PagerState {
         self.saved = saved;
     }
 
+    // Puts the search's mode into the field that tells it.
+    pub(crate) fn tell_mode(&mut self)
+        ensures { self.new ≡ record self.old { search_mode = self.old.search_state.search_mode } }
+    {
+        self.search_mode = self.search_state.search_mode;
+    }
+
     // Puts what a pattern found in its place, and the pattern. It stands apart: a function pays for the room of its largest
     // value whenever it is called.
     #[inline(never)]
@@ -465,7 +472,7 @@ impl PagerState {
         self.search_mark = search_mark;
         self.place_prefix(prefix);
         self.place_setting(setting);
-        self.search_mode = self.search_state.search_mode;
+        self.tell_mode();
         Ok(())
     }
 }

@@ -6,6 +6,7 @@ ghost use Rattle.minus_state.specs.QueryPatterns.{IsPatternOf};
 
 use crate::change::{Change, Redraw};
 use crate::search::condition::ConditionCall;
+use crate::search::keys::{QueryEdit, edit_of};
 use crate::search::open_prompt::OpenPrompt;
 use crate::search::open_search::OpenSearch;
 use crate::search::opts::search_opts_after;
@@ -42,13 +43,13 @@ fn is_long(query: &str) -> bool
 }
 
 impl PagerState {
-    ghost use Rattle.std.specs.Prelude.{◌≡◌, true, Option, option_map, IfOk, IfErr};
+    ghost use Rattle.std.specs.Prelude.{◌≡◌, true, false, Option, option_map, IfOk, IfErr};
     ghost use Rattle.regex.specs.Patterns.{Re};
     ghost use Rattle.regex.specs.Strings.{regex_pattern};
     ghost use Rattle.minus_term.specs.Refusals.{refusal_of};
     ghost use Rattle.minus_state.specs.Changes.{Leads};
     ghost use Rattle.minus_state.specs.Conditions.{MayShow, MayPreview};
-    ghost use Rattle.minus_state.specs.Keying.{entered, keyed, keyed_redraw, IsUnkeyed, MayFind};
+    ghost use Rattle.minus_state.specs.Keying.{closes, entered, keyed, keyed_redraw, IsUnkeyed, MayFind};
     ghost use Rattle.minus_state.specs.OpenPrompts.{fed};
     ghost use Rattle.minus_state.specs.OpenSearches.{seen_search};
     ghost use Rattle.minus_state.specs.QueryKeys.{edit_of};
@@ -114,6 +115,7 @@ impl PagerState {
             × Leads self.now c (entered (control_of self.now) search.now.edited found)) }
         ensures redraw { IfOk result (λ c. c.redraw ≡ Redraw.Closing) }
         ensures memory { IfErr result (λ e. e ≡ MinusError.Memory) }
+        ensures taking { IfErr result (λ e. search.now.edited ≡ true) }
     {
         if !search.edited {
             return Ok(self.closed());
@@ -122,6 +124,33 @@ impl PagerState {
             return Ok(self.closed_with(String::from_str(alloc, NO_PATTERN)?));
         };
         Ok(self.taken(alloc, query)?)
+    }
+
+    // The state after an event that edits the query of its open search prompt, moves its cursor or does nothing to it.
+    fn edited_by<C: ConditionCall>(
+        &self,
+        alloc: Global,
+        condition: Option<&C>,
+        search: &OpenSearch,
+        event: &Event,
+    ) -> Result<Change, MinusError>
+        requires { closes (edit_of event.now) ≡ false }
+        ensures next { IfOk result (λ c. (found : Option Re)
+            × MayFind C.judges (option_map (λ q. q.now) condition.entry) self.now (seen_search search.now)
+            event.now found
+            × Leads self.now c (keyed (control_of self.now) (seen_search search.now) (edit_of event.now) found)) }
+        ensures redraw { IfOk result (λ c. c.redraw ≡ keyed_redraw (seen_search search.now) (edit_of event.now)) }
+        ensures refused { IfErr result (λ e. IsUnkeyed (refusal_of e) (seen_search search.now) (edit_of event.now)) }
+    {
+        let mut prompt = search.prompt.copied(alloc)?;
+        match prompt.feed(alloc, &self.patterns, event)? {
+            Fed::Moved => Ok(self.typed_to(prompt)),
+            Fed::Edited => {
+                let found = self.found_for(alloc, condition, &search.prompt, &prompt, event)?;
+                Ok(self.edited(alloc, prompt, found)?)
+            }
+            _ => Ok(self.redrawn(Redraw::Stays)),
+        }
     }
 
     /// The state after an event that its open search prompt is fed: the query edited or its cursor moved, or the prompt
@@ -133,7 +162,7 @@ impl PagerState {
     /// # Errors
     ///
     /// [`MinusError::QueryFull`] where a character is typed to a query of 65,534 characters, and [`MinusError::Memory`]
-    /// where there is no memory.
+    /// where there is no memory; an event that closes the prompt and leaves its query is never refused.
     pub fn keyed<C: ConditionCall>(
         &self,
         alloc: Global,
@@ -148,16 +177,10 @@ impl PagerState {
         ensures redraw { IfOk result (λ c. c.redraw ≡ keyed_redraw (seen_search search.now) (edit_of event.now)) }
         ensures refused { IfErr result (λ e. IsUnkeyed (refusal_of e) (seen_search search.now) (edit_of event.now)) }
     {
-        let mut prompt = search.prompt.copied(alloc)?;
-        match prompt.feed(alloc, &self.patterns, event)? {
-            Fed::Unchanged => Ok(self.redrawn(Redraw::Stays)),
-            Fed::Moved => Ok(self.typed_to(prompt)),
-            Fed::Edited => {
-                let found = self.found_for(alloc, condition, &search.prompt, &prompt, event)?;
-                Ok(self.edited(alloc, prompt, found)?)
-            }
-            Fed::Confirmed => self.entered(alloc, search),
-            Fed::Cancelled => Ok(self.closed()),
+        match edit_of(event) {
+            QueryEdit::Cancels => Ok(self.closed()),
+            QueryEdit::Confirms => self.entered(alloc, search),
+            _ => self.edited_by(alloc, condition, search, event),
         }
     }
 }

@@ -102,7 +102,7 @@ impl PagerState {
         }
         self.search_mark = search_mark_anew(self.screen.view(), self.upper_mark);
         self.term = term;
-        self.search_mode = self.search_state.search_mode;
+        self.tell_mode();
         Ok(())
     }
 

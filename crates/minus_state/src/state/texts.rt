@@ -83,7 +83,7 @@ impl PagerState {
         let term = searching(&self.patterns, self.term.as_ref());
         let _ = self.screen.reform(alloc, layout, term)?;
         self.search_mark = search_mark_anew(self.screen.view(), self.upper_mark);
-        self.search_mode = self.search_state.search_mode;
+        self.tell_mode();
         Ok(())
     }
 
@@ -103,7 +103,7 @@ impl PagerState {
         let term = searching(&self.patterns, self.term.as_ref());
         let _ = self.screen.set_text(alloc, text, layout, term)?;
         self.search_mark = search_mark_anew(self.screen.view(), self.upper_mark);
-        self.search_mode = self.search_state.search_mode;
+        self.tell_mode();
         Ok(())
     }
 

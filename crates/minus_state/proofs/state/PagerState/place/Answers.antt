@@ -18,10 +18,7 @@ use Rattle.minus_state.specs.declared.state.PagerState.{PagerState}
 use Rattle.minus_state.proofs.ChangeLaws.{typed_after, placed, formed_placed}
 use Rattle.minus_state.proofs.state.PagerState.place.Goals as goal
 
-abbrev left_by : (c : goal.After-self-3-1) → PagerState
-left_by c = let s : PagerState = c.place_setting.new.self in record s { search_mode = s.search_state.search_mode; sized = c.self-3-1.given.0 }
-
-placed_so : (c : goal.After-self-3-1) → IsPlaced c.args.self.now c.args.change (left_by c)
+placed_so : (c : goal.After-tell_mode) → IsPlaced c.args.self.now c.args.change c.tell_mode.new.self
 placed_so c =
     let state : PagerState = c.args.self.now in
     let old : Settings = settings_of state in
@@ -35,7 +32,7 @@ placed_so c =
     let document = text.document ∙ ap (λ (t : NextText). next_document state.screen.document t) is in
     let found = subst (λ (t : NextText). IsSearchedFor (next_term (term_of state) t) state.screen t → IsFoundBy (next_term (term_of state) t) middle.screen) is text.found in
     let same : c.place_setting.new.self.screen ≡ middle.screen = ap (λ (s : PagerState). s.screen) set.rest ∙ ap (λ (s : PagerState). s.screen) kept in
-    record {
+    rw c.tell_mode.ensures (record {
       document = ap (λ (x : Searched). x.document) same ∙ document;
       found = λ searched. subst (IsFoundBy (next_term (term_of state) c.args.change.text)) (sym same) (found searched);
       numbers = ap (λ (s : PagerState). s.line_numbers) set.rest ∙ ap (λ (s : PagerState). s.line_numbers) kept ∙ ap (λ (l : Layout). l.numbers) c.layout.ensures ∙ ap (λ (d : Document). d.layout.numbers) document;
@@ -60,13 +57,13 @@ placed_so c =
           ∙ ap (λ (t : NextText). help_set given (aside_with t (aside_of state.saved))) is
           ∙ ap (λ (s : Setting). help_set s (aside_with c.args.change.text (aside_of state.saved))) parts.setting;
       search = set.search ∙ ap (λ (s : PagerState). search_set given (search_of s)) kept ∙ ap (λ (o : Option OpenSearch). search_set given o) text.beside.search ∙ ap (λ (s : Setting). search_set s (search_of state)) parts.setting;
-    }
+    })
 
 pub returns-clause-placed : goal.returns-clause-placed
 returns-clause-placed c = placed_so c
 
 pub returns-clause-control : goal.returns-clause-control
-returns-clause-control c = λ new f h. placed c.args.self.now (left_by c) c.args.change new f h (placed_so c)
+returns-clause-control c = λ new f h. placed c.args.self.now c.tell_mode.new.self c.args.change new f h (placed_so c)
 
 pub returns-clause-formed : goal.returns-clause-formed
-returns-clause-formed c = λ new f h. formed_placed c.args.self.now (left_by c) c.args.change new f h (placed_so c)
+returns-clause-formed c = λ new f h. formed_placed c.args.self.now c.tell_mode.new.self c.args.change new f h (placed_so c)
