@@ -29,6 +29,7 @@ mod bindings;
 mod by_hand;
 mod drawings;
 mod ends;
+mod handed;
 mod marks;
 mod pages;
 mod refusals;
