@@ -1,0 +1,40 @@
+//! Digits of numbers, and places in lists of rows.
+use crate::random::text_rows::Row;
+use std::alloc::{AllocError, Global};
+
+/// The decimal digits of a number.
+pub fn count_digits(number: usize) -> usize {
+    let mut bound: usize = 10;
+    for digits in 1..20 {
+        if number < bound {
+            return digits;
+        }
+        bound = bound.saturating_mul(10);
+    }
+    20
+}
+
+/// The rows of a text in which a word stands.
+pub fn rows_with(
+    alloc: Global,
+    text: &str,
+    rows: &[Row],
+    word: &str,
+) -> Result<Vec<usize>, AllocError> {
+    let mut found = Vec::new(alloc);
+    for (at, row) in rows.iter().enumerate() {
+        if text.get(row.start..row.end).unwrap_or("").contains(word) {
+            found.push(at)?;
+        }
+    }
+    Ok(found)
+}
+
+/// The place, in a list of rows, that a jump by so many from a row goes to.
+pub fn nth_of(found: &[usize], from: usize, jump: usize) -> usize {
+    let is_next = |row: &usize| *row > from || (jump == 0 && *row == from);
+    let nearest = found.iter().position(is_next).unwrap_or(0);
+    let more = jump.saturating_sub(1).checked_rem(found.len()).unwrap_or(0);
+    let place = nearest.saturating_add(more);
+    place.checked_rem(found.len()).unwrap_or(0)
+}
