@@ -38,6 +38,9 @@ const TEN: [Asked<'static>; 1] = [Asked::Push(TEN_LINES)];
 
 const FIRST: [&str; 4] = ["l0", "l1", "l2", PROMPT_ROW];
 
+// The line of ten that ends in a 7, with that marked.
+const MARKED_7: &str = "l\x1b[7m7\x1b[27m";
+
 // Prompt rows of a message, of help, and at a term's only match.
 const M_ROW: &str = "\x1b[30;1;41mm                   \x1b[0m";
 

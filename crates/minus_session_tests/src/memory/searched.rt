@@ -1,5 +1,5 @@
 //! Steps with a term that two of ten lines match.
-use super::{HELP_ROW, ONE_OF_ONE, Script, Tried, assert_tried};
+use super::{HELP_ROW, MARKED_7, ONE_OF_ONE, Script, Tried, assert_tried};
 use crate::sessions::Asked::{Does, Key, Numbers, Pressed, Push, Set, Told, Wrapped};
 use crate::sessions::{Asked, PROMPT_ROW as P, TEN_LINES};
 use minus::InputEvent::{
@@ -8,10 +8,8 @@ use minus::InputEvent::{
 };
 use minus::{Event, KeyCode, LineNumbers};
 
-// The lines that match, and the prompt rows at the first and the second of so many.
-const L3: &str = "l\x1b[7m3\x1b[27m";
-
-const L7: &str = "l\x1b[7m7\x1b[27m";
+// The first line that matches, marked, and the prompt rows at the first and the second of so many.
+const MARKED_3: &str = "l\x1b[7m3\x1b[27m";
 
 const ONE_OF_TWO: &str = "\x1b[2;40;37mminus          \x1b[30;44m 1/2 \x1b[0m";
 
@@ -32,7 +30,7 @@ const SEARCH: [Asked<'static>; 6] = [
 const fn of(tried: &'static [&'static Tried<'static>]) -> Script<'static> {
     Script {
         begun: &SEARCH,
-        page: [L3, "l4", "l5", ONE_OF_TWO],
+        page: [MARKED_3, "l4", "l5", ONE_OF_TWO],
         tried,
         may_fail: false,
     }
@@ -45,14 +43,14 @@ fn begins(rt: HostRuntime) {
 }
 
 const JUMPS: &[&Tried<'static>] = tried! {
-    Does(NextMatch) => L7, "l8", "l9", TWO_OF_TWO;
-    Does(PrevMatch) => L3, "l4", "l5", ONE_OF_TWO;
-    Does(MoveToNextMatch(2)) => L3, "l4", "l5", ONE_OF_TWO;
+    Does(NextMatch) => MARKED_7, "l8", "l9", TWO_OF_TWO;
+    Does(PrevMatch) => MARKED_3, "l4", "l5", ONE_OF_TWO;
+    Does(MoveToNextMatch(2)) => MARKED_3, "l4", "l5", ONE_OF_TWO;
     Does(UpdateUpperMark(0)) => "l0", "l1", "l2", ONE_OF_TWO;
-    Does(MoveToNextMatch(2)) => L7, "l8", "l9", TWO_OF_TWO;
-    Does(MoveToPrevMatch(1)) => L3, "l4", "l5", ONE_OF_TWO;
-    Key('n') => L7, "l8", "l9", TWO_OF_TWO;
-    Key('p') => L3, "l4", "l5", ONE_OF_TWO;
+    Does(MoveToNextMatch(2)) => MARKED_7, "l8", "l9", TWO_OF_TWO;
+    Does(MoveToPrevMatch(1)) => MARKED_3, "l4", "l5", ONE_OF_TWO;
+    Key('n') => MARKED_7, "l8", "l9", TWO_OF_TWO;
+    Key('p') => MARKED_3, "l4", "l5", ONE_OF_TWO;
 };
 
 #[test]
@@ -61,9 +59,9 @@ fn a_refused_jump_changes_nothing(rt: HostRuntime) {
 }
 
 const TEXTS: &[&Tried<'static>] = tried! {
-    Push("\n73") => L3, "l4", "l5", ONE_OF_THREE;
-    Push("x") => L3, "l4", "l5", ONE_OF_THREE;
-    Does(StartSelection { x: 0, y: 0 }) => L3, "l4", "l5", ONE_OF_THREE;
+    Push("\n73") => MARKED_3, "l4", "l5", ONE_OF_THREE;
+    Push("x") => MARKED_3, "l4", "l5", ONE_OF_THREE;
+    Does(StartSelection { x: 0, y: 0 }) => MARKED_3, "l4", "l5", ONE_OF_THREE;
     Set("a\n7") => "a", "\x1b[7m7\x1b[27m", "", ONE_OF_ONE;
     Does(ShowHelp) => "help", "", "", HELP_ROW;
     Does(RestorePrompt) => "a", "\x1b[7m7\x1b[27m", "", ONE_OF_ONE;
@@ -91,10 +89,10 @@ fn a_refused_layout_keeps_the_matches(rt: HostRuntime) {
 }
 
 const TYPED: &[&Tried<'static>] = tried! {
-    Key('/') => L3, "l4", "l5", "/";
-    Pressed(KeyCode::Esc) => L3, "l4", "l5", ONE_OF_TWO;
-    Key('?') => L3, "l4", "l5", "?";
-    Key('q') => L3, "l4", "l5", "?q";
+    Key('/') => MARKED_3, "l4", "l5", "/";
+    Pressed(KeyCode::Esc) => MARKED_3, "l4", "l5", ONE_OF_TWO;
+    Key('?') => MARKED_3, "l4", "l5", "?";
+    Key('q') => MARKED_3, "l4", "l5", "?q";
     Pressed(KeyCode::Enter) => "l3", "l4", "l5", P;
 };
 

@@ -1,6 +1,6 @@
 //! Steps with the search prompt open: what waits, and what is done of it when the prompt is closed. A want of memory
 //! behind the drawing that closes it fails the session.
-use super::{M_ROW, Script, Tried, assert_tried};
+use super::{M_ROW, MARKED_7, Script, Tried, assert_tried};
 use crate::sessions::Asked::{Does, Key, Message, Numbers, Pressed, Prompt, Push, Told};
 use crate::sessions::{Asked, PROMPT_ROW as P, TEN_LINES};
 use minus::InputEvent::{Exit, Search, ShowHelp, UpdateUpperMark};
@@ -40,15 +40,13 @@ fn what_waits_is_done_or_the_session_has_failed(rt: HostRuntime) {
     assert_tried(&rt, rt.alloc(), &of(KEPT));
 }
 
-const L7: &str = "l\x1b[7m7\x1b[27m";
-
 const P_ROW: &str = "\x1b[2;40;37mp              \x1b[30;44m 1/2 \x1b[0m";
 
 const TAKEN: &[&Tried<'static>] = tried! {
     Push("\n7") => "l0", "l1", "l2", "/";
     Key('7') => "l0", "l1", "l2", "/7";
     Prompt("p") => "l0", "l1", "l2", "/7";
-    Pressed(KeyCode::Enter) => L7, "l8", "l9", P_ROW;
+    Pressed(KeyCode::Enter) => MARKED_7, "l8", "l9", P_ROW;
 };
 
 #[test]
