@@ -6,7 +6,7 @@ ghost use Rattle.minus_term.specs.Written.{written_all};
 ghost use Rattle.minus_state.specs.Changes.{IsChange, IsFormedFor, search_set};
 ghost use Rattle.minus_state.specs.Confirming.{confirmed, confirmed_by};
 ghost use Rattle.minus_state.specs.Control.{Control};
-ghost use Rattle.minus_state.specs.OpenSearches.{seen_search};
+ghost use Rattle.minus_state.specs.OpenSearches.{seen_search, search_after};
 ghost use Rattle.minus_state.specs.Page.{shown};
 ghost use Rattle.minus_state.specs.States.{control_of, IsFormed};
 ghost use Rattle.minus.specs.Drawings.{opening_under, cursor_under, edit_under, EditsAlone};
@@ -21,11 +21,12 @@ use minus_term::{write_page, write_search_cursor, write_search_opening};
 use regex::Regex;
 use std::alloc::{AllocError, Global};
 
-// A search prompt that is open: its direction and its query, whether that was edited, and the pattern whose matches the
-// page shows.
+// A search prompt that is open: its direction and its query, its cursor, which may have moved, whether the query was
+// edited, and the pattern whose matches the page shows.
 #[derive(Clone, Copy)]
 struct OpenView<'a> {
     prompt: &'a OpenPrompt,
+    cursor: u16,
     edited: bool,
     preview: Option<&'a Regex>,
 }
@@ -40,6 +41,7 @@ fn view_of(search: &OpenSearch) -> OpenView<'_>
     };
     OpenView {
         prompt: &search.prompt,
+        cursor: search.prompt.cursor() as u16,
         edited: search.edited,
         preview,
     }
@@ -55,26 +57,35 @@ fn open_in(state: &PagerState) -> Option<OpenView<'_>>
     }
 }
 
+// The one that is open after a step of it, if one is.
+fn open_after_step<'a>(state: &'a PagerState, step: &'a SearchStep) -> Option<OpenView<'a>>
+    ensures { option_map view_seen result ≡ search_after step.now (control_of state.now).search }
+{
+    match step {
+        SearchStep::Opens(prompt) => Some(OpenView {
+            prompt,
+            cursor: prompt.cursor() as u16,
+            edited: false,
+            preview: None,
+        }),
+        SearchStep::Moves(edit) => match state.open_search() {
+            Some(search) => Some(OpenView {
+                cursor: search.prompt.cursor_after(*edit) as u16,
+                ..view_of(search)
+            }),
+            None => None,
+        },
+        SearchStep::Edits(search) => Some(view_of(search)),
+        SearchStep::Closes(_) => None,
+    }
+}
+
 // The one that is open after a change, if one is.
 fn open_after<'a>(state: &'a PagerState, change: &'a Change) -> Option<OpenView<'a>>
     ensures { option_map view_seen result ≡ search_set change.now.setting (control_of state.now).search }
 {
     match &change.setting {
-        Setting::Search(SearchStep::Opens(prompt)) => Some(OpenView {
-            prompt,
-            edited: false,
-            preview: None,
-        }),
-        Setting::Search(SearchStep::Types(prompt)) => match open_in(state) {
-            Some(view) => Some(OpenView {
-                prompt,
-                edited: view.edited,
-                preview: view.preview,
-            }),
-            None => None,
-        },
-        Setting::Search(SearchStep::Edits(search)) => Some(view_of(search)),
-        Setting::Search(SearchStep::Closes(_)) => None,
+        Setting::Search(step) => open_after_step(state, step),
         _ => open_in(state),
     }
 }
@@ -109,8 +120,7 @@ pub(crate) fn push_cursor(
     let Some(view) = open_after(state, change) else {
         return Ok(());
     };
-    let cursor = view.prompt.cursor() as u16;
-    write_search_cursor(alloc, out, change.rows as u16, cursor)
+    write_search_cursor(alloc, out, change.rows as u16, view.cursor)
 }
 
 // Adds the page of a state that shows where a pattern leads, with this in its last row.

@@ -423,14 +423,8 @@ impl<S: OutputSink + Drop, P: Calls> Core<S, P> {
         ensures refused { IfErr result (λ e. IsUntakenOf S.seen (says_of P.Condition.judges P.Classifier.says)
             self.now (an_event event.now) self.now e) }
     {
-        let Some(search) = self.parts.state.open_search() else {
-            return Ok(Outcome::of(self.parts.state.redrawn(Redraw::Stays)));
-        };
         let condition = self.parts.condition.as_ref();
-        let change = self
-            .parts
-            .state
-            .keyed(self.alloc, condition, search, event)?;
+        let change = self.parts.state.keyed(self.alloc, condition, event)?;
         let outcome = Outcome::of(change);
         Ok(outcome)
     }

@@ -1,24 +1,27 @@
 -- What a key does to an open search prompt.
-use Rattle.std.specs.Prelude.{◌≡◌, ℕ, List, Bool, true, false, not, Option, None, Some, codes, if◌then◌else◌}
+use Rattle.std.specs.Prelude.{◌≡◌, ℕ, List, Bool, true, Option, None, Some, codes, if◌then◌else◌}
 use Rattle.regex.specs.Patterns.{Re}
 use Rattle.minus_term.specs.declared.event.Event.{Event}
 use Rattle.minus_term.specs.Refusals.{Refusal, for_memory, for_query}
+use Rattle.minus_state.specs.declared.change.Change.{Change}
 use Rattle.minus_state.specs.declared.change.Redraw.{Redraw}
 use Rattle.minus_state.specs.declared.change.Redraw.TheVariants.{Stays, Cursor, Edit, Closing}
 use Rattle.minus_state.specs.declared.search.keys.QueryEdit.{QueryEdit}
-use Rattle.minus_state.specs.declared.search.keys.QueryEdit.TheVariants.{Cancels, Confirms}
+use Rattle.minus_state.specs.declared.search.keys.QueryEdit.TheVariants.{Confirms}
 use Rattle.minus_state.specs.declared.search.query.Fed.{Fed}
 use Rattle.minus_state.specs.declared.search.query.Fed.TheVariants.{Unchanged, Moved, Edited, Confirmed, Cancelled}
 use Rattle.minus_state.specs.declared.state.PagerState.{PagerState}
+use Rattle.minus_state.specs.Changes.{Leads}
 use Rattle.minus_state.specs.Conditions.{Judges, MayPreview}
 use Rattle.minus_state.specs.Confirming.{confirmed}
 use Rattle.minus_state.specs.Control.{Control, with_message}
 use Rattle.minus_state.specs.OpenPrompts.{Prompt, fed}
 use Rattle.minus_state.specs.OpenSearches.{OpenSearch}
 use Rattle.minus_state.specs.Prompting.{closed, typed, edited}
-use Rattle.minus_state.specs.QueryEditor.{told_of, refuses}
+use Rattle.minus_state.specs.QueryEditor.{told_of, refuses, takes_memory}
 use Rattle.minus_state.specs.QueryKeys.{edit_of}
 use Rattle.minus_state.specs.QueryPatterns.{MayTake}
+use Rattle.minus_state.specs.States.{control_of}
 
 -- the message where a query that is taken has no pattern
 abbrev pub no_pattern : List ℕ
@@ -71,21 +74,28 @@ keyed_redraw o edit = redraw_by (told_by o edit)
 abbrev pub MayFind : {Q : Type 0} → Judges Q → Option Q → PagerState → OpenSearch → Event → Option Re → Type 0
 MayFind judges condition s o event found = MayFindBy (told_by o (edit_of event)) judges condition s o.prompt event found
 
--- whether a key closes the prompt
-abbrev pub closes : QueryEdit → Bool
-closes Cancels = true
-closes Confirms = true
-closes edit = false
+-- what a key may lead to, where this search prompt is open in a state, if one is
+abbrev pub MayLead : {Q : Type 0} → Judges Q → Option Q → PagerState → Event → Change → Option OpenSearch → Type 0
+MayLead judges condition s event change None = Leads s change (control_of s)
+MayLead judges condition s event change (Some o) =
+    (found : Option Re) × MayFind judges condition s o event found × Leads s change (keyed (control_of s) o (edit_of event) found)
 
--- whether a key closes the prompt and leaves its query
-abbrev pub leaves_query : OpenSearch → QueryEdit → Bool
-leaves_query o Cancels = true
-leaves_query o Confirms = not o.edited
-leaves_query o edit = false
+abbrev pub redraw_at : Option OpenSearch → QueryEdit → Redraw
+redraw_at None edit = Stays
+redraw_at (Some o) edit = keyed_redraw o edit
 
--- why a key was not taken: for want of memory, where it does not just leave the query, or since it types a character to a query that
--- has as many as it may have
+-- whether a key takes memory before it is done: it removes or inserts a character, or takes an edited query
+abbrev pub key_takes_memory : OpenSearch → QueryEdit → Bool
+key_takes_memory o Confirms = o.edited
+key_takes_memory o edit = takes_memory edit
+
+-- why a key was not taken: for want of the memory that it takes, or since it types a character to a query that has as many as it may
+-- have
 abbrev pub IsUnkeyed : Refusal → OpenSearch → QueryEdit → Type 0
-IsUnkeyed for_memory o edit = leaves_query o edit ≡ false
+IsUnkeyed for_memory o edit = key_takes_memory o edit ≡ true
 IsUnkeyed for_query o edit = refuses o.prompt.editor edit ≡ true
 IsUnkeyed refusal o edit = ⊥
+
+abbrev pub IsUnkeyedAt : Refusal → Option OpenSearch → QueryEdit → Type 0
+IsUnkeyedAt refusal None edit = ⊥
+IsUnkeyedAt refusal (Some o) edit = IsUnkeyed refusal o edit

@@ -4,7 +4,7 @@ use Rattle.minus_term.specs.Refusals.{Refusal, for_memory, for_mode}
 use Rattle.minus_state.specs.declared.search.SearchMode.{SearchMode}
 use Rattle.minus_state.specs.declared.search.SearchMode.TheVariants.{Unknown}
 use Rattle.minus_state.specs.declared.search.keys.QueryEdit.{QueryEdit}
-use Rattle.minus_state.specs.QueryEditor.{Editor, first_editor, edited}
+use Rattle.minus_state.specs.QueryEditor.{Editor, first_editor, edited, moved}
 
 -- the direction of its search, and its query with the cursor
 pub record Prompt : Type 0 where
@@ -18,6 +18,10 @@ prompt_of mode = record { mode = mode; editor = first_editor }
 -- what an edit leaves
 abbrev pub fed : Prompt → QueryEdit → Prompt
 fed p edit = record p { editor = edited p.editor edit }
+
+-- what a move of the cursor leaves
+abbrev pub cursor_moved : Prompt → QueryEdit → Prompt
+cursor_moved p edit = record p { editor = record p.editor { cursor = moved p.editor edit } }
 
 -- why a prompt was not opened: no search has begun, or, where one has, for want of memory
 abbrev pub IsUnopened : Refusal → SearchMode → Type 0

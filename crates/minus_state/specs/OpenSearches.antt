@@ -6,9 +6,9 @@ use Rattle.regex.specs.Strings.{regex_pattern}
 use Rattle.minus_state.specs.declared.search.SearchMode.{SearchMode}
 use Rattle.minus_state.specs.declared.search.open_search.OpenSearch as code
 use Rattle.minus_state.specs.declared.search.open_search.SearchStep.{SearchStep}
-use Rattle.minus_state.specs.declared.search.open_search.SearchStep.TheVariants.{Opens, Types, Edits, Closes}
+use Rattle.minus_state.specs.declared.search.open_search.SearchStep.TheVariants.{Opens, Moves, Edits, Closes}
 use Rattle.minus_state.specs.SearchMode.{char_of}
-use Rattle.minus_state.specs.OpenPrompts.{Prompt, prompt_of}
+use Rattle.minus_state.specs.OpenPrompts.{Prompt, prompt_of, cursor_moved}
 
 -- its direction and its query, whether the query was edited since the prompt was opened, and the pattern whose matches the page shows
 -- before the query is taken, if one is
@@ -32,7 +32,7 @@ newly_open mode = unedited (prompt_of mode)
 -- the prompt that is open after a step of it, if one is
 abbrev pub search_after : SearchStep → Option OpenSearch → Option OpenSearch
 search_after (Opens p) search = Some (unedited p)
-search_after (Types p) search = option_map (λ o. let x : OpenSearch = record o { prompt = p } in x) search
+search_after (Moves edit) search = option_map (λ o. let x : OpenSearch = record o { prompt = cursor_moved o.prompt edit } in x) search
 search_after (Edits o) search = Some (seen_search o)
 search_after (Closes message) search = None
 

@@ -5,7 +5,8 @@ use Rattle.minus_state.specs.declared.change.Redraw.{Redraw}
 use Rattle.minus_state.specs.declared.change.Redraw.TheVariants.{Stays, Opening}
 use Rattle.minus_state.specs.declared.search.SearchMode.{SearchMode}
 use Rattle.minus_state.specs.SearchMode.{char_of}
-use Rattle.minus_state.specs.OpenPrompts.{Prompt}
+use Rattle.minus_state.specs.declared.search.keys.QueryEdit.{QueryEdit}
+use Rattle.minus_state.specs.OpenPrompts.{Prompt, cursor_moved as prompt_moved}
 use Rattle.minus_state.specs.OpenSearches.{OpenSearch, newly_open}
 use Rattle.minus_state.specs.Control.{Control, document_of, matches_in}
 
@@ -32,6 +33,10 @@ closed c = record c { search = None }
 -- its cursor has moved
 abbrev pub typed : Control → Prompt → Control
 typed c prompt = record c { search = option_map (λ o. let x : OpenSearch = record o { prompt = prompt } in x) c.search }
+
+-- its cursor moves as an edit says
+abbrev pub cursor_moved : Control → QueryEdit → Control
+cursor_moved c edit = record c { search = option_map (λ o. let x : OpenSearch = record o { prompt = prompt_moved o.prompt edit } in x) c.search }
 
 -- the pattern whose matches the page shows: one that was found, where some row matches it
 abbrev pub previewed : Control → Option Re → Option Re

@@ -1,5 +1,5 @@
 -- A query that is edited: its characters, and a cursor from 1 to one more than these are.
-use Rattle.std.specs.Prelude.{ℕ, ◌+◌, ◌-◌, ◌==◌, ◌&&◌, nat_lt, max, min, Bool, true, false, ◌≤◌, ◌≡◌}
+use Rattle.std.specs.Prelude.{ℕ, ◌+◌, ◌-◌, ◌==◌, ◌&&◌, not, nat_lt, max, min, Bool, true, false, ◌≤◌, ◌≡◌}
 use Rattle.std.specs.Prelude.{List, [], ◌∷◌, ◌++◌, length, take, drop, if◌then◌else◌}
 use Rattle.std.specs.Str.{encode_utf8_all}
 use Rattle.minus_term.specs.Refusals.{Refusal, for_memory, for_query}
@@ -96,9 +96,21 @@ inserts edit = false
 abbrev pub refuses : Editor → QueryEdit → Bool
 refuses e edit = inserts edit && (length e.query == most)
 
--- why an edit was not made: the query refuses it, or, where it does not, for want of memory
+-- whether an edit takes memory: it removes or inserts a character
+abbrev pub takes_memory : QueryEdit → Bool
+takes_memory edits.RemovesBefore = true
+takes_memory edits.RemovesUnder = true
+takes_memory edit = inserts edit
+
+-- whether an edit moves the cursor at most
+abbrev pub moves : QueryEdit → Bool
+moves edits.Cancels = false
+moves edits.Confirms = false
+moves edit = not (takes_memory edit)
+
+-- why an edit was not made: the query refuses it, or, where it does not, for want of the memory that it takes
 abbrev pub IsRefusedEdit : Refusal → Editor → QueryEdit → Type 0
-IsRefusedEdit for_memory e edit = refuses e edit ≡ false
+IsRefusedEdit for_memory e edit = (takes_memory edit ≡ true) × (refuses e edit ≡ false)
 IsRefusedEdit for_query e edit = refuses e edit ≡ true
 IsRefusedEdit refusal e edit = ⊥
 

@@ -326,9 +326,9 @@ impl PagerState {
                     preview: None,
                 });
             }
-            SearchStep::Types(prompt) => {
+            SearchStep::Moves(edit) => {
                 if let Some(search) = &mut self.open_search {
-                    search.prompt = prompt;
+                    search.prompt.move_by(edit);
                 }
             }
             SearchStep::Edits(search) => self.open_search = Some(search),

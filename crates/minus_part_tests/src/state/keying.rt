@@ -21,13 +21,10 @@ fn searching(alloc: Global, search_mode: SearchMode) -> Option<PagerState> {
 
 // Feeds an event to the prompt that is open.
 fn feed(alloc: Global, state: &mut PagerState, event: &Event) -> bool {
-    let Some(search) = state.open_search() else {
+    let Ok(change) = state.keyed(alloc, None::<&NeverShows>, event) else {
         return false;
     };
-    let Ok(change) = state.keyed(alloc, None::<&NeverShows>, search, event) else {
-        return false;
-    };
-    state.place(alloc, change).is_ok()
+    state.open_search().is_some() && state.place(alloc, change).is_ok()
 }
 
 // Types a text.

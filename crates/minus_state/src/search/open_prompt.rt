@@ -3,6 +3,7 @@ ghost use Rattle.std.specs.Prelude.{◌≡◌, ◌∷◌, chars, string_bytes, I
 ghost use Rattle.std.specs.Str.{encode_utf8_all};
 
 use crate::search::SearchMode;
+use crate::search::keys::QueryEdit;
 use crate::search::query::{Fed, QueryEditor};
 use crate::state::PagerState;
 use minus_term::{Event, MinusError};
@@ -52,8 +53,8 @@ impl OpenPrompt {
     ghost use Rattle.std.specs.Prelude.{◌≡◌, ◌+◌, ◌≤◌, Some, false, length, chars, string_bytes, OnOk, OnErr, IfOk, IfErr};
     ghost use Rattle.minus_term.specs.Refusals.{refusal_of};
     ghost use Rattle.minus_text.specs.Words.{AreWithin};
-    ghost use Rattle.minus_state.specs.OpenPrompts.{prompt_of, fed, IsUnopened};
-    ghost use Rattle.minus_state.specs.QueryEditor.{told_of, starts_of, refuses, most, IsRefusedEdit};
+    ghost use Rattle.minus_state.specs.OpenPrompts.{prompt_of, fed, cursor_moved, IsUnopened};
+    ghost use Rattle.minus_state.specs.QueryEditor.{told_of, moved, starts_of, refuses, takes_memory, most, IsRefusedEdit};
     ghost use Rattle.minus_state.specs.QueryKeys.{edit_of};
     ghost use Rattle.minus_state.specs.SearchMode.{char_of};
     ghost use Rattle.minus_state.specs.OpenSearches.{typed_in};
@@ -157,13 +158,29 @@ impl OpenPrompt {
         self.editor.word_index()
     }
 
+    /// Where the cursor is after an edit that removes and inserts nothing, in characters from 1: at most 65,535.
+    pub fn cursor_after(&self, edit: QueryEdit) -> usize
+        ensures value { result ≡ moved self.now.editor edit }
+        ensures few { result ≤ most + 1 }
+    {
+        self.editor.moved(edit)
+    }
+
+    // Moves the cursor as an edit says that removes and inserts nothing.
+    pub(crate) fn move_by(&mut self, edit: QueryEdit)
+        ensures { self.new ≡ cursor_moved self.old edit }
+    {
+        let _ = self.editor.move_by(edit);
+    }
+
     /// Edits the query as an event says, and tells what it did, as [`QueryEditor::feed`] does. The fixed patterns are
     /// those of the state: [`PagerState::patterns`].
     ///
     /// # Errors
     ///
     /// [`MinusError::QueryFull`] exactly where a character is typed to a query of 65,534 characters, and
-    /// [`MinusError::Memory`] where there is no memory for an edit. An `Err` changes nothing.
+    /// [`MinusError::Memory`] where there is no memory for an edit that removes or inserts: a move takes none. An `Err`
+    /// changes nothing.
     pub fn feed(
         &mut self,
         alloc: Global,
@@ -172,6 +189,7 @@ impl OpenPrompt {
     ) -> Result<Fed, MinusError>
         ensures new { OnOk result (self.new ≡ fed self.old (edit_of event.now)) }
         ensures told { IfOk result (λ f. f ≡ told_of self.old.editor (edit_of event.now)) }
+        ensures moved { IfOk result (λ f. f ≡ Fed.Moved → takes_memory (edit_of event.now) ≡ false) }
         ensures taken { OnOk result (refuses self.old.editor (edit_of event.now) ≡ false) }
         ensures err { OnErr result (self.new ≡ self.old) }
         ensures refused { IfErr result (λ e. IsRefusedEdit (refusal_of e) self.old.editor (edit_of event.now)) }

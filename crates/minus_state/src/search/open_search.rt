@@ -1,4 +1,5 @@
 //! A search prompt that is open in a pager.
+use crate::search::keys::QueryEdit;
 use crate::search::open_prompt::OpenPrompt;
 use regex::Regex;
 
@@ -29,8 +30,8 @@ impl Drop for OpenSearch {
 pub enum SearchStep {
     /// It opens, with this prompt.
     Opens(OpenPrompt),
-    /// The cursor of the one that is open moves: this prompt is in its place.
-    Types(OpenPrompt),
+    /// The cursor of the one that is open moves, as this edit says, which removes and inserts nothing.
+    Moves(QueryEdit),
     /// The query is edited: this is in its place.
     Edits(OpenSearch),
     /// It closes, and leaves a message, or none.

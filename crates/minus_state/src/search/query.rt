@@ -66,7 +66,7 @@ impl QueryEditor {
     ghost use Rattle.minus_term.specs.Refusals.{refusal_of};
     ghost use Rattle.minus_text.specs.Words.{AreWithin};
     ghost use Rattle.minus_state.specs.QueryKeys.{edit_of};
-    ghost use Rattle.minus_state.specs.QueryEditor.{first_editor, editor_of, edited, moved, told_of, refuses};
+    ghost use Rattle.minus_state.specs.QueryEditor.{first_editor, editor_of, edited, moved, told_of, refuses, takes_memory};
     ghost use Rattle.minus_state.specs.QueryEditor.{told_between, starts_of, most, without, is_too_long};
     ghost use Rattle.minus_state.specs.QueryEditor.{IsRefusedEdit, IsRefusedQuery};
 
@@ -158,10 +158,11 @@ impl QueryEditor {
     }
 
     // Where the cursor is after a move.
-    fn moved(&self, edit: QueryEdit) -> usize
+    pub(crate) fn moved(&self, edit: QueryEdit) -> usize
         ensures value { result ≡ moved self.now edit }
         ensures first { 1 ≤ result }
         ensures last { result ≤ length self.now.query + 1 }
+        ensures few { result ≤ most + 1 }
     {
         match edit {
             QueryEdit::Left => (self.cursor - 1).max(1),
@@ -186,6 +187,14 @@ impl QueryEditor {
         }
         self.cursor = cursor;
         Fed::Moved
+    }
+
+    // Moves the cursor as an edit says that removes and inserts nothing.
+    pub(crate) fn move_by(&mut self, edit: QueryEdit) -> Fed
+        ensures new { self.new ≡ record self.old { cursor = moved self.old edit } }
+        ensures told { result ≡ told_between self.old (record self.old { cursor = moved self.old edit }) }
+    {
+        self.move_to(self.moved(edit))
     }
 
     // Takes another text and cursor. An `Err` changes nothing.
@@ -219,6 +228,7 @@ impl QueryEditor {
         ensures new { OnOk result (self.new ≡ record { query = without at self.old.query; cursor = at }) }
         ensures told { IfOk result (λ f.
             f ≡ told_between self.old (record { query = without at self.old.query; cursor = at })) }
+        ensures edited { IfOk result (λ f. f ≡ Fed.Edited) }
         ensures err { OnErr result (self.new ≡ self.old) }
         ensures memory { IfErr result (λ e. e ≡ MinusError.Memory) }
     {
@@ -235,6 +245,7 @@ impl QueryEditor {
     ) -> Result<Fed, MinusError>
         ensures new { OnOk result (self.new ≡ edited self.old (QueryEdit.Inserts character)) }
         ensures told { IfOk result (λ f. f ≡ told_of self.old (QueryEdit.Inserts character)) }
+        ensures edited { IfOk result (λ f. f ≡ Fed.Edited) }
         ensures taken { OnOk result (refuses self.old (QueryEdit.Inserts character) ≡ false) }
         ensures err { OnErr result (self.new ≡ self.old) }
         ensures refused { IfErr result (λ e. IsRefusedEdit (refusal_of e) self.old (QueryEdit.Inserts character)) }
@@ -256,7 +267,8 @@ impl QueryEditor {
     /// # Errors
     ///
     /// [`MinusError::QueryFull`] exactly where a character is typed to a query of 65,534 characters, and
-    /// [`MinusError::Memory`] where there is no memory for an edit. An `Err` changes nothing.
+    /// [`MinusError::Memory`] where there is no memory for an edit that removes or inserts: a move takes none. An `Err`
+    /// changes nothing.
     pub fn feed(
         &mut self,
         alloc: Global,
@@ -265,6 +277,7 @@ impl QueryEditor {
     ) -> Result<Fed, MinusError>
         ensures new { OnOk result (self.new ≡ edited self.old (edit_of event.now)) }
         ensures told { IfOk result (λ f. f ≡ told_of self.old (edit_of event.now)) }
+        ensures moved { IfOk result (λ f. f ≡ Fed.Moved → takes_memory (edit_of event.now) ≡ false) }
         ensures taken { OnOk result (refuses self.old (edit_of event.now) ≡ false) }
         ensures err { OnErr result (self.new ≡ self.old) }
         ensures refused { IfErr result (λ e. IsRefusedEdit (refusal_of e) self.old (edit_of event.now)) }
@@ -285,7 +298,7 @@ impl QueryEditor {
                 self.remove(alloc, patterns, self.cursor)
             }
             QueryEdit::Inserts(character) => self.insert(alloc, patterns, character),
-            edit => Ok(self.move_to(self.moved(edit))),
+            edit => Ok(self.move_by(edit)),
         }
     }
 }

@@ -43,15 +43,17 @@ fn is_long(query: &str) -> bool
 }
 
 impl PagerState {
-    ghost use Rattle.std.specs.Prelude.{◌≡◌, true, false, Option, option_map, IfOk, IfErr};
+    ghost use Rattle.std.specs.Prelude.{◌≡◌, true, Option, None, Some, option_map, IfOk, IfErr};
     ghost use Rattle.regex.specs.Patterns.{Re};
     ghost use Rattle.regex.specs.Strings.{regex_pattern};
     ghost use Rattle.minus_term.specs.Refusals.{refusal_of};
     ghost use Rattle.minus_state.specs.Changes.{Leads};
     ghost use Rattle.minus_state.specs.Conditions.{MayShow, MayPreview};
-    ghost use Rattle.minus_state.specs.Keying.{closes, entered, keyed, keyed_redraw, IsUnkeyed, MayFind};
+    ghost use Rattle.minus_state.specs.Keying.{entered, keyed, keyed_redraw, redraw_at};
+    ghost use Rattle.minus_state.specs.Keying.{IsUnkeyed, IsUnkeyedAt, MayFind, MayLead};
     ghost use Rattle.minus_state.specs.OpenPrompts.{fed};
     ghost use Rattle.minus_state.specs.OpenSearches.{seen_search};
+    ghost use Rattle.minus_state.specs.QueryEditor.{moves, takes_memory};
     ghost use Rattle.minus_state.specs.QueryKeys.{edit_of};
     ghost use Rattle.minus_state.specs.QueryPatterns.{shows_by_default, MayTake};
     ghost use Rattle.minus_state.specs.States.{control_of};
@@ -126,7 +128,7 @@ impl PagerState {
         Ok(self.taken(alloc, query)?)
     }
 
-    // The state after an event that edits the query of its open search prompt, moves its cursor or does nothing to it.
+    // The state after an event that removes a character of the query of its open search prompt or inserts one.
     fn edited_by<C: ConditionCall>(
         &self,
         alloc: Global,
@@ -134,7 +136,7 @@ impl PagerState {
         search: &OpenSearch,
         event: &Event,
     ) -> Result<Change, MinusError>
-        requires { closes (edit_of event.now) ≡ false }
+        requires { takes_memory (edit_of event.now) ≡ true }
         ensures next { IfOk result (λ c. (found : Option Re)
             × MayFind C.judges (option_map (λ q. q.now) condition.entry) self.now (seen_search search.now)
             event.now found
@@ -144,7 +146,6 @@ impl PagerState {
     {
         let mut prompt = search.prompt.copied(alloc)?;
         match prompt.feed(alloc, &self.patterns, event)? {
-            Fed::Moved => Ok(self.typed_to(prompt)),
             Fed::Edited => {
                 let found = self.found_for(alloc, condition, &search.prompt, &prompt, event)?;
                 Ok(self.edited(alloc, prompt, found)?)
@@ -153,23 +154,28 @@ impl PagerState {
         }
     }
 
-    /// The state after an event that its open search prompt is fed: the query edited or its cursor moved, or the prompt
-    /// closed, with the query taken or not. Where the query was edited and a pattern was built of it, the condition is
-    /// asked: without one the answer is yes where the query has more than one byte and the text has at most 5,000
-    /// lines. Where it says yes, the page shows the match that the query leads to, if some row matches. A query that is
-    /// taken without a pattern leaves a message.
-    ///
-    /// # Errors
-    ///
-    /// [`MinusError::QueryFull`] where a character is typed to a query of 65,534 characters, and [`MinusError::Memory`]
-    /// where there is no memory; an event that closes the prompt and leaves its query is never refused.
-    pub fn keyed<C: ConditionCall>(
+    // The state after an edit that moves the cursor of its search prompt, which is this one, or leaves it.
+    fn moved_by(&self, search: &OpenSearch, edit: QueryEdit) -> Change
+        requires own { (control_of self.now).search ≡ Some (seen_search search.now) }
+        requires moves { moves edit ≡ true }
+        ensures next { Leads self.now result (keyed (control_of self.now) (seen_search search.now) edit None) }
+        ensures redraw { result.redraw ≡ keyed_redraw (seen_search search.now) edit }
+    {
+        if search.prompt.cursor_after(edit) == search.prompt.cursor() {
+            return self.redrawn(Redraw::Stays);
+        }
+        self.cursor_moved(edit)
+    }
+
+    // The state after an event that its search prompt is fed, which is this one.
+    fn fed<C: ConditionCall>(
         &self,
         alloc: Global,
         condition: Option<&C>,
         search: &OpenSearch,
         event: &Event,
     ) -> Result<Change, MinusError>
+        requires { (control_of self.now).search ≡ Some (seen_search search.now) }
         ensures next { IfOk result (λ c. (found : Option Re)
             × MayFind C.judges (option_map (λ q. q.now) condition.entry) self.now (seen_search search.now)
             event.now found
@@ -180,7 +186,39 @@ impl PagerState {
         match edit_of(event) {
             QueryEdit::Cancels => Ok(self.closed()),
             QueryEdit::Confirms => self.entered(alloc, search),
-            _ => self.edited_by(alloc, condition, search, event),
+            QueryEdit::RemovesBefore | QueryEdit::RemovesUnder | QueryEdit::Inserts(_) => {
+                self.edited_by(alloc, condition, search, event)
+            }
+            edit => Ok(self.moved_by(search, edit)),
+        }
+    }
+
+    /// The state after an event that its open search prompt is fed: the query edited or its cursor moved, or the prompt
+    /// closed, with the query taken or not; as it is, where none is open. Where the query was edited and a pattern was
+    /// built of it, the condition is asked: without one the answer is yes where the query has more than one byte and the
+    /// text has at most 5,000 lines. Where it says yes, the page shows the match that the query leads to, if some row
+    /// matches. A query that is taken without a pattern leaves a message.
+    ///
+    /// # Errors
+    ///
+    /// [`MinusError::QueryFull`] where a character is typed to a query of 65,534 characters, and [`MinusError::Memory`]
+    /// where there is no memory for an edit or for the query that is taken: an event that moves the cursor, or closes
+    /// the prompt and leaves its query, is never refused.
+    pub fn keyed<C: ConditionCall>(
+        &self,
+        alloc: Global,
+        condition: Option<&C>,
+        event: &Event,
+    ) -> Result<Change, MinusError>
+        ensures next { IfOk result (λ c. MayLead C.judges (option_map (λ q. q.now) condition.entry) self.now event.now c
+            (control_of self.now).search) }
+        ensures redraw { IfOk result (λ c. c.redraw ≡ redraw_at (control_of self.now).search (edit_of event.now)) }
+        ensures refused { IfErr result (λ e.
+            IsUnkeyedAt (refusal_of e) (control_of self.now).search (edit_of event.now)) }
+    {
+        match self.open_search() {
+            Some(search) => self.fed(alloc, condition, search, event),
+            None => Ok(self.redrawn(Redraw::Stays)),
         }
     }
 }

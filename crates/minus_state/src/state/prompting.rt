@@ -1,6 +1,7 @@
 //! What becomes of a state as a search prompt is opened, edited and closed, formed beside it.
 use crate::change::{Change, Redraw, Setting};
 use crate::search::SearchMode;
+use crate::search::keys::QueryEdit;
 use crate::search::open_prompt::OpenPrompt;
 use crate::search::open_search::{OpenSearch, SearchStep};
 use crate::state::PagerState;
@@ -16,7 +17,7 @@ impl PagerState {
     ghost use Rattle.minus_state.specs.Confirming.{confirmed};
     ghost use Rattle.minus_state.specs.Control.{with_message};
     ghost use Rattle.minus_state.specs.OpenSearches.{seen_search};
-    ghost use Rattle.minus_state.specs.Prompting.{opened, opening_redraw, closed, typed, edited, previewed};
+    ghost use Rattle.minus_state.specs.Prompting.{opened, opening_redraw, closed, cursor_moved, edited, previewed};
     ghost use Rattle.minus_state.specs.States.{control_of, IsFormed};
 
     /// The search prompt that is open, if one is.
@@ -80,12 +81,12 @@ impl PagerState {
         Ok(change)
     }
 
-    /// The state with this in the place of its search prompt: its cursor has moved.
-    pub fn typed_to(&self, prompt: OpenPrompt) -> Change
-        ensures next { Leads self.now result (typed (control_of self.now) prompt) }
+    /// The state with the cursor of its search prompt moved, as an edit says that removes and inserts nothing.
+    pub fn cursor_moved(&self, edit: QueryEdit) -> Change
+        ensures next { Leads self.now result (cursor_moved (control_of self.now) edit) }
         ensures redraw { result.redraw ≡ Redraw.Cursor }
     {
-        self.set(Setting::Search(SearchStep::Types(prompt)), Redraw::Cursor)
+        self.set(Setting::Search(SearchStep::Moves(edit)), Redraw::Cursor)
     }
 
     // A pattern, where some row matches it.

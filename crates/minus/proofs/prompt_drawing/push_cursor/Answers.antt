@@ -23,7 +23,6 @@ returns c =
     on_ok_weaker c.write_search_cursor.result (λ e new h. (
     let is : new.search ≡ Some o = sym h.search_is ∙ open_as view_seen c.open_after.result _ _ c.in-Some.is c.open_after.ensures in
     e
-    ∙ ap (λ (n : ℕ). out ++ written_all (cursor_ops c.args.change.now.rows n)) c.cursor-cursor.ensures.value
     ∙ ap (λ (n : ℕ). out ++ written_all (cursor_ops n o.prompt.editor.cursor)) h.rows_are
     ∙ ap (λ (s : Option OpenSearch). out ++ written_all (cursor_under new.rows s)) (sym is)
     )) c.write_search_cursor.ensures

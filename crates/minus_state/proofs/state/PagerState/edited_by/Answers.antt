@@ -13,7 +13,7 @@ use Rattle.minus_state.specs.Prompting.{edited}
 use Rattle.minus_state.specs.QueryEditor.{told_of}
 use Rattle.minus_state.specs.QueryKeys.{edit_of}
 use Rattle.minus_state.specs.States.{control_of}
-use Rattle.minus_state.proofs.KeyingLaws.{told_stays}
+use Rattle.minus_state.proofs.KeyingLaws.{told_stays, never_moved}
 use Rattle.minus_state.proofs.state.PagerState.edited_by.Goals as goal
 
 -- the copy is fed as the prompt is
@@ -42,7 +42,7 @@ returns-in_default-clause-next g c =
     let e : QueryEdit = edit_of c.args.event.now in
     let kept = option_map (λ q. q.now) c.args.condition in
     let told_is : told_by o e ≡ c.in_ok-feed.field-0 = ap (λ (p : Prompt). told_of p.editor e) (sym c.in_ok-prompt.ensures) ∙ sym c.in_ok-feed.ensures.told in
-    let tells : told_by o e ≡ told.Unchanged = told_stays o.prompt.editor e c.requires (λ is. c.in_default.not-Moved (sym told_is ∙ is)) (λ is. c.in_default.not-Edited (sym told_is ∙ is)) in (
+    let tells : told_by o e ≡ told.Unchanged = told_stays o.prompt.editor e c.requires (λ is. never_moved e c.requires (c.in_ok-feed.ensures.moved (sym told_is ∙ is))) (λ is. c.in_default.not-Edited (sym told_is ∙ is)) in (
       None,
       subst (λ (t : Fed). MayFindBy t g.C.ConditionCall.judges kept c.args.self.now o.prompt c.args.event.now None) (sym tells) refl,
       subst (λ (t : Fed). Leads c.args.self.now c.redrawn.result (left_by t k o.edited (fed o.prompt e) None)) (sym tells) c.redrawn.ensures.next,
@@ -53,5 +53,5 @@ returns-in_default-clause-redraw g c =
     let o : OpenSearch = seen_search c.args.search.now in
     let e : QueryEdit = edit_of c.args.event.now in
     let told_is : told_by o e ≡ c.in_ok-feed.field-0 = ap (λ (p : Prompt). told_of p.editor e) (sym c.in_ok-prompt.ensures) ∙ sym c.in_ok-feed.ensures.told in
-    let tells : told_by o e ≡ told.Unchanged = told_stays o.prompt.editor e c.requires (λ is. c.in_default.not-Moved (sym told_is ∙ is)) (λ is. c.in_default.not-Edited (sym told_is ∙ is)) in
+    let tells : told_by o e ≡ told.Unchanged = told_stays o.prompt.editor e c.requires (λ is. never_moved e c.requires (c.in_ok-feed.ensures.moved (sym told_is ∙ is))) (λ is. c.in_default.not-Edited (sym told_is ∙ is)) in
     c.redrawn.ensures.redraw ∙ sym (ap redraw_by tells)

@@ -1,28 +1,12 @@
--- A key that closes the prompt tells so by itself.
-use Rattle.std.proofs.Common.{◌≡◌, false, option_map, sym, subst, ◌∙◌}
-use Rattle.std.proofs.lemmas.Result.{IfOk-weaker}
-use Rattle.minus_state.specs.declared.search.keys.QueryEdit.{QueryEdit}
-use Rattle.minus_state.specs.declared.search.keys.QueryEdit.TheVariants as edits
-use Rattle.minus_state.specs.Changes.{Leads}
-use Rattle.minus_state.specs.Control.{Control}
-use Rattle.minus_state.specs.Keying.{closes, keyed, told_by, MayFindBy}
+-- Where none is open, nothing changes.
+use Rattle.std.proofs.Common.{◌≡◌, Option, None, option_map, sym, ap, subst, ◌∙◌}
+use Rattle.minus_state.specs.Keying.{MayLead}
 use Rattle.minus_state.specs.OpenSearches.{OpenSearch, seen_search}
-use Rattle.minus_state.specs.QueryKeys.{edit_of}
-use Rattle.minus_state.specs.States.{control_of}
-use Rattle.minus_state.proofs.KeyingLaws.{not_closing}
+use Rattle.minus_state.specs.States.{search_of}
 use Rattle.minus_state.proofs.state.PagerState.keyed.Goals as goal
 
-pub edited_by-requires : goal.edited_by-requires
-edited_by-requires g c = subst (λ (e : QueryEdit). closes e ≡ false) c.edit_of.ensures (not_closing c.edit_of.result c.in_default.not-Cancels c.in_default.not-Confirms)
-
-pub returns-in-Confirms-clause-next : goal.returns-in-Confirms-clause-next
-returns-in-Confirms-clause-next g c =
-    let k : Control = control_of c.args.self.now in
-    let o : OpenSearch = seen_search c.args.search.now in
-    let kept = option_map (λ q. q.now) c.args.condition in
-    let confirms : edit_of c.args.event.now ≡ edits.Confirms = sym c.edit_of.ensures ∙ c.in-Confirms.is in
-    IfOk-weaker c.entered.result _ _ (λ x h. (
-      h.0,
-      subst (λ (e : QueryEdit). MayFindBy (told_by o e) g.C.ConditionCall.judges kept c.args.self.now o.prompt c.args.event.now h.0) (sym confirms) h.1,
-      subst (λ (e : QueryEdit). Leads c.args.self.now x (keyed k o e h.0)) (sym confirms) h.2,
-    )) c.entered.ensures.next
+pub returns-in-None-clause-next : goal.returns-in-None-clause-next
+returns-in-None-clause-next g c =
+    let s = c.args.self.now in
+    let none : None ≡ search_of s = sym (ap (option_map (λ o. seen_search o.now)) c.in-None.is) ∙ c.open_search.ensures in
+    subst (λ (o : Option OpenSearch). MayLead g.C.ConditionCall.judges (option_map (λ q. q.now) c.args.condition) s c.args.event.now c.redrawn.result o) none c.redrawn.ensures.next

@@ -20,3 +20,6 @@ returns-in-WordLeft-clause-value c = search rules
 
 pub returns-in-End-clause-value : goal.returns-in-End-clause-value
 returns-in-End-clause-value c = search rules
+
+pub returns-in-WordLeft-clause-few : goal.returns-in-WordLeft-clause-few
+returns-in-WordLeft-clause-few c = (let last = (both c).1 in let few = c.self.invariant.few in omega (arith, last, few))
