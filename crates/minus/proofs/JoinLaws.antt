@@ -57,7 +57,7 @@ full_join c xs ys s e h =
     subst (λ (t : PlayedScreen). Shows t (page c)) (sym (play_all-append xs ys s)) (shows_below (page c) (play_all ys (unknown_screen c.rows)) (play_all ys after) below h)
 
 -- without a bound where one is drawn in full
-no_bound : (works : List Work) → some_full works ≡ true → most_puts works ≡ None
+pub no_bound : (works : List Work) → some_full works ≡ true → most_puts works ≡ None
 no_bound [] e = absurd (cc)
 no_bound (w ∷ []) e = alone w.drawing e
   where

@@ -13,7 +13,7 @@ use Rattle.minus.specs.Unmoved.{unmoved}
 use Rattle.minus.specs.Joined.{appends, MayJoin, AppendsJoin, AreJoined}
 
 -- what an append leaves where nothing is searched for and the page stays at its first row
-abbrev longer : Control → List ℕ → Control
+abbrev pub longer : Control → List ℕ → Control
 longer c text = record c { text = c.text ++ text; search_mark = 0 }
 
 -- what it leaves while help is open
@@ -27,20 +27,20 @@ no_match c text e = elim (cases_Bool (keeps_rows_with c text)) [
 ]
 
 -- what an append leaves, whatever callbacks are
-abbrev left_by : Control → List ℕ → Control
+abbrev pub left_by : Control → List ℕ → Control
 left_by c text = record (clamp (with_more c text)) { search = c.search }
 
-on_show : (c : Control) (text : List ℕ) → c.help ≡ None → c.mark ≡ 0 → c.term ≡ None → left_by c text ≡ longer c text
+pub on_show : (c : Control) (text : List ℕ) → c.help ≡ None → c.mark ≡ 0 → c.term ≡ None → left_by c text ≡ longer c text
 on_show c text h m t =
     let mark : min c.mark (top (record c { text = c.text ++ text })) ≡ c.mark = omega (arith, m) in
     let none : search_mark_behind c text ≡ 0 = no_match c text t in
     rw (h, mark, none) refl
 
-put_aside : (c : Control) (saved : Saved) (text : List ℕ) → c.help ≡ Some saved → left_by c text ≡ longer_aside c saved text
+pub put_aside : (c : Control) (saved : Saved) (text : List ℕ) → c.help ≡ Some saved → left_by c text ≡ longer_aside c saved text
 put_aside c saved text h = rw h refl
 
 -- two of them
-twice : (c : Control) (a b : List ℕ) (h : Option Saved) → c.help ≡ h → MayJoin c → left_by (left_by c a) b ≡ left_by c (a ++ b)
+pub twice : (c : Control) (a b : List ℕ) (h : Option Saved) → c.help ≡ h → MayJoin c → left_by (left_by c a) b ≡ left_by c (a ++ b)
 twice c a b None h may =
     let at = may h in
     let next : Control = longer c a in
@@ -55,7 +55,7 @@ twice c a b (Some saved) h may =
     ∙ ap₂ (λ (mark : ℕ) (text : List ℕ). let r : Control = record c { mark = mark; help = Some (let s : Saved = record saved { text = text } in s) } in r) low (append_assoc saved.text a b)
     ∙ sym (put_aside c saved (a ++ b) h)
 
-still : (c : Control) (text : List ℕ) (h : Option Saved) → c.help ≡ h → MayJoin c → MayJoin (left_by c text)
+pub still : (c : Control) (text : List ℕ) (h : Option Saved) → c.help ≡ h → MayJoin c → MayJoin (left_by c text)
 still c text None h may = λ none. let at = may h in (omega (arith, at.0), at.1)
 still c text (Some saved) h may = λ none. absurd (let shown : Some (let s : Saved = record saved { text = saved.text ++ text } in s) ≡ None = sym (ap (λ (x : Control). x.help) (put_aside c saved text h)) ∙ none in cc)
 
@@ -71,7 +71,7 @@ module _ {Q K : Type 0} where
   taken_behind c (w ∷ ws) vs = taken_behind (unmoved c w) ws vs
 
   -- what they lead to, where they are joined
-  pub joined_leads : (c : Control) (first joined : List ℕ) (commands behind : List (Wanted Q K)) → MayJoin c → AreJoined first commands joined behind
+  pub joined_leads : (c : Control) (first joined : List ℕ) (commands behind : List (Wanted Q K)) → MayJoin c → AreJoined (λ (t : List ℕ). let w : Wanted Q K = appends_data t in w) first commands joined behind
       → taken_all (unmoved {Q = Q} {K = K} c (appends_data joined)) behind ≡ taken_all c (appends_data first ∷ commands)
   joined_leads c first joined commands behind may are =
       ap (λ text. taken_all (left_by c text) behind) are.text
@@ -84,18 +84,18 @@ module _ {Q K : Type 0} where
   can_behind ids (text ∷ texts) behind can = can_behind ids texts behind can.2
 
   -- those behind them can be taken over beside the same ids
-  pub joined_can : (ids : List HookId) (first joined : List ℕ) (commands behind : List (Wanted Q K)) → AreJoined first commands joined behind → CanTakeAll ids (appends_data first ∷ commands) → CanTakeAll ids behind
+  pub joined_can : (ids : List HookId) (first joined : List ℕ) (commands behind : List (Wanted Q K)) → AreJoined (λ (t : List ℕ). let w : Wanted Q K = appends_data t in w) first commands joined behind → CanTakeAll ids (appends_data first ∷ commands) → CanTakeAll ids behind
   joined_can ids first joined commands behind are can = can_behind ids are.texts behind (rw are.front at can.2)
 
 -- nothing is joined yet
-pub none_joined : {Q K : Type 0} (first : List ℕ) (commands : List (Wanted Q K)) → AreJoined first commands first commands
-none_joined first commands = record { texts = []; front = refl; text = sym (append-nil first) }
+pub none_joined : {X : Type 0} (append : List ℕ → X) (first : List ℕ) (all : List X) → AreJoined append first all first all
+none_joined append first all = record { texts = []; front = refl; text = sym (append-nil first) }
 
 -- one more is joined
-pub one_more : {Q K : Type 0} (first joined longer text : List ℕ) (commands rest behind : List (Wanted Q K)) (w : Wanted Q K) → AreJoined first commands joined rest → w ≡ appends_data text → rest ≡ w ∷ behind → longer ≡ joined ++ text
-    → AreJoined first commands longer behind
-one_more {Q = Q} {K = K} first joined longer text commands rest behind w are append split more = record {
+pub one_more : {X : Type 0} (append : List ℕ → X) (first joined longer text : List ℕ) (all rest behind : List X) (x : X) → AreJoined append first all joined rest → x ≡ append text → rest ≡ x ∷ behind → longer ≡ joined ++ text
+    → AreJoined append first all longer behind
+one_more append first joined longer text all rest behind x are is split more = record {
   texts = are.texts ++ text ∷ [];
-  front = are.front ∙ ap (λ ws. appends are.texts ++ ws) (split ∙ ap (λ v. v ∷ behind) append) ∙ sym (append_assoc (appends are.texts) (appends_data text ∷ []) behind) ∙ ap (λ ws. ws ++ behind) (sym (map-append (λ (t : List ℕ). let v : Wanted Q K = appends_data t in v) are.texts (text ∷ [])));
+  front = are.front ∙ ap (λ ys. map append are.texts ++ ys) (split ∙ ap (λ y. y ∷ behind) is) ∙ sym (append_assoc (map append are.texts) (append text ∷ []) behind) ∙ ap (λ ys. ys ++ behind) (sym (map-append append are.texts (text ∷ [])));
   text = more ∙ ap (λ t. t ++ text) are.text ∙ append_assoc first (concat are.texts) text ∙ ap (λ t. first ++ t) (ap (λ t. concat are.texts ++ t) (sym (append-nil text)) ∙ sym (concat-append are.texts (text ∷ [])));
 }

@@ -17,7 +17,10 @@ pub mod LoopLaws
 pub mod WaitLaws
 pub mod StepLaws
 pub mod StartLaws
-pub mod JoinedLaws
+pub mod JoinedKindsLaws
+mod JoinedLaws
+mod JoinedTakeLaws
+mod JoinedWorksLaws
 pub mod RunLaws
 pub mod RefusalLaws
 pub mod RequestLaws

@@ -1,9 +1,9 @@
 -- A step, from the inputs that it takes.
-use Rattle.std.proofs.Common.{◌≡◌, ℕ, ◌+◌, ◌≤◌, take, true, false, List, [], ◌∷◌, ◌++◌, length, Option, None, Some, is_some, refl, sym, ap, subst, ◌∙◌, arith, inl, inr, ◌⊎◌, ◌↔◌, Result, Ok, Err}
+use Rattle.std.proofs.Common.{append_assoc, ◌≡◌, ℕ, ◌+◌, ◌≤◌, take, true, false, List, [], ◌∷◌, ◌++◌, length, Option, None, Some, is_some, refl, sym, ap, subst, ◌∙◌, arith, inl, inr, ◌⊎◌, ◌↔◌, Result, Ok, Err}
 use Rattle.std.specs.Io.KnownBytes.{Appends}
 use Rattle.std.proofs.KnownBytes.{Appends-trans}
 use Rattle.std.proofs.Math.Seq.{take-append-add}
-use Rattle.std.proofs.lemmas.List.{length-append}
+use Rattle.std.proofs.lemmas.List.{append-nil, length-append}
 use Rattle.std.proofs.lemmas.Result.{err_from_is_err_and}
 use Rattle.std.specs.Result.{IsErr, IsErrAnd}
 use Rattle.minus_term.specs.Counts.{AppendsFront, Stays, Rises}
@@ -24,29 +24,46 @@ use Rattle.minus.specs.Asked.{taken}
 use Rattle.minus.specs.Drawn.{IsDrawing, Drawn, BrokenOff}
 use Rattle.minus.specs.Reads.{Told}
 use Rattle.minus.specs.Seen.{Seen}
-use Rattle.minus.specs.Steps.{Took, Fails, IsStep, IsUntouched, Refuses, IsSinkFault, is_passed}
+use Rattle.minus.specs.Steps.{Took, TookWith, Fails, FailsWith, IsStep, IsUntouched, Refuses, IsSinkFault, is_passed}
 use Rattle.minus.specs.Handing.{Exit}
-use Rattle.minus.specs.Works.{Work, Takes, IsUnfit, Worked, first, more, passed, at_once, later, IsNext, IsAtRest, leaving, last_copied, is_full, passed_in}
+use Rattle.minus.specs.Works.{Work, Takes, IsUnfit, Worked, first, more, passed, at_once, later, IsNext, IsAtRest, leaving, last_copied, passed_in}
 use Rattle.minus.proofs.DrawnLaws.{nothing_drawn}
 use Rattle.minus.proofs.JoinLaws.{some_join, quiet_parts, quiet_reached, quiet_from}
 use Rattle.minus.proofs.LeavesLaws.{tail_there, leaves_more}
 use Rattle.minus.proofs.StartLaws.{Stays-rises}
-use Rattle.minus.proofs.WorksLaws.{takes_rows, some_works, last_passed, works_reach, status_kept, rows_kept, not_left}
+use Rattle.minus.proofs.WorksLaws.{some_works, last_passed, works_reach, status_kept, rows_kept, not_left}
 
 -- the works so far, and what they were drawn by
 abbrev pub SoFar : {Q K : Type 0} → Says Q K → Seen Q K → Told Q K → Option (List ℕ) → Option (List ℕ) → Seen Q K → List Refusal → Option (List ℕ) → Type 0
 SoFar says old told a b s refused copied = (works : List Work) × Worked says old told works refused copied s × Drawn a b old.control works s.control
 
--- the drawing of some works, and of one more after them
-drawing_more : {Q K : Type 0} (says : Says Q K) (old : Seen Q K) (told : Told Q K) (s new : Seen Q K) (next : Told Q K) (rest : List (Told Q K)) (works : List Work) (refused : List Refusal) (copied text : Option (List ℕ)) (work : Work) (xs ys : List Op) → Worked says old told works refused copied s → Takes says (leaving s rest) next work text new
-    → IsDrawing xs old.control works s.control → IsDrawing ys s.control (work ∷ []) new.control → IsDrawing (xs ++ ys) old.control (works ++ work ∷ []) new.control
-drawing_more {Q = Q} {K = K} says old told s new next rest works refused copied text work xs ys h t d e = joined works h d
+-- the text that was copied last, of three
+last_of_three : (a b c : Option (List ℕ)) → last_copied (last_copied a b) c ≡ last_copied a (last_copied b c)
+last_of_three a b None = refl
+last_of_three a b (Some text) = refl
+
+-- those that were worked off with one that waited, after those before it
+worked_on : {Q K : Type 0} (says : Says Q K) (old : Seen Q K) (told : Told Q K) (s : Seen Q K) (next : Told Q K) (rest : List (Told Q K)) (works : List Work) (refused : List Refusal) (copied : Option (List ℕ)) (new : Seen Q K) (vs : List Work) (others : List Refusal) (text : Option (List ℕ)) → Worked says old told works refused copied s → IsNext s next rest → Worked says (leaving s rest) next vs others text new
+    → Worked says old told (works ++ vs) (refused ++ others) (last_copied copied text) new
+worked_on says old told s next rest works refused copied new vs others text h n (first t) = subst (λ (r : List Refusal). Worked says old told (works ++ vs) r (last_copied copied text) new) (sym (append-nil refused)) (more h n t)
+worked_on says old told s next rest works refused copied new vs others text h n (more {works = us} {copied = before} {s = m} {work = work} {text = last} k n2 t) =
+    let all = more (worked_on says old told s next rest works refused copied m us others before h n k) n2 t in
+    subst (λ (c : Option (List ℕ)). Worked says old told (works ++ vs) (refused ++ others) c new) (last_of_three copied before last) (subst (λ (ws : List Work). Worked says old told ws (refused ++ others) (last_copied (last_copied copied before) last) new) (append_assoc works us (work ∷ [])) all)
+worked_on says old told s next rest works refused copied new vs others text h n (passed {refused = some} {s = m} refusal k n2 u) =
+    let all = passed refusal (worked_on says old told s next rest works refused copied m vs some text h n k) n2 u in
+    subst (λ (r : List Refusal). Worked says old told (works ++ vs) r (last_copied copied text) new) (append_assoc refused some (refusal ∷ [])) all
+
+-- the drawing of some works, and of some more after them
+drawing_more : {Q K : Type 0} (says : Says Q K) (old : Seen Q K) (told : Told Q K) (s new : Seen Q K) (next : Told Q K) (rest : List (Told Q K)) (works vs : List Work) (refused : List Refusal) (copied text : Option (List ℕ)) (xs ys : List Op) → Worked says old told works refused copied s → Worked says (leaving s rest) next vs [] text new
+    → IsDrawing xs old.control works s.control → IsDrawing ys s.control vs new.control → IsDrawing (xs ++ ys) old.control (works ++ vs) new.control
+drawing_more {Q = Q} {K = K} says old told s new next rest works vs refused copied text xs ys h t d e = joined works vs h t d e
   where
-    joined : (vs : List Work) → Worked says old told vs refused copied s → IsDrawing xs old.control vs s.control → IsDrawing (xs ++ ys) old.control (vs ++ work ∷ []) new.control
-    joined [] k f = absurd (let some : 1 ≤ length {A = Work} [] = some_works says old told s [] refused copied k in omega (arith, some))
-    joined (v ∷ vs) k f =
-        some_join old.control s.control new.control v work vs [] xs ys (λ part. takes_rows says (leaving s rest) new next work text t (not_left (is_full work.drawing) false part)) (works_reach says old told s (v ∷ vs) refused copied k)
-        (tail_there old.control (passed_in (v ∷ vs)) s.control (last_passed says old told s (v ∷ vs) refused copied k)) f e
+    joined : (us vs : List Work) → Worked says old told us refused copied s → Worked says (leaving s rest) next vs [] text new → IsDrawing xs old.control us s.control → IsDrawing ys s.control vs new.control → IsDrawing (xs ++ ys) old.control (us ++ vs) new.control
+    joined [] vs k l f g = absurd (let some : 1 ≤ length {A = Work} [] = some_works says old told s [] refused copied k in omega (arith, some))
+    joined (u ∷ us) [] k l f g = absurd (let some : 1 ≤ length {A = Work} [] = some_works says (leaving s rest) next new [] [] text l in omega (arith, some))
+    joined (u ∷ us) (v ∷ vs) k l f g =
+        some_join old.control s.control new.control u v us vs xs ys (λ part. rows_kept says (leaving s rest) next new (v ∷ vs) [] text l part) (works_reach says old told s (u ∷ us) refused copied k)
+        (tail_there old.control (passed_in (u ∷ us)) s.control (last_passed says old told s (u ∷ us) refused copied k)) f g
 
 -- ---- the loop
 
@@ -54,16 +71,16 @@ drawing_more {Q = Q} {K = K} says old told s new next rest works refused copied 
 pub begun : {Q K : Type 0} (says : Says Q K) (old new : Seen Q K) (told : Told Q K) (text a b : Option (List ℕ)) → Took says None old told text new a b → SoFar says old told a b new [] text
 begun says old new told text a b t = (t.0 ∷ [], first t.1, t.2)
 
--- one more of those that wait
-pub one_more : {Q K : Type 0} (says : Says Q K) (old : Seen Q K) (told : Told Q K) (s new : Seen Q K) (next : Told Q K) (rest : List (Told Q K)) (refused : List Refusal) (copied text a b c : Option (List ℕ)) → SoFar says old told a b s refused copied → IsNext s next rest → Took says None (leaving s rest) next text new b c
+-- one more of those that wait, and it may be some behind it
+pub one_more : {Q K : Type 0} (says : Says Q K) (old : Seen Q K) (told : Told Q K) (s new : Seen Q K) (next : Told Q K) (rest : List (Told Q K)) (refused : List Refusal) (copied text a b c : Option (List ℕ)) → SoFar says old told a b s refused copied → IsNext s next rest → TookWith says None (leaving s rest) next text new b c
     → SoFar says old told a c new refused (last_copied copied text)
-one_more says old told s new next rest refused copied text a b c (works, h, d) n (work, t, e) = (
-  works ++ work ∷ [],
-  more h n t,
+one_more says old told s new next rest refused copied text a b c (works, h, d) n (vs, t, e) = (
+  works ++ vs,
+  subst (λ (r : List Refusal). Worked says old told (works ++ vs) r (last_copied copied text) new) (append-nil refused) (worked_on says old told s next rest works refused copied new vs [] text h n t),
   (
     d.0 ++ e.0,
     subst (λ (x : List ℕ). Appends a c x) (sym (written_all-append d.0 e.0)) (Appends-trans a b c (written_all d.0) (written_all e.0) d.1 e.1),
-    drawing_more says old told s new next rest works refused copied text work d.0 e.0 h t d.2 e.2,
+    drawing_more says old told s new next rest works vs refused copied text d.0 e.0 h t d.2 e.2,
   ),
 )
 
@@ -72,7 +89,7 @@ drawn_to : {Q K : Type 0} (a b c : Option (List ℕ)) (old : Control) (works : L
 drawn_to a b c old works s new rest k d = subst (λ (x : Option (List ℕ)). Drawn a x old works new.control) (sym k.1) (subst (λ (x : Control). Drawn a b old works x) (sym (ap (λ (x : Seen _ _). x.control) k.0)) d)
 
 -- what is passed over could not be done, and has changed nothing
-pub passed_unfit : {Q K : Type 0} (says : Says Q K) (refusal : Refusal) (s : Seen Q K) (told : Told Q K) (new : Seen Q K) (a b : Option (List ℕ)) → Fails says refusal s told new a b → is_passed refusal ≡ true → IsUnfit says s told refusal × IsUntouched s new a b
+pub passed_unfit : {Q K : Type 0} (says : Says Q K) (refusal : Refusal) (s : Seen Q K) (told : Told Q K) (new : Seen Q K) (a b : Option (List ℕ)) → FailsWith says refusal s told new a b → is_passed refusal ≡ true → IsUnfit says s told refusal × IsUntouched s new a b
 passed_unfit says for_newline s told new a b f p = f
 passed_unfit says (for_size cols rows) s told new a b f p = f
 passed_unfit says for_memory s told new a b f p = absurd (cc)
@@ -84,7 +101,7 @@ passed_unfit says for_query s told new a b f p = absurd (cc)
 passed_unfit says refusal s told new a b f p = absurd f
 
 -- one that is passed over
-pub passed_over : {Q K : Type 0} (says : Says Q K) (old : Seen Q K) (told : Told Q K) (s new : Seen Q K) (next : Told Q K) (rest : List (Told Q K)) (refused : List Refusal) (refusal : Refusal) (copied a b c : Option (List ℕ)) → SoFar says old told a b s refused copied → IsNext s next rest → Fails says refusal (leaving s rest) next new b c
+pub passed_over : {Q K : Type 0} (says : Says Q K) (old : Seen Q K) (told : Told Q K) (s new : Seen Q K) (next : Told Q K) (rest : List (Told Q K)) (refused : List Refusal) (refusal : Refusal) (copied a b c : Option (List ℕ)) → SoFar says old told a b s refused copied → IsNext s next rest → FailsWith says refusal (leaving s rest) next new b c
     → is_passed refusal ≡ true → SoFar says old told a c new (refused ++ refusal ∷ []) copied
 passed_over says old told s new next rest refused refusal copied a b c (works, h, d) n f p =
     let (unfit, same) = passed_unfit says refusal (leaving s rest) next new b c f p in
@@ -157,16 +174,16 @@ pub front_join : (a b c : Option (List ℕ)) (xs ys : List ℕ) → Appends a b 
 front_join a b c xs ys h (k, l, e) = (length xs + k, (let n = length-append xs ys in omega (arith, n, l)), subst (λ (z : List ℕ). Appends a c z) (sym (take-append-add xs ys k)) (Appends-trans a b c xs (take k ys) h e))
 
 -- one drawing after others broken off
-broken_more : {Q K : Type 0} (says : Says Q K) (old : Seen Q K) (told : Told Q K) (s new : Seen Q K) (next : Told Q K) (rest : List (Told Q K)) (refused : List Refusal) (copied text a b c : Option (List ℕ)) (work : Work) (works : List Work) → Worked says old told works refused copied s → Drawn a b old.control works s.control → Takes says (leaving s rest) next work text new
-    → BrokenOff b c s.control (work ∷ []) new.control → BrokenOff a c old.control (works ++ work ∷ []) new.control
-broken_more says old told s new next rest refused copied text a b c work works h d t (ops, front, draws, some) = (
+broken_more : {Q K : Type 0} (says : Says Q K) (old : Seen Q K) (told : Told Q K) (s new : Seen Q K) (next : Told Q K) (rest : List (Told Q K)) (refused : List Refusal) (copied text a b c : Option (List ℕ)) (works vs : List Work) → Worked says old told works refused copied s → Drawn a b old.control works s.control → Worked says (leaving s rest) next vs [] text new
+    → BrokenOff b c s.control vs new.control → BrokenOff a c old.control (works ++ vs) new.control
+broken_more says old told s new next rest refused copied text a b c works vs h d t (ops, front, draws, some) = (
   d.0 ++ ops,
   subst (λ (x : List ℕ). AppendsFront a c x) (sym (written_all-append d.0 ops)) (front_join a b c (written_all d.0) (written_all ops) d.1 front),
-  drawing_more says old told s new next rest works refused copied text work d.0 ops h t d.2 draws,
+  drawing_more says old told s new next rest works vs refused copied text d.0 ops h t d.2 draws,
   λ q. (
-      let parts = quiet_parts old.control works (work ∷ []) q in
+      let parts = quiet_parts old.control works vs q in
       let same : prompt_row s.control ≡ prompt_row old.control = ap prompt_row (works_reach says old told s works refused copied h) ∙ quiet_reached old.control old.control works refl parts.0 in
-      some (quiet_from old.control s.control (work ∷ []) same parts.1)
+      some (quiet_from old.control s.control vs same parts.1)
       ),
 )
 
@@ -183,7 +200,7 @@ refused_at_once says for_query old told new a b running h = (running, h.0, h.1)
 refused_at_once says refusal old told new a b running h = absurd h
 
 -- by one of those that wait, so that the session fails
-pub refused_later : {Q K : Type 0} (says : Says Q K) (refusal : Refusal) (old : Seen Q K) (told : Told Q K) (s mid new : Seen Q K) (next : Told Q K) (rest : List (Told Q K)) (refused : List Refusal) (copied a b c : Option (List ℕ)) → old.status ≡ status.Running → SoFar says old told a b s refused copied → IsNext s next rest → Fails says refusal (leaving s rest) next mid b c
+pub refused_later : {Q K : Type 0} (says : Says Q K) (refusal : Refusal) (old : Seen Q K) (told : Told Q K) (s mid new : Seen Q K) (next : Told Q K) (rest : List (Told Q K)) (refused : List Refusal) (copied a b c : Option (List ℕ)) → old.status ≡ status.Running → SoFar says old told a b s refused copied → IsNext s next rest → FailsWith says refusal (leaving s rest) next mid b c
     → is_passed refusal ≡ false → new ≡ record mid { status = status.Failed } → Refuses says refusal old told new a c
 refused_later says for_memory old told s mid new next rest refused copied a b c running (works, h, d) n f p is = (
   running,
@@ -204,15 +221,15 @@ refused_later says (at_cleanup cause) old told s mid new next rest refused copie
   running,
   record { works = works; refused = refused; copied = copied; last = leaving s rest; next = next; exit = exit; drawn = b; comes = later h n; exits = x; draws = d; broken = broken; failed = fails_again (taken (leaving s rest) next x.wanted) mid new fails is },
 )
-refused_later says at_drawing old told s mid new next rest refused copied a b c running (works, h, d) n (work, text, last, t, broken, fails) p is = (
+refused_later says at_drawing old told s mid new next rest refused copied a b c running (works, h, d) n (vs, text, last, t, broken, fails) p is = (
   running,
   record {
-    works = works ++ work ∷ [];
-    refused = refused;
+    works = works ++ vs;
+    refused = refused ++ [];
     copied = last_copied copied text;
     last = last;
-    worked = more h n t;
-    broken = broken_more says old told s last next rest refused copied text a b c work works h d t broken;
+    worked = worked_on says old told s next rest works refused copied last vs [] text h n t;
+    broken = broken_more says old told s last next rest refused copied text a b c works vs h d t broken;
     failed = fails_again last mid new fails is;
   },
 )
@@ -224,23 +241,23 @@ refused_later says for_query old told s mid new next rest refused copied a b c r
 refused_later says refusal old told s mid new next rest refused copied a b c running so n f p is = absurd f
 
 -- by want of memory to keep the refusal of one that is passed over: as where it was wanted at that one
-late_memory : {Q K : Type 0} (says : Says Q K) (refusal : Refusal) (old : Seen Q K) (told : Told Q K) (s mid new : Seen Q K) (next : Told Q K) (rest : List (Told Q K)) (refused : List Refusal) (copied a b c : Option (List ℕ)) → old.status ≡ status.Running → SoFar says old told a b s refused copied → IsNext s next rest → Fails says refusal (leaving s rest) next mid b c
+late_memory : {Q K : Type 0} (says : Says Q K) (refusal : Refusal) (old : Seen Q K) (told : Told Q K) (s mid new : Seen Q K) (next : Told Q K) (rest : List (Told Q K)) (refused : List Refusal) (copied a b c : Option (List ℕ)) → old.status ≡ status.Running → SoFar says old told a b s refused copied → IsNext s next rest → FailsWith says refusal (leaving s rest) next mid b c
     → is_passed refusal ≡ true → new ≡ record mid { status = status.Failed } → Refuses says for_memory old told new a c
 late_memory says refusal old told s mid new next rest refused copied a b c running so n f p is = refused_later says for_memory old told s mid new next rest refused copied a b c running so n (passed_unfit says refusal (leaving s rest) next mid b c f p).1 refl is
 
 -- ---- what a call ensures of a session that an equal one stands for
 
-pub took_as : {Q K : Type 0} (says : Says Q K) (exit : Option Exit) (m : Seen Q K) (told : Told Q K) (text : Option (List ℕ)) (new s : Seen Q K) (b c d : Option (List ℕ)) → m ≡ s → b ≡ d → Took says exit m told text new b c → Took says exit s told text new d c
-took_as says exit m told text new s b c d e f h = subst (λ (x : Seen _ _). Took says exit x told text new d c) e (subst (λ (x : Option (List ℕ)). Took says exit m told text new x c) f h)
+pub took_as : {Q K : Type 0} (says : Says Q K) (exit : Option Exit) (m : Seen Q K) (told : Told Q K) (text : Option (List ℕ)) (new s : Seen Q K) (b c d : Option (List ℕ)) → m ≡ s → b ≡ d → TookWith says exit m told text new b c → TookWith says exit s told text new d c
+took_as says exit m told text new s b c d e f h = subst (λ (x : Seen _ _). TookWith says exit x told text new d c) e (subst (λ (x : Option (List ℕ)). TookWith says exit m told text new x c) f h)
 
-pub fails_as : {Q K : Type 0} (says : Says Q K) (refusal : Refusal) (m : Seen Q K) (told : Told Q K) (new s : Seen Q K) (b c d : Option (List ℕ)) → m ≡ s → b ≡ d → Fails says refusal m told new b c → Fails says refusal s told new d c
-fails_as says refusal m told new s b c d x f h = subst (λ (y : Seen _ _). Fails says refusal y told new d c) x (subst (λ (y : Option (List ℕ)). Fails says refusal m told new y c) f h)
+pub fails_as : {Q K : Type 0} (says : Says Q K) (refusal : Refusal) (m : Seen Q K) (told : Told Q K) (new s : Seen Q K) (b c d : Option (List ℕ)) → m ≡ s → b ≡ d → FailsWith says refusal m told new b c → FailsWith says refusal s told new d c
+fails_as says refusal m told new s b c d x f h = subst (λ (y : Seen _ _). FailsWith says refusal y told new d c) x (subst (λ (y : Option (List ℕ)). FailsWith says refusal m told new y c) f h)
 
 -- one of those that wait was refused, and the session failed: by that refusal, or by memory for keeping it
-pub refused_so : {Q K : Type 0} (says : Says Q K) (old : Seen Q K) (told : Told Q K) (s m mid new : Seen Q K) (next : Told Q K) (refused : List Refusal) (copied a b d c e : Option (List ℕ)) (of out : Refusal) → old.status ≡ status.Running → SoFar says old told a b s refused copied → IsNext s next m.waiting → m ≡ leaving s m.waiting → d ≡ b → Fails says of m next mid d c
+pub refused_so : {Q K : Type 0} (says : Says Q K) (old : Seen Q K) (told : Told Q K) (s m mid new : Seen Q K) (next : Told Q K) (refused : List Refusal) (copied a b d c e : Option (List ℕ)) (of out : Refusal) → old.status ≡ status.Running → SoFar says old told a b s refused copied → IsNext s next m.waiting → m ≡ leaving s m.waiting → d ≡ b → FailsWith says of m next mid d c
     → new ≡ record mid { status = status.Failed } → e ≡ c → ((out ≡ of) × (is_passed of ≡ false)) ⊎ ((out ≡ for_memory) × (is_passed of ≡ true)) → Refuses says out old told new a e
 refused_so says old told s m mid new next refused copied a b d c e of out running so n seen same f is bytes why =
-    let fails : Fails says of (leaving s m.waiting) next mid b c = fails_as says of m next mid (leaving s m.waiting) d c b seen same f in
+    let fails : FailsWith says of (leaving s m.waiting) next mid b c = fails_as says of m next mid (leaving s m.waiting) d c b seen same f in
     subst (λ (x : Option (List ℕ)). Refuses says out old told new a x) (sym bytes) (elim why [
       | inl h ↦ subst (λ (x : Refusal). Refuses says x old told new a c) (sym h.0) (refused_later says of old told s mid new next m.waiting refused copied a b c running so n fails h.1 is)
       | inr h ↦ subst (λ (x : Refusal). Refuses says x old told new a c) (sym h.0) (late_memory says of old told s mid new next m.waiting refused copied a b c running so n fails h.1 is)
@@ -271,7 +288,7 @@ IsOfStep after_failure = ⊥
 IsOfStep after_exit = ⊥
 IsOfStep refusal = Unit {0}
 
-pub refused_by : {Q K : Type 0} (says : Says Q K) (refusal : Refusal) (s : Seen Q K) (told : Told Q K) (new : Seen Q K) (a b : Option (List ℕ)) → Fails says refusal s told new a b → IsOfStep refusal
+pub refused_by : {Q K : Type 0} (says : Says Q K) (refusal : Refusal) (s : Seen Q K) (told : Told Q K) (new : Seen Q K) (a b : Option (List ℕ)) → FailsWith says refusal s told new a b → IsOfStep refusal
 refused_by says after_failure s told new a b f = f
 refused_by says after_exit s told new a b f = f
 refused_by says refusal s told new a b f = tt

@@ -1,8 +1,10 @@
--- Neighbouring appends that are taken over in one go.
-use Rattle.std.specs.Prelude.{◌≡◌, ℕ, ◌<◌, List, ◌++◌, length, map, None}
+-- Neighbouring appends that are taken over, or worked off, in one go.
+use Rattle.std.specs.Prelude.{◌≡◌, ℕ, ◌^◌, ◌<◌, List, [], ◌∷◌, ◌++◌, length, map, None, false}
 use Rattle.std.specs.List.{concat}
+use Rattle.std.specs.Str.Lines.{lines}
 use Rattle.minus_state.specs.Control.{Control}
-use Rattle.minus.specs.Table.{Wanted, appends_data}
+use Rattle.minus.specs.Reads.{Told, a_command}
+use Rattle.minus.specs.Table.{Wanted, appends_data, adds_text, changed_by}
 use Rattle.minus.specs.Starts.{taken_all}
 use Rattle.minus.specs.Unmoved.{unmoved}
 
@@ -19,8 +21,46 @@ abbrev pub AppendsJoin : Type 0 → Type 0 → Type 0
 AppendsJoin Q K = (c : Control) (texts : List (List ℕ)) → MayJoin c → 0 < length texts
     → taken_all {Q = Q} {K = K} c (appends texts) ≡ unmoved {Q = Q} {K = K} c (appends_data (concat texts))
 
--- commands begin with appends, and others stand behind these; with a text before theirs, these are joined
-pub record AreJoined {Q K : Type 0} (first : List ℕ) (commands : List (Wanted Q K)) (joined : List ℕ) (behind : List (Wanted Q K)) : Type 0 where
+-- some begin with appends, and others stand behind these; with a text before theirs, these are joined
+pub record AreJoined {X : Type 0} (append : List ℕ → X) (first : List ℕ) (all : List X) (joined : List ℕ) (behind : List X) : Type 0 where
   pub texts : List (List ℕ)
-  pub front : commands ≡ appends texts ++ behind
+  pub front : all ≡ map append texts ++ behind
   pub text : joined ≡ first ++ concat texts
+
+-- what an append leaves that is worked off, and what such appends leave, one after another
+abbrev pub appended_to : Control → List ℕ → Control
+appended_to c text = changed_by (adds_text c text)
+
+abbrev pub appended_all : Control → List (List ℕ) → Control
+appended_all c [] = c
+appended_all c (text ∷ texts) = appended_all (appended_to c text) texts
+
+-- appends may be worked off in one go: no search prompt is open, and help is open, or the page stays at its first row and nothing is
+-- searched for
+pub record MayWorkJoined (c : Control) : Type 0 where
+  pub closed : c.search ≡ None
+  pub may : MayJoin c
+  pub stays : c.help ≡ None → c.settings.follow ≡ false
+
+-- in one go they leave what they leave one after another
+abbrev pub WorkedAppendsJoin : Type 0
+WorkedAppendsJoin = (c : Control) (texts : List (List ℕ)) → MayWorkJoined c → 0 < length texts → appended_all c texts ≡ appended_to c (concat texts)
+
+-- inputs that append a text, and these texts
+abbrev pub append_told : {Q K : Type 0} → List ℕ → Told Q K
+append_told text = a_command (appends_data text)
+
+abbrev pub appending : {Q K : Type 0} → List (List ℕ) → List (Told Q K)
+appending texts = map append_told texts
+
+-- so many appends wait behind one that is taken, and may be worked off with it in one go: with its text before theirs they are joined
+pub record MayGoWith {Q K : Type 0} (c : Control) (told : Told Q K) (waiting : List (Told Q K)) (joined : List ℕ) (count : ℕ) : Type 0 where
+  pub text : List ℕ
+  pub texts : List (List ℕ)
+  pub behind : List (Told Q K)
+  pub told_is : told ≡ append_told text
+  pub waits : waiting ≡ appending texts ++ behind
+  pub joined_is : joined ≡ concat (text ∷ texts)
+  pub count_is : count ≡ length texts
+  pub may : MayWorkJoined c
+  pub fits : c.help ≡ None → length (lines (c.text ++ joined)) < 2 ^ 64

@@ -14,7 +14,7 @@ use Rattle.minus.specs.Core.{seen_of}
 use Rattle.minus.specs.Reads.{Told, told_of}
 use Rattle.minus.specs.Runs.{IsRun, StopsAtSink}
 use Rattle.minus.specs.Table.{Wanted, IsPossible, IsFault}
-use Rattle.minus.specs.Steps.{IsStep, Refuses, IsSinkFault, Took, Fails}
+use Rattle.minus.specs.Steps.{IsStep, Refuses, IsSinkFault, Took, Fails, TookWith, FailsWith}
 
 -- a step that ends well: the sink refused nothing
 pub record IsStepOf {S P H E Q K : Type 0} (sink : S → SinkSeen) (says : Says Q K) (old : Core S P H E Q K) (told : Told Q K) (new : Core S P H E Q K) (answer : Answer) : Type 0 where
@@ -34,6 +34,17 @@ pub record IsTakenOf {S P H E Q K : Type 0} (sink : S → SinkSeen) (says : Says
 -- one input was not taken: the sink refused where that is said, and was left alone where it is not
 pub record IsUntakenOf {S P H E Q K : Type 0} (sink : S → SinkSeen) (says : Says Q K) (old : Core S P H E Q K) (told : Told Q K) (new : Core S P H E Q K) (e : MinusError) : Type 0 where
   pub fails : Fails says (refusal_of e) (seen_of old) told (seen_of new) (sink old.sink).bytes (sink new.sink).bytes
+  pub rises : IsSinkFault (refusal_of e) → Rises (sink old.sink).refusals (sink new.sink).refusals
+  pub untouched : (IsSinkFault (refusal_of e) → ⊥) → new.sink ≡ old.sink
+
+-- an input that waited was taken, and with it, it may be, some of those behind it, and the sink refused nothing
+pub record IsTakenWithOf {S P H E Q K : Type 0} (sink : S → SinkSeen) (says : Says Q K) (old : Core S P H E Q K) (told : Told Q K) (new : Core S P H E Q K) (of : Taken) : Type 0 where
+  pub took : TookWith says of.exit (seen_of old) told (option_map string_bytes of.copied) (seen_of new) (sink old.sink).bytes (sink new.sink).bytes
+  pub stays : Stays (sink old.sink).refusals (sink new.sink).refusals
+
+-- it was not taken: the sink refused where that is said, and was left alone where it is not
+pub record IsUntakenWithOf {S P H E Q K : Type 0} (sink : S → SinkSeen) (says : Says Q K) (old : Core S P H E Q K) (told : Told Q K) (new : Core S P H E Q K) (e : MinusError) : Type 0 where
+  pub fails : FailsWith says (refusal_of e) (seen_of old) told (seen_of new) (sink old.sink).bytes (sink new.sink).bytes
   pub rises : IsSinkFault (refusal_of e) → Rises (sink old.sink).refusals (sink new.sink).refusals
   pub untouched : (IsSinkFault (refusal_of e) → ⊥) → new.sink ≡ old.sink
 

@@ -149,6 +149,17 @@ Fails says at_drawing old told new old_bytes new_bytes =
     (work : Work) × (copied : Option (List ℕ)) × (last : Seen _ _) × Takes says old told work copied last × BrokenOff old_bytes new_bytes old.control (work ∷ []) last.control × (new ≡ record last { status = status.Failed })
 Fails says refusal old told new old_bytes new_bytes = ⊥
 
+-- an input that waited was taken, and with it, it may be, some of those behind it: their works were drawn; or it exits
+abbrev pub TookWith : {Q K : Type 0} → Says Q K → Option Exit → Seen Q K → Told Q K → Option (List ℕ) → Seen Q K → Option (List ℕ) → Option (List ℕ) → Type 0
+TookWith says None old told copied new old_bytes new_bytes = (works : List Work) × Worked says old told works [] copied new × Drawn old_bytes new_bytes old.control works new.control
+TookWith says (Some exit) old told copied new old_bytes new_bytes = Took says (Some exit) old told copied new old_bytes new_bytes
+
+-- it was not taken: nothing has changed, or the sink refused its cleanup, or the drawing of it and of some of those behind it
+abbrev pub FailsWith : {Q K : Type 0} → Says Q K → Refusal → Seen Q K → Told Q K → Seen Q K → Option (List ℕ) → Option (List ℕ) → Type 0
+FailsWith says at_drawing old told new old_bytes new_bytes =
+    (works : List Work) × (copied : Option (List ℕ)) × (last : Seen _ _) × Worked says old told works [] copied last × BrokenOff old_bytes new_bytes old.control works last.control × (new ≡ record last { status = status.Failed })
+FailsWith says refusal old told new old_bytes new_bytes = Fails says refusal old told new old_bytes new_bytes
+
 -- what is still to be cleaned up: nothing after an exit
 abbrev pub cleanup_after : Status → List ℕ
 cleanup_after status.Running = cleanup_bytes

@@ -1,7 +1,7 @@
 //! Laws over the definitions of steps.
 ghost use Rattle.minus.specs.Drawn.{DrawingsJoin};
 ghost use Rattle.minus.specs.EvHandler.{ByHandAsByTheTable};
-ghost use Rattle.minus.specs.Joined.{AppendsJoin};
+ghost use Rattle.minus.specs.Joined.{AppendsJoin, WorkedAppendsJoin};
 ghost use Rattle.minus.specs.Keyed.{KeysAreDrawn};
 ghost use Rattle.minus.specs.Says.{says_of};
 ghost use Rattle.minus.specs.Works.{AloneWithNoPrompt, ResizesAreFull, HelpLeavesNoTrace};
@@ -45,10 +45,12 @@ pub fn an_input_is_alone_with_no_prompt<Q: ConditionCall, K: InputClassifier>()
     ensures { AloneWithNoPrompt (says_of Q.judges K.says) }
 {}
 
-/// A law: neighbouring appends that wait for a start leave the same where they are taken over in one go, as one append of
-/// all their texts, while help is open, or while the page stays at its first row and nothing is searched for.
+/// A law: neighbouring appends leave the same in one go, as one append of all their texts, while help is open, or while
+/// the page stays at its first row and nothing is searched for: where they are taken over by a start, and, with no search
+/// prompt open and unless the page goes on with what is appended, where they are worked off.
 pub fn appends_join<Q, K>()
-    ensures { AppendsJoin Q K }
+    ensures taken { AppendsJoin Q K }
+    ensures worked { WorkedAppendsJoin }
 {}
 
 /// A law: as long as a session's classifier is a register of the default bindings, an event asks for what their table

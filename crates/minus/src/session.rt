@@ -7,10 +7,11 @@ ghost use Rattle.minus_state.specs.States.{control_of, settings_of, IsFormed};
 ghost use Rattle.minus.specs.declared.status.Status.TheVariants as stands;
 
 use crate::answer::Answer;
-use crate::commands::InputOf;
+use crate::commands::{CommandOf, InputOf};
 use crate::handed::Handed;
 use crate::hooks::Hook;
 use crate::input::{InputClassifier, InputEvent};
+use crate::joined::JoinedAppends;
 use crate::outcome::{Outcome, outcome_of};
 use crate::page::Page;
 use crate::parts::{Boxes, Calls, Parts, PartsOf};
@@ -260,7 +261,9 @@ impl<S: OutputSink + Drop, P: Calls> Core<S, P> {
     ghost use Rattle.minus.specs.Outcomes.{LeadsClamped, IsTakenBy, ExitsWith};
     ghost use Rattle.minus.specs.Reads.{Told, an_event, told_of, event_wanted, wanted_of, wanted_by, handing_of};
     ghost use Rattle.minus.specs.Says.{says_of};
-    ghost use Rattle.minus.specs.SessionSteps.{IsAsked, IsTakenOf, IsUntakenOf, IsStepOf, IsRefusedStepOf};
+    ghost use Rattle.minus.specs.Joined.{MayGoWith};
+    ghost use Rattle.minus.specs.SessionSteps.{IsAsked, IsTakenOf, IsUntakenOf, IsTakenWithOf, IsUntakenWithOf};
+    ghost use Rattle.minus.specs.SessionSteps.{IsStepOf, IsRefusedStepOf};
     ghost use Rattle.minus.specs.Steps.{cleanup_after};
     ghost use Rattle.minus.specs.Table.{Wanted, hands_over, lets_prefix_go};
     ghost use Rattle.minus.specs.Works.{Work};
@@ -458,6 +461,54 @@ impl<S: OutputSink + Drop, P: Calls> Core<S, P> {
         }
     }
 
+    // Works appends off in one go, the first of which was taken from those that wait: for want of memory the others wait
+    // still.
+    fn take_joined(&mut self, joined: JoinedAppends) -> Result<Taken, MinusError>
+        requires running { self.old.status ≡ stands.Running }
+        requires closed { (control_of self.old.parts.state).search ≡ None }
+        ensures taken { IfOk result (λ t. (told : Told P.Condition P.Classifier) →
+            MayGoWith (seen_of self.old).control told (seen_of self.old).waiting
+            (string_bytes joined.text) joined.count →
+            IsTakenWithOf S.seen (says_of P.Condition.judges P.Classifier.says) self.old told self.new t) }
+        ensures refused { IfErr result (λ e. (told : Told P.Condition P.Classifier) →
+            MayGoWith (seen_of self.old).control told (seen_of self.old).waiting
+            (string_bytes joined.text) joined.count →
+            IsUntakenWithOf S.seen (says_of P.Condition.judges P.Classifier.says) self.old told self.new e) }
+        ensures fewer { deque_len self.new.waiting ≤ deque_len self.old.waiting }
+    {
+        let JoinedAppends { text, count } = joined;
+        match self.work_off(InputOf::Command(CommandOf::AppendData(text))) {
+            Ok(taken) => {
+                self.let_go(count);
+                Ok(taken)
+            }
+            Err(refusal) => {
+                if self.status.is_running() {
+                    return Err(refusal);
+                }
+                self.let_go(count);
+                Err(refusal)
+            }
+        }
+    }
+
+    // Takes the next of those that waited, with no search prompt open: the appends behind it go with it, where they may be
+    // worked off in one go.
+    fn take_next(&mut self, input: InputOf<P>) -> Result<Taken, MinusError>
+        requires running { self.old.status ≡ stands.Running }
+        requires closed { (control_of self.old.parts.state).search ≡ None }
+        ensures taken { IfOk result (λ t.
+            IsTakenWithOf S.seen (says_of P.Condition.judges P.Classifier.says) self.old (told_of input) self.new t) }
+        ensures refused { IfErr result (λ e.
+            IsUntakenWithOf S.seen (says_of P.Condition.judges P.Classifier.says) self.old (told_of input) self.new e) }
+        ensures fewer { deque_len self.new.waiting ≤ deque_len self.old.waiting }
+    {
+        match self.appends_behind(&input) {
+            Some(joined) => self.take_joined(joined),
+            None => self.work_off(input),
+        }
+    }
+
     // Takes one input: with no search prompt open it is worked off.
     fn take(&mut self, input: InputOf<P>) -> Result<Taken, MinusError>
         requires running { self.old.status ≡ stands.Running }
@@ -515,7 +566,7 @@ impl<S: OutputSink + Drop, P: Calls> Core<S, P> {
         }
         let mut copied = first.copied;
         while let Some(next) = self.next_waiting() {
-            match self.take(next) {
+            match self.take_next(next) {
                 Ok(taken) => {
                     if taken.exit.is_some() {
                         return Ok(Answer::of_step(taken.exit, copied, refused));

@@ -1,5 +1,7 @@
 //! Inputs that wait while the search prompt is open, and their refusals.
-ghost use Rattle.std.specs.Prelude.{◌≡◌, false, true, is_some, Some, None, option_map, string_bytes, OnOk, IfErr, IfSome, IfNone};
+ghost use Rattle.std.specs.Prelude.{◌≡◌, ◌≤◌, false, true, is_some, Some, None, drop, option_map, string_bytes};
+ghost use Rattle.std.specs.Prelude.{OnOk, IfErr, IfSome, IfNone};
+ghost use Rattle.std.specs.VecDeque.{deque_len};
 ghost use Rattle.minus_state.specs.ShownPrompt.{has_newline, IsNewlineRefused};
 ghost use Rattle.minus_term.specs.Refusals.{refusal_of};
 ghost use Rattle.minus.specs.Asked.{checked_as};
@@ -11,12 +13,14 @@ ghost use Rattle.minus.specs.Works.{last_copied};
 use crate::commands::{CommandOf, InputOf};
 use crate::init::check_size;
 use crate::input::InputEvent;
+use crate::joined::{JoinedAppends, joined_behind};
 use crate::parts::Parts;
 use crate::session::Core;
 use crate::status::Status;
 use crate::taken::Taken;
 use minus_state::has_newline;
 use minus_term::{Event, MinusError};
+use std::collections::VecDeque;
 
 // The text that was copied last.
 pub(crate) fn last_of(before: Option<String>, text: Option<String>) -> Option<String>
@@ -80,11 +84,23 @@ pub(crate) fn fed_event<P: Parts>(input: &InputOf<P>) -> Option<Event>
     }
 }
 
+// Lets so many of the first in a queue go.
+fn let_first_go<T: Drop>(queue: &mut VecDeque<T>, count: usize)
+    ensures items { queue.new.items ≡ drop count queue.old.items }
+    ensures fewer { deque_len queue.new ≤ deque_len queue.old }
+{
+    for _ in 0..count {
+        let _ = queue.pop_front();
+    }
+}
+
 impl<S, P: Parts> Core<S, P> {
-    ghost use Rattle.std.specs.Prelude.{◌≡◌, ◌+◌, ◌≤◌, ◌⊎◌, ◌∷◌, ◌++◌, [], is_some, true, false, OnOk, OnErr, IfOk, IfErr, IfSome, IfNone};
+    ghost use Rattle.std.specs.Prelude.{◌≡◌, ◌+◌, ◌≤◌, ◌⊎◌, ◌∷◌, ◌++◌, [], drop, is_some, true, false, None, string_bytes};
+    ghost use Rattle.std.specs.Prelude.{OnOk, OnErr, IfOk, IfErr, IfSome, IfNone};
     ghost use Rattle.std.specs.VecDeque.{deque_len};
     ghost use Rattle.minus_term.specs.Refusals.{refusal_of};
     ghost use Rattle.minus.specs.Core.{seen_of};
+    ghost use Rattle.minus.specs.Joined.{MayGoWith};
     ghost use Rattle.minus.specs.Reads.{told_of};
     ghost use Rattle.minus.specs.Asked.{checked_as};
     ghost use Rattle.minus.specs.SessionSteps.{IsKept, IsNotKept};
@@ -122,6 +138,25 @@ impl<S, P: Parts> Core<S, P> {
         ensures fewer { deque_len self.new.waiting ≤ deque_len self.old.waiting }
     {
         self.waiting.clear();
+    }
+
+    // Lets so many of the inputs that wait go, those that were taken with another one.
+    pub(crate) fn let_go(&mut self, count: usize)
+        ensures seen { seen_of self.new ≡ leaving (seen_of self.old) (drop count (seen_of self.old).waiting) }
+        ensures sink { self.new.sink ≡ self.old.sink }
+        ensures fewer { deque_len self.new.waiting ≤ deque_len self.old.waiting }
+    {
+        let_first_go(&mut self.waiting, count);
+    }
+
+    // The appends that wait behind an input, joined with it, where they may be worked off in one go.
+    pub(crate) fn appends_behind(&self, input: &InputOf<P>) -> Option<JoinedAppends>
+        requires { (seen_of self.now).control.search ≡ None }
+        ensures { IfSome result (λ j. MayGoWith (seen_of self.now).control (told_of input.now)
+            (seen_of self.now).waiting (string_bytes j.text) j.count) }
+    {
+        let (front, _) = self.waiting.as_slices();
+        joined_behind(self.alloc, &self.parts.state, input, front)
     }
 
     // Takes the next of the inputs that wait from them, with no search prompt open.

@@ -69,6 +69,25 @@ fn a_dynamic_start_shows_what_a_push_would(rt: HostRuntime) {
     assert_holds(&rt, shows_what_was_pushed(rt.alloc(), "one\ntwo", rows));
 }
 
+// Whether a session of a pager that was told two texts, a prompt and another text shows these rows.
+fn shows_what_was_told(alloc: Global, rows: &[&str]) -> bool {
+    let mut pager = Pager::new(alloc);
+    let is_told = pager.push_str("a").is_ok()
+        && pager.push_str("b").is_ok()
+        && pager.set_prompt("p").is_ok()
+        && pager.push_str("c\n").is_ok();
+    match dynamic_paging(pager, terminal(alloc), 20, 3) {
+        Ok(session) => is_dynamic(&session, rows) && is_told,
+        Err(_) => false,
+    }
+}
+
+#[test]
+fn a_start_joins_what_was_pushed_around_a_prompt(rt: HostRuntime) {
+    let rows = &["abc", "", "\x1b[2;40;37mp                   \x1b[0m"];
+    assert_holds(&rt, shows_what_was_told(rt.alloc(), rows));
+}
+
 // The sink that a start hands back which is refused as that is no terminal, with the pager gone.
 fn sink_back<S: OutputSink + Drop>(alloc: Global, sink: S) -> Option<S> {
     match init_core(Pager::new(alloc), RunMode::Static, sink, 20, 5) {

@@ -3,7 +3,9 @@
 use super::{M_ROW, MARKED_7, Script, Tried, assert_tried};
 use crate::sessions::Asked::{Does, Key, Message, Numbers, Pressed, Prompt, Push, Told};
 use crate::sessions::{Asked, PROMPT_ROW as P, TEN_LINES};
-use minus::InputEvent::{Exit, Search, ShowHelp, UpdateUpperMark};
+use minus::InputEvent::{
+    CopySelection, Exit, Search, ShowHelp, StartSelection, UpdateSelection, UpdateUpperMark,
+};
 use minus::{Event, KeyCode, LineNumbers, SearchMode};
 
 const OPENED: [Asked<'static>; 2] = [Push(TEN_LINES), Key('/')];
@@ -65,6 +67,18 @@ const OPENED_AGAIN: &[&Tried<'static>] = tried! {
 #[test]
 fn what_waits_on_is_done_or_the_session_has_failed(rt: HostRuntime) {
     assert_tried(&rt, rt.alloc(), &of(OPENED_AGAIN));
+}
+
+const COPIED: &[&Tried<'static>] = tried! {
+    Does(StartSelection { x: 0, y: 0 }) => "l0", "l1", "l2", "/";
+    Does(UpdateSelection { x: 0, y: 1 }) => "l0", "l1", "l2", "/";
+    Does(CopySelection) => "l0", "l1", "l2", "/";
+    Pressed(KeyCode::Esc) => "l0", "l1", "l2", P;
+};
+
+#[test]
+fn a_copy_that_waits_is_done_or_the_session_has_failed(rt: HostRuntime) {
+    assert_tried(&rt, rt.alloc(), &of(COPIED));
 }
 
 const HELPED: &[&Tried<'static>] = tried! {

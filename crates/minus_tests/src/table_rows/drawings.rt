@@ -1,6 +1,6 @@
 //! What the last of several commands draws.
 use super::{
-    CLEAR, COPY, ENTER, F_ROW, FIFTH_ROW, FOUR, FOURTH_ROW, LAST_PAGE, M_ROW, NEXT, ONE_OF_TWO,
+    CLEAR, COPY, ENTER, ESC, F_ROW, FIFTH_ROW, FOUR, FOURTH_ROW, LAST_PAGE, M_ROW, NEXT, ONE_OF_TWO,
     OPEN, PREVIOUS, TEN, THIRD_ROW,
 };
 use crate::helps::HELP_ROW;
@@ -19,6 +19,11 @@ use std::process::Abort;
 
 // Prompt rows of 20 columns: of another prompt, and at the second of two matches.
 const P_ROW: &str = "\x1b[2;40;37mp                   \x1b[0m";
+
+const ONE_OF_ONE: &str = "\x1b[2;40;37mminus          \x1b[30;44m 1/1 \x1b[0m";
+
+// What stands before the page of four rows that is drawn as the search prompt closes.
+const CLOSING: &str = "\x1b[5;1H\x1b[2K\x1b[?25l";
 
 const TWO_OF_TWO: &str = "\x1b[2;40;37mminus          \x1b[30;44m 2/2 \x1b[0m";
 
@@ -39,6 +44,19 @@ const DRAWN: &[&Worked<'static>] = worked! {
     20 x 4: TEN, Follow(true), Push("x") => "\x1b[3;1H\x1b[2Kl9x";
     4 x 3: Push("1\n2\n3\naaaa    \r"), Mark(3), Push("\n") => "\x1b[1;1H\x1b[2J\r3\n\raaaa\n", FOURTH_ROW, FOUR;
     20 x 2: Push("a\nb"), Key('/'), Key('a'), ENTER, Push("\na") => THIRD_ROW, ONE_OF_TWO;
+    // appends that wait: in one go, but where the page goes on with them, a term is set or the mark is not 0
+    20 x 4: Push("a\n"), Key('/'), Push("b"), Push("c"), ESC =>
+        CLOSING, "\x1b[1;1H\x1b[2J\ra\n", FIFTH_ROW, PROMPT_ROW, "\x1b[2;1H\x1b[2Kbc";
+    20 x 4: Push("a\n"), Key('/'), Push("b"), Prompt("p"), Push("c"), ESC =>
+        CLOSING, "\x1b[1;1H\x1b[2J\ra\n", FIFTH_ROW, PROMPT_ROW, "\x1b[2;1H\x1b[2Kb",
+        FIFTH_ROW, P_ROW, "\x1b[2;1H\x1b[2Kbc";
+    20 x 4: Push("a\n"), Follow(true), Key('/'), Push("b"), Push("c"), ESC =>
+        CLOSING, "\x1b[1;1H\x1b[2J\ra\n", FIFTH_ROW, F_ROW, "\x1b[2;1H\x1b[2Kb\x1b[2;1H\x1b[2Kbc";
+    20 x 4: Push("a\n"), Key('/'), Key('a'), ENTER, Key('/'), Push("b"), Push("c"), ESC =>
+        CLOSING, "\x1b[1;1H\x1b[2J\r\x1b[7ma\x1b[27m\n", FIFTH_ROW, ONE_OF_ONE, "\x1b[2;1H\x1b[2Kb\x1b[2;1H\x1b[2Kbc";
+    20 x 4: TEN, Mark(7), Key('/'), Push("b"), Push("c"), ESC =>
+        CLOSING, "\x1b[1;1H\x1b[2J\rl7\n\rl8\n\rl9\n", FIFTH_ROW, PROMPT_ROW,
+        "\x1b[3;1H\x1b[2Kl9b\x1b[3;1H\x1b[2Kl9bc";
     // jumps to a match past the last page, back to one that is not above it, and to one below the page
     20 x 3: Push("a\na"), Key('/'), Key('a'), ENTER, NEXT => FOURTH_ROW, TWO_OF_TWO;
     20 x 3: Push("a\na"), Key('/'), Key('a'), ENTER, NEXT, PREVIOUS => FOURTH_ROW, ONE_OF_TWO;

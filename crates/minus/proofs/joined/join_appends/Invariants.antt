@@ -2,11 +2,12 @@
 use Rattle.std.proofs.Common.{◌≤◌, length, map, string_bytes}
 use Rattle.minus.specs.Joined.{AreJoined}
 use Rattle.minus.specs.Reads.{wanted_of}
+use Rattle.minus.specs.Table.{appends_data}
 use Rattle.minus.proofs.joined.join_appends.Given as goal
 
 abbrev pub invariant-loop-command : goal.invariant-loop-command
 invariant-loop-command g l = record {
-  joined : AreJoined l.fn.first (map wanted_of l.commands) (string_bytes l.text) (map wanted_of l.rest);
+  joined : AreJoined appends_data l.fn.first (map wanted_of l.commands) (string_bytes l.text) (map wanted_of l.rest);
   less : length l.rest ≤ length l.commands;
 }
 

@@ -14,7 +14,7 @@ use Rattle.minus.specs.Core.{seen_of}
 use Rattle.minus.specs.Reads.{told_of}
 use Rattle.minus.specs.Seen.{Seen}
 use Rattle.minus.specs.SessionSteps.{IsRefusedStepOf}
-use Rattle.minus.specs.Steps.{Took, is_passed}
+use Rattle.minus.specs.Steps.{Took, TookWith, is_passed}
 use Rattle.minus.specs.Handing.{Exit}
 use Rattle.minus.specs.Works.{leaving}
 use Rattle.minus.proofs.StartLaws.{Stays-refl}
@@ -65,9 +65,10 @@ loop-next-init g c =
       subst (λ (r : List Refusal). SoFar says old (told_of c.args.input) (g.S.OutputSink.seen c.args.self.now.sink).bytes (g.S.OutputSink.seen c.take.new.self.sink).bytes new r (option_map string_bytes c.in_ok-first.first.copied)) (sym (ap (map refusal_of) c.new-refused.ensures.items)) (begun says old new (told_of c.args.input) _ _ _ t),
     )
 
-pub take-requires-in-Some : goal.take-requires-in-Some
-take-requires-in-Some g c = record {
+pub take_next-requires : goal.take_next-requires
+take_next-requires g c = record {
   running = ap (λ (x : Seen _ _). x.status) c.in-Some.ensures.seen ∙ runs_on _ (seen_of c.args.self.now) (told_of c.args.input) _ _ (seen_of c.loop-next.self) _ _ c.in-Running.is c.loop-next.invariant.1;
+  closed = ap (λ (x : Seen _ _). x.control.search) c.in-Some.ensures.seen ∙ c.in-Some.ensures.next.0;
 }
 
 pub returns-then-is_some-2-clause-step : goal.returns-then-is_some-2-clause-step
@@ -78,8 +79,8 @@ returns-then-is_some-2-clause-step g c =
     let old : Seen _ _ = seen_of c.args.self.now in
     let s : Seen _ _ = seen_of c.loop-next.self in
     let m : Seen _ _ = seen_of c.next_waiting.new.self in
-    let new : Seen _ _ = seen_of c.take-in-Some.new.self in
-    let t = subst (λ (e : Option Exit). Took says e m (told_of c.in-Some.next) (option_map string_bytes c.in-Ok.taken.copied) new (g.S.OutputSink.seen c.next_waiting.new.self.sink).bytes (g.S.OutputSink.seen c.take-in-Some.new.self.sink).bytes) x.1 c.in-Ok.ensures.taken.took in
+    let new : Seen _ _ = seen_of c.take_next.new.self in
+    let t = subst (λ (e : Option Exit). TookWith says e m (told_of c.in-Some.next) (option_map string_bytes c.in-Ok.taken.copied) new (g.S.OutputSink.seen c.next_waiting.new.self.sink).bytes (g.S.OutputSink.seen c.take_next.new.self.sink).bytes) x.1 c.in-Ok.ensures.taken.took in
     let answers = c.of_step-then-is_some-2.ensures in
     let stays = (let h = c.in-Ok.ensures.taken.stays in rw (ap (λ x. (g.S.OutputSink.seen x).refusals) c.in-Some.ensures.sink) at h) in
     record {
@@ -90,15 +91,13 @@ returns-then-is_some-2-clause-step g c =
 
 pub loop-next-smaller-in-Ok : goal.loop-next-smaller-in-Ok
 loop-next-smaller-in-Ok g c =
-    let closed = ap (λ (x : Seen _ _). x.control.search) c.in-Some.ensures.seen ∙ c.in-Some.ensures.next.0 in
-    let fewer = c.take-in-Some.ensures.fewer closed in
+    let fewer = c.take_next.ensures.fewer in
     let less = c.in-Some.ensures.less in
     omega (arith, fewer, less)
 
 pub loop-next-smaller : goal.loop-next-smaller
 loop-next-smaller g c =
-    let closed = ap (λ (x : Seen _ _). x.control.search) c.in-Some.ensures.seen ∙ c.in-Some.ensures.next.0 in
-    let fewer = c.take-in-Some.ensures.fewer closed in
+    let fewer = c.take_next.ensures.fewer in
     let less = c.in-Some.ensures.less in
     let same = ap (λ (s : Core _ _ _ _ _ _). deque_len s.waiting) c.in_ok-pass_over-in-Err.ensures.unchanged in
     omega (arith, fewer, less, same)
@@ -110,12 +109,12 @@ loop-next-preserved-in-Ok g c =
     let old : Seen _ _ = seen_of c.args.self.now in
     let s : Seen _ _ = seen_of c.loop-next.self in
     let m : Seen _ _ = seen_of c.next_waiting.new.self in
-    let new : Seen _ _ = seen_of c.take-in-Some.new.self in
-    let t = subst (λ (e : Option Exit). Took says e m (told_of c.in-Some.next) (option_map string_bytes c.in-Ok.taken.copied) new (g.S.OutputSink.seen c.next_waiting.new.self.sink).bytes (g.S.OutputSink.seen c.take-in-Some.new.self.sink).bytes) (none_of c.in-Ok.taken.exit no) c.in-Ok.ensures.taken.took in
+    let new : Seen _ _ = seen_of c.take_next.new.self in
+    let t = subst (λ (e : Option Exit). TookWith says e m (told_of c.in-Some.next) (option_map string_bytes c.in-Ok.taken.copied) new (g.S.OutputSink.seen c.next_waiting.new.self.sink).bytes (g.S.OutputSink.seen c.take_next.new.self.sink).bytes) (none_of c.in-Ok.taken.exit no) c.in-Ok.ensures.taken.took in
     let stays = (let h = c.in-Ok.ensures.taken.stays in rw (ap (λ x. (g.S.OutputSink.seen x).refusals) c.in-Some.ensures.sink) at h) in
     let so = one_more says old (told_of c.args.input) s new (told_of c.in-Some.next) m.waiting (map refusal_of c.loop-next.refused.items) (option_map string_bytes c.loop-next.copied) (option_map string_bytes c.in-Ok.taken.copied) _ _ _ c.loop-next.invariant.1 c.in-Some.ensures.next
     (took_as says None m (told_of c.in-Some.next) _ new (leaving s m.waiting) _ _ _ c.in-Some.ensures.seen (ap (λ x. (g.S.OutputSink.seen x).bytes) c.in-Some.ensures.sink) t) in
-    (Stays-trans _ _ _ c.loop-next.invariant.0 stays, subst (λ (x : Option (List ℕ)). SoFar says old (told_of c.args.input) (g.S.OutputSink.seen c.args.self.now.sink).bytes (g.S.OutputSink.seen c.take-in-Some.new.self.sink).bytes new (map refusal_of c.loop-next.refused.items) x) (sym c.last_of-copied.ensures) so)
+    (Stays-trans _ _ _ c.loop-next.invariant.0 stays, subst (λ (x : Option (List ℕ)). SoFar says old (told_of c.args.input) (g.S.OutputSink.seen c.args.self.now.sink).bytes (g.S.OutputSink.seen c.take_next.new.self.sink).bytes new (map refusal_of c.loop-next.refused.items) x) (sym c.last_of-copied.ensures) so)
 
 pub returns-clause-step : goal.returns-clause-step
 returns-clause-step g c =
@@ -139,7 +138,7 @@ returns-in_err-pass_over-in-Err-clause-refused g c =
     let old : Seen _ _ = seen_of c.args.self.now in
     let s : Seen _ _ = seen_of c.loop-next.self in
     let m : Seen _ _ = seen_of c.next_waiting.new.self in
-    let mid : Seen _ _ = seen_of c.take-in-Some.new.self in
+    let mid : Seen _ _ = seen_of c.take_next.new.self in
     let new : Seen _ _ = seen_of c.pass_over.new.self in
     let fails = c.in_err-pass_over-in-Err.ensures.fails in
     let of : Refusal = refusal_of c.in-Err.refusal in
@@ -172,7 +171,7 @@ loop-next-preserved g c =
     let old : Seen _ _ = seen_of c.args.self.now in
     let s : Seen _ _ = seen_of c.loop-next.self in
     let m : Seen _ _ = seen_of c.next_waiting.new.self in
-    let mid : Seen _ _ = seen_of c.take-in-Some.new.self in
+    let mid : Seen _ _ = seen_of c.take_next.new.self in
     let same = c.in_ok-pass_over-in-Err.ensures.unchanged in
     let refused = map refusal_of c.loop-next.refused.items in
     let of : Refusal = refusal_of c.in-Err.refusal in
