@@ -1,27 +1,29 @@
 -- What a run comes to.
-use Rattle.std.proofs.Common.{◌≡◌, ℕ, Bool, true, false, List, [], ◌∷◌, ◌++◌, map, reverse, option_map, Option, Some, None, inl, inr, refl, sym, ap, subst, ◌∙◌, append_assoc}
+use Rattle.std.proofs.Common.{◌≡◌, ℕ, ◌+◌, ◌<◌, Bool, true, false, nat_lt, eqb, ◌||◌, List, [], ◌∷◌, ◌++◌, length, map, option_map, Option, Some, None, inl, inr, refl, sym, ap, subst, ◌∙◌, arith, append_assoc}
 use Rattle.std.specs.Prelude.{is_some}
 use Rattle.std.specs.Io.KnownBytes.{Appends}
-use Rattle.std.proofs.lemmas.List.{reverse-append}
+use Rattle.std.proofs.lemmas.Bool.{eqb-true, eqb-false, or_parts}
+use Rattle.std.proofs.lemmas.List.{length-append, length-map, map-append, nil_from_length}
 use Rattle.minus_term.specs.declared.error.MinusError.{MinusError}
 use Rattle.minus_term.specs.declared.error.MinusError.TheVariants.{Memory, NewlineInPrompt, HookIdTaken, NoFreeHookId, BadSize, BadDescription, Bound, QueryFull, BadMode, Failed, Ended, Setup, Cleanup, Draw, HandleEvent, Cursor, FmtWriteError, Conversion, SearchExpError}
 use Rattle.minus_term.specs.Refusals.{Refusal, for_memory, for_newline, for_hook_id, for_free_hook_id, for_size, for_description, for_binding, for_query, for_mode, after_failure, after_exit, at_setup, at_cleanup, at_drawing, for_pattern, of_no_call, refusal_of}
+use Rattle.minus_state.specs.Control.{Control}
 use Rattle.minus_state.specs.declared.search.condition.NeverShows.{NeverShows}
 use Rattle.minus_script.specs.declared.keys.DefaultKeys.{DefaultKeys}
 use Rattle.minus.specs.declared.answer.Answer.{Answer}
 use Rattle.minus_state.specs.declared.state.RunMode.TheVariants.{Dynamic}
 use Rattle.minus.specs.declared.status.Status.{Status}
 use Rattle.minus.specs.declared.status.Status.TheVariants as status
-use Rattle.minus.specs.Answers.{IsAnswer}
+use Rattle.minus.specs.Answers.{IsAnswer, ends_run}
 use Rattle.minus.specs.Asked.{Wants}
 use Rattle.std.specs.List.{last_or}
 use Rattle.minus_script.specs.Keys.{script_says}
 use Rattle.minus.specs.Reads.{Told}
 use Rattle.minus.specs.Works.{passed_in}
-use Rattle.minus.proofs.RunLaws.{Steps-snoc}
 use Rattle.minus.specs.Starts.{IsStarted, IsStartRefused, IsSetupRefused}
 use Rattle.minus.specs.Seen.{Seen}
-use Rattle.minus.specs.Steps.{IsStep, none, Refuses, status_after, cleanup_after}
+use Rattle.minus.specs.Runs.{IsRun, Stops, StopsSo, StopsAfter}
+use Rattle.minus.specs.Steps.{Steps, none, more, Refuses, status_after, cleanup_after}
 use Rattle.minus.specs.Handing.{Exit}
 use Rattle.minus.specs.Table.{Wanted}
 use Rattle.minus_script.specs.declared.arguments.Mode.{Mode}
@@ -38,56 +40,162 @@ pub started : (keys : DefaultKeys) (seen : Seen NeverShows DefaultKeys) (waiting
 started keys seen waiting cols rows terminal a b e f g h =
     subst (λ (x : Option (List ℕ)). IsStarted seen keys [] Dynamic cols rows true x b) g (subst (λ (x : Bool). IsStarted seen keys [] Dynamic cols rows x a b) f (subst (λ (x : List (Wanted NeverShows DefaultKeys)). IsStarted seen keys x Dynamic cols rows terminal a b) e h))
 
--- what was taken, and one step more
-pub worked_more : (old mid new : Seen NeverShows DefaultKeys) (told : List (Told NeverShows DefaultKeys)) (answers : List Answer) (t : Told NeverShows DefaultKeys) (rest : List (Told NeverShows DefaultKeys)) (answer : Answer) (a b c : Option (List ℕ)) →
-    IsWorkedOff old mid told answers (t ∷ rest) a b → IsStep script_says mid t new answer b c → IsWorkedOff old new told (answers ++ answer ∷ []) rest a c
-worked_more old mid new told answers t rest answer a b c h s = record {
-  taken = h.taken ++ t ∷ [];
-  passed = h.passed ++ passed_in s.works;
-  steps = Steps-snoc t answer h.steps s;
-  all = h.all ∙ sym (append_assoc h.taken (t ∷ []) rest);
-}
-
 -- nothing was taken yet
 pub worked_none : (old : Seen NeverShows DefaultKeys) (told : List (Told NeverShows DefaultKeys)) (a : Option (List ℕ)) → IsWorkedOff old old told [] told a a
 worked_none old told a = record { taken = []; passed = []; steps = none; all = refl }
 
--- what is left, read from its end
-pub left_from_end : {A : Type 0} (told : A → Told NeverShows DefaultKeys) (left rest : List A) (x : A) → left ≡ rest ++ x ∷ [] → map told (reverse left) ≡ told x ∷ map told (reverse rest)
-left_from_end told left rest x is = ap (λ l. map told (reverse l)) is ∙ ap (map told) (reverse-append rest (x ∷ []))
+-- ---- steps after steps
 
--- the next one that is taken from the end
-pub next_left : {A : Type 0} (told : A → Told NeverShows DefaultKeys) (old mid : Seen NeverShows DefaultKeys) (all : List (Told NeverShows DefaultKeys)) (answers : List Answer) (left rest : List A) (x : A) (a b : Option (List ℕ)) → left ≡ rest ++ x ∷ [] →
-    IsWorkedOff old mid all answers (map told (reverse left)) a b → IsWorkedOff old mid all answers (told x ∷ map told (reverse rest)) a b
-next_left told old mid all answers left rest x a b is h = subst (λ (l : List (Told NeverShows DefaultKeys)). IsWorkedOff old mid all answers l a b) (left_from_end told left rest x is) h
+steps_as : {a b : Seen NeverShows DefaultKeys} {ts : List (Told NeverShows DefaultKeys)} {answers : List Answer} {x y : Option (List ℕ)} (ps qs : List Control) → ps ≡ qs → Steps script_says a ts ps answers b x y → Steps script_says a ts qs answers b x y
+steps_as {a = a} {b = b} {ts = ts} {answers = answers} {x = x} {y = y} ps qs e h = subst (λ (cs : List Control). Steps script_says a ts cs answers b x y) e h
 
--- a refusal of the next one
-pub stopped_by : (refusal : Refusal) (old mid new : Seen NeverShows DefaultKeys) (told : List (Told NeverShows DefaultKeys)) (answers : List Answer) (t : Told NeverShows DefaultKeys) (rest : List (Told NeverShows DefaultKeys)) (a b c : Option (List ℕ)) →
-    IsWorkedOff old mid told answers (t ∷ rest) a b → mid.status ≡ status.Running → Refuses script_says refusal mid t new b c → IsStoppedBy refusal old new told a c
-stopped_by refusal old mid new told answers t rest a b c h runs refuses = record { answers = answers; reached = mid; refused = t; rest = rest; bytes = b; worked = h; runs = runs; refuses = refuses }
+steps_on : {a b c : Seen NeverShows DefaultKeys} {ts us : List (Told NeverShows DefaultKeys)} {cs : List Control} {answers more_answers : List Answer} {x y z : Option (List ℕ)} (ds : List Control) → Steps script_says a ts cs answers b x y → Steps script_says b us ds more_answers c y z → Steps script_says a (ts ++ us) (cs ++ ds) (answers ++ more_answers) c x z
+steps_on ds none s = s
+steps_on ds (more {cs = cs} r rs) s = steps_as (passed_in r.works ++ (cs ++ ds)) ((passed_in r.works ++ cs) ++ ds) (sym (append_assoc (passed_in r.works) cs ds)) (more r (steps_on ds rs s))
+
+-- each step has one answer
+steps_count : {a b : Seen NeverShows DefaultKeys} {ts : List (Told NeverShows DefaultKeys)} {cs : List Control} {answers : List Answer} {x y : Option (List ℕ)} → Steps script_says a ts cs answers b x y → length answers ≡ length ts
+steps_count none = refl
+steps_count (more r rs) = omega (arith, steps_count rs)
 
 -- a step that does not exit leaves the session running
-running_by : (exit : Option Exit) (text : Option (List ℕ)) (refused : List Refusal) (answer : Answer) (now : Status) → IsAnswer exit text refused answer → is_some answer.exited ≡ false → now ≡ status_after exit → now ≡ status.Running
-running_by None text refused answer now is ends stands = stands
-running_by (Some exit) text refused answer now is ends stands = absurd (let both : true ≡ false = subst (λ (x : Option Exit). is_some x ≡ false) is.exited ends in cc)
+running_by : (exit : Option Exit) (text : Option (List ℕ)) (refused : List Refusal) (answer : Answer) (now : Status) → IsAnswer exit text refused answer → is_some (exit_code (Some answer)) ≡ false → now ≡ status_after exit → now ≡ status.Running
+running_by None text refused answer now is goes stands = stands
+running_by (Some exit) text refused answer now is goes stands = absurd (let both : true ≡ false = subst (λ (x : Option Exit). is_some (option_map (λ (y : Exit). y.1) x) ≡ false) is.exited goes in cc)
 
-pub step_runs_on : (old new : Seen NeverShows DefaultKeys) (t : Told NeverShows DefaultKeys) (answer : Answer) (a b : Option (List ℕ)) → IsStep script_says old t new answer a b → is_some answer.exited ≡ false → new.status ≡ status.Running
-step_runs_on old new t answer a b s ends = running_by s.exit s.copied s.refused answer new.status s.answers ends s.stands
+-- steps of which the last does not exit leave it running
+runs_by : {old new : Seen NeverShows DefaultKeys} {ts : List (Told NeverShows DefaultKeys)} {cs : List Control} {answers : List Answer} {a b : Option (List ℕ)} → Steps script_says old ts cs answers new a b → old.status ≡ status.Running → is_some (exit_code (last_or None answers)) ≡ false → new.status ≡ status.Running
+runs_by none runs goes = runs
+runs_by (more {b = new} {answer = answer} s none) runs goes = running_by s.exit s.copied s.refused answer new.status s.answers goes s.stands
+runs_by (more s (more t rest)) runs goes = runs_by (more t rest) t.running goes
 
-exits_by : (exit : Option Exit) → is_some exit ≡ true → is_some (option_map (λ (x : Exit). x.1) exit) ≡ true
-exits_by None h = h
-exits_by (Some exit) h = refl
+-- what was taken, and more steps
+worked_more : (old mid new : Seen NeverShows DefaultKeys) (all : List (Told NeverShows DefaultKeys)) (answers : List Answer) (left ts rest : List (Told NeverShows DefaultKeys)) (cs : List Control) (more_answers : List Answer) (a b c : Option (List ℕ)) →
+    IsWorkedOff old mid all answers left a b → Steps script_says mid ts cs more_answers new b c → left ≡ ts ++ rest → IsWorkedOff old new all (answers ++ more_answers) rest a c
+worked_more old mid new all answers left ts rest cs more_answers a b c h s e = record {
+  taken = h.taken ++ ts;
+  passed = h.passed ++ cs;
+  steps = steps_on cs h.steps s;
+  all = h.all ∙ ap (λ (l : List (Told NeverShows DefaultKeys)). h.taken ++ l) e ∙ sym (append_assoc h.taken ts rest);
+}
 
-pub last_or_snoc : {A : Type 0} (o : Option A) (xs : List A) (x : A) → Some x ≡ last_or o (xs ++ x ∷ [])
-last_or_snoc o [] x = refl
-last_or_snoc o (y ∷ ys) x = last_or_snoc (Some y) ys x
+-- ---- a run after what was worked off
 
-last_is : (answers : List Answer) (answer : Answer) → Some answer ≡ last_or None (answers ++ answer ∷ [])
-last_is answers answer = last_or_snoc None answers answer
+-- whether inputs are left, by their count
+pub some_left : {A : Type 0} (left : List A) (count : ℕ) → count ≡ length left → false ≡ eqb count 0 → 0 < length left
+some_left left count is h = omega (arith, is, eqb-false count 0 (sym h))
+
+pub none_left : {A : Type 0} (left : List A) (count : ℕ) → count ≡ length left → true ≡ eqb count 0 → left ≡ []
+none_left left count is h = nil_from_length left (sym is ∙ eqb-true count 0 (sym h))
+
+-- a run, by what it stopped with
+pub run_as : {A : Type 0} {told : A → Told NeverShows DefaultKeys} {old new : Seen NeverShows DefaultKeys} {inputs rest : List A} {done : ℕ} {last : Option Answer} {a b : Option (List ℕ)} (s t : Option MinusError) → s ≡ t → IsRun script_says told old new inputs done last s rest a b → IsRun script_says told old new inputs done last t rest a b
+run_as {told = told} {old = old} {new = new} {inputs = inputs} {rest = rest} {done = done} {last = last} {a = a} {b = b} s t e h = subst (λ (x : Option MinusError). IsRun script_says told old new inputs done last x rest a b) e h
+
+-- a run that was not stopped refused none of its inputs
+stopped_not : {A : Type 0} (told : A → Told NeverShows DefaultKeys) (refused : List A) (reached new : Seen NeverShows DefaultKeys) (a b : Option (List ℕ)) → Stops script_says told None refused reached new a b → (refused ≡ []) × (new ≡ reached) × (b ≡ a)
+stopped_not told [] reached new a b h = (refl, h.0, h.1)
+stopped_not told (x ∷ refused) reached new a b h = absurd h
+
+-- one that was stopped refused one
+stopped_at : {A : Type 0} (told : A → Told NeverShows DefaultKeys) (e : MinusError) (refused : List A) (reached new : Seen NeverShows DefaultKeys) (a b : Option (List ℕ)) → Stops script_says told (Some e) refused reached new a b → (x : A) × (refused ≡ x ∷ []) × Refuses script_says (refusal_of e) reached (told x) new a b
+stopped_at told e [] reached new a b h = absurd h
+stopped_at told e (x ∷ []) reached new a b h = (x, refl, h)
+stopped_at told e (x ∷ y ∷ refused) reached new a b h = absurd h
+
+-- the step before a refusal does not exit
+not_ending : {A : Type 0} (ends : Bool) (e : MinusError) (rest : List A) → StopsSo ends (Some e) rest → ends ≡ false
+not_ending true e rest h = absurd (let both : Some e ≡ None = h in cc)
+not_ending false e rest h = refl
+
+exits_not : (exit : Option Exit) → is_some exit ≡ false → is_some (option_map (λ (x : Exit). x.1) exit) ≡ false
+exits_not None h = h
+exits_not (Some exit) h = h
+
+goes_on : (answer : Answer) → ends_run answer ≡ false → is_some (exit_code (Some answer)) ≡ false
+goes_on answer h =
+    let (either, items) = or_parts (is_some answer.exited || is_some answer.copied) (nat_lt 0 (length answer.refused.items)) h in
+    let (exit, copy) = or_parts (is_some answer.exited) (is_some answer.copied) either in
+    exits_not answer.exited exit
+
+before_refusal : {A : Type 0} (answers : List Answer) (e : MinusError) (rest : List A) → StopsAfter answers (Some e) rest → is_some (exit_code (last_or None answers)) ≡ false
+before_refusal [] e rest h = refl
+before_refusal (answer ∷ []) e rest h = goes_on answer (not_ending (ends_run answer) e rest h)
+before_refusal (answer ∷ next ∷ answers) e rest h = before_refusal (next ∷ answers) e rest h.1
+
+-- where a run ended that was not stopped
+ran_steps : {A : Type 0} {told : A → Told NeverShows DefaultKeys} {mid new : Seen NeverShows DefaultKeys} {inputs rest : List A} {done : ℕ} {last : Option Answer} {b c : Option (List ℕ)} → (h : IsRun script_says told mid new inputs done last None rest b c) → Steps script_says mid (map told h.taken) h.passed h.answers new b c
+ran_steps {told = told} {mid = mid} {new = new} {b = b} {c = c} h =
+    let (none_refused, stays, same) = stopped_not told h.refused h.reached new h.bytes c h.stop in
+    subst (λ (x : Seen NeverShows DefaultKeys). Steps script_says mid (map told h.taken) h.passed h.answers x b c) (sym stays) (subst (λ (y : Option (List ℕ)). Steps script_says mid (map told h.taken) h.passed h.answers h.reached b y) (sym same) h.steps)
+
+-- what it left of what it was told
+left_by : {A : Type 0} (told : A → Told NeverShows DefaultKeys) (inputs taken refused these rest : List A) → inputs ≡ taken ++ (refused ++ rest) → refused ≡ these → map told inputs ≡ map told taken ++ map told (these ++ rest)
+left_by told inputs taken refused these rest e f = ap (map told) (e ∙ ap (λ l. taken ++ (l ++ rest)) f) ∙ map-append told taken (these ++ rest)
+
+-- what was worked off, and a run
+pub ran_on : {A : Type 0} {told : A → Told NeverShows DefaultKeys} {mid new : Seen NeverShows DefaultKeys} {inputs rest : List A} {done : ℕ} {last : Option Answer} {b c : Option (List ℕ)} (old : Seen NeverShows DefaultKeys) (all : List (Told NeverShows DefaultKeys)) (answers : List Answer) (a : Option (List ℕ)) → IsWorkedOff old mid all answers (map told inputs) a b →
+    (h : IsRun script_says told mid new inputs done last None rest b c) → IsWorkedOff old new all (answers ++ h.answers) (map told rest) a c
+ran_on {told = told} {mid = mid} {new = new} {inputs = inputs} {rest = rest} {b = b} {c = c} old all answers a worked h =
+    let (none_refused, stays, same) = stopped_not told h.refused h.reached new h.bytes c h.stop in
+    worked_more old mid new all answers (map told inputs) (map told h.taken) (map told rest) h.passed h.answers a b c worked (ran_steps h) (left_by told inputs h.taken h.refused [] rest h.all none_refused)
+
+-- how many inputs there are
+lengths : {A : Type 0} (inputs taken refused rest : List A) → inputs ≡ taken ++ (refused ++ rest) → length inputs ≡ length taken + (length refused + length rest)
+lengths inputs taken refused rest e = omega (arith, ap length e ∙ length-append taken (refused ++ rest), length-append refused rest)
+
+-- a run of some inputs that was not stopped took one at least
+first_taken : {A : Type 0} (answers : List Answer) (inputs taken refused rest : List A) → length answers ≡ length taken → refused ≡ [] → inputs ≡ taken ++ (refused ++ rest) → StopsAfter answers None rest → 0 < length inputs → 0 < length answers
+first_taken [] inputs taken refused rest count none_refused all stops some = absurd (omega (arith, count, lengths inputs taken refused rest all, ap length none_refused, ap length (stops refl), some))
+first_taken (answer ∷ answers) inputs taken refused rest count none_refused all stops some = omega arith
+
+ran_count : {A : Type 0} {told : A → Told NeverShows DefaultKeys} {mid new : Seen NeverShows DefaultKeys} {inputs rest : List A} {done : ℕ} {last : Option Answer} {b c : Option (List ℕ)} → (h : IsRun script_says told mid new inputs done last None rest b c) → length h.answers ≡ length h.taken
+ran_count {told = told} h = steps_count h.steps ∙ length-map h.taken told
+
+ran_some : {A : Type 0} {told : A → Told NeverShows DefaultKeys} {mid new : Seen NeverShows DefaultKeys} {inputs rest : List A} {done : ℕ} {last : Option Answer} {b c : Option (List ℕ)} → 0 < length inputs → (h : IsRun script_says told mid new inputs done last None rest b c) → 0 < length h.answers
+ran_some {told = told} {new = new} {inputs = inputs} {rest = rest} {c = c} some h =
+    let (none_refused, stays, same) = stopped_not told h.refused h.reached new h.bytes c h.stop in
+    first_taken h.answers inputs h.taken h.refused rest (ran_count h) none_refused h.all h.stops some
+
+-- so fewer are left
+pub ran_less : {A : Type 0} {told : A → Told NeverShows DefaultKeys} {mid new : Seen NeverShows DefaultKeys} {inputs rest : List A} {done : ℕ} {last : Option Answer} {b c : Option (List ℕ)} → 0 < length inputs → IsRun script_says told mid new inputs done last None rest b c → length rest < length inputs
+ran_less {inputs = inputs} {rest = rest} some h = omega (arith, ran_some some h, ran_count h, lengths inputs h.taken h.refused rest h.all)
+
+-- and its last answer is the last of all
+last_at : {A : Type 0} (o : Option A) (xs : List A) (y : A) (ys : List A) → last_or o (xs ++ y ∷ ys) ≡ last_or (Some y) ys
+last_at o [] y ys = refl
+last_at o (x ∷ xs) y ys = last_at (Some x) xs y ys
+
+last_behind : {A : Type 0} (xs ys : List A) → 0 < length ys → last_or None ys ≡ last_or None (xs ++ ys)
+last_behind xs [] some = absurd (omega (arith, some))
+last_behind xs (y ∷ ys) some = sym (last_at None xs y ys)
+
+pub ran_last : {A : Type 0} {told : A → Told NeverShows DefaultKeys} {mid new : Seen NeverShows DefaultKeys} {inputs rest : List A} {done : ℕ} {last : Option Answer} {b c : Option (List ℕ)} (answers : List Answer) → 0 < length inputs → (h : IsRun script_says told mid new inputs done last None rest b c) → last ≡ last_or None (answers ++ h.answers)
+ran_last answers some h = h.answer ∙ last_behind answers h.answers (ran_some some h)
+
+-- without an exit the session runs after it
+pub ran_running : {A : Type 0} {told : A → Told NeverShows DefaultKeys} {mid new : Seen NeverShows DefaultKeys} {inputs rest : List A} {done : ℕ} {last : Option Answer} {b c : Option (List ℕ)} → mid.status ≡ status.Running → is_some (exit_code last) ≡ false → IsRun script_says told mid new inputs done last None rest b c → new.status ≡ status.Running
+ran_running runs goes h = runs_by (ran_steps h) runs (subst (λ (o : Option Answer). is_some (exit_code o) ≡ false) h.answer goes)
 
 -- after an exit all was taken up to it
-pub whole_by_exit : (answers : List Answer) (answer : Answer) (rest : List (Told NeverShows DefaultKeys)) → is_some answer.exited ≡ true → IsWhole (answers ++ answer ∷ []) rest
-whole_by_exit answers answer rest h = inr (subst (λ (o : Option Answer). is_some (exit_code o) ≡ true) (last_is answers answer) (exits_by answer.exited h))
+pub whole_by_exit : (answers : List Answer) (last : Option Answer) (rest : List (Told NeverShows DefaultKeys)) → last ≡ last_or None answers → is_some (exit_code last) ≡ true → IsWhole answers rest
+whole_by_exit answers last rest is exits = inr (subst (λ (o : Option Answer). is_some (exit_code o) ≡ true) is exits)
+
+-- what was worked off, and a run that was stopped
+pub ran_into : {A : Type 0} {told : A → Told NeverShows DefaultKeys} {mid new : Seen NeverShows DefaultKeys} {inputs rest : List A} {done : ℕ} {last : Option Answer} {b c : Option (List ℕ)} (e : MinusError) (old : Seen NeverShows DefaultKeys) (all : List (Told NeverShows DefaultKeys)) (answers : List Answer) (a : Option (List ℕ)) → IsWorkedOff old mid all answers (map told inputs) a b → mid.status ≡ status.Running →
+    IsRun script_says told mid new inputs done last (Some e) rest b c → IsStoppedBy (refusal_of e) old new all a c
+ran_into {told = told} {mid = mid} {new = new} {inputs = inputs} {rest = rest} {b = b} {c = c} e old all answers a worked runs h =
+    let (x, one, refuses) = stopped_at told e h.refused h.reached new h.bytes c h.stop in
+    record {
+      answers = answers ++ h.answers;
+      reached = h.reached;
+      refused = told x;
+      rest = map told rest;
+      bytes = h.bytes;
+      worked = worked_more old mid h.reached all answers (map told inputs) (map told h.taken) (told x ∷ map told rest) h.passed h.answers a b h.bytes worked h.steps (left_by told inputs h.taken h.refused (x ∷ []) rest h.all one);
+      runs = runs_by h.steps runs (before_refusal h.answers e rest h.stops);
+      refuses = refuses;
+    }
 
 -- what a session came to over a start
 taken_over : (keys : DefaultKeys) (cols rows : ℕ) (first reached : Seen NeverShows DefaultKeys) (told : List (Told NeverShows DefaultKeys)) (answers : List Answer) (rest : List (Told NeverShows DefaultKeys)) (a b : Option (List ℕ)) → IsStarted first keys [] Dynamic cols rows true (Some []) a → IsWorkedOff first reached told answers rest a b → IsTaken cols rows told answers reached b rest

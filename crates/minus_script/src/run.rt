@@ -95,16 +95,19 @@ fn work_off<S: OutputSink + Drop>(
     ensures refused { IfErr result (λ e. IsStoppedBy (refusal_of e) (seen_of session.old) (seen_of session.new)
         (map told_of inputs.items) (S.seen session.old.sink).bytes (S.seen session.new.sink).bytes) }
 {
-    let mut inputs = inputs;
-    inputs.reverse();
+    let mut left = inputs;
     let mut last = None;
-    while let Some(input) = inputs.pop() {
-        let answer = session.step(input)?;
-        let exits = answer.exited.is_some();
-        last = Some(answer);
-        if exits {
+    while !left.is_empty() {
+        let ran = session.run(left);
+        if let Some(refusal) = ran.stopped {
+            return Err(refusal);
+        }
+        last = ran.last;
+        if exit_code(&last).is_some() {
             return Ok(last);
         }
+        // A run also ends after a step that copies a text or refuses items, and a script goes on.
+        left = ran.rest;
     }
     Ok(last)
 }

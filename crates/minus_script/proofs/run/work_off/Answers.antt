@@ -1,48 +1,57 @@
--- The inputs are taken from the end of the reversed list.
-use Rattle.std.proofs.Common.{◌≡◌, List, [], ◌∷◌, ◌++◌, map, reverse, refl, sym, ap, subst, ◌∙◌}
-use Rattle.std.proofs.lemmas.List.{reverse-reverse}
-use Rattle.std.proofs.lemmas.Result.{err_from_is_err_and}
-use Rattle.minus_term.specs.Refusals.{refusal_of}
+-- The session is run on, until nothing is left.
+use Rattle.std.proofs.Common.{[], ◌++◌, map, None, Some, is_some, inl, refl, sym, ap, ◌∙◌}
 use Rattle.minus.specs.Core.{seen_of}
-use Rattle.minus.specs.Reads.{Told, told_of}
-use Rattle.minus_script.specs.Runs.{IsWorkedOff}
-use Rattle.minus_state.specs.declared.search.condition.NeverShows.{NeverShows}
-use Rattle.minus_script.specs.declared.keys.DefaultKeys.{DefaultKeys}
-use Rattle.minus_script.proofs.RunLaws.{worked_none, worked_more, next_left, stopped_by, step_runs_on, last_or_snoc, whole_by_exit}
+use Rattle.minus.specs.Reads.{told_of}
+use Rattle.minus_script.proofs.RunLaws.{worked_none, some_left, none_left, run_as, ran_on, ran_less, ran_last, ran_running, whole_by_exit, ran_into}
 use Rattle.minus_script.proofs.run.work_off.Goals as goal
 
-pub loop-input-init : goal.loop-input-init
-loop-input-init g c =
-    let all : List (Told NeverShows DefaultKeys) = map told_of c.args.inputs.items in
-    let back : map told_of (reverse c.reverse.new.self.items) ≡ all = ap (λ l. map told_of (reverse l)) c.reverse.ensures.items ∙ ap (map told_of) (reverse-reverse c.args.inputs.items) in
-    ([], subst (λ (l : List (Told NeverShows DefaultKeys)). IsWorkedOff (seen_of c.args.session.now) (seen_of c.args.session.now) all [] l (g.S.OutputSink.seen c.args.session.now.sink).bytes (g.S.OutputSink.seen c.args.session.now.sink).bytes) (sym back) (worked_none _ all _), refl, c.requires)
+pub loop-session-init : goal.loop-session-init
+loop-session-init g c = ([], worked_none (seen_of c.args.session.now) (map told_of c.args.inputs.items) (g.S.OutputSink.seen c.args.session.now.sink).bytes, refl, c.requires)
 
-pub returns-in_err-answer-clause-refused : goal.returns-in_err-answer-clause-refused
-returns-in_err-answer-clause-refused g c =
-    let (answers, worked, last, runs) = c.loop-input.invariant in
-    let left = next_left told_of (seen_of c.args.session.now) (seen_of c.loop-input.session) (map told_of c.args.inputs.items) answers c.loop-input.inputs.items c.pop.new.self.items c.in-Some.input _ _ c.in-Some.ensures.items worked in
-    let p = err_from_is_err_and c.from_residual.result c.from_residual.ensures.1 in
-    let stopped = stopped_by (refusal_of c.in_err-answer.field-0.0) (seen_of c.args.session.now) (seen_of c.loop-input.session) (seen_of c.step.new.self) (map told_of c.args.inputs.items) answers (told_of c.in-Some.input) (map told_of (reverse c.pop.new.self.items)) _ _ _ left runs c.in_err-answer.ensures.refused.refuses in
-    rw (p.1, p.2) stopped
+pub returns-in-Some-clause-refused : goal.returns-in-Some-clause-refused
+returns-in-Some-clause-refused g c =
+    let (answers, worked, last, runs) = c.loop-session.invariant in
+    let ran = run_as c.run-ran.result.stopped (Some c.in-Some.refusal) c.in-Some.is c.run-ran.ensures.run in
+    ran_into c.in-Some.refusal (seen_of c.args.session.now) (map told_of c.args.inputs.items) answers (g.S.OutputSink.seen c.args.session.now.sink).bytes worked runs ran
 
-pub returns-then-exits-clause-run : goal.returns-then-exits-clause-run
-returns-then-exits-clause-run g c =
-    let (answers, worked, last, runs) = c.loop-input.invariant in
-    let left = next_left told_of (seen_of c.args.session.now) (seen_of c.loop-input.session) (map told_of c.args.inputs.items) answers c.loop-input.inputs.items c.pop.new.self.items c.in-Some.input _ _ c.in-Some.ensures.items worked in
+pub returns-then-is_some-clause-run : goal.returns-then-is_some-clause-run
+returns-then-is_some-clause-run g c =
+    let (answers, worked, last, runs) = c.loop-session.invariant in
+    let ran = run_as c.run-ran.result.stopped None c.in_default.is c.run-ran.ensures.run in
+    let some = some_left c.loop-session.left.items c.loop-session.left.len c.loop-session.left.ok.0 c.loop-session-test.ensures in
+    let is = ran_last answers some ran in
     record {
-      answers = answers ++ c.in_ok-answer.answer ∷ [];
-      rest = map told_of (reverse c.pop.new.self.items);
-      worked = worked_more (seen_of c.args.session.now) (seen_of c.loop-input.session) (seen_of c.step.new.self) _ answers (told_of c.in-Some.input) _ c.in_ok-answer.answer _ _ _ left c.in_ok-answer.ensures.step.step;
-      answer = last_or_snoc _ answers c.in_ok-answer.answer;
-      whole = whole_by_exit answers c.in_ok-answer.answer _ (sym c.is_some-exits.ensures ∙ c.if-exits.true);
+      answers = answers ++ ran.answers;
+      rest = map told_of c.run-ran.result.rest.items;
+      worked = ran_on (seen_of c.args.session.now) (map told_of c.args.inputs.items) answers (g.S.OutputSink.seen c.args.session.now.sink).bytes worked ran;
+      answer = is;
+      whole = whole_by_exit (answers ++ ran.answers) c.run-ran.result.last (map told_of c.run-ran.result.rest.items) is (ap is_some (sym c.exit_code.ensures) ∙ sym c.if-is_some.ensures);
     }
 
-pub loop-input-preserved : goal.loop-input-preserved
-loop-input-preserved g c =
-    let (answers, worked, last, runs) = c.loop-input.invariant in
-    let left = next_left told_of (seen_of c.args.session.now) (seen_of c.loop-input.session) (map told_of c.args.inputs.items) answers c.loop-input.inputs.items c.pop.new.self.items c.in-Some.input _ _ c.in-Some.ensures.items worked in (
-      answers ++ c.in_ok-answer.answer ∷ [],
-      worked_more (seen_of c.args.session.now) (seen_of c.loop-input.session) (seen_of c.step.new.self) _ answers (told_of c.in-Some.input) _ c.in_ok-answer.answer _ _ _ left c.in_ok-answer.ensures.step.step,
-      last_or_snoc _ answers c.in_ok-answer.answer,
-      step_runs_on (seen_of c.loop-input.session) (seen_of c.step.new.self) _ c.in_ok-answer.answer _ _ c.in_ok-answer.ensures.step.step (sym c.is_some-exits.ensures ∙ c.if-exits.false),
+pub loop-session-smaller : goal.loop-session-smaller
+loop-session-smaller g c =
+    let some = some_left c.loop-session.left.items c.loop-session.left.len c.loop-session.left.ok.0 c.loop-session-test.ensures in
+    ran_less some (run_as c.run-ran.result.stopped None c.in_default.is c.run-ran.ensures.run)
+
+pub loop-session-preserved : goal.loop-session-preserved
+loop-session-preserved g c =
+    let (answers, worked, last, runs) = c.loop-session.invariant in
+    let ran = run_as c.run-ran.result.stopped None c.in_default.is c.run-ran.ensures.run in
+    let some = some_left c.loop-session.left.items c.loop-session.left.len c.loop-session.left.ok.0 c.loop-session-test.ensures in (
+      answers ++ ran.answers,
+      ran_on (seen_of c.args.session.now) (map told_of c.args.inputs.items) answers (g.S.OutputSink.seen c.args.session.now.sink).bytes worked ran,
+      ran_last answers some ran,
+      ran_running runs (ap is_some (sym c.exit_code.ensures) ∙ sym c.if-is_some.ensures) ran,
     )
+
+pub returns-clause-run : goal.returns-clause-run
+returns-clause-run g c =
+    let (answers, worked, last, runs) = c.loop-session.invariant in
+    let none = none_left c.loop-session.left.items c.loop-session.left.len c.loop-session.left.ok.0 c.loop-session-test.ensures in
+    record {
+      answers = answers;
+      rest = map told_of c.loop-session.left.items;
+      worked = worked;
+      answer = last;
+      whole = inl (ap (map told_of) none);
+    }

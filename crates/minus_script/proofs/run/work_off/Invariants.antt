@@ -1,5 +1,5 @@
 -- The inputs that are gone were worked off, in order, and the session runs.
-use Rattle.std.proofs.Common.{◌≡◌, List, length, map, reverse, None}
+use Rattle.std.proofs.Common.{◌≡◌, List, length, map, None}
 use Rattle.std.specs.List.{last_or}
 use Rattle.minus.specs.declared.answer.Answer.{Answer}
 use Rattle.minus.specs.declared.status.Status.TheVariants.{Running}
@@ -8,11 +8,11 @@ use Rattle.minus.specs.Reads.{told_of}
 use Rattle.minus_script.specs.Runs.{IsWorkedOff}
 use Rattle.minus_script.proofs.run.work_off.Given as goal
 
-abbrev pub invariant-loop-input : goal.invariant-loop-input
-invariant-loop-input g l =
+abbrev pub invariant-loop-session : goal.invariant-loop-session
+invariant-loop-session g l =
     (answers : List Answer)
-    × IsWorkedOff (seen_of l.initial.session) (seen_of l.session) (map told_of l.fn.inputs.items) answers (map told_of (reverse l.inputs.items)) (g.S.OutputSink.seen l.initial.session.sink).bytes (g.S.OutputSink.seen l.session.sink).bytes
+    × IsWorkedOff (seen_of l.initial.session) (seen_of l.session) (map told_of l.fn.inputs.items) answers (map told_of l.left.items) (g.S.OutputSink.seen l.initial.session.sink).bytes (g.S.OutputSink.seen l.session.sink).bytes
     × (l.last ≡ last_or None answers) × ((seen_of l.session).status ≡ Running)
 
-abbrev pub decreases-loop-input : goal.decreases-loop-input
-decreases-loop-input g l = length l.inputs.items
+abbrev pub decreases-loop-session : goal.decreases-loop-session
+decreases-loop-session g l = length l.left.items
