@@ -1,5 +1,5 @@
 -- An input that waited, taken with the appends behind it.
-use Rattle.std.proofs.Common.{◌≡◌, ℕ, ◌^◌, ◌<◌, true, false, List, [], ◌∷◌, ◌++◌, length, drop, map, Option, None, Some, refl, sym, ap, subst, ◌∙◌, append_assoc, arith}
+use Rattle.std.proofs.Common.{◌≡◌, ℕ, ◌^◌, ◌<◌, true, false, List, [], ◌∷◌, ◌++◌, length, drop, Option, None, Some, refl, sym, ap, subst, ◌∙◌, append_assoc}
 use Rattle.std.specs.List.{concat}
 use Rattle.std.specs.Str.Lines.{lines}
 use Rattle.std.proofs.Math.Seq.{drop-append_seam}
@@ -18,10 +18,10 @@ use Rattle.minus.specs.declared.taken.Taken.{Taken}
 use Rattle.minus.specs.Core.{seen_of}
 use Rattle.minus.specs.SessionSteps.{IsTakenOf, IsUntakenOf, IsTakenWithOf, IsUntakenWithOf}
 use Rattle.minus.specs.Asked.{Asks, taken, Wants}
-use Rattle.minus.specs.Drawn.{Drawn, BrokenOff, IsDrawing}
+use Rattle.minus.specs.Drawn.{IsDrawing}
 use Rattle.minus.specs.Handing.{Exit}
 use Rattle.minus.specs.Joined.{appended_to, append_told, appending, MayGoWith}
-use Rattle.minus.specs.Reads.{Told, a_command, an_event}
+use Rattle.minus.specs.Reads.{Told, an_event}
 use Rattle.minus.specs.Says.{Says}
 use Rattle.minus.specs.Seen.{Seen}
 use Rattle.minus.specs.Steps.{Took, TookWith, Fails, FailsWith}

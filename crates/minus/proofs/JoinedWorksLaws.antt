@@ -1,5 +1,5 @@
 -- Neighbouring appends that are worked off in one go.
-use Rattle.std.proofs.Common.{◌≡◌, ℕ, zero, suc, ◌+◌, ◌-◌, ◌^◌, ◌<◌, ◌≤◌, ◌&&◌, ◌||◌, ◌==◌, Bool, true, false, not, List, [], ◌∷◌, ◌++◌, length, map, get_or, Option, None, Some, refl, sym, ap, subst, ◌∙◌, arith, append_assoc, inl, inr, if◌then◌else◌}
+use Rattle.std.proofs.Common.{◌≡◌, ℕ, zero, suc, ◌+◌, ◌-◌, ◌^◌, ◌<◌, ◌≤◌, ◌&&◌, ◌==◌, Bool, true, false, not, List, [], ◌∷◌, ◌++◌, length, map, Option, None, Some, refl, sym, ap, subst, ◌∙◌, arith, append_assoc, inl, inr, if◌then◌else◌}
 use Rattle.std.specs.List.{concat, Contains}
 use Rattle.std.specs.Str.Lines.{lines}
 use Rattle.std.proofs.lemmas.Bool.{cases_Bool, eq-eqb}
@@ -7,7 +7,6 @@ use Rattle.std.proofs.lemmas.List.{append-nil}
 use Rattle.minus_term.specs.Operations.{Op}
 use Rattle.minus_term.specs.PlayedScreen.{ShownPage, PlayedScreen, Shows, play_all, screen_of, unknown_screen}
 use Rattle.minus_term.specs.Puts.{puts}
-use Rattle.minus_term.specs.Refusals.{Refusal}
 use Rattle.minus_term.proofs.WrittenLaws.{IsClean-more}
 use Rattle.minus_text.specs.Layouts.{margin}
 use Rattle.minus_state.specs.declared.change.Redraw.{Redraw}
@@ -20,14 +19,13 @@ use Rattle.minus_state.specs.Redraws.{append_redraw, added_redraw}
 use Rattle.minus_state.specs.ShownPrompt.{prompt_row}
 use Rattle.minus.specs.declared.step_drawing.Drawing.{Drawing}
 use Rattle.minus.specs.declared.step_drawing.Drawing.TheVariants.{Nothing, Full, Append, Prompt}
-use Rattle.minus.specs.Asked.{Asks}
-use Rattle.minus.specs.Drawn.{most_of, most_puts, then_most, IsWithin, DrawsPrompts, IsDrawing}
-use Rattle.minus.specs.Joined.{appended_to, appended_all, append_told, appending, MayJoin, MayWorkJoined, WorkedAppendsJoin}
-use Rattle.minus.specs.Reads.{Told, a_command}
+use Rattle.minus.specs.Drawn.{most_puts, then_most, IsWithin, DrawsPrompts, IsDrawing}
+use Rattle.minus.specs.Joined.{appended_to, appended_all, append_told, appending, MayWorkJoined, WorkedAppendsJoin}
+use Rattle.minus.specs.Reads.{Told}
 use Rattle.minus.specs.Says.{Says}
 use Rattle.minus.specs.Seen.{Seen}
-use Rattle.minus.specs.Table.{Wanted, appends_data, adds_text, moved, drawing_by, end_hook}
-use Rattle.minus.specs.Works.{Work, work_of, reached, passed_in, is_full, some_full, IsQuiet, Takes, worked, Worked, first, more, IsNext, leaving}
+use Rattle.minus.specs.Table.{appends_data, adds_text, moved, drawing_by, end_hook}
+use Rattle.minus.specs.Works.{Work, reached, passed_in, some_full, IsQuiet, Takes, worked, Worked, first, more, IsNext, leaving}
 use Rattle.minus.proofs.JoinLaws.{quiet_reached, no_bound}
 use Rattle.minus.proofs.JoinedKindsLaws.{keeps_join}
 use Rattle.minus.proofs.JoinedLaws.{left_by, longer, on_show, twice, still, put_aside}

@@ -26,12 +26,12 @@ use Rattle.minus.specs.Reads.{Told}
 use Rattle.minus.specs.Seen.{Seen}
 use Rattle.minus.specs.Steps.{Took, TookWith, Fails, FailsWith, IsStep, IsUntouched, Refuses, IsSinkFault, is_passed}
 use Rattle.minus.specs.Handing.{Exit}
-use Rattle.minus.specs.Works.{Work, Takes, IsUnfit, Worked, first, more, passed, at_once, later, IsNext, IsAtRest, leaving, last_copied, passed_in}
+use Rattle.minus.specs.Works.{Work, IsUnfit, Worked, first, more, passed, at_once, later, IsNext, IsAtRest, leaving, last_copied, passed_in}
 use Rattle.minus.proofs.DrawnLaws.{nothing_drawn}
 use Rattle.minus.proofs.JoinLaws.{some_join, quiet_parts, quiet_reached, quiet_from}
 use Rattle.minus.proofs.LeavesLaws.{tail_there, leaves_more}
 use Rattle.minus.proofs.StartLaws.{Stays-rises}
-use Rattle.minus.proofs.WorksLaws.{some_works, last_passed, works_reach, status_kept, rows_kept, not_left}
+use Rattle.minus.proofs.WorksLaws.{some_works, last_passed, works_reach, status_kept, rows_kept}
 
 -- the works so far, and what they were drawn by
 abbrev pub SoFar : {Q K : Type 0} → Says Q K → Seen Q K → Told Q K → Option (List ℕ) → Option (List ℕ) → Seen Q K → List Refusal → Option (List ℕ) → Type 0

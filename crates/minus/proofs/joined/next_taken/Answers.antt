@@ -1,6 +1,5 @@
 -- The appends at the front in one go, or the command alone.
-use Rattle.std.proofs.Common.{◌≡◌, List, ◌∷◌, map, string_bytes, sym, ap, subst, ◌∙◌}
-use Rattle.minus_state.specs.declared.hooks.HookId.{HookId}
+use Rattle.std.proofs.Common.{◌∷◌, map, string_bytes, sym, ap, subst, ◌∙◌}
 use Rattle.minus_state.specs.Control.{Control, clamp}
 use Rattle.minus_state.specs.States.{control_of}
 use Rattle.minus.specs.Reads.{wanted_of}

@@ -1,5 +1,5 @@
 -- What the key comes to.
-use Rattle.std.proofs.Common.{rules, ◌≡◌, Some, refl, sym, ap, subst, ◌∙◌}
+use Rattle.std.proofs.Common.{rules, refl, sym, ap, subst, ◌∙◌}
 use Rattle.minus_state.specs.declared.change.Change.{Change}
 use Rattle.minus_state.specs.Changes.{IsChange}
 use Rattle.minus_state.specs.Control.{Control}

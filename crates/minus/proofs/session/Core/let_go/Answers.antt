@@ -1,8 +1,8 @@
 -- What is told of those that are left.
-use Rattle.std.proofs.Common.{◌≡◌, List, drop, map, sym, ap, ◌∙◌}
+use Rattle.std.proofs.Common.{map, sym, ap, ◌∙◌}
 use Rattle.std.proofs.lemmas.List.{drop-map}
 use Rattle.minus.specs.Core.{seen_of}
-use Rattle.minus.specs.Reads.{Told, told_of}
+use Rattle.minus.specs.Reads.{told_of}
 use Rattle.minus.specs.Works.{leaving}
 use Rattle.minus.proofs.session.Core.let_go.Goals as goal
 

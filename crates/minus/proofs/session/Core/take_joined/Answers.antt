@@ -1,5 +1,5 @@
 -- The appends behind it went with it.
-use Rattle.std.proofs.Common.{string_bytes, sym, ap, ◌∙◌}
+use Rattle.std.proofs.Common.{string_bytes}
 use Rattle.minus.specs.Says.{says_of}
 use Rattle.minus.proofs.JoinedTakeLaws.{taken_joined, untaken_gone, untaken_kept}
 use Rattle.minus.proofs.session.Core.take_joined.Goals as goal
