@@ -8,6 +8,8 @@ mod facts;
 #[cfg(test)]
 mod failing;
 #[cfg(test)]
+mod large;
+#[cfg(test)]
 mod memory;
 #[cfg(test)]
 mod random;
