@@ -1,7 +1,7 @@
 //! What the last of several commands draws.
 use super::{
-    CLEAR, COPY, ENTER, ESC, F_ROW, FIFTH_ROW, FOUR, FOURTH_ROW, LAST_PAGE, M_ROW, NEXT, ONE_OF_TWO,
-    OPEN, PREVIOUS, TEN, THIRD_ROW,
+    CLEAR, COPY, ENTER, ESC, F_ROW, FIFTH_ROW, FOUR, FOURTH_ROW, LAST_PAGE, M_ROW, NEXT,
+    ONE_OF_TWO, OPEN, PREVIOUS, TEN, THIRD_ROW,
 };
 use crate::helps::HELP_ROW;
 use crate::sessions::Asked::{
