@@ -35,8 +35,8 @@ abbrev pub appended_all : Control → List (List ℕ) → Control
 appended_all c [] = c
 appended_all c (text ∷ texts) = appended_all (appended_to c text) texts
 
--- appends may be worked off in one go: no search prompt is open, and help is open, or the page stays at its first row and nothing is
--- searched for
+-- appends may be worked off in one go: no search prompt is open, and help is open, or the page stays at its first row, does not go on
+-- with what is appended, and nothing is searched for
 pub record MayWorkJoined (c : Control) : Type 0 where
   pub closed : c.search ≡ None
   pub may : MayJoin c
