@@ -17,7 +17,9 @@ append_ops first were shown = rows_anew first (drop first shown) (were - max fir
 
 -- an append leads from the page of the old rows of text to that of the new ones, which agree up to the first that changed
 abbrev pub AppendShowsItsPage : Type 0
-AppendShowsItsPage = (rows first : ℕ) (old new : List (List ℕ)) (prompt : List ℕ) → length old < rows → length new < rows → first ≤ length new → take first old ≡ take first new → Draws (append_ops first (length old) new) (page_of rows old prompt) (page_of rows new prompt)
+AppendShowsItsPage =
+    (rows first : ℕ) (old new : List (List ℕ)) (prompt : List ℕ) → length old < rows → length new < rows → first ≤ length new → take first old ≡ take first new
+    → Draws (append_ops first (length old) new) (page_of rows old prompt) (page_of rows new prompt)
 
 -- it puts the rows from the first that changed on, and no others
 abbrev pub AppendPutsFew : Type 0

@@ -1,5 +1,6 @@
 -- What a sink tells: the bytes that it holds, how many of its calls it refused, and whether it is a terminal.
-use Rattle.std.specs.Prelude.{◌≡◌, ℕ, ◌+◌, ◌-◌, ◌^◌, ◌<◌, ◌≤◌, ◌==◌, ◌++◌, Bool, true, false, if◌then◌else◌, Option, None, Some, Result, Ok, Err, List, length, take, min, ⊤}
+use Rattle.std.specs.Prelude.{◌≡◌, ℕ, ◌+◌, ◌-◌, ◌^◌, ◌<◌, ◌≤◌, ◌==◌, ◌++◌, Bool, true, false, if◌then◌else◌, Option, None, Some, Result, Ok, Err, List, length}
+use Rattle.std.specs.Prelude.{take, min, ⊤}
 use Rattle.std.specs.Io.KnownBytes.{Appends}
 
 -- the bytes that a sink holds and the number of its calls that it refused, each where the sink tells it, and whether it is a terminal

@@ -1,5 +1,6 @@
 -- The drawing of a whole page.
 use Rattle.std.specs.Prelude.{◌≡◌, ℕ, ◌-◌, ◌<◌, ◌==◌, List, [], ◌∷◌, ◌++◌, length, replicate, flat_map, None, if◌then◌else◌}
+use Rattle.minus_term.specs.Marks.{page_len}
 use Rattle.minus_term.specs.Operations.{Op, ClearAll, ClearRow, GoTo, Return, NextRow, Put}
 use Rattle.minus_term.specs.PlayedScreen.{ShownPage, PlayedScreen, Shows, play_all}
 
@@ -17,8 +18,10 @@ full_ops rows shown prompt = GoTo 0 0 ∷ ClearAll ∷ flat_map row_ops shown ++
 
 -- the page of so many rows with these at its top, blank ones after them and the prompt in its last row
 abbrev pub page_of : ℕ → List (List ℕ) → List ℕ → ShownPage
-page_of rows shown prompt = record { texts = shown ++ replicate (rows - 1 - length shown) [] ++ prompt ∷ []; cursor = None }
+page_of rows shown prompt = record { texts = shown ++ replicate (page_len rows - length shown) [] ++ prompt ∷ []; cursor = None }
 
 -- the drawing of the whole page shows it, whatever the screen showed before
 abbrev pub FullRedrawShowsItsPage : Type 0
-FullRedrawShowsItsPage = (rows : ℕ) (shown : List (List ℕ)) (prompt : List ℕ) (s : PlayedScreen) → length s.texts ≡ rows → length shown < rows → Shows (play_all (full_ops rows shown prompt) s) (page_of rows shown prompt)
+FullRedrawShowsItsPage =
+    (rows : ℕ) (shown : List (List ℕ)) (prompt : List ℕ) (s : PlayedScreen) → length s.texts ≡ rows → length shown < rows
+    → Shows (play_all (full_ops rows shown prompt) s) (page_of rows shown prompt)

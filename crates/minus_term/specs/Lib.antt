@@ -2,6 +2,7 @@
 pub mod Operations
 pub mod PlayedScreen
 pub mod Puts
+pub mod Marks
 pub mod Counts
 pub mod FullRedraw
 pub mod Scroll

@@ -1,5 +1,6 @@
 -- A terminal's screen as far as it is known, and what operations leave of it.
-use Rattle.std.specs.Prelude.{◌≡◌, ℕ, ◌+◌, ◌-◌, nat_le, min, List, [], ◌∷◌, ◌++◌, length, map, take, drop, replicate, Option, Some, None, IfSome, slice_set, slice_index_or, if◌then◌else◌, Bool}
+use Rattle.std.specs.Prelude.{◌≡◌, ℕ, ◌+◌, ◌-◌, nat_le, min, List, [], ◌∷◌, ◌++◌, length, map, take, drop, replicate, Option, Some, None, IfSome, slice_set}
+use Rattle.std.specs.Prelude.{slice_index_or, if◌then◌else◌, Bool}
 use Rattle.std.specs.Option.{option_map}
 use Rattle.minus_term.specs.Operations.{Op, ClearAll, ClearRow, GoTo, Return, NextRow, Put, ScrollUp, ScrollDown, ShowCursor, HideCursor}
 
@@ -109,7 +110,8 @@ pub record IsBelow (s t : PlayedScreen) : Type 0 where
 
 -- what operations show on a screen of which nothing is known, they show on every screen with as many rows
 abbrev pub UnknownStandsForAll : Type 0
-UnknownStandsForAll = (ops : List Op) (page : ShownPage) (s : PlayedScreen) → Shows (play_all ops (unknown_screen (length s.texts))) page → Shows (play_all ops s) page
+UnknownStandsForAll =
+    (ops : List Op) (page : ShownPage) (s : PlayedScreen) → Shows (play_all ops (unknown_screen (length s.texts))) page → Shows (play_all ops s) page
 
 -- what a play makes known from a screen, it makes known from each screen of which more is known
 abbrev pub PlayIsMonotone : Type 0

@@ -27,7 +27,9 @@ closing_ops rows shown prompt = GoTo 0 rows ∷ ClearRow ∷ HideCursor ∷ full
 
 -- an opening leads from a page, whatever prompt stood there, to the page with the mark and the cursor behind it
 abbrev pub OpeningShowsItsPage : Type 0
-OpeningShowsItsPage = (rows : ℕ) (shown : List (List ℕ)) (old mark : List ℕ) → length shown < rows → Draws (opening_ops rows mark) (page_of rows shown old) (typed_page rows shown mark 1)
+OpeningShowsItsPage =
+    (rows : ℕ) (shown : List (List ℕ)) (old mark : List ℕ) → length shown < rows
+    → Draws (opening_ops rows mark) (page_of rows shown old) (typed_page rows shown mark 1)
 
 -- an opening puts no text but the mark, which is not counted, since it is put last and into the last row
 abbrev pub OpeningPutsNone : Type 0
@@ -35,12 +37,18 @@ OpeningPutsNone = (rows : ℕ) (mark : List ℕ) (s : PlayedScreen) → 1 ≤ ro
 
 -- a moved cursor leads from the page with the cursor at one column to the page with it at another
 abbrev pub CursorShowsItsPage : Type 0
-CursorShowsItsPage = (rows : ℕ) (shown : List (List ℕ)) (typed : List ℕ) (from to : ℕ) → length shown < rows → Draws (cursor_ops rows to) (typed_page rows shown typed from) (typed_page rows shown typed to)
+CursorShowsItsPage =
+    (rows : ℕ) (shown : List (List ℕ)) (typed : List ℕ) (from to : ℕ) → length shown < rows
+    → Draws (cursor_ops rows to) (typed_page rows shown typed from) (typed_page rows shown typed to)
 
 -- an edit shows its page and the cursor, whatever the screen showed before
 abbrev pub EditShowsItsPage : Type 0
-EditShowsItsPage = (rows : ℕ) (shown : List (List ℕ)) (typed : List ℕ) (cursor : ℕ) (s : PlayedScreen) → length s.texts ≡ rows → length shown < rows → Shows (play_all (edit_ops rows shown typed cursor) s) (typed_page rows shown typed cursor)
+EditShowsItsPage =
+    (rows : ℕ) (shown : List (List ℕ)) (typed : List ℕ) (cursor : ℕ) (s : PlayedScreen) → length s.texts ≡ rows → length shown < rows
+    → Shows (play_all (edit_ops rows shown typed cursor) s) (typed_page rows shown typed cursor)
 
 -- a closing shows its page, whatever the screen showed before
 abbrev pub ClosingShowsItsPage : Type 0
-ClosingShowsItsPage = (rows : ℕ) (shown : List (List ℕ)) (prompt : List ℕ) (s : PlayedScreen) → length s.texts ≡ rows → length shown < rows → Shows (play_all (closing_ops rows shown prompt) s) (page_of rows shown prompt)
+ClosingShowsItsPage =
+    (rows : ℕ) (shown : List (List ℕ)) (prompt : List ℕ) (s : PlayedScreen) → length s.texts ≡ rows → length shown < rows
+    → Shows (play_all (closing_ops rows shown prompt) s) (page_of rows shown prompt)

@@ -8,6 +8,7 @@ pub mod error;
 pub mod event;
 mod full_redraw;
 pub mod hooks;
+pub mod marks;
 mod page_parts;
 pub mod search_prompt;
 pub mod sink;
@@ -32,14 +33,14 @@ pub use event::{
 };
 pub use full_redraw::write_page;
 pub use hooks::Hook;
+pub use marks::{page_len, top_of};
 pub use page_parts::{
     write_closing_start, write_down_start, write_page_start, write_prompt_row, write_row,
     write_row_end, write_row_start, write_up_start,
 };
 pub use search_prompt::{
     closing_shows_its_page, cursor_shows_its_page, edit_shows_its_page, opening_puts_none,
-    opening_shows_its_page, write_search_closing, write_search_cursor, write_search_edit,
-    write_search_opening,
+    opening_shows_its_page, write_search_cursor, write_search_opening,
 };
 pub use sink::{OutputSink, draw_bytes, write_bytes};
 pub use term::{cleanup, setup};

@@ -1,7 +1,8 @@
-//! The parts of a page's drawing, each added to a buffer in few calls. An `Err` is for want of memory alone; it may leave
-//! some of a part behind.
+//! The parts of a page's drawing, each added to a buffer in few calls. An `Err` is for want of memory alone; it may
+//! leave some of a part behind.
 ghost use Rattle.std.specs.Prelude.{◌≡◌, [], ◌∷◌, ◌++◌, ◌-◌, ◌^◌, ◌<◌, ◌≤◌, OnOk};
 ghost use Rattle.minus_term.specs.FullRedraw.{prompt_ops, row_ops};
+ghost use Rattle.minus_term.specs.Marks.{page_len};
 ghost use Rattle.minus_term.specs.Operations.{ClearAll, ClearRow, GoTo, HideCursor, NextRow, Return, ScrollDown, ScrollUp};
 ghost use Rattle.minus_term.specs.Written.{written, written_all};
 
@@ -90,7 +91,7 @@ pub fn write_prompt_row(out: &mut Vec<u8>, rows: u16, prompt: &str) -> Result<()
 /// [`AllocError`] where there is no memory for the bytes: a beginning of them was added.
 pub fn write_down_start(out: &mut Vec<u8>, rows: u16, k: u16) -> Result<(), AllocError>
     requires some { 1 ≤ rows }
-    requires within { k ≤ rows - 1 }
+    requires within { k ≤ page_len rows }
     ensures { OnOk result (out.new.items
         ≡ out.old.items ++ written_all (ScrollUp k ∷ GoTo 0 (rows - k - 1) ∷ ClearRow ∷ [])) }
 {

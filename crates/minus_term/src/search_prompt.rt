@@ -1,16 +1,13 @@
 //! The drawings of the search prompt, added to a buffer, and their laws. They go to its row as the one after so many
 //! rows, since a terminal stops at the last.
-ghost use Rattle.std.specs.Prelude.{◌≡◌, ◌++◌, map, OnOk};
-ghost use Rattle.minus_term.specs.SearchPrompt.{opening_ops, cursor_ops, edit_ops, closing_ops};
+ghost use Rattle.std.specs.Prelude.{◌≡◌, ◌++◌, OnOk};
+ghost use Rattle.minus_term.specs.SearchPrompt.{opening_ops, cursor_ops};
 ghost use Rattle.minus_term.specs.SearchPrompt.{OpeningShowsItsPage, OpeningPutsNone, CursorShowsItsPage};
 ghost use Rattle.minus_term.specs.SearchPrompt.{EditShowsItsPage, ClosingShowsItsPage};
 ghost use Rattle.minus_term.specs.Written.{written_all};
 
 use crate::draw::{DrawOp, write_ops};
-use crate::full_redraw::write_page;
-use crate::page_parts::write_closing_start;
 use std::alloc::{AllocError, Global};
-use std::convert::AsStr;
 
 /// Adds the bytes that open the search prompt to a buffer: the last of so many rows is cleared, the mark, which takes
 /// one column, is put there, and the cursor is shown behind it, in column 1, counted from 0.
@@ -54,50 +51,6 @@ pub fn write_search_cursor(
     ensures { OnOk result (out.new.items ≡ out.old.items ++ written_all (cursor_ops rows cursor)) }
 {
     write_ops(alloc, out, &[DrawOp::GoTo(cursor, rows)])
-}
-
-/// Adds the bytes that draw an edit of the search prompt to a buffer: the whole page of so many rows, with these rows
-/// of text from its top and what is typed, the mark and the query behind it, in its last row; then the cursor goes to
-/// a column of that row, counted from 0.
-///
-/// # Errors
-///
-/// [`AllocError`] where there is no memory for the bytes: those of the first of the operations were added.
-pub fn write_search_edit<R: AsStr>(
-    alloc: Global,
-    out: &mut Vec<u8>,
-    rows: u16,
-    shown: &[R],
-    typed: &str,
-    cursor: u16,
-) -> Result<(), AllocError>
-    ensures { OnOk result (out.new.items
-        ≡ out.old.items ++ written_all (edit_ops rows (map R.text shown.now) typed.now cursor)) }
-{
-    write_page(out, rows, shown, typed)?;
-    write_search_cursor(alloc, out, rows, cursor)?;
-    Ok(())
-}
-
-/// Adds the bytes that close the search prompt to a buffer: the last of so many rows is cleared and the cursor hidden;
-/// then the whole page is drawn, with these rows of text from its top and the prompt in its last row.
-///
-/// # Errors
-///
-/// [`AllocError`] where there is no memory for the bytes: those of the first of the operations were added.
-pub fn write_search_closing<R: AsStr>(
-    alloc: Global,
-    out: &mut Vec<u8>,
-    rows: u16,
-    shown: &[R],
-    prompt: &str,
-) -> Result<(), AllocError>
-    ensures { OnOk result (out.new.items
-        ≡ out.old.items ++ written_all (closing_ops rows (map R.text shown.now) prompt.now)) }
-{
-    write_closing_start(out, rows)?;
-    write_page(out, rows, shown, prompt)?;
-    Ok(())
 }
 
 /// A law: an opening leads from a page, whatever prompt stood there, to the page with the mark and the cursor behind

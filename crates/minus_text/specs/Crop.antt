@@ -32,6 +32,10 @@ abbrev pub shown_unit : ℕ → ℕ → ℕ → ℕ → List ℕ → List (List 
 shown_unit left width at last unit =
     if is_shown left width at last unit then unit ∷ [] else replicate (columns_inside left width at (unit_columns unit)) (32 ∷ [])
 
+-- its text
+abbrev pub shown_unit_text : ℕ → ℕ → ℕ → ℕ → List ℕ → List ℕ
+shown_unit_text left width at last unit = encode_utf8_all (concat (shown_unit left width at last unit))
+
 -- what is shown of units that follow others
 abbrev pub shown_units : ℕ → ℕ → List (List ℕ) → List (List ℕ) → List (List ℕ)
 shown_units left width before [] = []

@@ -81,7 +81,8 @@ MatchesAs pattern other = (text : List ℕ) → ((k : ℕ) → slice_index text 
 
 -- a text that is a pattern: it is refused for want of memory or for its size alone
 abbrev pub IsPatternText : List ℕ → Type 0
-IsPatternText source = (e : Error) → IsRefusal default_config source e → IsRightKind default_config source e → e ≢ Internal → (e ≡ OutOfMemory) ⊎ (e ≡ CompiledTooBig)
+IsPatternText source =
+    (e : Error) → IsRefusal default_config source e → IsRightKind default_config source e → e ≢ Internal → (e ≡ OutOfMemory) ⊎ (e ≡ CompiledTooBig)
 
 -- what the call answers then
 abbrev pub IsPatternRefusal : MinusError → Type 0

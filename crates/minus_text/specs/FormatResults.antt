@@ -6,11 +6,13 @@ use Rattle.minus_text.specs.declared.screen.FormatResult.{FormatResult}
 use Rattle.minus_text.specs.declared.formed.Plan.{Plan}
 use Rattle.minus_text.specs.declared.line_numbers.LineNumbers.{LineNumbers}
 use Rattle.minus_text.specs.Lines.{unfinished_line}
-use Rattle.minus_text.specs.Document.{Document, rows_of, first_rows, open_rows, longest_of, unfinished_rows, plan_of}
+use Rattle.minus_text.specs.Document.{Document, rows_of, wrap_in, first_rows, open_rows, longest_of, unfinished_rows, plan_of}
 use Rattle.minus_text.specs.Fragments.{Fragment, rows_in}
 use Rattle.minus_text.specs.Found.{RowMatches, found_by, found_from, row_numbers}
+use Rattle.minus_text.specs.Searched.{Searched, SearchedPush, IsFoundBy, IsFoundInPush}
 
--- a result tells of a fragment formed: its counts of lines and rows, its unfinished rows, these rows as those that match, the first row of each line where its first row has a number, its longest line, and whether nothing was attached
+-- a result tells of a fragment formed: its counts of lines and rows, its unfinished rows, these rows as those that match, the first row
+-- of each line where its first row has a number, its longest line, and whether nothing was attached
 pub record TellsWith (result : FormatResult) (matches : List ℕ) (formed : Fragment) (first_row : ℕ) (clean : Bool) : Type 0 where
   pub lines_told : result.lines_formatted ≡ length (lines formed.text)
   pub rows_told : result.rows_formatted ≡ length (rows_in formed)
@@ -23,6 +25,10 @@ pub record TellsWith (result : FormatResult) (matches : List ℕ) (formed : Frag
 -- a result tells of a formed fragment, and its matches are the rows in which a term is found
 abbrev pub Tells : FormatResult → Option Re → Fragment → ℕ → Bool → Type 0
 Tells result term formed first_row clean = TellsWith result (row_numbers (found_by term first_row (rows_in formed))) formed first_row clean
+
+-- a result tells of a document that was formed whole
+abbrev pub TellsAll : FormatResult → Option Re → Document → Type 0
+TellsAll result term d = Tells result term (record { text = d.text; wrap = wrap_in d }) 0 true
 
 -- what a push forms: the unfinished line and the piece, or the whole text and the piece where all is formed anew
 abbrev pub formed_by : List ℕ → List ℕ → Plan → Fragment
@@ -44,7 +50,16 @@ TellsPlan result term d piece plan = Tells result term (formed_by d.text piece p
 abbrev pub TellsPush : FormatResult → Option Re → Document → List ℕ → LineNumbers → ℕ → Type 0
 TellsPush result term d piece numbers cols = TellsPlan result term d piece (plan_of d piece numbers cols)
 
+-- a result tells of a push onto a document that was searched for a term; or of one that was prepared and searched for it, too
+abbrev pub TellsPushOn : FormatResult → Option Re → Searched → List ℕ → LineNumbers → ℕ → Type 0
+TellsPushOn result term s piece numbers cols = IsFoundBy term s → TellsPush result term s.document piece numbers cols
+
+abbrev pub TellsPrepared : FormatResult → Option Re → Searched → List ℕ → SearchedPush → Type 0
+TellsPrepared result term s piece p =
+    IsFoundBy term s → IsFoundInPush term p → TellsPush result term s.document piece p.push.numbers p.push.cols
+
 -- a result tells of a push, and of the rows that it forms those in which something was found
 abbrev pub TellsFound : FormatResult → List RowMatches → Document → List ℕ → LineNumbers → ℕ → Type 0
 TellsFound result found d piece numbers cols =
-    (let plan = plan_of d piece numbers cols in TellsWith result (row_numbers (found_from (first_formed d plan) found)) (formed_by d.text piece plan) (first_formed d plan) (is_clean d.text plan))
+    (let plan = plan_of d piece numbers cols in TellsWith result (row_numbers (found_from (first_formed d plan) found))
+        (formed_by d.text piece plan) (first_formed d plan) (is_clean d.text plan))

@@ -1,5 +1,6 @@
 -- What a term finds in rows.
-use Rattle.std.specs.Prelude.{◌≡◌, ℕ, ◌+◌, ◌≤◌, ◌==◌, false, List, [], ◌∷◌, ◌++◌, map, Option, None, Some, take, drop, slice_get, if◌then◌else◌, nat_le}
+use Rattle.std.specs.Prelude.{◌≡◌, ℕ, ◌+◌, ◌-◌, ◌≤◌, ◌==◌, false, List, [], ◌∷◌, ◌++◌, map, Option, None, Some, IfSome, take, drop, slice_get, nat_le}
+use Rattle.std.specs.Prelude.{if◌then◌else◌}
 use Rattle.std.specs.List.{position_or_len}
 use Rattle.std.specs.Coded.{le_prop}
 use Rattle.regex.specs.Patterns.{Re}
@@ -26,6 +27,10 @@ found_in_rows pattern n (row ∷ rows) = found_in_row pattern n row ++ found_in_
 abbrev pub found_by : Option Re → ℕ → List (List ℕ) → List RowMatches
 found_by None n rows = []
 found_by (Some pattern) n rows = found_in_rows pattern n rows
+
+-- what a pattern finds in the rows from one on up to another, as far as there are rows
+abbrev pub found_between : Re → List (List ℕ) → (start end : ℕ) → List RowMatches
+found_between pattern rows start end = found_in_rows pattern start (take (end - start) (drop start rows))
 
 -- what was found in the rows before one
 abbrev pub found_above : ℕ → List RowMatches → List RowMatches
@@ -65,6 +70,14 @@ IsPlacedIn first rows r = (i : ℕ) (row : List ℕ) → r.row ≡ first + i →
 abbrev pub ArePlaced : ℕ → List (List ℕ) → List RowMatches → Type 0
 ArePlaced first rows [] = Unit {0}
 ArePlaced first rows (r ∷ rs) = IsPlacedIn first rows r × ArePlaced first rows rs
+
+-- what was found in the row at a place of these rows, if something was, stands in it
+abbrev pub ArePlacedAt : List (List ℕ) → ℕ → List RowMatches → Type 0
+ArePlacedAt rows i found = (row : List ℕ) → slice_get rows i ≡ Some row → IfSome (found_of_row i found) (λ r. IsPlaced row r)
+
+-- where the first of these is what a term finds in rows, so is the second
+abbrev pub StaysFound : Option Re → List (List ℕ) → (old new : List RowMatches) → Type 0
+StaysFound term rows old new = old ≡ found_by term 0 rows → new ≡ found_by term 0 rows
 
 -- their numbers ascend, from one on
 abbrev pub Ascend : ℕ → List RowMatches → Type 0

@@ -32,4 +32,5 @@ numbers_with (f ∷ fs) keys = numbers_with fs (insert_key nat_cmp keys f.row)
 -- what a term finds in the rows that a push leaves: what it found in those that stay, and what it finds in those that are formed
 abbrev pub FoundGoesOn : Type 0
 FoundGoesOn = (term : Option Re) (d : Document) (piece : List ℕ) (numbers : LineNumbers) (cols : ℕ) (p : Pending) → IsPending d piece numbers cols p
-    → found_above p.kept_rows (found_by term 0 (rows_of d)) ++ found_by term p.kept_rows (rows_in p.tail) ≡ found_by term 0 (rows_of (pushed d piece numbers cols))
+    → found_above p.kept_rows (found_by term 0 (rows_of d)) ++ found_by term p.kept_rows (rows_in p.tail)
+    ≡ found_by term 0 (rows_of (pushed d piece numbers cols))

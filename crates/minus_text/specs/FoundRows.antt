@@ -1,14 +1,25 @@
 -- What the rows that are found, and what finds them, stand for.
 use Rattle.regex.specs.Patterns.{Re}
 use Rattle.regex.specs.Strings.{matcher_pattern, regex_pattern}
-use Rattle.std.specs.Prelude.{Option, option_map}
+use Rattle.std.specs.Prelude.{◌≡◌, ℕ, ◌+◌, List, ◌++◌, map, Option, option_map, slice_get}
 use Rattle.minus_text.specs.declared.search.found.FoundRow.{FoundRow}
 use Rattle.minus_text.specs.declared.search.found.Finder.{Finder}
 use Rattle.minus_text.specs.declared.search.term.Term.{Term}
-use Rattle.minus_text.specs.Found.{RowMatches}
+use Rattle.minus_text.specs.Found.{RowMatches, ArePlaced}
 
 abbrev pub matches_of : FoundRow → RowMatches
 matches_of f = record { row = f.row; escapes = f.escapes.items; matches = f.matches.items }
+
+-- this was found, and stands behind what was found before
+abbrev pub AddsFound : (old new : List FoundRow) → List RowMatches → Type 0
+AddsFound old new found = map matches_of new ≡ map matches_of old ++ found
+
+-- what was found in a row with a number, if there is one, was added: among the rows from the first of which on it is that one, the old ones
+-- and the new ones stand
+abbrev pub StaysPlaced : ℕ → Option (List ℕ) → (old new : List FoundRow) → Type 0
+StaysPlaced n row old new =
+    (first : ℕ) (rows : List (List ℕ)) (i : ℕ) → n ≡ first + i → row ≡ slice_get rows i → ArePlaced first rows (map matches_of old)
+    → ArePlaced first rows (map matches_of new)
 
 -- the pattern that it finds
 abbrev pub finder_pattern : Finder → Re

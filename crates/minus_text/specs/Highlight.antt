@@ -1,5 +1,6 @@
 -- A line with the matches of a pattern shown in reverse: the stripped line, with markers and escape sequences put in at places.
-use Rattle.std.specs.Prelude.{◌≡◌, ℕ, Bool, true, false, List, [], ◌∷◌, ◌++◌, map, drop, take, slice_range, codes, is_some, if◌then◌else◌, nat_le, IsCharBoundary, ◌≤◌}
+use Rattle.std.specs.Prelude.{◌≡◌, ℕ, Bool, true, false, List, [], ◌∷◌, ◌++◌, map, drop, take, slice_range, codes, is_some, if◌then◌else◌, nat_le}
+use Rattle.std.specs.Prelude.{IsCharBoundary, ◌≤◌}
 use Rattle.std.specs.List.{position_or_len}
 use Rattle.std.specs.Coded.{le_prop}
 use Rattle.regex.specs.Patterns.{Re, find_str}

@@ -55,16 +55,21 @@ pub record IsBorder (line : List ℕ) (border : Border) : Type 0 where
   pub adds : (more : List ℕ) → IsUtf8 more → columns (take border.bytes line ++ more) ≡ border.columns + columns more
   pub keeps : (more : List ℕ) → strip_carriage_return (take border.bytes line ++ more) ≡ take border.bytes line ++ strip_carriage_return more
 
--- however an unfinished line goes on, its first rows stay, and the others are those formed from a place on; so do their places, whether a newline ends the line then or not
+-- however an unfinished line goes on, its first rows stay, and the others are those formed from a place on; so do their places, whether
+-- a newline ends the line then or not
 pub record GoesOn (wrap : Wrap) (line : List ℕ) (rows at : ℕ) : Type 0 where
   pub boundary : IsCharBoundary line at
   pub few : rows ≤ length (open_rows wrap line)
   pub some_left : 0 < length line → at < length line
-  pub open_go_on : (more : List ℕ) → IsUtf8 (line ++ more) → open_rows wrap (line ++ more) ≡ take rows (open_rows wrap line) ++ open_rows wrap (drop at line ++ more)
-  pub ended_go_on : (more : List ℕ) → IsUtf8 (line ++ more) → own_rows wrap (strip_carriage_return (line ++ more)) ≡ take rows (open_rows wrap line) ++ own_rows wrap (strip_carriage_return (drop at line ++ more))
-  pub open_places : (n : ℕ) (more : List ℕ) → IsUtf8 (line ++ more) → open_stored wrap n (line ++ more) ≡ take rows (open_stored wrap n line) ++ open_stored wrap (n + at) (drop at line ++ more)
+  pub open_go_on :
+      (more : List ℕ) → IsUtf8 (line ++ more) → open_rows wrap (line ++ more) ≡ take rows (open_rows wrap line) ++ open_rows wrap (drop at line ++ more)
+  pub ended_go_on : (more : List ℕ) → IsUtf8 (line ++ more)
+      → own_rows wrap (strip_carriage_return (line ++ more)) ≡ take rows (open_rows wrap line) ++ own_rows wrap (strip_carriage_return (drop at line ++ more))
+  pub open_places : (n : ℕ) (more : List ℕ) → IsUtf8 (line ++ more)
+      → open_stored wrap n (line ++ more) ≡ take rows (open_stored wrap n line) ++ open_stored wrap (n + at) (drop at line ++ more)
   pub ended_places : (n : ℕ) (more : List ℕ) → IsUtf8 (line ++ more)
-      → line_stored wrap n (strip_carriage_return (line ++ more)) ≡ take rows (open_stored wrap n line) ++ line_stored wrap (n + at) (strip_carriage_return (drop at line ++ more))
+      → line_stored wrap n (strip_carriage_return (line ++ more)) ≡ take rows (open_stored wrap n line)
+      ++ line_stored wrap (n + at) (strip_carriage_return (drop at line ++ more))
 
 -- where forming goes on in an unfinished line, in some wrapping
 pub record IsRestart (wrap : Wrap) (line : List ℕ) (start : Restart) : Type 0 where
@@ -87,7 +92,8 @@ pub record IsFormOf (wrap : Wrap) (line piece : List ℕ) (start : Restart) (f :
 abbrev pub at_start : Finished
 at_start = record { lines = 0; rows = 0; bytes = 0; longest = 0 }
 
--- what is kept beside a text are the places of its rows, the first row of each line, how far its finished lines go, its longest line, and how far its unfinished line is measured
+-- what is kept beside a text are the places of its rows, the first row of each line, how far its finished lines go, its longest line,
+-- and how far its unfinished line is measured
 pub record IsFormed (text : List ℕ) (wrap : Wrap) (rows : List Span) (map : List ℕ) (finished : Finished) (longest_line : ℕ) (border : Border) : Type 0 where
   pub its_rows : rows ≡ stored_from wrap 0 (cut text)
   pub its_count : length rows ≡ length (rows_of_lines wrap (lines text))
@@ -114,7 +120,8 @@ pub record IsRestartOf (text : List ℕ) (plan : Plan) (start : Restart) : Type 
 -- what is formed beside a text, whatever unfinished line its beginning goes on in
 pub record IsPrepared (wrap : Wrap) (tail : List ℕ) (start : Restart) (f : Formed) : Type 0 where
   pub its_rows : f.rows.items ≡ stored_from wrap (start.finished.bytes + start.bytes) (cut tail)
-  pub its_form : (line piece : List ℕ) → IsRestart wrap line start → IsUtf8 (line ++ piece) → tail ≡ drop start.bytes line ++ piece → IsFormOf wrap line piece start f
+  pub its_form :
+      (line piece : List ℕ) → IsRestart wrap line start → IsUtf8 (line ++ piece) → tail ≡ drop start.bytes line ++ piece → IsFormOf wrap line piece start f
 
 -- and it has numbers to spare
 abbrev pub IsPreparedPush : Wrap → List ℕ → Restart → Formed → Type 0
@@ -126,7 +133,9 @@ GoesOnInSome wrap text start = (line : List ℕ) × (piece : List ℕ) × IsRest
 
 -- in whatever unfinished line a text goes on, the line is measured up to a border then
 abbrev pub IsBorderOfEach : List ℕ → Restart → Border → Type 0
-IsBorderOfEach text start border = (wrap : Wrap) (line piece : List ℕ) → IsRestart wrap line start → IsUtf8 (line ++ piece) → text ≡ drop start.bytes line ++ piece → IsBorder (line ++ piece) border
+IsBorderOfEach text start border =
+    (wrap : Wrap) (line piece : List ℕ) → IsRestart wrap line start → IsUtf8 (line ++ piece) → text ≡ drop start.bytes line ++ piece
+    → IsBorder (line ++ piece) border
 
 -- whatever is formed of a text, its first rows ascend behind those that are kept
 abbrev pub AscendsBehind : Wrap → List ℕ → Restart → List ℕ → Type 0

@@ -10,7 +10,8 @@ use Rattle.minus_text.specs.Rows.{line_places}
 -- a hyphen stands before a place, between ASCII letters or digits of a row that begins at another place
 abbrev pub is_behind_joint : List ℕ → ℕ → ℕ → Bool
 is_behind_joint line start place =
-    nat_le (start + 2) place && ((slice_index line (place - 1) == 45) && (is_ascii_alphanumeric (slice_index line (place - 2)) && is_ascii_alphanumeric (slice_index line place)))
+    nat_le (start + 2) place && ((slice_index line (place - 1) == 45)
+    && (is_ascii_alphanumeric (slice_index line (place - 2)) && is_ascii_alphanumeric (slice_index line place)))
 
 -- the row may end before a place: at a space, or behind such a hyphen
 abbrev pub is_cut : List ℕ → ℕ → ℕ → Bool

@@ -7,7 +7,8 @@ use Rattle.minus_text.specs.Document.{Document, rows_of, line_map, wrap_in, plan
 use Rattle.minus_text.specs.Fragments.{Fragment, rows_in}
 use Rattle.minus_text.specs.Kept.{IsRestartOf}
 
--- how many rows and lines stay, the first rows of the lines that follow, where that begins, the fragment whose rows follow, and the numbers and columns of the push
+-- how many rows and lines stay, the first rows of the lines that follow, where that begins, the fragment whose rows follow, and the
+-- numbers and columns of the push
 pub record Pending : Type 0 where
   pub kept_rows : ℕ
   pub kept_lines : ℕ

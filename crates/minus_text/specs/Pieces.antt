@@ -1,5 +1,5 @@
 -- The pieces of a line for some columns. A line is here the list of its characters.
-use Rattle.std.specs.Prelude.{ℕ, ◌+◌, ◌-◌, ◌==◌, ◌&&◌, Bool, false, List, [], ◌∷◌, ◌++◌, length, take, drop, replicate, if◌then◌else◌}
+use Rattle.std.specs.Prelude.{◌≡◌, ℕ, ◌+◌, ◌-◌, ◌==◌, ◌&&◌, Bool, false, List, [], ◌∷◌, ◌++◌, length, take, drop, replicate, if◌then◌else◌}
 use Rattle.std.specs.List.{sum_by, prefix_len, position_or_len, flat_map, concat}
 use Rattle.std.specs.Char.{is_ascii_alphanumeric}
 use Rattle.minus_text.specs.Cuts.{cuts}
@@ -37,6 +37,10 @@ abbrev pub part_len_after : Bool → List ℕ → ℕ
 part_len_after before [] = 0
 part_len_after before (c ∷ cs) =
     if before && ((c == 45) && begins_alphanumeric cs) then 1 else 1 + part_len_after (is_ascii_alphanumeric c) cs
+
+-- the whole text is its first part
+abbrev pub IsOnePart : List ℕ → Type 0
+IsOnePart cs = part_len_after false cs ≡ length cs
 
 -- the parts of a word's body, cut after each hyphen between ASCII letters or digits
 abbrev pub parts : List ℕ → List (List ℕ)

@@ -46,7 +46,8 @@ none_left fits xs r x e f h =
     let some : 0 < length r = h.some in
     omega arith
 
-pub same_runs : {X : Type 0} (fits : List X → Bool) (rule : IsFitRule fits) (xs : List X) (rs ss : List (List X)) → AreRuns fits xs rs → AreRuns fits xs ss → rs ≡ ss
+pub same_runs :
+    {X : Type 0} (fits : List X → Bool) (rule : IsFitRule fits) (xs : List X) (rs ss : List (List X)) → AreRuns fits xs rs → AreRuns fits xs ss → rs ≡ ss
 same_runs fits rule xs [] [] h k = refl
 same_runs fits rule xs [] (s ∷ ss) h k = absurd (none_left fits xs s k.0 h k.1 k.2)
 same_runs fits rule xs (r ∷ rs) [] h k = absurd (none_left fits xs r h.0 k h.1 h.2)
@@ -62,13 +63,15 @@ runs_from : {X : Type 0} → (List X → Bool) → List X → List X → List (L
 runs_from fits run [] = run ∷ []
 runs_from fits run (x ∷ xs) = cond (fits (run ++ x ∷ [])) (runs_from fits (run ++ x ∷ []) xs) (run ∷ runs_from fits (x ∷ []) xs)
 
-runs_from-are : {X : Type 0} (fits : List X → Bool) (rule : IsFitRule fits) (run xs : List X) → 0 < length run → fits run ≡ true → AreRuns fits (run ++ xs) (runs_from fits run xs)
+runs_from-are : {X : Type 0} (fits : List X → Bool) (rule : IsFitRule fits) (run xs : List X) → 0 < length run → fits run ≡ true
+    → AreRuns fits (run ++ xs) (runs_from fits run xs)
 unfolding runs_from
 runs_from-are fits rule run [] some fitting = ([], refl, record { some = some; fitting = fitting; full = tt }, refl)
 runs_from-are fits rule run (x ∷ xs) some fitting =
     elim (cases_Bool (fits (run ++ x ∷ []))) [
       | inl e ↦
-          let h : AreRuns fits ((run ++ x ∷ []) ++ xs) (runs_from fits (run ++ x ∷ []) xs) = runs_from-are fits rule (run ++ x ∷ []) xs (omega (arith, length-append run (x ∷ []))) e in
+          let h : AreRuns fits ((run ++ x ∷ []) ++ xs) (runs_from fits (run ++ x ∷ []) xs)
+              = runs_from-are fits rule (run ++ x ∷ []) xs (omega (arith, length-append run (x ∷ []))) e in
           rw e (rw (append_assoc run (x ∷ []) xs) at h)
       | inr e ↦
           rw e (x ∷ xs, refl, record { some = some; fitting = fitting; full = e }, runs_from-are fits rule (x ∷ []) xs (omega arith) (rule.one x))

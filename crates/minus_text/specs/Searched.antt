@@ -44,6 +44,10 @@ IsFoundBetween term s start end = (i : ℕ) → start ≤ i → i < end → IsFo
 abbrev pub IsFoundInPush : Option Re → SearchedPush → Type 0
 IsFoundInPush term p = p.found ≡ found_by term p.push.kept_rows (rows_in p.push.tail)
 
+-- where a term finds what was found in a document and in a push, it finds what is found then
+abbrev pub FindsOn : Option Re → (old : Searched) → SearchedPush → (new : Searched) → Type 0
+FindsOn term old p new = IsFoundBy term old → IsFoundInPush term p → IsFoundBy term new
+
 -- a row with the matches of a term shown in reverse, not accurately
 abbrev pub shown_for : Option Re → List ℕ → List ℕ
 shown_for None row = row
@@ -52,7 +56,8 @@ shown_for (Some pattern) row = highlighted pattern false row
 -- the stored rows of lines under a term, of which the first has a number
 abbrev pub stored_lines_for : Option Re → Wrap → Bool → ℕ → ℕ → List (List ℕ) → List (List ℕ)
 stored_lines_for term wrap numbers count line [] = []
-stored_lines_for term wrap numbers count line (x ∷ xs) = stored_line numbers count line (map (shown_for term) (own_rows wrap x)) ++ stored_lines_for term wrap numbers count (line + 1) xs
+stored_lines_for term wrap numbers count line (x ∷ xs) =
+    stored_line numbers count line (map (shown_for term) (own_rows wrap x)) ++ stored_lines_for term wrap numbers count (line + 1) xs
 
 -- the stored rows of a document under a term: what stands before each row, and the row with its matches shown in reverse
 unfoldable pub stored_rows_for : Option Re → Document → List (List ℕ)
@@ -60,7 +65,8 @@ stored_rows_for term d = stored_lines_for term (wrap_in d) (is_on d.layout.numbe
 
 -- a row, if there is one, with its matches shown in reverse and this before it, under whatever term it was searched for
 abbrev pub IsRowBehind : List ℕ → Searched → ℕ → Option (List ℕ) → Type 0
-IsRowBehind before s i row = (term : Option Re) → IsFoundAt term s i → row ≡ option_map (λ text. before ++ shown_for term text) (slice_get (rows_of s.document) i)
+IsRowBehind before s i row =
+    (term : Option Re) → IsFoundAt term s i → row ≡ option_map (λ text. before ++ shown_for term text) (slice_get (rows_of s.document) i)
 
 -- a row, if there is one, with its matches shown in reverse and nothing before it
 abbrev pub IsHighlightedRow : Searched → ℕ → Option (List ℕ) → Type 0

@@ -1,6 +1,7 @@
 -- Which matches of a row are shown in some columns of it, from `left` on up to but without `left + width`, and the row with
 -- these alone in reverse.
-use Rattle.std.specs.Prelude.{◌≡◌, ℕ, ◌+◌, ◌-◌, ◌==◌, Bool, true, false, nat_lt, min, max, List, [], ◌∷◌, ◌++◌, length, take, slice_range, chars, Option, None, Some, if◌then◌else◌}
+use Rattle.std.specs.Prelude.{◌≡◌, ℕ, ◌+◌, ◌-◌, ◌==◌, Bool, true, false, nat_lt, min, max, List, [], ◌∷◌, ◌++◌, length, take, slice_range, chars, Option, None}
+use Rattle.std.specs.Prelude.{Some, if◌then◌else◌}
 use Rattle.std.specs.List.{filter, list_all}
 use Rattle.std.specs.Str.{encode_utf8_all}
 use Rattle.regex.specs.Patterns.{Re}
@@ -10,6 +11,7 @@ use Rattle.minus_text.specs.TextUnits.{text_units}
 use Rattle.minus_text.specs.Escapes.{stripped, escapes, outside, inside}
 use Rattle.minus_text.specs.Highlight.{line_match_places, ordered, put_in, reverse_on, reverse_off}
 use Rattle.minus_text.specs.Found.{RowMatches}
+use Rattle.minus_text.specs.Crop.{cropped}
 
 -- the columns before a place of a text: those of its units that begin before it
 abbrev pub columns_before : ℕ → List (List ℕ) → ℕ
@@ -32,6 +34,10 @@ shown_matches left width text ms = filter (shows_match left width (text_units (c
 abbrev pub reversed_in : ℕ → ℕ → List ℕ → List (ℕ × ℕ) → List (ℕ × List ℕ) → List ℕ
 reversed_in left width text ms es = put_in text 0 (ordered false (shown_matches left width text ms) es)
 
+-- a row with these escape sequences, and with these matches of what is left without them in reverse
+abbrev pub reversed_at : ℕ → ℕ → List ℕ → (escapes matches : List (ℕ × ℕ)) → List ℕ
+reversed_at left width row escapes matches = reversed_in left width (outside row 0 escapes) matches (inside row 0 0 escapes)
+
 -- a row with the matches of a term that are shown in some columns in reverse; the columns are those of the row without its
 -- escape sequences, which stay
 unfoldable pub highlighted_within : Re → ℕ → ℕ → List ℕ → List ℕ
@@ -44,7 +50,11 @@ shown_within (Some pattern) left width row = highlighted_within pattern left wid
 -- a row with what was found in it and is shown in some columns in reverse
 abbrev pub marked_within : ℕ → ℕ → Option RowMatches → List ℕ → List ℕ
 marked_within left width None row = row
-marked_within left width (Some r) row = reversed_in left width (outside row 0 r.escapes) r.matches (inside row 0 0 r.escapes)
+marked_within left width (Some r) row = reversed_at left width row r.escapes r.matches
+
+-- what is shown of it in these columns
+abbrev pub cropped_match : ℕ → ℕ → RowMatches → List ℕ → List ℕ
+cropped_match left width r row = cropped left width (marked_within left width (Some r) row)
 
 -- a text is printable ASCII up to a place and there, and has no ESC: so far each of its bytes is a column
 abbrev pub IsPlainTo : ℕ → List ℕ → Type 0
@@ -58,3 +68,8 @@ marked_stretch text at end (m ∷ ms) =
     let stop = min m.1 end in
     if nat_lt start stop then slice_range text at start ++ (reverse_on ++ (slice_range text start stop ++ (reverse_off ++ marked_stretch text stop end ms)))
     else marked_stretch text at end ms
+
+-- the first of the matches that a stretch of a text has from a place on was added to bytes, and the stretch goes on from another place
+abbrev pub AddsMatch : (old new text : List ℕ) → (at next end : ℕ) → ℕ × ℕ → Type 0
+AddsMatch old new text at next end place =
+    (ms : List (ℕ × ℕ)) → new ++ marked_stretch text next end ms ≡ old ++ marked_stretch text at end (place ∷ ms)

@@ -32,6 +32,10 @@ units cs = cuts unit_len cs
 abbrev pub unit_columns : List ℕ → ℕ
 unit_columns u = if begins_sequence u then 0 else sum_by char_columns u
 
+-- the columns of a text, unit by unit
+abbrev pub unit_columns_in : List ℕ → ℕ
+unit_columns_in cs = sum_by unit_columns (units cs)
+
 -- a text without the spaces that end it
 abbrev pub body_of : List ℕ → List ℕ
 body_of [] = []

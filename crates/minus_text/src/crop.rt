@@ -6,7 +6,7 @@ ghost use Rattle.minus_text.specs.Plain.{is_printable, is_unescaped};
 ghost use Rattle.minus_text.specs.RowText.{IsUnescapedFrom};
 ghost use Rattle.minus_text.specs.Units.{unit_columns, columns, begins_sequence};
 ghost use Rattle.minus_text.specs.ShownMatches.{meets, IsPlainTo};
-ghost use Rattle.minus_text.specs.Crop.{is_inside, columns_inside, is_shown_behind, is_shown, shown_unit, cropped, fitted, CroppedFits, FittedTextsFill};
+ghost use Rattle.minus_text.specs.Crop.{is_inside, columns_inside, is_shown_behind, is_shown, shown_unit_text, cropped, fitted, CroppedFits, FittedTextsFill};
 
 use crate::row_text::RowText;
 use crate::screen::Row;
@@ -105,7 +105,7 @@ impl Window {
         requires sequence { unit.is_sequence ≡ begins_sequence (chars unit.text.now) }
         ensures { OnOk result (string_bytes row.new
             ≡ string_bytes row.old
-            ++ encode_utf8_all (concat (shown_unit self.left self.width at last (chars unit.entry.text.now)))) }
+            ++ shown_unit_text self.left self.width at last (chars unit.entry.text.now)) }
     {
         if self.is_shown(at, last, unit) {
             row.push_str(unit.text)?;
@@ -141,8 +141,8 @@ fn is_unescaped_behind(rest: &[u8], at: usize, escapes_end: usize) -> bool
     are_unescaped(rest)
 }
 
-// Whether a text is printable ASCII up to the first column behind those that are shown, and has no ESC. Where it is known
-// to have none from a place before on, no character behind that one is read.
+// Whether a text is printable ASCII up to the first column behind those that are shown, and has no ESC. Where it is
+// known to have none from a place before on, no character behind that one is read.
 fn is_plain_in(text: &str, window: Window, escapes_end: usize) -> bool
     requires { IsUnescapedFrom escapes_end text.now }
     ensures { IsTrue result → IsPlainTo (window.left + window.width) text.now }
@@ -209,9 +209,9 @@ impl<'t> RowText<'t> {
     ghost use Rattle.minus_text.specs.ShownMatches.{IsPlainTo};
     ghost use Rattle.minus_text.specs.Crop.{cropped};
 
-    /// What is shown of it in so many columns from the column `left` on, as [`crop_columns`] gives it, where that is a part
-    /// of it: where no other characters than printable ASCII stand in the columns up to the first behind these, and no
-    /// escape sequence behind. Nothing of that is read where it is known to have none.
+    /// What is shown of it in so many columns from the column `left` on, as [`crop_columns`] gives it, where that is a
+    /// part of it: where no other characters than printable ASCII stand in the columns up to the first behind these,
+    /// and no escape sequence behind. Nothing of that is read where it is known to have none.
     pub fn shown_part(self, left: usize, width: usize) -> Option<&'t str>
         ensures { IfSome result (λ part. part.now ≡ cropped left width self.entry.text.now) }
     {

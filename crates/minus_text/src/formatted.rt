@@ -146,7 +146,8 @@ impl<'a> FormattedRow<'a> {
         }
     }
 
-    // Adds it to a row, or to the bytes of a drawing. An `Err` is for want of memory alone; it may leave some of it behind.
+    // Adds it to a row, or to the bytes of a drawing. An `Err` is for want of memory alone; it may leave some of it
+    // behind.
     fn push_to<T: PushText>(self, out: &mut T) -> Result<(), AllocError>
         ensures { OnOk result (T.bytes out.new ≡ T.bytes out.old ++ printed_row self.entry) }
     {

@@ -3,7 +3,7 @@ ghost use Rattle.std.specs.Prelude.{◌≡◌, ◌++◌, Some, option_map, strin
 ghost use Rattle.minus_text.specs.Crop.{cropped};
 ghost use Rattle.minus_text.specs.Found.{IsPlaced, IsPlacedSome, IsPlacedSome-prop};
 ghost use Rattle.minus_text.specs.FoundRows.{matches_of};
-ghost use Rattle.minus_text.specs.ShownMatches.{marked_within};
+ghost use Rattle.minus_text.specs.ShownMatches.{marked_within, cropped_match};
 
 use crate::crop::{Window, push_units};
 use crate::push_text::PushText;
@@ -72,8 +72,7 @@ fn push_found_in<T: PushText>(
 ) -> Result<(), AllocError>
     requires { IsPlaced text.text.now (matches_of found.now) }
     ensures { OnOk result (T.bytes out.new ≡ T.bytes out.old
-        ++ cropped window.left window.width
-        (marked_within window.left window.width (Some (matches_of found.now)) text.entry.text.now)) }
+        ++ cropped_match window.left window.width (matches_of found.now) text.entry.text.now) }
 {
     if found.escapes.is_empty() && text.is_plain_in(window) {
         return push_plain(out, text.text, window, &found.matches);
@@ -103,9 +102,9 @@ impl<'t> MatchedText<'t> {
         }
     }
 
-    /// Adds to a row what is shown of it in some columns, as [`crate::crop_columns`] gives it, with those of its matches in
-    /// reverse that take some of these columns. A match takes the columns of the text without escape sequences that begin
-    /// in it.
+    /// Adds to a row what is shown of it in some columns, as [`crate::crop_columns`] gives it, with those of its
+    /// matches in reverse that take some of these columns. A match takes the columns of the text without escape
+    /// sequences that begin in it.
     ///
     /// # Errors
     ///

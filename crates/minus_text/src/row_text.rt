@@ -19,8 +19,8 @@ pub(crate) fn escapes_end(known: usize, len: usize, piece: &str) -> usize
     }
 }
 
-/// The text of a row, and a place in it from which on it has no escape sequence: what stands behind that needs not to be
-/// read for being one. `RowsView::row_text` makes it.
+/// The text of a row, and a place in it from which on it has no escape sequence: what stands behind that needs not to
+/// be read for being one. `RowsView::row_text` makes it.
 #[derive(Clone, Copy)]
 pub struct RowText<'t> {
     pub(crate) text: &'t str,

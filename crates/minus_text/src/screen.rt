@@ -6,11 +6,11 @@ ghost use Rattle.minus_text.specs.Document.{rows_of, line_map, line_count, longe
 ghost use Rattle.minus_text.specs.Fragments.{rows_in};
 ghost use Rattle.minus_text.specs.LinePlaces.{row_places};
 ghost use Rattle.minus_text.specs.Pending.{IsPending, IsPreparedFor};
-ghost use Rattle.minus_text.specs.FormatResults.{Tells, TellsPush, TellsFound};
+ghost use Rattle.minus_text.specs.FormatResults.{Tells, TellsAll, TellsPush, TellsPrepared, TellsFound};
 ghost use Rattle.minus_text.specs.Found.{AreFoundIn};
 ghost use Rattle.minus_text.specs.FoundRows.{pattern_of};
 ghost use Rattle.minus_text.specs.FoundBy.{found_rows};
-ghost use Rattle.minus_text.specs.Searched.{searched, IsFoundBy, IsFoundInPush, IsStoredRow, IsHighlightedRow};
+ghost use Rattle.minus_text.specs.Searched.{searched, IsFoundBy, IsFoundInPush, FindsOn, IsStoredRow, IsHighlightedRow};
 ghost use Rattle.regex.specs.Patterns.{Re};
 
 pub mod pieces;
@@ -145,8 +145,8 @@ impl Screen {
     ) -> Result<(Screen, FormatResult), AllocError>
         ensures ok { IfOk result (λ r. r.0
             ≡ searched (pattern_of term.entry) (record { text = string_bytes text; layout = layout })) }
-        ensures told { IfOk result (λ r. Tells r.1 (pattern_of term.entry)
-            (record { text = string_bytes text; wrap = wrap_of layout (length (lines (string_bytes text))) }) 0 true) }
+        ensures told { IfOk result (λ r. TellsAll r.1 (pattern_of term.entry)
+            (record { text = string_bytes text; layout = layout })) }
     {
         let (store, told) = Store::of_text(alloc, text, layout)?;
         let found = FoundRows::of_store(alloc, term, &store)?;
@@ -313,8 +313,8 @@ impl Screen {
         requires prepared { IsPreparedFor self.old.document text.now push }
         requires stand { AreFoundIn push.kept_rows (rows_in push.tail) (found_rows found) }
         ensures ok { OnOk result (self.new.document ≡ pushed self.old.document text.now push.numbers push.cols) }
-        ensures found { OnOk result ((term : Option Re) → IsFoundBy term self.old →
-            IsFoundInPush term (record { push = push; found = found_rows found }) → IsFoundBy term self.new) }
+        ensures found { OnOk result ((term : Option Re) →
+            FindsOn term self.old (record { push = push; found = found_rows found }) self.new) }
         ensures told { IfOk result (λ r.
             TellsFound r self.new.found self.old.document text.now push.numbers push.cols) }
         ensures err { OnErr result (self.new ≡ self.old) }
@@ -369,12 +369,8 @@ impl Screen {
     ) -> Result<FormatResult, MinusError>
         ensures ok { OnOk result (self.new.document
             ≡ pushed self.old.document text.now pending.push.numbers pending.push.cols) }
-        ensures found { OnOk result (IsFoundBy (pattern_of term.entry) self.old →
-            IsFoundInPush (pattern_of term.entry) pending →
-            IsFoundBy (pattern_of term.entry) self.new) }
-        ensures told { IfOk result (λ r. IsFoundBy (pattern_of term.entry) self.old →
-            IsFoundInPush (pattern_of term.entry) pending →
-            TellsPush r (pattern_of term.entry) self.old.document text.now pending.push.numbers pending.push.cols) }
+        ensures found { OnOk result (FindsOn (pattern_of term.entry) self.old pending self.new) }
+        ensures told { IfOk result (λ r. TellsPrepared r (pattern_of term.entry) self.old text.now pending) }
         ensures kept { IfOk result (λ r.
             TellsFound r self.new.found self.old.document text.now pending.push.numbers pending.push.cols) }
         ensures err { OnErr result (self.new ≡ self.old) }
@@ -403,8 +399,8 @@ impl Screen {
     ) -> Result<FormatResult, MinusError>
         ensures ok { OnOk result (self.new
             ≡ searched (pattern_of term.entry) (record self.old.document { layout = layout })) }
-        ensures told { IfOk result (λ r. Tells r (pattern_of term.entry)
-            (record { text = self.old.document.text; wrap = wrap_of layout (line_count self.old.document) }) 0 true) }
+        ensures told { IfOk result (λ r.
+            TellsAll r (pattern_of term.entry) (record self.old.document { layout = layout })) }
         ensures err { OnErr result (self.new ≡ self.old) }
         ensures memory { IfErr result (λ e. e ≡ MinusError.Memory) }
     {

@@ -51,7 +51,7 @@ impl<'s> RowsView<'s> {
     ghost use Rattle.std.specs.List.{position_or_len};
     ghost use Rattle.minus_text.specs.Document.{rows_of, line_count, IsPrefixOf};
     ghost use Rattle.minus_text.specs.Formatted.{prefix_of};
-    ghost use Rattle.minus_text.specs.Found.{Ascend, IsPlaced, found_of_row, row_numbers};
+    ghost use Rattle.minus_text.specs.Found.{Ascend, ArePlacedAt, found_of_row, row_numbers};
     ghost use Rattle.minus_text.specs.MatchedTexts.{IsMatchedRow};
     ghost use Rattle.minus_text.specs.Matches.{counts_first, nearest, nth_match};
     ghost use Rattle.minus_text.specs.Searched.{IsRowBehind, IsStoredRow, IsHighlightedRow};
@@ -158,8 +158,7 @@ impl<'s> RowsView<'s> {
     fn found_at(self, i: usize) -> &'s FoundRows
         ensures ascend { Ascend 0 (found_rows result.now) }
         ensures found { found_of_row i (found_rows result.now) ≡ found_of_row i (viewed self.entry).found }
-        ensures placed { (row : List ℕ) → slice_get (rows_of (viewed self.entry).document) i ≡ Some row →
-            IfSome (found_of_row i (found_rows result.now)) (λ r. IsPlaced row r) }
+        ensures placed { ArePlacedAt (rows_of (viewed self.entry).document) i (found_rows result.now) }
     {
         let Some(next) = self.next else {
             return self.found;
@@ -171,8 +170,8 @@ impl<'s> RowsView<'s> {
         formed
     }
 
-    // A row, counted from 0, if there is one, with this before its text. How many rows match above it is looked for near
-    // some number first, and put there.
+    // A row, counted from 0, if there is one, with this before its text. How many rows match above it is looked for
+    // near some number first, and put there.
     fn row_behind(self, prefix: RowPrefix, i: usize, near: &mut usize) -> Option<ViewedRow<'s>>
         ensures { IsRowBehind (prefix_of prefix) (viewed self.entry) i (option_map viewed_text result) }
     {

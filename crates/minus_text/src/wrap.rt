@@ -4,10 +4,10 @@ ghost use Rattle.std.specs.Char.{len_utf8};
 ghost use Rattle.std.specs.Str.{encode_utf8_all};
 ghost use Rattle.std.specs.List.{flat_map, prefix_len, position_or_len, sum_by, list_all};
 ghost use Rattle.std.specs.Option.{SomeIff};
-ghost use Rattle.minus_text.specs.Units.{char_columns, is_final, begins_sequence, units, unit_columns, body_of, columns};
+ghost use Rattle.minus_text.specs.Units.{char_columns, is_final, begins_sequence, units, unit_columns, unit_columns_in, body_of, columns};
 ghost use Rattle.minus_text.specs.Plain.{is_printable, is_unescaped, is_unhyphened};
 ghost use Rattle.minus_text.specs.Runs.{IsRun, AreRuns};
-ghost use Rattle.minus_text.specs.Pieces.{pieces, is_space, body_len, parts, fronts, with_spaces, part_len_after, begins_alphanumeric};
+ghost use Rattle.minus_text.specs.Pieces.{pieces, is_space, body_len, parts, fronts, with_spaces, part_len_after, begins_alphanumeric, IsOnePart};
 ghost use Rattle.minus_text.specs.Kept.{IsBorder};
 ghost use Rattle.minus_text.specs.Settled.{SettlesFirst};
 ghost use Rattle.minus_text.specs.Joints.{WordsAreCutAtJoints};
@@ -274,8 +274,8 @@ fn split_front(part: &str, cols: usize) -> (usize, &str)
 // The columns of the characters of printable ASCII at the front of a text, or else of its first
 // unit, and what follows them.
 fn split_columns(text: &str) -> Option<(usize, &str)>
-    ensures columns { MatchOption result (chars text.now ≡ []) (λ x. sum_by unit_columns (units (chars text.now))
-        ≡ x.0 + sum_by unit_columns (units (chars x.1.now))) }
+    ensures columns { MatchOption result (chars text.now ≡ [])
+        (λ x. unit_columns_in (chars text.now) ≡ x.0 + unit_columns_in (chars x.1.now)) }
     ensures room { IfSome result (λ x. x.0 + 2 * length x.1.now ≤ 2 * length text.now) }
     ensures less { IfSome result (λ x. length x.1.now < length text.now) }
 {
@@ -360,7 +360,7 @@ fn is_joint(before: bool, c: char, after: &str) -> bool
 
 // The first part of a word's body, and the rest, where it is cut.
 fn split_part(body: &str) -> Option<(&str, &str)>
-    ensures part { MatchOption result (part_len_after false (chars body.now) ≡ length (chars body.now))
+    ensures part { MatchOption result (IsOnePart (chars body.now))
         (λ x. SplitsPart (chars body.now) (chars x.0.now) (chars x.1.now)) }
     ensures less { IfSome result (λ x. length x.1.now < length body.now) }
 {

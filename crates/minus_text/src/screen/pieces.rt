@@ -28,12 +28,12 @@ impl Screen {
     ghost use Rattle.std.specs.Prelude.{◌≡◌, [], None, map, OnOk, OnErr, IfOk, IfErr};
     ghost use Rattle.std.specs.List.{concat};
     ghost use Rattle.minus_text.specs.Document.{pushed};
-    ghost use Rattle.minus_text.specs.FormatResults.{TellsPush, TellsFound};
+    ghost use Rattle.minus_text.specs.FormatResults.{TellsPushOn, TellsFound};
     ghost use Rattle.minus_text.specs.FoundRows.{pattern_of};
     ghost use Rattle.minus_text.specs.Searched.{IsFoundBy};
 
-    /// Puts pieces of a text at the end, one behind the other, as [`Screen::push_screen_buf`] puts them joined: with one
-    /// forming of the unfinished line and of the pieces. Without any piece it is a push of an empty text.
+    /// Puts pieces of a text at the end, one behind the other, as [`Screen::push_screen_buf`] puts them joined: with
+    /// one forming of the unfinished line and of the pieces. Without any piece it is a push of an empty text.
     ///
     /// # Errors
     ///
@@ -51,8 +51,8 @@ impl Screen {
         ensures found { OnOk result (IsFoundBy (pattern_of term.entry) self.old →
             IsFoundBy (pattern_of term.entry) self.new) }
         ensures without { OnOk result (term.entry ≡ None → self.new.found ≡ []) }
-        ensures told { IfOk result (λ r. IsFoundBy (pattern_of term.entry) self.old →
-            TellsPush r (pattern_of term.entry) self.old.document (concat (map (λ p. p.now) pieces.now)) numbers cols) }
+        ensures told { IfOk result (λ r.
+            TellsPushOn r (pattern_of term.entry) self.old (concat (map (λ p. p.now) pieces.now)) numbers cols) }
         ensures kept { IfOk result (λ r.
             TellsFound r self.new.found self.old.document (concat (map (λ p. p.now) pieces.now)) numbers cols) }
         ensures err { OnErr result (self.new ≡ self.old) }

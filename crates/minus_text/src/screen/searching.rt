@@ -6,7 +6,7 @@ ghost use Rattle.minus_text.specs.Found.{AreFoundIn, found_by, found_of_row, row
 ghost use Rattle.minus_text.specs.Matches.{match_at};
 ghost use Rattle.regex.specs.Strings.{regex_pattern};
 ghost use Rattle.minus_text.specs.FoundRows.{pattern_of};
-ghost use Rattle.minus_text.specs.Searched.{searched_after, IsFoundBy};
+ghost use Rattle.minus_text.specs.Searched.{searched_after, IsFoundBy, IsFoundBetween};
 
 use crate::pending::PendingPush;
 use crate::screen::{Screen, TextBlock};
@@ -124,8 +124,8 @@ impl Screen {
         start: usize,
         end: usize,
     ) -> Result<Findings, AllocError>
-        ensures found { IfOk result (λ f. (i : ℕ) → start ≤ i → i < end →
-            found_of_row i f ≡ found_of_row i (found_by (pattern_of term.entry) 0 (rows_of self.now.document))) }
+        ensures found { IfOk result (λ f.
+            IsFoundBetween (pattern_of term.entry) (record self.now { found = f }) start end) }
         ensures stand { IfOk result (λ f. AreFoundIn 0 (rows_of self.now.document) f) }
     {
         Ok(Findings {

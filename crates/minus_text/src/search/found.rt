@@ -80,8 +80,8 @@ fn matches_outside(
 }
 
 impl<'p> Finder<'p> {
-    ghost use Rattle.minus_text.specs.FoundRows.{finder_pattern, matches_of};
-    ghost use Rattle.minus_text.specs.Found.{found_in_row, IsPlaced, ArePlaced};
+    ghost use Rattle.minus_text.specs.FoundRows.{finder_pattern, matches_of, AddsFound, StaysPlaced};
+    ghost use Rattle.minus_text.specs.Found.{found_in_row, IsPlaced};
 
     pub(crate) fn new(alloc: Global, term: Term<'p>) -> Result<Self, AllocError>
         ensures { IfOk result (λ f. finder_pattern f ≡ regex_pattern term.entry.pattern.now) }
@@ -93,8 +93,8 @@ impl<'p> Finder<'p> {
         })
     }
 
-    // Where the escape sequences of a row begin and end that may have some. A matcher is dear, so the first such row makes
-    // it; and the room for one is cleared whenever this is called, so it stands apart.
+    // Where the escape sequences of a row begin and end that may have some. A matcher is dear, so the first such row
+    // makes it; and the room for one is cleared whenever this is called, so it stands apart.
     #[inline(never)]
     fn searched_places(
         &mut self,
@@ -155,12 +155,9 @@ impl<'p> Finder<'p> {
         n: usize,
         row: &str,
     ) -> Result<(), AllocError>
-        ensures found { OnOk result (map matches_of found.new.items ≡ map matches_of found.old.items
-            ++ found_in_row (finder_pattern self.old) n row.now) }
-        ensures placed { OnOk result ((first : ℕ) (rows : List (List ℕ)) (i : ℕ) → n ≡ first + i →
-            slice_get rows i ≡ Some row.now →
-            ArePlaced first rows (map matches_of found.old.items) →
-            ArePlaced first rows (map matches_of found.new.items)) }
+        ensures found { OnOk result (AddsFound found.old.items found.new.items
+            (found_in_row (finder_pattern self.old) n row.now)) }
+        ensures placed { OnOk result (StaysPlaced n (Some row.now) found.old.items found.new.items) }
         ensures same { finder_pattern self.new ≡ finder_pattern self.old }
     {
         let here = self.find(alloc, n, row)?;

@@ -7,8 +7,9 @@ ghost use Rattle.minus_text.specs.Matches.{counts_first, match_at};
 ghost use Rattle.std.specs.Option.{unwrap_or};
 ghost use Rattle.minus_text.specs.Highlight.{line_matches};
 ghost use Rattle.minus_text.specs.Fragments.{rows_in};
-ghost use Rattle.minus_text.specs.Found.{found_in_rows, found_by, found_above, found_from, row_numbers, found_of_row, ArePlaced, Ascend, AreFoundIn};
-ghost use Rattle.minus_text.specs.FoundRows.{finder_pattern, matches_of, pattern_of};
+ghost use Rattle.minus_text.specs.Found.{found_in_rows, found_between, found_by, found_above, found_from, row_numbers, found_of_row};
+ghost use Rattle.minus_text.specs.Found.{ArePlaced, Ascend, AreFoundIn, StaysFound};
+ghost use Rattle.minus_text.specs.FoundRows.{finder_pattern, matches_of, pattern_of, AddsFound, StaysPlaced};
 ghost use Rattle.minus_text.specs.declared.search.found.FoundRow.{FoundRow};
 ghost use Rattle.minus_text.specs.FoundBy.{found_rows, found_in_some, numbers_with, HasRoomFor, FoundGoesOn};
 
@@ -36,13 +37,9 @@ fn note_some(
     n: usize,
     row: Option<&str>,
 ) -> Result<(), AllocError>
-    ensures found { OnOk result (map matches_of found.new.items
-        ≡ map matches_of found.old.items ++ found_in_some (finder_pattern finder.old) n
-        (option_map (λ r. r.now) row.entry)) }
-    ensures placed { OnOk result ((first : ℕ) (rows : List (List ℕ)) (i : ℕ) → n ≡ first + i →
-        option_map (λ r. r.now) row.entry ≡ slice_get rows i →
-        ArePlaced first rows (map matches_of found.old.items) →
-        ArePlaced first rows (map matches_of found.new.items)) }
+    ensures found { OnOk result (AddsFound found.old.items found.new.items
+        (found_in_some (finder_pattern finder.old) n (option_map (λ r. r.now) row.entry))) }
+    ensures placed { OnOk result (StaysPlaced n (option_map (λ r. r.now) row.entry) found.old.items found.new.items) }
     ensures same { finder_pattern finder.new ≡ finder_pattern finder.old }
 {
     let Some(row) = row else {
@@ -60,8 +57,8 @@ fn find_in_rows(
     start: usize,
     end: usize,
 ) -> Result<FoundRows, AllocError>
-    ensures found { IfOk result (λ f. found_rows f ≡ found_in_rows (regex_pattern term.entry.pattern.now) start
-        (take (end - start) (drop start (rows_of store.now)))) }
+    ensures found { IfOk result (λ f. found_rows f
+        ≡ found_between (regex_pattern term.entry.pattern.now) (rows_of store.now) start end) }
     ensures placed { IfOk result (λ f. ArePlaced 0 (rows_of store.now) (found_rows f)) }
 {
     let mut finder = Finder::new(alloc, term)?;
@@ -122,8 +119,8 @@ fn first_in_rows(
     start: usize,
     end: usize,
 ) -> Result<Option<usize>, AllocError>
-    ensures row { IfOk result (λ row. row ≡ slice_get (row_numbers (found_in_rows (finder_pattern finder.old) start
-        (take (end - start) (drop start (rows_of store.now))))) 0) }
+    ensures row { IfOk result (λ row. row
+        ≡ slice_get (row_numbers (found_between (finder_pattern finder.old) (rows_of store.now) start end)) 0) }
     ensures same { finder_pattern finder.new ≡ finder_pattern finder.old }
 {
     for i in start..end.min(store.formatted_lines_count()) {
@@ -293,8 +290,8 @@ impl FoundRows {
         store: &Store,
     ) -> Result<Self, AllocError>
         requires { Ascend 0 (found_rows self) }
-        ensures found { IfOk result (λ f. found_rows self ≡ found_by (pattern_of term.entry) 0 (rows_of store.now)
-            → found_rows f ≡ found_by (pattern_of term.entry) 0 (rows_of store.now)) }
+        ensures found { IfOk result (λ f.
+            StaysFound (pattern_of term.entry) (rows_of store.now) (found_rows self) (found_rows f)) }
         ensures stand { IfOk result (λ f. AreFoundIn 0 (rows_of store.now) (found_rows f)) }
     {
         if all_stand(alloc, store, self.rows.as_slice())? {

@@ -78,8 +78,9 @@ fn put_match<'l>(
 ) -> Result<usize, AllocError>
     ensures puts { OnOk result (map insert_of puts.new.items ≡ map insert_of puts.old.items
         ++ of_match accurate place (map insert_of escapes.now)) }
-    ensures rest { IfOk result (λ count. (count ≤ length escapes.now)
-        × (drop count (map insert_of escapes.now) ≡ behind place.1 (behind place.0 (map insert_of escapes.now)))) }
+    ensures within { IfOk result (λ count. count ≤ length escapes.now) }
+    ensures rest { IfOk result (λ count. drop count (map insert_of escapes.now)
+        ≡ behind place.1 (behind place.0 (map insert_of escapes.now))) }
 {
     let (outer, rest) = escapes.split_at(count_before(escapes, place.0));
     let count = count_before(rest, place.1);
@@ -156,7 +157,7 @@ impl Drop for HighlightMatchesArgs<'_> {
 
 impl<'l> HighlightMatchesArgs<'l> {
     ghost use Rattle.minus_text.specs.Shown.{shown_line, highlighted_parted};
-    ghost use Rattle.minus_text.specs.ShownMatches.{reversed_in};
+    ghost use Rattle.minus_text.specs.ShownMatches.{reversed_at};
 
     /// Finds the matches of a pattern in a line, which are those of the line without its escape
     /// sequences. These stay where they stand if the highlight is to be accurate; else those inside
@@ -235,8 +236,7 @@ impl<'l> HighlightMatchesArgs<'l> {
         requires escapes { CutsText row.now 0 escape_places.now }
         requires matches { CutsText (outside row.now 0 escape_places.now) 0 matches.now }
         ensures { IfOk result (λ h. shown_line h
-            ≡ reversed_in window.left window.width (outside row.now 0 escape_places.now) matches.now
-            (inside row.now 0 0 escape_places.now)) }
+            ≡ reversed_at window.left window.width row.now escape_places.now matches.now) }
     {
         let Parted { text, escapes } = part(alloc, row, escape_places)?;
         let shown = shown_matches(alloc, &text, window, matches)?;

@@ -3,7 +3,7 @@ ghost use Rattle.std.specs.Prelude.{◌≡◌, ◌+◌, ◌*◌, ◌^◌, ◌<�
 ghost use Rattle.minus_text.specs.TextUnits.{text_units, bytes_left};
 ghost use Rattle.minus_text.specs.Escapes.{CutsText};
 ghost use Rattle.minus_text.specs.Crop.{cropped};
-ghost use Rattle.minus_text.specs.ShownMatches.{columns_before, shown_matches, reversed_in, marked_stretch, IsPlainTo};
+ghost use Rattle.minus_text.specs.ShownMatches.{columns_before, shown_matches, reversed_in, marked_stretch, AddsMatch, IsPlainTo};
 ghost use Rattle.minus_text.specs.Walks.{Counts};
 
 use crate::crop::Window;
@@ -101,8 +101,8 @@ pub(crate) fn shown_matches(
     Ok(shown)
 }
 
-// Adds what stands of a match in a stretch of a text in reverse, behind what stands there before it, and answers where it
-// ends; of another match nothing is added.
+// Adds what stands of a match in a stretch of a text in reverse, behind what stands there before it, and answers where
+// it ends; of another match nothing is added.
 fn push_match<T: PushText>(
     out: &mut T,
     text: &str,
@@ -112,9 +112,7 @@ fn push_match<T: PushText>(
 ) -> Result<usize, AllocError>
     requires order { at ≤ end }
     requires bytes { (n : ℕ) → n ≤ end → IsCharBoundary text.now n }
-    ensures text { IfOk result (λ next. (ms : List (ℕ × ℕ)) →
-        T.bytes out.new ++ marked_stretch text.now next end ms
-        ≡ T.bytes out.old ++ marked_stretch text.now at end (place ∷ ms)) }
+    ensures text { IfOk result (λ next. AddsMatch (T.bytes out.old) (T.bytes out.new) text.now at next end place) }
     ensures order { IfOk result (λ next. next ≤ end) }
 {
     let start = place.0.max(at);
@@ -129,7 +127,8 @@ fn push_match<T: PushText>(
     Ok(stop)
 }
 
-// The matches that may stand in a stretch: those that neither end before it nor begin behind it. They are searched by halves.
+// The matches that may stand in a stretch: those that neither end before it nor begin behind it. They are searched by
+// halves.
 fn near(matches: &[(usize, usize)], at: usize, end: usize) -> &[(usize, usize)]
     ensures { (text : List ℕ) → CutsText text 0 matches.now →
         marked_stretch text at end result.now ≡ marked_stretch text at end matches.now }
@@ -140,7 +139,8 @@ fn near(matches: &[(usize, usize)], at: usize, end: usize) -> &[(usize, usize)]
     &rest[..count]
 }
 
-// Adds the columns of a text that are shown, where they are its bytes, with what of its matches stands there in reverse.
+// Adds the columns of a text that are shown, where they are its bytes, with what of its matches stands there in
+// reverse.
 pub(crate) fn push_plain<T: PushText>(
     out: &mut T,
     text: &str,

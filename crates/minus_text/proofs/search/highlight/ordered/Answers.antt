@@ -15,6 +15,6 @@ loop-place-preserved c =
     ap (λ n. take n (drop l.done c.args.escapes.now)) (sym size) ∙ take-length _ in (
       one_more_match c.args.accurate c.args.matches.now l.place-index c.loop-place-test.true c.args.escapes.now l.done _ _ _ _ l.invariant.0
           (subst (λ es. map insert_of c.put_match.new.puts.items ≡ map insert_of l.puts.items ++ of_match c.args.accurate m (map insert_of es)) same c.in_ok-done.ensures.puts)
-          (subst (λ es. drop c.in_ok-done.field-0 (map insert_of es) ≡ behind m.1 (behind m.0 (map insert_of es))) same c.in_ok-done.ensures.rest.1),
-      omega (arith, size, ap length same, c.in_ok-done.ensures.rest.0, l.invariant.1),
+          (subst (λ es. drop c.in_ok-done.field-0 (map insert_of es) ≡ behind m.1 (behind m.0 (map insert_of es))) same c.in_ok-done.ensures.rest),
+      omega (arith, size, ap length same, c.in_ok-done.ensures.within, l.invariant.1),
     )

@@ -25,4 +25,4 @@ returns-clause-found c =
 pub returns-clause-placed : goal.returns-clause-placed
 returns-clause-placed c = λ first rows i at here h.
     let e = c.in_ok-here.ensures in
-    note_placed first rows i c.args.n c.args.row.now c.args.found.now.items _ c.in_ok-here.here c.in_ok-push.ensures.items e.row at here e.placed h
+    note_placed first rows i c.args.n c.args.row.now c.args.found.now.items _ c.in_ok-here.here c.in_ok-push.ensures.items e.row at (sym here) e.placed h
