@@ -1,8 +1,10 @@
 -- How a help table describes the default actions.
 use Rattle.std.specs.Prelude.{ℕ, List, [], codes}
 use Rattle.minus_input.specs.declared.default_action.DefaultAction.{DefaultAction}
-use Rattle.minus_input.specs.declared.default_action.DefaultAction.TheVariants.{Quit, ScrollUp, ScrollDown, ToggleFollow, ScrollLines, HalfPageUp, HalfPageDown, Top, GoToLine}
-use Rattle.minus_input.specs.declared.default_action.DefaultAction.TheVariants.{PageUp, PageDown, ToggleNumbers, Bottom, Help, SearchForward, SearchBackward, NextMatch, PreviousMatch}
+use Rattle.minus_input.specs.declared.default_action.DefaultAction.TheVariants.{Quit, ScrollUp, ScrollDown, ToggleFollow, ScrollLines, HalfPageUp, HalfPageDown}
+use Rattle.minus_input.specs.declared.default_action.DefaultAction.TheVariants.{Top, GoToLine}
+use Rattle.minus_input.specs.declared.default_action.DefaultAction.TheVariants.{PageUp, PageDown, ToggleNumbers, Bottom, Help, SearchForward, SearchBackward}
+use Rattle.minus_input.specs.declared.default_action.DefaultAction.TheVariants.{NextMatch, PreviousMatch}
 use Rattle.minus_input.specs.declared.default_action.DefaultAction.TheVariants.{ToggleWrap, ScrollLeft, ScrollRight}
 
 -- the description of each; what is done with the mouse, a copy, a resize and the typing of digits are not listed

@@ -15,9 +15,12 @@ use Rattle.minus_state.specs.declared.state.PagerState.{PagerState}
 use Rattle.minus_input.specs.declared.bound.ActionOf.{ActionOf}
 use Rattle.minus_input.specs.declared.bound.ActionOf.TheVariants.{Default}
 use Rattle.minus_input.specs.declared.default_action.DefaultAction.{DefaultAction}
-use Rattle.minus_input.specs.declared.default_action.DefaultAction.TheVariants.{Quit, ScrollUp, ScrollDown, ToggleFollow, ScrollLines, HalfPageUp, HalfPageDown, Top, GoToLine}
-use Rattle.minus_input.specs.declared.default_action.DefaultAction.TheVariants.{PageUp, PageDown, ToggleNumbers, Bottom, Help, SearchForward, SearchBackward, NextMatch, PreviousMatch}
-use Rattle.minus_input.specs.declared.default_action.DefaultAction.TheVariants.{WheelUp, WheelDown, StartSelection, UpdateSelection, CopySelection, ToggleWrap, ScrollLeft, ScrollRight}
+use Rattle.minus_input.specs.declared.default_action.DefaultAction.TheVariants.{Quit, ScrollUp, ScrollDown, ToggleFollow, ScrollLines, HalfPageUp, HalfPageDown}
+use Rattle.minus_input.specs.declared.default_action.DefaultAction.TheVariants.{Top, GoToLine}
+use Rattle.minus_input.specs.declared.default_action.DefaultAction.TheVariants.{PageUp, PageDown, ToggleNumbers, Bottom, Help, SearchForward, SearchBackward}
+use Rattle.minus_input.specs.declared.default_action.DefaultAction.TheVariants.{NextMatch, PreviousMatch}
+use Rattle.minus_input.specs.declared.default_action.DefaultAction.TheVariants.{WheelUp, WheelDown, StartSelection, UpdateSelection, CopySelection, ToggleWrap}
+use Rattle.minus_input.specs.declared.default_action.DefaultAction.TheVariants.{ScrollLeft, ScrollRight}
 use Rattle.minus_input.specs.declared.default_action.DefaultAction.TheVariants.{Resize, TypeDigit}
 use Rattle.minus_input.specs.declared.event_form.EventWrapper.{EventWrapper}
 use Rattle.minus_input.specs.declared.event_form.EventWrapper.TheVariants.{ExactMatchEvent, WildEvent}

@@ -30,7 +30,8 @@ Describe Describes (text ∷ texts) [] = ⊥
 Describe Describes (text ∷ texts) (key ∷ keys) = Describes text key × Describe Describes texts keys
 
 -- the text at this place of a list is the first one that describes nothing, and why
-pub record IsFirstFault {K : Type 0} (Describes : List ℕ → K → Type 0) (Fault : Faulting) (texts : List (List ℕ)) (place : ℕ) (error : DescriptionError) : Type 0 where
+pub record IsFirstFault {K : Type 0} (Describes : List ℕ → K → Type 0) (Fault : Faulting)
+    (texts : List (List ℕ)) (place : ℕ) (error : DescriptionError) : Type 0 where
   pub before : List K
   pub described : Describe Describes (take place texts) before
   pub text : List ℕ

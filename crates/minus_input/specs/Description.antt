@@ -1,5 +1,6 @@
 -- What a text describes, by the rules of its segments, and why it describes nothing.
-use Rattle.std.specs.Prelude.{ℕ, ◌≡◌, ◌<◌, ◌==◌, ◌⊎◌, List, [], ◌∷◌, ◌++◌, length, Bool, not, ◌&&◌, IsTrue, Option, None, Some, IsSome, is_none, unwrap_or, if◌then◌else◌}
+use Rattle.std.specs.Prelude.{ℕ, ◌≡◌, ◌<◌, ◌==◌, ◌⊎◌, List, [], ◌∷◌, ◌++◌, length, Bool, not, ◌&&◌, IsTrue, Option, None, Some, IsSome, is_none, unwrap_or}
+use Rattle.std.specs.Prelude.{if◌then◌else◌}
 use Rattle.std.specs.Int.RustNames.{bit_or}
 use Rattle.std.specs.List.{Contains, filter, filter_map, fold}
 use Rattle.std.specs.Str.{IsAscii, IsNotAscii, trim}

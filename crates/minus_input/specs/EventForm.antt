@@ -38,7 +38,8 @@ ResizesAreOneKey equal = (a b c d : ℕ) → equal (ExactMatchEvent (events.Resi
 -- events of the mouse are equal where what is done and the modifiers are the same
 abbrev pub MouseGoesByKindAndModifiers : (EventWrapper → EventWrapper → Bool) → Type 0
 MouseGoesByKindAndModifiers equal =
-    (a b : MouseEvent) → (equal (ExactMatchEvent (events.Mouse a)) (ExactMatchEvent (events.Mouse b)) ≡ true) ↔ ((a.kind ≡ b.kind) × (a.modifiers ≡ b.modifiers))
+    (a b : MouseEvent) → (equal (ExactMatchEvent (events.Mouse a)) (ExactMatchEvent (events.Mouse b)) ≡ true)
+    ↔ ((a.kind ≡ b.kind) × (a.modifiers ≡ b.modifiers))
 
 -- key events are equal where they are equal by themselves
 abbrev pub KeysGoByTheirEquality : (EventWrapper → EventWrapper → Bool) → (KeyEvent → KeyEvent → Bool) → Type 0

@@ -1,5 +1,6 @@
 -- The names of keys, and the table of them that a help page shows.
-use Rattle.std.specs.Prelude.{ℕ, ◌-◌, ◌==◌, List, [], ◌∷◌, ◌++◌, map, length, replicate, Bool, false, not, ◌&&◌, bytes_eq, codes, encode_utf8, string_bytes, if◌then◌else◌}
+use Rattle.std.specs.Prelude.{ℕ, ◌-◌, ◌==◌, List, [], ◌∷◌, ◌++◌, map, length, replicate, Bool, false, not, ◌&&◌, bytes_eq, codes, encode_utf8, string_bytes}
+use Rattle.std.specs.Prelude.{if◌then◌else◌}
 use denote.Ref.{Bor}
 use Rattle.std.specs.Char.{is_ascii_uppercase}
 use Rattle.std.specs.Fmt.{decimal, char_count}
@@ -7,7 +8,8 @@ use Rattle.std.specs.Int.RustNames.{bit_and}
 use Rattle.std.specs.List.{filter, flat_map, join_by, list_any}
 use Rattle.std.specs.Str.{trim}
 use Rattle.minus_term.specs.declared.event.KeyCode.{KeyCode}
-use Rattle.minus_term.specs.declared.event.KeyCode.TheVariants.{Backspace, Enter, Left, Right, Up, Down, Home, End, PageUp, PageDown, Tab, BackTab, Delete, Insert, F, Char, Null, Esc}
+use Rattle.minus_term.specs.declared.event.KeyCode.TheVariants.{Backspace, Enter, Left, Right, Up, Down, Home, End, PageUp, PageDown, Tab, BackTab, Delete}
+use Rattle.minus_term.specs.declared.event.KeyCode.TheVariants.{Insert, F, Char, Null, Esc}
 use Rattle.minus_term.specs.declared.event.KeyEvent.{KeyEvent}
 use Rattle.minus_input.specs.declared.help_table.Entry as code
 use Rattle.minus_input.specs.Names.{shift, control, alt}

@@ -2,7 +2,8 @@
 use Rattle.std.specs.Prelude.{ℕ, List, [], ◌∷◌, map, ◌==◌, Option, Some, None, bytes_eq, codes, if◌then◌else◌}
 use Rattle.std.specs.Char.{to_ascii_lowercase}
 use Rattle.minus_term.specs.declared.event.KeyCode.{KeyCode}
-use Rattle.minus_term.specs.declared.event.KeyCode.TheVariants.{Backspace, Enter, Left, Right, Up, Down, Home, End, PageUp, PageDown, Tab, BackTab, Delete, Insert, F, Char, Esc}
+use Rattle.minus_term.specs.declared.event.KeyCode.TheVariants.{Backspace, Enter, Left, Right, Up, Down, Home, End, PageUp, PageDown, Tab, BackTab, Delete}
+use Rattle.minus_term.specs.declared.event.KeyCode.TheVariants.{Insert, F, Char, Esc}
 use Rattle.minus_term.specs.declared.event.MouseButton.TheVariants.{Left as LeftButton, Right as RightButton, Middle as MiddleButton}
 use Rattle.minus_term.specs.declared.event.MouseEventKind.{MouseEventKind}
 use Rattle.minus_term.specs.declared.event.MouseEventKind.TheVariants.{Down as ButtonDown, Up as ButtonUp, Drag, Moved, ScrollDown, ScrollUp}

@@ -5,14 +5,20 @@ use Rattle.minus_input.specs.declared.bound.ActionOf.{ActionOf}
 use Rattle.minus_input.specs.declared.event_form.EventWrapper.{EventWrapper}
 use Rattle.minus_input.specs.Described.{Describing, Faulting, Describe, IsFirstFault}
 use Rattle.minus_input.specs.EventForm.{same_event}
+use Rattle.minus_input.specs.EventTables.{called}
 use Rattle.minus_input.specs.Register.{Register, Binding, bind_all, unbind_all, first_bound}
 
--- keys are added: all texts describe one, none of these is bound where keys may not be bound again, and each is bound now
-pub record IsAdded (Describes : Describing) (texts : List (List ℕ)) (remap : Bool) {C : Type 0} (binding : Binding (ActionOf C)) (old new : Register EventWrapper (ActionOf C)) : Type 0 where
+-- some keys are bound to one thing
+abbrev pub with_keys : {C : Type 0} → Register EventWrapper (ActionOf C) → List EventWrapper → Binding (ActionOf C) → Register EventWrapper (ActionOf C)
+with_keys register keys binding = record register { bindings = bind_all same_event register.bindings keys binding }
+
+-- keys are added: all texts describe one, none of these is bound where keys may not be bound again, and each is bound to the callback now
+pub record IsAdded (Describes : Describing) (texts : List (List ℕ)) (remap : Bool) {C : Type 0}
+    (callback : C) (description : List ℕ) (old new : Register EventWrapper (ActionOf C)) : Type 0 where
   pub keys : List EventWrapper
   pub described : Describe Describes texts keys
   pub unbound : remap ≡ false → first_bound same_event old.bindings keys ≡ None
-  pub bound : new ≡ record old { bindings = bind_all same_event old.bindings keys binding }
+  pub bound : new ≡ with_keys old keys (called callback description)
 
 -- keys are removed: all texts describe one, and none of these is bound now
 pub record IsRemoved (Describes : Describing) (texts : List (List ℕ)) {C : Type 0} (old new : Register EventWrapper (ActionOf C)) : Type 0 where

@@ -47,7 +47,8 @@ impl<S: BuildHasher + Drop, C: Drop> EventTable<S, C> {
     ghost use Rattle.std.specs.Map.{keys_of};
     ghost use Rattle.minus_input.specs.EventForm.{same_event};
     ghost use Rattle.minus_input.specs.EventTables.{register_of, seen_action};
-    ghost use Rattle.minus_input.specs.Register.{bind_all, bound_to, unbind, nothing_bound, action_at, first_bound};
+    ghost use Rattle.minus_input.specs.RegisterCalls.{with_keys};
+    ghost use Rattle.minus_input.specs.Register.{bound_to, unbind, nothing_bound, action_at, first_bound};
     ghost use Rattle.minus_input.specs.Resolved.{kept_binding};
     ghost use Rattle.minus_input.specs.declared.event_form.EventWrapper.TheVariants.{ExactMatchEvent};
 
@@ -98,8 +99,8 @@ impl<S: BuildHasher + Drop, C: Drop> EventTable<S, C> {
         keys: &[EventWrapper],
         kept: KeptCallback<C>,
     ) -> Result<(), AllocError>
-        ensures ok { OnOk result (register_of self.new ≡ record (register_of self.old)
-            { bindings = bind_all same_event (register_of self.old).bindings keys.now (kept_binding kept) }) }
+        ensures ok { OnOk result (register_of self.new
+            ≡ with_keys (register_of self.old) keys.now (kept_binding kept)) }
         ensures err { OnErr result (register_of self.new ≡ register_of self.old) }
     {
         self.bindings.reserve(keys.len())?;

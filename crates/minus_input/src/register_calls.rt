@@ -1,12 +1,12 @@
 //! The calls that add bindings to a register and remove them.
-ghost use Rattle.std.specs.Prelude.{◌≡◌, map, [], Some, IfErr, OnOk, OnErr, true};
+ghost use Rattle.std.specs.Prelude.{◌≡◌, map, [], ◌∷◌, Some, IfErr, OnOk, OnErr, true};
 ghost use Rattle.minus_term.specs.Refusals.{refusal_of};
 ghost use Rattle.minus_input.specs.Description.{KeyFault, MouseFault};
 ghost use Rattle.minus_input.specs.Described.{IsKey, IsMouse, NeverBoth};
 ghost use Rattle.minus_input.specs.EventForm.{same_event};
 ghost use Rattle.minus_input.specs.EventTables.{register_of, called, resize_key};
-ghost use Rattle.minus_input.specs.Register.{bind, unbind};
-ghost use Rattle.minus_input.specs.RegisterCalls.{IsAdded, IsRemoved, IsRemoveRefused, IsAddRefused};
+ghost use Rattle.minus_input.specs.Register.{unbind};
+ghost use Rattle.minus_input.specs.RegisterCalls.{with_keys, IsAdded, IsRemoved, IsRemoveRefused, IsAddRefused};
 ghost use Rattle.minus_input.specs.declared.bound.ActionOf.TheVariants as action;
 
 use crate::bound::{ActionOf, KeptCallback};
@@ -30,7 +30,7 @@ impl<S: BuildHasher + Drop, C: Drop> EventTable<S, C> {
         remap: bool,
     ) -> Result<(), MinusError>
         ensures ok { OnOk result (IsAdded D.describes (map (λ t. t.now) texts.now) remap
-            (called callback description.now) (register_of self.old) (register_of self.new)) }
+            callback description.now (register_of self.old) (register_of self.new)) }
         ensures refused { IfErr result (λ e. IsAddRefused D.describes D.faulty (map (λ t. t.now) texts.now) remap
             (register_of self.old) (refusal_of e)) }
         ensures err { OnErr result (register_of self.new ≡ register_of self.old) }
@@ -81,8 +81,8 @@ impl<S: BuildHasher + Drop, C: Drop> EventTable<S, C> {
     ///
     /// [`AllocError`] where memory ran out, and nothing has changed.
     pub fn add_resize_event(&mut self, callback: C) -> Result<(), AllocError>
-        ensures ok { OnOk result (register_of self.new ≡ record (register_of self.old)
-            { bindings = bind same_event (register_of self.old).bindings resize_key (called callback []) }) }
+        ensures ok { OnOk result (register_of self.new
+            ≡ with_keys (register_of self.old) (resize_key ∷ []) (called callback [])) }
         ensures err { OnErr result (register_of self.new ≡ register_of self.old) }
     {
         let kept = KeptCallback {
@@ -108,7 +108,7 @@ impl<S: BuildHasher + Drop, C: Drop> EventTable<S, C> {
     /// [`MinusError::BadDescription`] with the place, from 0, of the first text that describes no key, and
     /// [`MinusError::Memory`]. In each nothing has changed, and the callback is dropped.
     pub fn add_key_events(&mut self, texts: &[&str], callback: C) -> Result<(), MinusError>
-        ensures ok { OnOk result (IsAdded IsKey (map (λ t. t.now) texts.now) true (called callback [])
+        ensures ok { OnOk result (IsAdded IsKey (map (λ t. t.now) texts.now) true callback []
             (register_of self.old) (register_of self.new)) }
         ensures refused { IfErr result (λ e. IsAddRefused IsKey KeyFault (map (λ t. t.now) texts.now) true
             (register_of self.old) (refusal_of e)) }
@@ -128,7 +128,7 @@ impl<S: BuildHasher + Drop, C: Drop> EventTable<S, C> {
         description: &str,
         callback: C,
     ) -> Result<(), MinusError>
-        ensures ok { OnOk result (IsAdded IsKey (map (λ t. t.now) texts.now) true (called callback description.now)
+        ensures ok { OnOk result (IsAdded IsKey (map (λ t. t.now) texts.now) true callback description.now
             (register_of self.old) (register_of self.new)) }
         ensures refused { IfErr result (λ e. IsAddRefused IsKey KeyFault (map (λ t. t.now) texts.now) true
             (register_of self.old) (refusal_of e)) }
@@ -150,7 +150,7 @@ impl<S: BuildHasher + Drop, C: Drop> EventTable<S, C> {
         callback: C,
         remap: bool,
     ) -> Result<(), MinusError>
-        ensures ok { OnOk result (IsAdded IsKey (map (λ t. t.now) texts.now) remap (called callback [])
+        ensures ok { OnOk result (IsAdded IsKey (map (λ t. t.now) texts.now) remap callback []
             (register_of self.old) (register_of self.new)) }
         ensures refused { IfErr result (λ e. IsAddRefused IsKey KeyFault (map (λ t. t.now) texts.now) remap
             (register_of self.old) (refusal_of e)) }
@@ -171,7 +171,7 @@ impl<S: BuildHasher + Drop, C: Drop> EventTable<S, C> {
         callback: C,
         remap: bool,
     ) -> Result<(), MinusError>
-        ensures ok { OnOk result (IsAdded IsKey (map (λ t. t.now) texts.now) remap (called callback description.now)
+        ensures ok { OnOk result (IsAdded IsKey (map (λ t. t.now) texts.now) remap callback description.now
             (register_of self.old) (register_of self.new)) }
         ensures refused { IfErr result (λ e. IsAddRefused IsKey KeyFault (map (λ t. t.now) texts.now) remap
             (register_of self.old) (refusal_of e)) }
@@ -203,7 +203,7 @@ impl<S: BuildHasher + Drop, C: Drop> EventTable<S, C> {
     ///
     /// Those of [`EventTable::add_key_events`].
     pub fn add_mouse_events(&mut self, texts: &[&str], callback: C) -> Result<(), MinusError>
-        ensures ok { OnOk result (IsAdded IsMouse (map (λ t. t.now) texts.now) true (called callback [])
+        ensures ok { OnOk result (IsAdded IsMouse (map (λ t. t.now) texts.now) true callback []
             (register_of self.old) (register_of self.new)) }
         ensures refused { IfErr result (λ e. IsAddRefused IsMouse MouseFault (map (λ t. t.now) texts.now) true
             (register_of self.old) (refusal_of e)) }
@@ -224,7 +224,7 @@ impl<S: BuildHasher + Drop, C: Drop> EventTable<S, C> {
         callback: C,
         remap: bool,
     ) -> Result<(), MinusError>
-        ensures ok { OnOk result (IsAdded IsMouse (map (λ t. t.now) texts.now) remap (called callback [])
+        ensures ok { OnOk result (IsAdded IsMouse (map (λ t. t.now) texts.now) remap callback []
             (register_of self.old) (register_of self.new)) }
         ensures refused { IfErr result (λ e. IsAddRefused IsMouse MouseFault (map (λ t. t.now) texts.now) remap
             (register_of self.old) (refusal_of e)) }

@@ -5,24 +5,26 @@ use Rattle.std.proofs.lemmas.List.{length-map}
 use Rattle.regex.specs.Patterns.{Re}
 use Rattle.minus_text.specs.declared.line_numbers.LineNumbers.{LineNumbers}
 use Rattle.minus_text.specs.Document.{Document, rows_of}
-use Rattle.minus_text.specs.Found.{RowMatches, found_by, found_above, row_numbers}
-use Rattle.minus_text.specs.Matches.{nth_match}
+use Rattle.minus_text.specs.Found.{RowMatches, found_by, found_above}
 use Rattle.minus_text.specs.Searched.{Searched, searched, IsFoundBy}
 use Rattle.minus_text.proofs.FoundByLaws.{found_goes_on}
 use Rattle.minus_state.specs.declared.selection.SelectionEnds.{SelectionEnds}
 use Rattle.minus_state.specs.declared.state.PagerState.{PagerState}
 use Rattle.minus_state.specs.declared.change.Change.{Change}
+use Rattle.minus_state.specs.declared.change.MessageChange.{MessageChange}
+use Rattle.minus_state.specs.declared.state.help.HelpChange.{HelpChange}
 use Rattle.minus_state.specs.declared.change.NextText.{NextText}
 use Rattle.minus_state.specs.declared.change.NextText.TheVariants.{Same, Whole, Pushed, Found, SavedWhole, SavedMore}
-use Rattle.minus_state.specs.Control.{Control, Saved, Settings, document_of, matches_of, search_mark_anew}
+use Rattle.minus_state.specs.Control.{Control, Saved, Settings, document_of, first_match, matches_of, search_mark_anew}
 use Rattle.minus_state.specs.ShownPrompt.{shown_in}
 use Rattle.minus_state.specs.Page.{shown_of, all_shown, shown}
-use Rattle.minus_state.specs.NextTexts.{next_document, next_found, next_term, IsNext}
-use Rattle.minus_state.specs.Changes.{IsChange, IsFormedFor, IsPlaced, Leads, shown_by, left_set, ends_set, help_set, mode_set, search_set, help_after, settings_after, prompt_after, shown_prompt}
-use Rattle.minus_state.specs.declared.change.Setting.TheVariants as setting
+use Rattle.minus_state.specs.NextTexts.{next_document, next_found, next_term, aside_with, IsNext}
+use Rattle.minus_state.specs.Changes.{IsChange, IsFormedFor, IsPlaced, Leads, as_is, shown_by, aside_after, help_after, settings_after, prompt_after, shown_prompt}
+use Rattle.minus_state.specs.declared.change.Redraw.{Redraw}
 use Rattle.minus_state.specs.Aside.{aside_of}
-use Rattle.minus_state.specs.OpenSearches.{OpenSearch}
+use Rattle.minus_state.specs.OpenSearches.{OpenSearch, search_after}
 use Rattle.minus_state.specs.declared.search.SearchMode.{SearchMode}
+use Rattle.minus_state.specs.Sizes.{IsSize}
 use Rattle.minus_state.specs.States.{control_of, settings_of, ends_of, term_of, search_of, IsFormed}
 
 same_control : (a b : Control) → a.text ≡ b.text → a.cols ≡ b.cols → a.rows ≡ b.rows → a.numbers ≡ b.numbers → a.wrapping ≡ b.wrapping → a.mark ≡ b.mark → a.left ≡ b.left → a.ends ≡ b.ends → a.term ≡ b.term → a.search_mark ≡ b.search_mark → a.settings ≡ b.settings → a.help ≡ b.help → a.mode ≡ b.mode → a.search ≡ b.search → a ≡ b
@@ -41,6 +43,14 @@ same_control a b t c r n w m l e p q s h d o =
     ∙ ap (λ (x : Option Saved). let k : Control = record b { help = x; mode = a.mode; search = a.search } in k) h
     ∙ ap (λ (x : SearchMode). let k : Control = record b { mode = x; search = a.search } in k) d
     ∙ ap (λ (x : Option OpenSearch). let k : Control = record b { search = x } in k) o
+
+pub same_settings : (a b : Settings) → a.prompt ≡ b.prompt → a.message ≡ b.message → a.prefix ≡ b.prefix → a.is_shown ≡ b.is_shown → a.follow ≡ b.follow → a ≡ b
+same_settings a b p m t s f =
+    ap (λ (x : List ℕ). let k : Settings = record a { prompt = x } in k) p
+    ∙ ap (λ (x : Option (List ℕ)). let k : Settings = record a { prompt = b.prompt; message = x } in k) m
+    ∙ ap (λ (x : List ℕ). let k : Settings = record a { prompt = b.prompt; message = b.message; prefix = x } in k) t
+    ∙ ap (λ (x : Bool). let k : Settings = record b { is_shown = x; follow = a.follow } in k) s
+    ∙ ap (λ (x : Bool). let k : Settings = record b { follow = x } in k) f
 
 -- what is kept as found in the rows that there will be is what the term finds in them
 pub found_next : (term : Option Re) (s : Searched) (text : NextText) → IsNext term s text → next_found s.found text ≡ found_by term 0 (rows_of (next_document s.document text))
@@ -106,8 +116,8 @@ formed_after (Ok x) s t change new placed still leads f = placed new f (leads f)
 formed_after (Err e) s t change new placed still leads f = still f
 
 -- a change to a text that was formed anew, under the term as it is
-pub change_anew : (s : PagerState) (change : Change) (next : Box Searched Global) (d : Document) (new : Control) → change.text ≡ Whole next → next.value ≡ searched (term_of s) d → d ≡ document_of new → change.mark ≡ new.mark → change.cols ≡ new.cols → change.rows ≡ new.rows → left_set change.setting s.left_mark ≡ new.left → ends_set change.setting (ends_of s) ≡ new.ends → term_of s ≡ new.term → change.search_mark ≡ new.search_mark
-    → settings_after (settings_of s) (option_map string_bytes change.prefix) change.setting ≡ new.settings → help_set change.setting (aside_of s.saved) ≡ new.help → mode_set change.setting s.search_state.search_mode ≡ new.mode → search_set change.setting (search_of s) ≡ new.search → IsChange (control_of s) change new
+pub change_anew : (s : PagerState) (change : Change) (next : Box Searched Global) (d : Document) (new : Control) → change.text ≡ Whole next → next.value ≡ searched (term_of s) d → d ≡ document_of new → change.mark ≡ new.mark → change.cols ≡ new.cols → change.rows ≡ new.rows → change.left ≡ new.left → change.ends ≡ new.ends → term_of s ≡ new.term → change.search_mark ≡ new.search_mark
+    → settings_after (settings_of s) change ≡ new.settings → help_after change.help (aside_of s.saved) ≡ new.help → change.mode ≡ new.mode → search_after change.search (search_of s) ≡ new.search → IsChange (control_of s) change new
 change_anew s change next d new is formed same m c r l e t n q h y z = record {
   belongs = rw is (tt, subst (λ (x : Option Re). IsFoundBy x next.value) t (subst (λ (x : Searched). IsFoundBy (term_of s) x) (sym formed) refl));
   document = ap (λ (n : NextText). next_document (document_of (control_of s)) n) is ∙ ap (λ (x : Searched). x.document) formed ∙ same;
@@ -119,7 +129,7 @@ change_anew s change next d new is formed same m c r l e t n q h y z = record {
   term_is = ap (λ (n : NextText). next_term (term_of s) n) is ∙ t;
   search_mark_is = n;
   settings_are = q;
-  help_is = ap (λ (n : NextText). help_after n change.setting (aside_of s.saved)) is ∙ h;
+  help_is = ap (λ (n : NextText). help_after change.help (aside_with n (aside_of s.saved))) is ∙ h;
   mode_is = y;
   search_is = z;
 }
@@ -127,16 +137,69 @@ change_anew s change next d new is formed same m c r l e t n q h y z = record {
 -- the rows of text on the page that a change leads to
 pub shown_is : (s : PagerState) (change : Change) (new : Control) → IsFormed s → IsChange (control_of s) change new → shown_by s change ≡ shown new
 shown_is s change new f h =
-    ap (λ (t : Option Re). take (change.rows - 1) (drop change.mark (shown_of t (next_document s.screen.document change.text) (left_set change.setting s.left_mark) (ends_set change.setting (ends_of s))))) h.term_is
-    ∙ ap (λ (d : Document). take (change.rows - 1) (drop change.mark (shown_of new.term d (left_set change.setting s.left_mark) (ends_set change.setting (ends_of s))))) (document_next s change new f h)
-    ∙ ap (λ (l : ℕ). take (change.rows - 1) (drop change.mark (shown_of new.term (document_of new) l (ends_set change.setting (ends_of s))))) h.left_is
+    ap (λ (t : Option Re). take (change.rows - 1) (drop change.mark (shown_of t (next_document s.screen.document change.text) change.left change.ends))) h.term_is
+    ∙ ap (λ (d : Document). take (change.rows - 1) (drop change.mark (shown_of new.term d change.left change.ends))) (document_next s change new f h)
+    ∙ ap (λ (l : ℕ). take (change.rows - 1) (drop change.mark (shown_of new.term (document_of new) l change.ends))) h.left_is
     ∙ ap (λ (e : SelectionEnds). take (change.rows - 1) (drop change.mark (shown_of new.term (document_of new) new.left e))) h.ends_are
     ∙ ap (λ (n : ℕ). take (n - 1) (drop change.mark (all_shown new))) h.rows_are
     ∙ ap (λ (m : ℕ). take (new.rows - 1) (drop m (all_shown new))) h.mark_is
 
 -- a change that changes nothing
-pub unchanged : (s : PagerState) (change : Change) → change.text ≡ Same → change.mark ≡ s.upper_mark → change.cols ≡ s.cols → change.rows ≡ s.rows → change.search_mark ≡ s.search_mark → change.prefix ≡ None → change.setting ≡ setting.Same → IsChange (control_of s) change (control_of s)
-unchanged s change is m c r n p q = record { belongs = rw is (tt, refl); document = rw is refl; mark_is = m; cols_are = c; rows_are = r; left_is = rw q refl; ends_are = rw q refl; term_is = rw is refl; search_mark_is = n; settings_are = rw (p, q) refl; help_is = rw (is, q) refl; mode_is = rw q refl; search_is = rw q refl }
+pub unchanged : (s : PagerState) (change : Change) (redraw : Redraw) → change ≡ as_is s redraw → IsChange (control_of s) change (control_of s)
+unchanged s change redraw is = subst (λ (c : Change). IsChange (control_of s) c (control_of s)) (sym is) (record {
+  belongs = (tt, refl);
+  document = refl;
+  mark_is = refl;
+  cols_are = refl;
+  rows_are = refl;
+  left_is = refl;
+  ends_are = refl;
+  term_is = refl;
+  search_mark_is = refl;
+  settings_are = refl;
+  help_is = refl;
+  mode_is = refl;
+  search_is = refl;
+})
+
+-- a change that was formed, at another mark
+pub at_mark : (old : Control) (change : Change) (new : Control) (mark : ℕ) (sized : IsSize change.cols change.rows) → IsChange old change new → IsChange old (record change { mark = mark; sized = sized }) (record new { mark = mark })
+at_mark old change new mark sized h = record {
+  belongs = h.belongs;
+  document = h.document;
+  mark_is = refl;
+  cols_are = h.cols_are;
+  rows_are = h.rows_are;
+  left_is = h.left_is;
+  ends_are = h.ends_are;
+  term_is = h.term_is;
+  search_mark_is = h.search_mark_is;
+  settings_are = h.settings_are;
+  help_is = h.help_is;
+  mode_is = h.mode_is;
+  search_is = h.search_is;
+}
+
+-- a change that was formed, with other values beside its text
+pub beside_anew : (old : Control) (formed : Change) (middle : Control) (left : ℕ) (settings : Settings) (aside : Option Saved) (follow : Bool) (prompt : Option (String Global)) (message : MessageChange) (help : HelpChange) (sized : IsSize formed.cols formed.rows) → IsChange old formed middle
+    → (let change : Change = record formed { left = left; follow = follow; prompt = prompt; message = message; help = help; sized = sized } in settings_after old.settings change ≡ settings)
+    → help_after help (aside_with formed.text old.help) ≡ aside
+    → (let change : Change = record formed { left = left; follow = follow; prompt = prompt; message = message; help = help; sized = sized } in IsChange old change (record middle { left = left; settings = settings; help = aside }))
+beside_anew old formed middle left settings aside follow prompt message help sized h set put = record {
+  belongs = h.belongs;
+  document = h.document;
+  mark_is = h.mark_is;
+  cols_are = h.cols_are;
+  rows_are = h.rows_are;
+  left_is = refl;
+  ends_are = h.ends_are;
+  term_is = h.term_is;
+  search_mark_is = h.search_mark_is;
+  settings_are = set;
+  help_is = put;
+  mode_is = h.mode_is;
+  search_is = h.search_is;
+}
 
 -- the typed prefix after another one was typed, or it stayed
 pub typed_after : (prefix : Option (String Global)) (typed : String Global) → string_bytes (unwrap_or prefix typed) ≡ unwrap_or (option_map string_bytes prefix) (string_bytes typed)
@@ -144,14 +207,14 @@ typed_after None typed = refl
 typed_after (Some next) typed = refl
 
 -- the search mark of rows that were formed anew
-pub search_mark_of : (s : PagerState) (seen next : Searched) (d e : Document) (mark : ℕ) {result : ℕ} → result ≡ unwrap_or (nth_match (row_numbers seen.found) mark 0) 0 → seen ≡ next → next ≡ searched (term_of s) d → d ≡ e → result ≡ search_mark_anew (term_of s) e mark
+pub search_mark_of : (s : PagerState) (seen next : Searched) (d e : Document) (mark : ℕ) {result : ℕ} → result ≡ first_match seen.found mark → seen ≡ next → next ≡ searched (term_of s) d → d ≡ e → result ≡ search_mark_anew (term_of s) e mark
 search_mark_of s seen next d e mark is view formed same =
-    is ∙ ap (λ (x : Searched). unwrap_or (nth_match (row_numbers x.found) mark 0) 0) view ∙ ap (λ (x : Searched). unwrap_or (nth_match (row_numbers x.found) mark 0) 0) formed ∙ ap (λ (x : Document). search_mark_anew (term_of s) x mark) same
+    is ∙ ap (λ (x : Searched). first_match x.found mark) (view ∙ formed) ∙ ap (λ (x : Document). search_mark_anew (term_of s) x mark) same
 
 -- what the prompt row is formed of after a change, and before it
 pub prompt_next : (s : PagerState) (change : Change) (new : Control) → IsFormed s → IsChange (control_of s) change new → prompt_after s change ≡ shown_in new.cols new.settings new.search_mark (length (matches_of new))
 prompt_next s change new f h =
-    ap (λ (n : ℕ). shown_in n (settings_after (settings_of s) (option_map string_bytes change.prefix) change.setting) change.search_mark (length (next_found s.screen.found change.text))) h.cols_are
+    ap (λ (n : ℕ). shown_in n (settings_after (settings_of s) change) change.search_mark (length (next_found s.screen.found change.text))) h.cols_are
     ∙ ap (λ (q : Settings). shown_in new.cols q change.search_mark (length (next_found s.screen.found change.text))) h.settings_are
     ∙ ap (λ (n : ℕ). shown_in new.cols new.settings n (length (next_found s.screen.found change.text))) h.search_mark_is
     ∙ ap (λ (n : ℕ). shown_in new.cols new.settings new.search_mark n) (matches_next s change new f h)
@@ -163,8 +226,8 @@ prompt_now s f =
     ∙ sym (ap (λ (n : ℕ). shown_in c.cols c.settings c.search_mark n) (length-map (found_by c.term 0 (rows_of (document_of c))) (λ (r : RowMatches). r.row)))
 
 -- a change that changes nothing leaves what the prompt row is formed of
-pub prompt_stays : (s : PagerState) (change : Change) → change.text ≡ Same → change.cols ≡ s.cols → change.search_mark ≡ s.search_mark → change.prefix ≡ None → change.setting ≡ setting.Same → prompt_after s change ≡ shown_prompt s
-prompt_stays s change is c n p q = rw (is, c, n, p, q) refl
+pub prompt_stays : (s : PagerState) (change : Change) (redraw : Redraw) → change ≡ as_is s redraw → prompt_after s change ≡ shown_prompt s
+prompt_stays s change redraw is = ap (prompt_after s) is
 
 -- a change that leads to a control leads to what that equals
 pub leads_to : (s : PagerState) (change : Change) (a b : Control) → a ≡ b → Leads s change a → Leads s change b

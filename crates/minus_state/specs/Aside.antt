@@ -5,7 +5,15 @@ use Rattle.minus_state.specs.declared.state.help.Saved.{Saved}
 use Rattle.minus_state.specs.Control.{Saved as Aside}
 
 abbrev pub aside_in : Saved → Aside
-aside_in s = record { text = string_bytes s.text; wrapping = s.wrapping; numbers = s.numbers; mark = s.upper_mark; left = s.left_mark; prompt = string_bytes s.prompt; follow = s.follow }
+aside_in s = record {
+  text = string_bytes s.text;
+  wrapping = s.wrapping;
+  numbers = s.numbers;
+  mark = s.upper_mark;
+  left = s.left_mark;
+  prompt = string_bytes s.prompt;
+  follow = s.follow;
+}
 
 abbrev pub aside_of : Option Saved → Option Aside
 aside_of saved = option_map aside_in saved

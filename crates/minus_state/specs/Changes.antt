@@ -1,93 +1,53 @@
 -- What a command leaves, formed beside the state.
-use Rattle.std.specs.Prelude.{◌≡◌, ℕ, ◌-◌, List, length, take, drop, Bool, Option, None, string_bytes}
+use Rattle.std.specs.Prelude.{◌≡◌, ℕ, List, length, take, drop, Option, None, Some, string_bytes, if◌then◌else◌}
 use Rattle.std.specs.Option.{option_map, unwrap_or}
-use Rattle.minus_text.specs.Searched.{searched, IsFoundBy}
-use Rattle.minus_state.specs.declared.selection.SelectionEnds.{SelectionEnds}
+use Rattle.minus_term.specs.Marks.{page_len, top_of}
+use Rattle.minus_text.specs.Document.{Document, rows_of}
+use Rattle.minus_text.specs.Searched.{searched}
 use Rattle.minus_state.specs.declared.state.PagerState.{PagerState}
 use Rattle.minus_state.specs.declared.change.Change.{Change}
-use Rattle.minus_state.specs.declared.change.Setting.{Setting}
-use Rattle.minus_state.specs.declared.change.Setting.TheVariants.{Prompt, Message, Shown, Follow, Left, Ends, Switch, Search}
-use Rattle.minus_state.specs.declared.change.NextText.{NextText}
-use Rattle.minus_state.specs.declared.search.SearchMode.{SearchMode}
-use Rattle.minus_state.specs.OpenSearches.{OpenSearch, search_after, mode_after, message_after}
-use Rattle.minus_state.specs.NextTexts.{next_document, next_term, next_found, aside_with, IsNext, IsSearchedFor}
+use Rattle.minus_state.specs.declared.change.MessageChange.{MessageChange}
+use Rattle.minus_state.specs.declared.change.MessageChange.TheVariants as messages
+use Rattle.minus_state.specs.declared.change.NextText.TheVariants.{Same}
+use Rattle.minus_state.specs.declared.change.Redraw.{Redraw}
+use Rattle.minus_state.specs.declared.search.open_search.SearchChange.TheVariants as searches
+use Rattle.minus_state.specs.declared.state.help.HelpChange.{HelpChange}
+use Rattle.minus_state.specs.declared.state.help.HelpChange.TheVariants as helps
+use Rattle.minus_state.specs.OpenSearches.{search_after}
+use Rattle.minus_state.specs.NextTexts.{next_document, next_term, next_found, aside_with, IsNext, FindsNext}
 use Rattle.minus_state.specs.Control.{Control, Settings, Saved, document_of}
 use Rattle.minus_state.specs.Page.{shown_of}
 use Rattle.minus_state.specs.PromptRow.{PromptRow, prompt_row}
 use Rattle.minus_state.specs.ShownPrompt.{shown_in}
-use Rattle.minus_state.specs.Aside.{aside_of}
+use Rattle.minus_state.specs.Aside.{aside_in, aside_of}
 use Rattle.minus_state.specs.States.{control_of, settings_of, ends_of, term_of, search_of, IsFormed}
 use Rattle.minus_state.specs.Sizes.{IsSize}
 use Rattle.minus_term.specs.Refusals.{Refusal, for_memory, for_size, for_pattern}
 
--- one thing that is set beside the text, and all others as they are
-abbrev pub prompt_set : Setting → List ℕ → List ℕ
-prompt_set (Prompt text) prompt = string_bytes text
-prompt_set (Switch next) prompt = string_bytes next.value.prompt
-prompt_set setting prompt = prompt
+-- the message, after what becomes of it
+abbrev pub message_after : MessageChange → Option (List ℕ) → Option (List ℕ)
+message_after messages.Stays message = message
+message_after messages.Goes message = None
+message_after (messages.Says text) message = Some (string_bytes text)
 
-abbrev pub message_set : Setting → Option (List ℕ) → Option (List ℕ)
-message_set (Message text) message = option_map string_bytes text
-message_set (Switch next) message = None
-message_set (Search step) message = message_after step message
-message_set setting message = message
+-- what is put aside, after help was opened or left
+abbrev pub help_after : HelpChange → Option Saved → Option Saved
+help_after helps.Stays help = help
+help_after (helps.Opens saved) help = Some (aside_in saved.value)
+help_after helps.Closes help = None
 
-abbrev pub shown_set : Setting → Bool → Bool
-shown_set (Shown next) is_shown = next
-shown_set setting is_shown = is_shown
+-- what is put aside after a change: its text was changed before that
+abbrev pub aside_after : Change → Option Saved → Option Saved
+aside_after change help = help_after change.help (aside_with change.text help)
 
-abbrev pub follow_set : Setting → Bool → Bool
-follow_set (Follow next) follow = next
-follow_set (Switch next) follow = next.value.follow
-follow_set setting follow = follow
-
--- the direction of the last search, and the search prompt that is open, if one is
-abbrev pub mode_set : Setting → SearchMode → SearchMode
-mode_set (Search step) mode = mode_after step mode
-mode_set setting mode = mode
-
-abbrev pub search_set : Setting → Option OpenSearch → Option OpenSearch
-search_set (Search step) search = search_after step search
-search_set setting search = search
-
--- the left mark
-abbrev pub left_set : Setting → ℕ → ℕ
-left_set (Left next) left = next
-left_set (Switch next) left = next.value.left
-left_set setting left = left
-
--- the ends of what is selected
-abbrev pub ends_set : Setting → SelectionEnds → SelectionEnds
-ends_set (Ends next) ends = next
-ends_set setting ends = ends
-
--- what is put aside, after help was opened or left, and after its text was changed before that
-abbrev pub help_set : Setting → Option Saved → Option Saved
-help_set (Switch next) help = aside_of next.value.saved
-help_set setting help = help
-
-abbrev pub help_after : NextText → Setting → Option Saved → Option Saved
-help_after text setting help = help_set setting (aside_with text help)
-
--- what there will be beside the text, where another prefix is typed, or the typed one stays
-abbrev pub settings_after : Settings → Option (List ℕ) → Setting → Settings
-settings_after s prefix setting = record {
-  prompt = prompt_set setting s.prompt;
-  message = message_set setting s.message;
-  prefix = unwrap_or prefix s.prefix;
-  is_shown = shown_set setting s.is_shown;
-  follow = follow_set setting s.follow;
-}
-
--- one thing is set beside the text
-abbrev pub with_setting : Control → Setting → Control
-with_setting c setting = record c {
-  left = left_set setting c.left;
-  ends = ends_set setting c.ends;
-  settings = settings_after c.settings None setting;
-  help = help_set setting c.help;
-  mode = mode_set setting c.mode;
-  search = search_set setting c.search;
+-- what is set beside the text after a change
+abbrev pub settings_after : Settings → Change → Settings
+settings_after s change = record {
+  prompt = unwrap_or (option_map string_bytes change.prompt) s.prompt;
+  message = message_after change.message s.message;
+  prefix = unwrap_or (option_map string_bytes change.prefix) s.prefix;
+  is_shown = change.is_shown;
+  follow = change.follow;
 }
 
 -- the change leads from one control to the other
@@ -97,18 +57,44 @@ pub record IsChange (old : Control) (change : Change) (new : Control) : Type 0 w
   pub mark_is : change.mark ≡ new.mark
   pub cols_are : change.cols ≡ new.cols
   pub rows_are : change.rows ≡ new.rows
-  pub left_is : left_set change.setting old.left ≡ new.left
-  pub ends_are : ends_set change.setting old.ends ≡ new.ends
+  pub left_is : change.left ≡ new.left
+  pub ends_are : change.ends ≡ new.ends
   pub term_is : next_term old.term change.text ≡ new.term
   pub search_mark_is : change.search_mark ≡ new.search_mark
-  pub settings_are : settings_after old.settings (option_map string_bytes change.prefix) change.setting ≡ new.settings
-  pub help_is : help_after change.text change.setting old.help ≡ new.help
-  pub mode_is : mode_set change.setting old.mode ≡ new.mode
-  pub search_is : search_set change.setting old.search ≡ new.search
+  pub settings_are : settings_after old.settings change ≡ new.settings
+  pub help_is : aside_after change old.help ≡ new.help
+  pub mode_is : change.mode ≡ new.mode
+  pub search_is : search_after change.search old.search ≡ new.search
+
+-- the change that leaves a state as it is, and asks for so much to be drawn
+abbrev pub as_is : PagerState → Redraw → Change
+as_is s redraw = record {
+  text = Same;
+  mark = s.upper_mark;
+  cols = s.cols;
+  rows = s.rows;
+  search_mark = s.search_mark;
+  left = s.left_mark;
+  ends = ends_of s;
+  is_shown = s.prompt_shown;
+  follow = s.follow;
+  mode = s.search_state.search_mode;
+  prefix = None;
+  prompt = None;
+  message = messages.Stays;
+  help = helps.Stays;
+  search = searches.Stays;
+  redraw = redraw;
+  sized = s.sized;
+}
 
 -- the change leads a state to a control, where the state is formed
 abbrev pub Leads : PagerState → Change → Control → Type 0
 Leads s change new = IsFormed s → IsChange (control_of s) change new
+
+-- so it is of each control that the change leads a formed state to
+abbrev pub WhereLed : PagerState → Change → (Control → Type 0) → Type 0
+WhereLed s change holds = (new : Control) → IsFormed s → IsChange (control_of s) change new → holds new
 
 -- the change was formed for a state
 abbrev pub IsFormedFor : PagerState → Change → Type 0
@@ -126,27 +112,31 @@ pub record KeepsBeside (s t : PagerState) : Type 0 where
 -- a state in which a change of another one was put in its place: its rows are what its term finds where the change was searched for it
 pub record IsPlaced (s : PagerState) (change : Change) (t : PagerState) : Type 0 where
   pub document : t.screen.document ≡ next_document s.screen.document change.text
-  pub found : IsSearchedFor (next_term (term_of s) change.text) s.screen change.text → IsFoundBy (next_term (term_of s) change.text) t.screen
+  pub found : FindsNext (term_of s) s.screen change.text t.screen
   pub numbers : t.line_numbers ≡ (next_document s.screen.document change.text).layout.numbers
   pub mark : t.upper_mark ≡ change.mark
-  pub left : t.left_mark ≡ left_set change.setting s.left_mark
-  pub ends : ends_of t ≡ ends_set change.setting (ends_of s)
+  pub left : t.left_mark ≡ change.left
+  pub ends : ends_of t ≡ change.ends
   pub term : term_of t ≡ next_term (term_of s) change.text
   pub search_mark : t.search_mark ≡ change.search_mark
   pub mode : t.search_mode ≡ t.search_state.search_mode
-  pub search_mode : t.search_state.search_mode ≡ mode_set change.setting s.search_state.search_mode
+  pub search_mode : t.search_state.search_mode ≡ change.mode
   pub cols : t.cols ≡ change.cols
   pub rows : t.rows ≡ change.rows
-  pub settings : settings_of t ≡ settings_after (settings_of s) (option_map string_bytes change.prefix) change.setting
-  pub help : aside_of t.saved ≡ help_after change.text change.setting (aside_of s.saved)
-  pub search : search_of t ≡ search_set change.setting (search_of s)
+  pub settings : settings_of t ≡ settings_after (settings_of s) change
+  pub help : aside_of t.saved ≡ aside_after change (aside_of s.saved)
+  pub search : search_of t ≡ search_after change.search (search_of s)
+
+-- where an append that leaves a document leaves the mark: at the last page, where the page goes on with what is appended
+abbrev pub mark_after : PagerState → Document → ℕ
+mark_after s d = if s.follow then top_of (length (rows_of d)) s.rows else s.upper_mark
 
 -- what the prompt row of a state is formed of, and what it is formed of after a change
 abbrev pub shown_prompt : PagerState → PromptRow
 shown_prompt s = shown_in s.cols (settings_of s) s.search_mark (length s.screen.found)
 
 abbrev pub prompt_after : PagerState → Change → PromptRow
-prompt_after s change = shown_in change.cols (settings_after (settings_of s) (option_map string_bytes change.prefix) change.setting) change.search_mark (length (next_found s.screen.found change.text))
+prompt_after s change = shown_in change.cols (settings_after (settings_of s) change) change.search_mark (length (next_found s.screen.found change.text))
 
 -- the prompt row of a state, and the one after a change
 abbrev pub displayed_prompt : PagerState → List ℕ
@@ -157,7 +147,9 @@ prompt_row_after s change = prompt_row (prompt_after s change)
 
 -- the rows of text on the page that a change of a state leads to
 abbrev pub shown_by : PagerState → Change → List (List ℕ)
-shown_by s change = take (change.rows - 1) (drop change.mark (shown_of (next_term (term_of s) change.text) (next_document s.screen.document change.text) (left_set change.setting s.left_mark) (ends_set change.setting (ends_of s))))
+shown_by s change =
+    take (page_len change.rows) (drop change.mark (shown_of (next_term (term_of s) change.text)
+      (next_document s.screen.document change.text) change.left change.ends))
 
 -- why a state was not resized: for the size, or, where that is one, for want of memory
 abbrev pub IsUnresized : Refusal → ℕ → ℕ → Type 0

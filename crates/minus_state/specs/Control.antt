@@ -1,9 +1,11 @@
 -- What the commands define: the text on show and how it is laid out, the size, the part of it that the page shows, and what is set beside it.
 use Rattle.std.specs.Prelude.{◌≡◌, ℕ, ◌-◌, ◌≤◌, ◌==◌, ◌&&◌, nat_lt, min, List, [], length, unwrap_or, Option, Some, Bool, if◌then◌else◌}
 use Rattle.regex.specs.Patterns.{Re}
+use Rattle.minus_term.specs.Marks.{top_of}
+use Rattle.minus_text.specs.declared.layout.Layout.{Layout}
 use Rattle.minus_text.specs.declared.line_numbers.LineNumbers.{LineNumbers}
 use Rattle.minus_text.specs.Document.{Document, rows_of, unfinished_rows, keeps_rows}
-use Rattle.minus_text.specs.Found.{found_by, row_numbers}
+use Rattle.minus_text.specs.Found.{RowMatches, found_by, row_numbers}
 use Rattle.minus_text.specs.Matches.{nth_match}
 use Rattle.minus_state.specs.declared.selection.SelectionEnds.{SelectionEnds}
 use Rattle.minus_state.specs.declared.search.SearchMode.{SearchMode}
@@ -73,13 +75,25 @@ matches_in term d = row_numbers (found_by term 0 (rows_of d))
 abbrev pub matches_of : Control → List ℕ
 matches_of c = matches_in c.term (document_of c)
 
+-- the place, among what was found, of the first match at a mark or behind it, or else of the first one; 0 where nothing was found
+abbrev pub first_match : List RowMatches → ℕ → ℕ
+first_match found mark = unwrap_or (nth_match (row_numbers found) mark 0) 0
+
+-- the search mark after an append: at most at the last match, where the rows before it stay, and else at the first match
+abbrev pub search_mark_after : Bool → List RowMatches → (mark search_mark : ℕ) → ℕ
+search_mark_after keeps_rows found mark search_mark = if keeps_rows then min search_mark (length found - 1) else first_match found mark
+
 -- the search mark where rows are formed anew: the first match at a mark or behind it, or else the first one
 abbrev pub search_mark_anew : Option Re → Document → ℕ → ℕ
-search_mark_anew term d mark = unwrap_or (nth_match (matches_in term d) mark 0) 0
+search_mark_anew term d mark = first_match (found_by term 0 (rows_of d)) mark
 
 -- the rows are formed anew, which sets the search mark
 abbrev pub reformed : Control → Control
 reformed c = record c { search_mark = search_mark_anew c.term (document_of c) c.mark }
+
+-- another text in another layout, whose rows are formed anew, with the mark at a row
+abbrev pub anew_at : Control → List ℕ → Layout → ℕ → Control
+anew_at c text layout mark = reformed (record c { text = text; numbers = layout.numbers; wrapping = layout.wrapping; mark = mark })
 
 -- the rows are searched for another term, or for none
 abbrev pub searched_for : Control → Option Re → Control
@@ -87,11 +101,11 @@ searched_for c term = reformed (record c { term = term })
 
 -- the greatest mark: the last page is full where there are rows enough
 abbrev pub top : Control → ℕ
-top c = length (text_rows c) - (c.rows - 1)
+top c = top_of (length (text_rows c)) c.rows
 
 -- whether a page that begins at a mark shows the end of so many rows of text, which are more than a terminal has
 abbrev pub shows_end : (count rows mark : ℕ) → Bool
-shows_end count rows mark = (mark == (count - (rows - 1))) && nat_lt rows count
+shows_end count rows mark = (mark == top_of count rows) && nat_lt rows count
 
 -- the mark is at most that
 abbrev pub clamp : Control → Control
@@ -101,9 +115,17 @@ clamp c = record c { mark = min c.mark (top c) }
 abbrev pub IsClamped : Control → Type 0
 IsClamped c = c.mark ≤ top c
 
+-- the page goes on with what is appended from now on, or no longer, and goes to the last page
+abbrev pub following : Control → Bool → Control
+following c follow = record c { mark = top c; settings = record c.settings { follow = follow } }
+
 -- a message stands in the prompt's place
 abbrev pub with_message : Control → List ℕ → Control
 with_message c text = record c { settings = record c.settings { message = Some text } }
+
+-- the prompt row is shown, or hidden
+abbrev pub with_prompt_shown : Control → Bool → Control
+with_prompt_shown c is_shown = record c { settings = record c.settings { is_shown = is_shown } }
 
 -- another prefix is typed
 abbrev pub with_prefix : Control → List ℕ → Control

@@ -14,7 +14,8 @@ help_open c = is_some c.help
 
 -- what is put aside as help is opened
 abbrev pub put_aside : Control → Saved
-put_aside c = record { text = c.text; wrapping = c.wrapping; numbers = c.numbers; mark = c.mark; left = c.left; prompt = c.settings.prompt; follow = c.settings.follow }
+put_aside c =
+    record { text = c.text; wrapping = c.wrapping; numbers = c.numbers; mark = c.mark; left = c.left; prompt = c.settings.prompt; follow = c.settings.follow }
 
 -- what is set beside the text, with another prompt, without a message, and following what is appended or not
 abbrev pub switched : Settings → List ℕ → Bool → Settings

@@ -65,6 +65,10 @@ IsSearchedFor term s (Found pattern findings) = findings ≡ found_by term 0 (ro
 IsSearchedFor term s (SavedWhole text) = IsFoundBy term s
 IsSearchedFor term s (SavedMore text) = IsFoundBy term s
 
+-- where a term finds what is kept as found and what is formed, the next term finds what is kept then
+abbrev pub FindsNext : Option Re → (old : Searched) → NextText → (new : Searched) → Type 0
+FindsNext term old text new = IsSearchedFor (next_term term text) old text → IsFoundBy (next_term term text) new
+
 -- what is formed beside a document is formed for it, and searched for a term
 abbrev pub IsNext : Option Re → Searched → NextText → Type 0
 IsNext term s next = Belongs s.document next × IsSearchedFor term s next

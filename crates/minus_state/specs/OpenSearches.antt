@@ -1,12 +1,12 @@
 -- A search prompt that is open in a pager.
-use Rattle.std.specs.Prelude.{ℕ, Bool, false, List, ◌∷◌, Option, None, Some, option_map, string_bytes}
+use Rattle.std.specs.Prelude.{ℕ, Bool, false, List, ◌∷◌, Option, None, Some, option_map}
 use Rattle.std.specs.Str.{encode_utf8_all}
 use Rattle.regex.specs.Patterns.{Re}
 use Rattle.regex.specs.Strings.{regex_pattern}
 use Rattle.minus_state.specs.declared.search.SearchMode.{SearchMode}
 use Rattle.minus_state.specs.declared.search.open_search.OpenSearch as code
-use Rattle.minus_state.specs.declared.search.open_search.SearchStep.{SearchStep}
-use Rattle.minus_state.specs.declared.search.open_search.SearchStep.TheVariants.{Opens, Moves, Edits, Closes}
+use Rattle.minus_state.specs.declared.search.open_search.SearchChange.{SearchChange}
+use Rattle.minus_state.specs.declared.search.open_search.SearchChange.TheVariants.{Stays, Moves, Is, Closes}
 use Rattle.minus_state.specs.SearchMode.{char_of}
 use Rattle.minus_state.specs.OpenPrompts.{Prompt, prompt_of, cursor_moved}
 
@@ -29,22 +29,12 @@ unedited p = record { prompt = p; edited = false; preview = None }
 abbrev pub newly_open : SearchMode → OpenSearch
 newly_open mode = unedited (prompt_of mode)
 
--- the prompt that is open after a step of it, if one is
-abbrev pub search_after : SearchStep → Option OpenSearch → Option OpenSearch
-search_after (Opens p) search = Some (unedited p)
+-- the prompt that is open, if one is, after what becomes of it
+abbrev pub search_after : SearchChange → Option OpenSearch → Option OpenSearch
+search_after Stays search = search
 search_after (Moves edit) search = option_map (λ o. let x : OpenSearch = record o { prompt = cursor_moved o.prompt edit } in x) search
-search_after (Edits o) search = Some (seen_search o)
-search_after (Closes message) search = None
-
--- the direction of the last search after a step
-abbrev pub mode_after : SearchStep → SearchMode → SearchMode
-mode_after (Opens p) mode = p.mode
-mode_after step mode = mode
-
--- the message after a step: a prompt may be closed with one
-abbrev pub message_after : SearchStep → Option (List ℕ) → Option (List ℕ)
-message_after (Closes (Some text)) message = Some (string_bytes text)
-message_after step message = message
+search_after (Is o) search = Some (seen_search o.value)
+search_after Closes search = None
 
 -- what stands in its row: the character of its direction, if it has one, and the query
 abbrev pub typed_behind : Option ℕ → List ℕ → List ℕ

@@ -1,6 +1,7 @@
 -- The page of a control.
-use Rattle.std.specs.Prelude.{ℕ, ◌-◌, List, length, take, drop, Option, None, Some}
+use Rattle.std.specs.Prelude.{ℕ, List, length, take, drop, Option, None, Some}
 use Rattle.regex.specs.Patterns.{Re}
+use Rattle.minus_term.specs.Marks.{page_len}
 use Rattle.minus_term.specs.PlayedScreen.{ShownPage}
 use Rattle.minus_term.specs.FullRedraw.{page_of}
 use Rattle.minus_term.specs.SearchPrompt.{typed_page}
@@ -23,7 +24,7 @@ all_shown c = shown_of c.term (document_of c) c.left c.ends
 
 -- the rows of text on the page: one less than the rows of the terminal, from the mark on
 abbrev pub shown : Control → List (List ℕ)
-shown c = take (c.rows - 1) (drop c.mark (all_shown c))
+shown c = take (page_len c.rows) (drop c.mark (all_shown c))
 
 -- a page of the control with these rows of text at its top, blank rows after them, and the prompt row last
 abbrev pub page_with : Control → List (List ℕ) → ShownPage

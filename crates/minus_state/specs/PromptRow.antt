@@ -1,5 +1,6 @@
 -- The prompt row: what stands in it, and its columns.
-use Rattle.std.specs.Prelude.{◌≡◌, ℕ, ◌+◌, ◌-◌, ◌^◌, ◌==◌, Bool, min, max, Option, is_some, unwrap_or, option_map, List, [], ◌∷◌, ◌++◌, length, chars, codes, if◌then◌else◌}
+use Rattle.std.specs.Prelude.{◌≡◌, ℕ, ◌+◌, ◌-◌, ◌^◌, ◌==◌, Bool, min, max, Option, is_some, unwrap_or, option_map, List, [], ◌∷◌, ◌++◌, length, chars, codes}
+use Rattle.std.specs.Prelude.{if◌then◌else◌}
 use Rattle.std.specs.Fmt.{decimal}
 use Rattle.minus_text.specs.Units.{columns}
 use Rattle.minus_text.specs.TextUnits.{text_units}

@@ -1,5 +1,6 @@
 -- What events of the mouse select.
 use Rattle.std.specs.Prelude.{ℕ, ◌+◌, ◌-◌, ◌==◌, ◌&&◌, ◌||◌, nat_le, nat_lt, min, is_some, not, Bool, true, false, Option, None, Some, if◌then◌else◌}
+use Rattle.minus_term.specs.Marks.{page_len}
 use Rattle.minus_state.specs.declared.selection.Selection.{Selection}
 use Rattle.minus_state.specs.declared.selection.SelectionEnds.{SelectionEnds}
 use Rattle.minus_state.specs.View.{selected_at}
@@ -29,7 +30,7 @@ is_led c = (not (is_some c.term) && is_some c.ends.anchor) && nat_lt 1 c.rows
 
 -- at the first row of the page the mark goes up by a row, and at the prompt's row or below down by one, as far as the text goes
 abbrev pub mark_led_to : Control → ℕ → ℕ
-mark_led_to c y = if y == 0 then c.mark - 1 else if nat_le (c.rows - 1) y then min (c.mark + 1) (top c) else c.mark
+mark_led_to c y = if y == 0 then c.mark - 1 else if nat_le (page_len c.rows) y then min (c.mark + 1) (top c) else c.mark
 
 abbrev pub mark_led : Control → ℕ → ℕ
 mark_led c y = if is_led c then mark_led_to c y else c.mark

@@ -1,6 +1,7 @@
 -- The prompt row of a control.
-use Rattle.std.specs.Prelude.{◌≡◌, ℕ, ◌==◌, List, length, Bool, true}
+use Rattle.std.specs.Prelude.{◌≡◌, ℕ, ◌==◌, List, length, Bool, true, Option}
 use Rattle.std.specs.List.{list_any}
+use Rattle.std.specs.Option.{unwrap_or}
 use Rattle.minus_term.specs.declared.error.MinusError.{MinusError}
 use Rattle.minus_term.specs.declared.error.MinusError.TheVariants.{NewlineInPrompt}
 use Rattle.minus_state.specs.PromptRow.{PromptRow, prompt_row as row_text}
@@ -24,6 +25,10 @@ prompt_row_of cols s search_mark match_count = row_text (shown_in cols s search_
 
 abbrev pub prompt_row : Control → List ℕ
 prompt_row c = prompt_row_of c.cols c.settings c.search_mark (length (matches_of c))
+
+-- a prompt row, if there is one, or else that of a control
+abbrev pub row_or : Control → Option (List ℕ) → List ℕ
+row_or c row = unwrap_or row (prompt_row c)
 
 -- whether a text has a newline
 abbrev pub has_newline : List ℕ → Bool

@@ -1,5 +1,6 @@
 -- What is shown of the rows of a document under a term: from the left mark on, with what matches and what is selected marked.
-use Rattle.std.specs.Prelude.{◌≡◌, ℕ, ◌+◌, ◌-◌, ◌≤◌, ◌⊎◌, true, false, zero, suc, min, Option, None, Some, option_map, unwrap_or, List, [], ◌∷◌, ◌++◌, length, slice_get, if◌then◌else◌}
+use Rattle.std.specs.Prelude.{◌≡◌, ℕ, ◌+◌, ◌-◌, ◌≤◌, ◌⊎◌, true, false, zero, suc, min, Option, None, Some, option_map, unwrap_or, List, [], ◌∷◌, ◌++◌, length}
+use Rattle.std.specs.Prelude.{slice_get, if◌then◌else◌}
 use Rattle.std.specs.List.{concat}
 use Rattle.std.specs.Str.{IsUtf8, encode_utf8_all}
 use Rattle.minus_text.specs.Crop.{cropped, columns_of}

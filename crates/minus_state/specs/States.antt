@@ -14,7 +14,13 @@ use Rattle.minus_state.specs.OpenSearches.{OpenSearch, seen_search}
 
 -- what is set in a state beside its text
 abbrev pub settings_of : PagerState → Settings
-settings_of s = record { prompt = string_bytes s.prompt; message = option_map string_bytes s.message; prefix = string_bytes s.prefix_num; is_shown = s.prompt_shown; follow = s.follow }
+settings_of s = record {
+  prompt = string_bytes s.prompt;
+  message = option_map string_bytes s.message;
+  prefix = string_bytes s.prefix_num;
+  is_shown = s.prompt_shown;
+  follow = s.follow;
+}
 
 -- the ends of what is selected
 abbrev pub ends_of : PagerState → SelectionEnds

@@ -1,10 +1,13 @@
 //! What a command leaves, formed beside the state.
-ghost use Rattle.std.specs.Prelude.{◌≡◌, IfOk};
+ghost use Rattle.std.specs.Prelude.{◌≡◌, unwrap_or, option_map, string_bytes, IfOk};
 ghost use Rattle.minus_state.specs.Sizes.{IsSize};
 
-use crate::search::open_search::SearchStep;
+use crate::search::SearchMode;
+use crate::search::open_search::SearchChange;
 use crate::selection::SelectionEnds;
-use crate::state::help::HelpSwitch;
+use crate::state::PagerState;
+use crate::state::help::HelpChange;
+use minus_term::{MinusError, top_of};
 use minus_text::{Findings, PendingPush, RowsView, Screen};
 use regex::Regex;
 use std::alloc::{AllocError, Global};
@@ -51,8 +54,8 @@ pub enum NextText {
     Whole(Box<Screen>),
     /// This text is added, and these rows were formed for it.
     Pushed(String, Box<PendingPush>),
-    /// The text on show stays, and this pattern, the term from now on, was found so in its rows. It stands in a box, since
-    /// a pattern is large and most changes have none.
+    /// The text on show stays, and this pattern, the term from now on, was found so in its rows. It stands in a box,
+    /// since a pattern is large and most changes have none.
     Found(Box<Regex>, Findings),
     /// Another text in the place of the one that is put aside.
     SavedWhole(String),
@@ -101,102 +104,56 @@ pub(crate) fn boxed<T: Drop>(alloc: Global, value: T) -> Result<Box<T>, AllocErr
     Ok(value)
 }
 
-/// What there will be beside the text: all as it is, or one thing set anew; or what help sets, as it is opened or left.
+/// What becomes of the message, which stands in the prompt's place.
 #[derive(Drop)]
-pub enum Setting {
-    /// All stays.
-    Same,
-    /// The prompt, one line.
-    Prompt(String),
-    /// The message, one line, or none.
-    Message(Option<String>),
-    /// Whether the prompt row is shown.
-    Shown(bool),
-    /// Whether the page goes on with what is appended.
-    Follow(bool),
-    /// The left mark, in columns.
-    Left(usize),
-    /// The ends of what is selected.
-    Ends(SelectionEnds),
-    /// What help sets.
-    Switch(Box<HelpSwitch>),
-    /// What becomes of the search prompt.
-    Search(SearchStep),
+pub enum MessageChange {
+    /// It stays, or there is none as before.
+    Stays,
+    /// There is none.
+    Goes,
+    /// It says this, one line.
+    Says(String),
 }
 
-impl Setting {
+impl MessageChange {
     ghost use Rattle.std.specs.Prelude.{◌≡◌};
     ghost use Rattle.std.specs.Option.{option_map};
-    ghost use Rattle.minus_state.specs.Changes.{prompt_set, message_set, shown_set, follow_set, left_set, ends_set};
+    ghost use Rattle.minus_state.specs.Changes.{message_after};
 
-    // The prompt that there will be.
-    pub(crate) fn prompt<'a>(&'a self, prompt: &'a str) -> &'a str
-        ensures { result.now ≡ prompt_set self.now prompt.now }
+    // The message then, where this is the one before.
+    pub(crate) fn after<'a>(&'a self, message: Option<&'a str>) -> Option<&'a str>
+        ensures { option_map (λ m. m.now) result ≡ message_after self.now (option_map (λ m. m.now) message.entry) }
     {
         match self {
-            Setting::Prompt(next) => next.as_str(),
-            Setting::Switch(switch) => switch.as_ref().prompt.as_str(),
-            _ => prompt,
+            MessageChange::Stays => message,
+            MessageChange::Goes => None,
+            MessageChange::Says(text) => Some(text.as_str()),
         }
     }
 
-    // The message.
-    pub(crate) fn message<'a>(&'a self, message: Option<&'a str>) -> Option<&'a str>
-        ensures { option_map (λ m. m.now) result ≡ message_set self.now (option_map (λ m. m.now) message.entry) }
+    // Puts the message in its place.
+    fn put(self, place: &mut Option<String>)
+        ensures { option_map string_bytes place.new ≡ message_after self (option_map string_bytes place.old) }
     {
         match self {
-            Setting::Message(Some(next)) => Some(next.as_str()),
-            Setting::Message(None) | Setting::Switch(_) => None,
-            Setting::Search(SearchStep::Closes(Some(next))) => Some(next.as_str()),
-            _ => message,
-        }
-    }
-
-    // Whether the prompt row will be shown.
-    pub(crate) fn is_shown(&self, is_shown: bool) -> bool
-        ensures { result ≡ shown_set self.now is_shown }
-    {
-        match self {
-            Setting::Shown(next) => *next,
-            _ => is_shown,
-        }
-    }
-
-    // Whether the page will go on with what is appended.
-    pub(crate) fn follow(&self, follow: bool) -> bool
-        ensures { result ≡ follow_set self.now follow }
-    {
-        match self {
-            Setting::Follow(next) => *next,
-            Setting::Switch(switch) => switch.as_ref().follow,
-            _ => follow,
-        }
-    }
-
-    // The left mark.
-    pub(crate) fn left(&self, left: usize) -> usize
-        ensures { result ≡ left_set self.now left }
-    {
-        match self {
-            Setting::Left(next) => *next,
-            Setting::Switch(switch) => switch.as_ref().left,
-            _ => left,
-        }
-    }
-
-    // The ends of what is selected.
-    pub(crate) fn ends(&self, ends: SelectionEnds) -> SelectionEnds
-        ensures { result ≡ ends_set self.now ends }
-    {
-        match self {
-            Setting::Ends(next) => *next,
-            _ => ends,
+            MessageChange::Stays => {}
+            MessageChange::Goes => *place = None,
+            MessageChange::Says(text) => *place = Some(text),
         }
     }
 }
 
-/// What a command leaves: the text, the mark, the size, the typed prefix and what is set beside them; and what of it is
-/// asked to be drawn.
+// Puts another text in the place of one, if there is another.
+fn put_text(place: &mut String, next: Option<String>)
+    ensures { string_bytes place.new ≡ unwrap_or (option_map string_bytes next) (string_bytes place.old) }
+{
+    if let Some(text) = next {
+        *place = text;
+    }
+}
+
+/// What a command leaves: the state's values then, and what of them is asked to be drawn. Texts that stay, and what is
+/// large and stays, are not held.
 pub struct Change {
     /// The text that there will be.
     pub text: NextText,
@@ -208,10 +165,26 @@ pub struct Change {
     pub rows: usize,
     /// The place, counted from 0, of the match that the prompt row tells of.
     pub search_mark: usize,
+    /// The columns that are cut off at the left where lines are not wrapped.
+    pub left: usize,
+    /// The ends of what is selected.
+    pub ends: SelectionEnds,
+    /// Whether the prompt row is shown.
+    pub is_shown: bool,
+    /// Whether the page goes on with what is appended.
+    pub follow: bool,
+    /// The direction of the last search.
+    pub mode: SearchMode,
     /// Another typed prefix, empty where the typed one goes; `None` where it stays.
     pub prefix: Option<String>,
-    /// What there will be beside the text.
-    pub setting: Setting,
+    /// Another prompt, one line; `None` where it stays.
+    pub prompt: Option<String>,
+    /// What becomes of the message.
+    pub message: MessageChange,
+    /// Whether help is opened or left.
+    pub help: HelpChange,
+    /// What becomes of the search prompt.
+    pub search: SearchChange,
     /// How much of it is asked to be drawn.
     pub redraw: Redraw,
     pub ghost sized: { IsSize cols rows },
@@ -226,18 +199,29 @@ impl Drop for Change {
             cols: _,
             rows: _,
             search_mark: _,
+            left: _,
+            ends: _,
+            is_shown: _,
+            follow: _,
+            mode: _,
             prefix: _,
-            setting: _,
+            prompt: _,
+            message: _,
+            help: _,
+            search: _,
             redraw: _,
         } = self;
     }
 }
 
 impl Change {
-    ghost use Rattle.std.specs.Prelude.{◌≡◌, ◌-◌, min, length};
+    ghost use Rattle.std.specs.Prelude.{◌≡◌, ◌-◌, min, length, OnOk, OnErr, IfErr};
     ghost use Rattle.minus_text.specs.Document.{rows_of};
+    ghost use Rattle.minus_state.specs.Changes.{IsPlaced};
+    ghost use Rattle.minus_term.specs.Marks.{top_of};
     ghost use Rattle.minus_state.specs.Control.{shows_end};
     ghost use Rattle.minus_state.specs.NextTexts.{next_document, Belongs};
+    ghost use Rattle.minus_state.specs.States.{control_of};
 
     /// Whether the page that there will be shows the end of its text, which has more rows than the terminal.
     pub fn shows_end(&self, screen: &Screen) -> bool
@@ -246,37 +230,66 @@ impl Change {
             self.now.rows self.now.mark }
     {
         let count = self.text.view(screen).len();
-        self.mark == count.saturating_sub(self.rows - 1) && count > self.rows
+        self.mark == top_of(count, self.rows) && count > self.rows
     }
 
     /// Clamps the mark: it is at most the one at which the last page of the text that there will be is full.
     pub fn clamp(&mut self, screen: &Screen)
         requires { Belongs screen.now.document self.old.text }
         ensures { self.new ≡ record self.old {
-          mark = min self.old.mark (length (rows_of (next_document screen.now.document self.old.text)) -
-              (self.old.rows - 1));
+          mark = min self.old.mark (top_of (length (rows_of (next_document screen.now.document self.old.text)))
+              self.old.rows);
         } }
     {
-        let top = self.text.view(screen).len().saturating_sub(self.rows - 1);
+        let top = top_of(self.text.view(screen).len(), self.rows);
         self.mark = self.mark.min(top);
     }
 
-    // The text that there will be, the typed prefix, if it is another one, and what is set beside them.
-    pub(crate) fn into_parts(self) -> (NextText, Option<String>, Setting)
-        ensures text { result.0 ≡ self.text }
-        ensures prefix { result.1 ≡ self.prefix }
-        ensures setting { result.2 ≡ self.setting }
+    // Puts what was formed in its place in a state. An `Err` leaves the control, the screen and the direction that the
+    // state tells.
+    pub(crate) fn place_into(self, state: &mut PagerState, alloc: Global) -> Result<(), MinusError>
+        ensures placed { OnOk result (IsPlaced state.old self state.new) }
+        ensures err { OnErr result (control_of state.new ≡ control_of state.old) }
+        ensures kept { OnErr result (state.new.screen ≡ state.old.screen) }
+        ensures mode { OnErr result (state.new.search_mode ≡ state.old.search_mode) }
+        ensures memory { IfErr result (λ e. e ≡ MinusError.Memory) }
     {
         let Change {
             text,
-            mark: _,
-            cols: _,
-            rows: _,
-            search_mark: _,
+            mark,
+            cols,
+            rows,
+            search_mark,
+            left,
+            ends,
+            is_shown,
+            follow,
+            mode,
             prefix,
-            setting,
+            prompt,
+            message,
+            help,
+            search,
             redraw: _,
         } = self;
-        (text, prefix, setting)
+        state.place_text(alloc, text)?;
+        state.line_numbers = state.screen.layout().numbers;
+        state.upper_mark = mark;
+        state.cols = cols;
+        state.rows = rows;
+        state.search_mark = search_mark;
+        state.left_mark = left;
+        state.anchor = ends.anchor;
+        state.selection = ends.selection;
+        state.prompt_shown = is_shown;
+        state.follow = follow;
+        state.search_mode = mode;
+        state.search_state.search_mode = mode;
+        put_text(&mut state.prefix_num, prefix);
+        put_text(&mut state.prompt, prompt);
+        message.put(&mut state.message);
+        help.put(&mut state.saved);
+        search.put(&mut state.open_search);
+        Ok(())
     }
 }

@@ -1,12 +1,11 @@
 //! What stands around the text of a row: the number before it, and the columns that it has.
-ghost use Rattle.std.specs.Prelude.{◌≡◌, ◌<◌, ◌+◌, ◌^◌, ◌++◌, ℕ, string_bytes, IfOk, OnOk};
+ghost use Rattle.std.specs.Prelude.{◌≡◌, ◌<◌, ◌+◌, ◌^◌, ℕ, string_bytes, IfOk, OnOk};
 ghost use Rattle.minus_text.specs.Document.{Document};
 ghost use Rattle.minus_text.specs.Formatted.{prefix_of};
-ghost use Rattle.minus_text.specs.MatchedTexts.{text_within};
 ghost use Rattle.minus_text.specs.Views.{viewed};
-ghost use Rattle.minus_state.specs.Frame.{frame_of};
+ghost use Rattle.minus_state.specs.Frame.{frame_of, IsCroppedLine, WritesCroppedLine};
 ghost use Rattle.minus_state.specs.Selection.{ends_in_order};
-ghost use Rattle.minus_state.specs.ShownRow.{columns_for_text, cropped_line, line_prefix, selected_range};
+ghost use Rattle.minus_state.specs.ShownRow.{columns_for_text, line_prefix, selected_range};
 ghost use Rattle.minus_state.specs.View.{prefix_in, cut_in};
 
 use crate::selection::{SelectionEnds, marked_range};
@@ -88,8 +87,7 @@ impl Frame {
         text: MatchedText<'_>,
     ) -> Result<Row, AllocError>
         requires { i + 1 < 2 ^ 64 }
-        ensures { IfOk result (λ row. (d : Document) (left : ℕ) → self ≡ frame_of d left →
-            string_bytes row ≡ cropped_line d left i (text_within left (columns_for_text d) text.entry)) }
+        ensures { IfOk result (λ row. IsCroppedLine self i text.entry (string_bytes row)) }
     {
         let mut row = self.line(i, "").to_row(alloc)?;
         text.push_cropped(alloc, &mut row, self.window())?;
@@ -105,8 +103,7 @@ impl Frame {
         text: MatchedText<'_>,
     ) -> Result<(), AllocError>
         requires { i + 1 < 2 ^ 64 }
-        ensures { OnOk result ((d : Document) (left : ℕ) → self ≡ frame_of d left → out.new.items
-            ≡ out.old.items ++ cropped_line d left i (text_within left (columns_for_text d) text.entry)) }
+        ensures { OnOk result (WritesCroppedLine self i text.entry out.old.items out.new.items) }
     {
         self.line(i, "").write_to(out)?;
         text.write_cropped(alloc, out, self.window())?;

@@ -21,7 +21,7 @@ pub mod view;
 pub mod visible;
 mod writing;
 
-pub use change::{AppendStyle, Change, NextText, Redraw, Setting};
+pub use change::{AppendStyle, Change, MessageChange, NextText, Redraw};
 pub use copied::extract_selection;
 pub use exits::{ExitCall, ExitCallbacks};
 pub use hooks::{HookCall, HookId, HookList};
@@ -34,14 +34,14 @@ pub use search::condition::{ConditionCall, KeptCondition, NeverShows, SearchCond
 pub use search::keys::{QueryEdit, edit_of};
 pub use search::matches::Matches;
 pub use search::open_prompt::OpenPrompt;
-pub use search::open_search::{OpenSearch, SearchStep};
+pub use search::open_search::{OpenSearch, SearchChange};
 pub use search::opts::{IncrementalSearchOpts, SearchOpts, search_opts};
 pub use search::preview::{confirmed_rows, incremental_preview};
 pub use search::query::{Fed, QueryEditor};
 pub use search::{InputStatus, SearchMode, SearchState};
 pub use selection::{Selection, SelectionEnds, marked_range};
 pub use showing::{ShownRow, ShownRows};
-pub use state::help::{HelpSwitch, Saved};
+pub use state::help::{HelpChange, Saved};
 pub use state::{ExitStrategy, PagerState, RunMode, has_newline, is_size};
 pub use view::{View, selection_from_coordinates};
 pub use visible::{

@@ -1,11 +1,7 @@
 //! What is shown of rows.
-ghost use Rattle.std.specs.Prelude.{◌≡◌, Option, [], ◌++◌, map, option_map, string_bytes, IfOk, OnOk};
-ghost use Rattle.regex.specs.Patterns.{Re};
-ghost use Rattle.minus_text.specs.Searched.{IsFoundBetween};
-ghost use Rattle.minus_text.specs.Views.{viewed};
-ghost use Rattle.minus_state.specs.Selection.{ends_in_order};
-ghost use Rattle.minus_state.specs.ShownRow.{before_rows, shown_rows, ShownRowsFit, SelectionAddsMarkersAlone};
-ghost use Rattle.minus_state.specs.Showing.{row_text};
+ghost use Rattle.std.specs.Prelude.{◌≡◌, [], ◌++◌, map, option_map, string_bytes, IfOk, OnOk};
+ghost use Rattle.minus_state.specs.ShownRow.{before_rows, ShownRowsFit, SelectionAddsMarkersAlone};
+ghost use Rattle.minus_state.specs.Showing.{row_text, AreShownRows};
 
 use crate::showing::{ShownRow, ShownRows};
 use minus_text::Rows;
@@ -33,10 +29,7 @@ pub fn render_rows_for_display(
     start: usize,
     end: usize,
 ) -> Result<Rows, AllocError>
-    ensures { IfOk result (λ rows. (term : Option Re) →
-        IsFoundBetween term (viewed rendering.now.view) start end → map string_bytes rows.items
-        ≡ shown_rows term (viewed rendering.now.view).document rendering.now.left_mark
-        (ends_in_order rendering.now.ends) start end) }
+    ensures { IfOk result (λ rows. AreShownRows rendering.now start end (map string_bytes rows.items)) }
 {
     let count = rendering.view.len();
     let mut rows = Vec::new(alloc);

@@ -1,11 +1,8 @@
 //! What is shown of the rows of a text.
-ghost use Rattle.std.specs.Prelude.{◌≡◌, ◌+◌, ◌<◌, ◌^◌, Option, option_map, string_bytes, IfOk};
-ghost use Rattle.regex.specs.Patterns.{Re};
-ghost use Rattle.minus_text.specs.Searched.{IsFoundAt, IsStoredRow};
+ghost use Rattle.std.specs.Prelude.{◌+◌, ◌<◌, ◌^◌, option_map, string_bytes, IfOk};
+ghost use Rattle.minus_text.specs.Searched.{IsStoredRow};
 ghost use Rattle.minus_text.specs.Views.{viewed};
-ghost use Rattle.minus_state.specs.Selection.{ends_in_order};
-ghost use Rattle.minus_state.specs.ShownRow.{cropped_row, unmarked_row, shown_row};
-ghost use Rattle.minus_state.specs.Showing.{row_text};
+ghost use Rattle.minus_state.specs.Showing.{row_text, IsCroppedRow, IsUnmarkedRow, IsShownRow};
 
 use crate::frame::Frame;
 use crate::selection::SelectionEnds;
@@ -96,9 +93,7 @@ impl<'s> ShownRows<'s> {
     // A line that is its one row, counted from 0, from the left mark on, if there is one.
     pub(crate) fn cropped(self, alloc: Global, i: usize) -> Result<Option<Row>, AllocError>
         requires { i + 1 < 2 ^ 64 }
-        ensures { IfOk result (λ row. (term : Option Re) → IsFoundAt term (viewed self.entry.view) i →
-            option_map string_bytes row
-            ≡ cropped_row term (viewed self.entry.view).document self.entry.left_mark i) }
+        ensures { IfOk result (λ row. IsCroppedRow self.entry i (option_map string_bytes row)) }
     {
         let Some(text) = self.view.matched_text(i) else {
             return Ok(None);
@@ -110,9 +105,7 @@ impl<'s> ShownRows<'s> {
     // A row without a selection, counted from 0, if there is one.
     fn unmarked(self, alloc: Global, i: usize) -> Result<Option<ShownRow<'s>>, AllocError>
         requires { i + 1 < 2 ^ 64 }
-        ensures { IfOk result (λ row. (term : Option Re) → IsFoundAt term (viewed self.entry.view) i →
-            option_map row_text row
-            ≡ unmarked_row term (viewed self.entry.view).document self.entry.left_mark i) }
+        ensures { IfOk result (λ row. IsUnmarkedRow self.entry i (option_map row_text row)) }
     {
         if self.view.layout().wrapping {
             return self.stored(alloc, i);
@@ -130,10 +123,7 @@ impl<'s> ShownRows<'s> {
     /// [`AllocError`] where there is no memory for it.
     pub fn row(self, alloc: Global, i: usize) -> Result<Option<ShownRow<'s>>, AllocError>
         requires { i + 1 < 2 ^ 64 }
-        ensures { IfOk result (λ row. (term : Option Re) → IsFoundAt term (viewed self.entry.view) i →
-            option_map row_text row
-            ≡ shown_row term (viewed self.entry.view).document self.entry.left_mark
-            (ends_in_order self.entry.ends) i) }
+        ensures { IfOk result (λ row. IsShownRow self.entry i (option_map row_text row)) }
     {
         match self.unmarked(alloc, i)? {
             Some(row) => {

@@ -1,10 +1,9 @@
 //! What is on show, and how.
 ghost use Rattle.std.specs.Prelude.{◌≡◌, ◌↔◌, IsTrue, string_bytes, option_map, unwrap_or, OnOk, OnErr, IfOk, IfErr};
 ghost use Rattle.regex.specs.Strings.{regex_pattern};
-ghost use Rattle.minus_text.specs.Found.{row_numbers};
-ghost use Rattle.minus_text.specs.Matches.{nth_match};
 ghost use Rattle.minus_text.specs.Views.{viewed};
 ghost use Rattle.minus_state.specs.Aside.{aside_of};
+ghost use Rattle.minus_state.specs.Control.{first_match};
 ghost use Rattle.minus_text.specs.FoundRows.{pattern_of};
 ghost use Rattle.minus_state.specs.ShownPrompt.{has_newline};
 ghost use Rattle.minus_state.specs.Sizes.{IsSize};
@@ -22,11 +21,11 @@ mod settings;
 mod term;
 mod texts;
 
-use crate::change::{Change, NextText, Setting};
-use crate::search::open_search::{OpenSearch, SearchStep};
+use crate::change::{Change, NextText};
+use crate::search::open_search::OpenSearch;
 use crate::search::{SearchMode, SearchState};
 use crate::selection::{Selection, SelectionEnds};
-use crate::state::help::{HelpSwitch, Saved, add_aside, replace_aside};
+use crate::state::help::{Saved, add_aside, replace_aside};
 use minus_term::MinusError;
 use minus_text::{Findings, Layout, LineNumbers, Patterns, RowsView, Screen, Term};
 use regex::Regex;
@@ -70,7 +69,7 @@ fn searching<'t>(patterns: &'t Patterns, term: Option<&'t Regex>) -> Option<Term
 // The place of the match that the prompt row tells of where rows were formed anew or another term is searched for: the
 // first one at a mark or behind it, or else the first one; 0 where no row matches.
 fn search_mark_anew(view: RowsView<'_>, mark: usize) -> usize
-    ensures { result ≡ unwrap_or (nth_match (row_numbers (viewed view.entry).found) mark 0) 0 }
+    ensures { result ≡ first_match (viewed view.entry).found mark }
 {
     view.nth_match(mark, 0).unwrap_or(0)
 }
@@ -174,14 +173,13 @@ impl Drop for PagerState {
 impl PagerState {
     ghost use Rattle.std.specs.Prelude.{◌≡◌, None, string_bytes, OnOk, OnErr, IfOk, IfErr};
     ghost use Rattle.std.specs.Option.{option_map, unwrap_or};
-    ghost use Rattle.minus_text.specs.Searched.{searched, IsFoundBy};
-    ghost use Rattle.minus_state.specs.Control.{Control, document_of};
+    ghost use Rattle.minus_text.specs.Searched.{searched};
+    ghost use Rattle.minus_state.specs.Control.{document_of};
     ghost use Rattle.minus_term.specs.Refusals.{refusal_of};
     ghost use Rattle.minus_state.specs.States.{control_of, settings_of, ends_of, term_of, search_of, IsFormed, at_start};
-    ghost use Rattle.minus_state.specs.OpenSearches.{search_after, mode_after, message_after};
-    ghost use Rattle.minus_state.specs.NextTexts.{next_document, next_term, aside_with, IsSearchedFor};
+    ghost use Rattle.minus_state.specs.NextTexts.{next_document, next_term, aside_with, FindsNext};
     ghost use Rattle.minus_state.specs.Aside.{aside_of};
-    ghost use Rattle.minus_state.specs.Changes.{IsChange, KeepsBeside, IsPlaced, settings_after, left_set, ends_set, help_set, mode_set, search_set, IsUnformedState};
+    ghost use Rattle.minus_state.specs.Changes.{WhereLed, KeepsBeside, IsPlaced, IsUnformedState};
 
     /// No text yet, for a terminal of so many columns and rows.
     ///
@@ -253,115 +251,13 @@ impl PagerState {
     }
 
     // The message.
-    fn message_text(&self) -> Option<&str>
+    pub(crate) fn message_text(&self) -> Option<&str>
         ensures { option_map (λ m. m.now) result ≡ option_map string_bytes self.now.message }
     {
         match &self.message {
             Some(message) => Some(message.as_str()),
             None => None,
         }
-    }
-
-    // Sets one thing beside the text.
-    fn place_setting(&mut self, setting: Setting)
-        ensures settings { settings_of self.new ≡ settings_after (settings_of self.old) None setting }
-        ensures left { self.new.left_mark ≡ left_set setting self.old.left_mark }
-        ensures ends { ends_of self.new ≡ ends_set setting (ends_of self.old) }
-        ensures help { aside_of self.new.saved ≡ help_set setting (aside_of self.old.saved) }
-        ensures mode { self.new.search_mode ≡ mode_set setting self.old.search_mode }
-        ensures search_mode { self.new.search_state.search_mode ≡ mode_set setting self.old.search_state.search_mode }
-        ensures search { search_of self.new ≡ search_set setting (search_of self.old) }
-        ensures rest { self.new ≡ record self.old {
-          left_mark = self.new.left_mark;
-          selection = self.new.selection;
-          message = self.new.message;
-          anchor = self.new.anchor;
-          prompt = self.new.prompt;
-          prompt_shown = self.new.prompt_shown;
-          follow = self.new.follow;
-          saved = self.new.saved;
-          search_mode = self.new.search_mode;
-          search_state = self.new.search_state;
-          open_search = self.new.open_search;
-        } }
-    {
-        match setting {
-            Setting::Same => {}
-            Setting::Prompt(prompt) => self.prompt = prompt,
-            Setting::Message(message) => self.message = message,
-            Setting::Shown(is_shown) => self.prompt_shown = is_shown,
-            Setting::Follow(follow) => self.follow = follow,
-            Setting::Left(left) => self.left_mark = left,
-            Setting::Ends(ends) => {
-                self.anchor = ends.anchor;
-                self.selection = ends.selection;
-            }
-            Setting::Switch(switch) => self.switch_help(Box::into_inner(switch)),
-            Setting::Search(step) => self.place_search(step),
-        }
-    }
-
-    // Puts what becomes of the search prompt in its place.
-    fn place_search(&mut self, step: SearchStep)
-        ensures message { option_map string_bytes self.new.message
-            ≡ message_after step (option_map string_bytes self.old.message) }
-        ensures mode { self.new.search_mode ≡ mode_after step self.old.search_mode }
-        ensures search_mode { self.new.search_state.search_mode ≡ mode_after step self.old.search_state.search_mode }
-        ensures search { search_of self.new ≡ search_after step (search_of self.old) }
-        ensures rest { self.new ≡ record self.old {
-          message = self.new.message;
-          search_mode = self.new.search_mode;
-          search_state = self.new.search_state;
-          open_search = self.new.open_search;
-        } }
-    {
-        match step {
-            SearchStep::Opens(prompt) => {
-                let mode = prompt.search_mode();
-                self.search_mode = mode;
-                self.search_state.search_mode = mode;
-                self.open_search = Some(OpenSearch {
-                    prompt,
-                    edited: false,
-                    preview: None,
-                });
-            }
-            SearchStep::Moves(edit) => {
-                if let Some(search) = &mut self.open_search {
-                    search.prompt.move_by(edit);
-                }
-            }
-            SearchStep::Edits(search) => self.open_search = Some(search),
-            SearchStep::Closes(message) => {
-                self.open_search = None;
-                if message.is_some() {
-                    self.message = message;
-                }
-            }
-        }
-    }
-
-    // Sets what help sets, as it is opened or left.
-    fn switch_help(&mut self, switch: HelpSwitch)
-        ensures { self.new ≡ record self.old {
-          prompt = switch.prompt;
-          message = None;
-          follow = switch.follow;
-          left_mark = switch.left;
-          saved = switch.saved;
-        } }
-    {
-        let HelpSwitch {
-            prompt,
-            follow,
-            left,
-            saved,
-        } = switch;
-        self.prompt = prompt;
-        self.message = None;
-        self.follow = follow;
-        self.left_mark = left;
-        self.saved = saved;
     }
 
     // Puts the search's mode into the field that tells it.
@@ -371,8 +267,8 @@ impl PagerState {
         self.search_mode = self.search_state.search_mode;
     }
 
-    // Puts what a pattern found in its place, and the pattern. It stands apart: a function pays for the room of its largest
-    // value whenever it is called.
+    // Puts what a pattern found in its place, and the pattern. It stands apart: a function pays for the room of its
+    // largest value whenever it is called.
     #[inline(never)]
     fn place_found(
         &mut self,
@@ -382,9 +278,8 @@ impl PagerState {
     ) -> Result<(), MinusError>
         ensures document { OnOk result (self.new.screen.document
             ≡ next_document self.old.screen.document (NextText.Found pattern findings)) }
-        ensures found { OnOk result (IsSearchedFor (next_term (term_of self.old) (NextText.Found pattern findings))
-            self.old.screen (NextText.Found pattern findings) →
-            IsFoundBy (next_term (term_of self.old) (NextText.Found pattern findings)) self.new.screen) }
+        ensures found { OnOk result (FindsNext (term_of self.old) self.old.screen (NextText.Found pattern findings)
+            self.new.screen) }
         ensures term { OnOk result (term_of self.new ≡ next_term (term_of self.old) (NextText.Found pattern findings)) }
         ensures aside { OnOk result (aside_of self.new.saved
             ≡ aside_with (NextText.Found pattern findings) (aside_of self.old.saved)) }
@@ -401,10 +296,9 @@ impl PagerState {
     }
 
     // Puts a text that was formed in its place, or where one is put aside. An `Err` leaves the text and its rows.
-    fn place_text(&mut self, alloc: Global, text: NextText) -> Result<(), MinusError>
+    pub(crate) fn place_text(&mut self, alloc: Global, text: NextText) -> Result<(), MinusError>
         ensures document { OnOk result (self.new.screen.document ≡ next_document self.old.screen.document text) }
-        ensures found { OnOk result (IsSearchedFor (next_term (term_of self.old) text) self.old.screen text →
-            IsFoundBy (next_term (term_of self.old) text) self.new.screen) }
+        ensures found { OnOk result (FindsNext (term_of self.old) self.old.screen text self.new.screen) }
         ensures term { OnOk result (term_of self.new ≡ next_term (term_of self.old) text) }
         ensures aside { OnOk result (aside_of self.new.saved ≡ aside_with text (aside_of self.old.saved)) }
         ensures beside { OnOk result (KeepsBeside self.old self.new) }
@@ -452,28 +346,14 @@ impl PagerState {
     /// [`MinusError::Memory`] where there is no memory for it.
     pub fn place(&mut self, alloc: Global, change: Change) -> Result<(), MinusError>
         ensures placed { OnOk result (IsPlaced self.old change self.new) }
-        ensures control { OnOk result ((new : Control) → IsFormed self.old →
-            IsChange (control_of self.old) change new → control_of self.new ≡ new) }
-        ensures formed { OnOk result ((new : Control) → IsFormed self.old →
-            IsChange (control_of self.old) change new → IsFormed self.new) }
+        ensures control { OnOk result (WhereLed self.old change (λ new. control_of self.new ≡ new)) }
+        ensures formed { OnOk result (WhereLed self.old change (λ new. IsFormed self.new)) }
         ensures err { OnErr result (control_of self.new ≡ control_of self.old) }
         ensures kept { OnErr result (self.new.screen ≡ self.old.screen) }
         ensures still { OnErr result (IsFormed self.old → IsFormed self.new) }
         ensures memory { IfErr result (λ e. e ≡ MinusError.Memory) }
     {
-        let (mark, cols, rows) = (change.mark, change.cols, change.rows);
-        let search_mark = change.search_mark;
-        let (text, prefix, setting) = change.into_parts();
-        self.place_text(alloc, text)?;
-        self.line_numbers = self.screen.layout().numbers;
-        self.upper_mark = mark;
-        self.cols = cols;
-        self.rows = rows;
-        self.search_mark = search_mark;
-        self.place_prefix(prefix);
-        self.place_setting(setting);
-        self.tell_mode();
-        Ok(())
+        change.place_into(self, alloc)
     }
 }
 

@@ -4,6 +4,7 @@ ghost use Rattle.minus_state.specs.View.{selected_at};
 
 use crate::frame::Frame;
 use crate::selection::Selection;
+use minus_term::page_len;
 use minus_text::Screen;
 
 /// Which part of a text the page shows.
@@ -26,7 +27,7 @@ pub fn selection_from_coordinates(screen: &Screen, view: View, x: u16, y: u16) -
 {
     let count = screen.formatted_lines_count();
     let row = usize::from(y);
-    if count == 0 || row >= view.rows.saturating_sub(1) {
+    if count == 0 || row >= page_len(view.rows) {
         return None;
     }
     let frame = Frame::of(screen.view(), view.left_mark);

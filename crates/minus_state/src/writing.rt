@@ -7,14 +7,8 @@ use minus_text::RowPlace;
 use std::alloc::{AllocError, Global};
 
 impl<'s> ShownRows<'s> {
-    ghost use Rattle.std.specs.Prelude.{◌≡◌, ◌++◌, ◌+◌, ◌^◌, ◌<◌, Option, slice_get, OnOk};
-    ghost use Rattle.regex.specs.Patterns.{Re};
-    ghost use Rattle.minus_term.specs.Written.{written_all};
-    ghost use Rattle.minus_text.specs.Searched.{IsFoundAt, stored_rows_for};
-    ghost use Rattle.minus_text.specs.Views.{viewed};
-    ghost use Rattle.minus_state.specs.Selection.{ends_in_order};
-    ghost use Rattle.minus_state.specs.ShownRow.{cropped_row, unmarked_row, shown_row};
-    ghost use Rattle.minus_state.specs.Writing.{some_row_ops};
+    ghost use Rattle.std.specs.Prelude.{◌+◌, ◌^◌, ◌<◌, OnOk};
+    ghost use Rattle.minus_state.specs.Writing.{WritesStored, WritesCropped, WritesUnmarked, WritesShown};
 
     // Adds a row as it is stored, counted from 0, if there is one. It is looked for near a place first.
     fn write_stored(
@@ -24,9 +18,7 @@ impl<'s> ShownRows<'s> {
         i: usize,
         place: &mut RowPlace,
     ) -> Result<(), AllocError>
-        ensures { OnOk result ((term : Option Re) → IsFoundAt term (viewed self.entry.view) i → out.new.items
-            ≡ out.old.items ++ written_all (some_row_ops
-            (slice_get (stored_rows_for term (viewed self.entry.view).document) i))) }
+        ensures { OnOk result (WritesStored self.entry i out.old.items out.new.items) }
     {
         let Some(row) = self.view.row(i, place) else {
             return Ok(());
@@ -40,9 +32,7 @@ impl<'s> ShownRows<'s> {
     // Adds a line that is its one row, counted from 0, from the left mark on, if there is one.
     fn write_cropped(self, alloc: Global, out: &mut Vec<u8>, i: usize) -> Result<(), AllocError>
         requires { i + 1 < 2 ^ 64 }
-        ensures { OnOk result ((term : Option Re) → IsFoundAt term (viewed self.entry.view) i → out.new.items
-            ≡ out.old.items ++ written_all (some_row_ops
-            (cropped_row term (viewed self.entry.view).document self.entry.left_mark i))) }
+        ensures { OnOk result (WritesCropped self.entry i out.old.items out.new.items) }
     {
         let Some(text) = self.view.matched_text(i) else {
             return Ok(());
@@ -62,9 +52,7 @@ impl<'s> ShownRows<'s> {
         place: &mut RowPlace,
     ) -> Result<(), AllocError>
         requires { i + 1 < 2 ^ 64 }
-        ensures { OnOk result ((term : Option Re) → IsFoundAt term (viewed self.entry.view) i → out.new.items
-            ≡ out.old.items ++ written_all (some_row_ops
-            (unmarked_row term (viewed self.entry.view).document self.entry.left_mark i))) }
+        ensures { OnOk result (WritesUnmarked self.entry i out.old.items out.new.items) }
     {
         if self.view.layout().wrapping {
             return self.write_stored(alloc, out, i, place);
@@ -75,10 +63,7 @@ impl<'s> ShownRows<'s> {
     // Adds a row in which something may be selected, counted from 0, if there is one.
     fn write_marked(self, alloc: Global, out: &mut Vec<u8>, i: usize) -> Result<(), AllocError>
         requires { i + 1 < 2 ^ 64 }
-        ensures { OnOk result ((term : Option Re) → IsFoundAt term (viewed self.entry.view) i → out.new.items
-            ≡ out.old.items ++ written_all (some_row_ops
-            (shown_row term (viewed self.entry.view).document self.entry.left_mark
-            (ends_in_order self.entry.ends) i))) }
+        ensures { OnOk result (WritesShown self.entry i out.old.items out.new.items) }
     {
         let Some(row) = self.row(alloc, i)? else {
             return Ok(());
@@ -96,10 +81,7 @@ impl<'s> ShownRows<'s> {
         place: &mut RowPlace,
     ) -> Result<(), AllocError>
         requires { i + 1 < 2 ^ 64 }
-        ensures { OnOk result ((term : Option Re) → IsFoundAt term (viewed self.entry.view) i → out.new.items
-            ≡ out.old.items ++ written_all (some_row_ops
-            (shown_row term (viewed self.entry.view).document self.entry.left_mark
-            (ends_in_order self.entry.ends) i))) }
+        ensures { OnOk result (WritesShown self.entry i out.old.items out.new.items) }
     {
         let frame = Frame::of(self.view, self.left_mark);
         match frame.selected_range(self.ends, i) {

@@ -1,4 +1,7 @@
 //! A search prompt that is open in a pager.
+ghost use Rattle.std.specs.Prelude.{◌≡◌, option_map};
+ghost use Rattle.minus_state.specs.OpenSearches.{seen_search, search_after};
+
 use crate::search::keys::QueryEdit;
 use crate::search::open_prompt::OpenPrompt;
 use regex::Regex;
@@ -27,13 +30,31 @@ impl Drop for OpenSearch {
 
 /// What becomes of the search prompt of a pager.
 #[derive(Drop)]
-pub enum SearchStep {
-    /// It opens, with this prompt.
-    Opens(OpenPrompt),
+pub enum SearchChange {
+    /// It stays open as it is, or closed.
+    Stays,
     /// The cursor of the one that is open moves, as this edit says, which removes and inserts nothing.
     Moves(QueryEdit),
-    /// The query is edited: this is in its place.
-    Edits(OpenSearch),
-    /// It closes, and leaves a message, or none.
-    Closes(Option<String>),
+    /// This one is open. It stands in a box, since it is large and most changes have none.
+    Is(Box<OpenSearch>),
+    /// None is open.
+    Closes,
+}
+
+impl SearchChange {
+    // Puts the search prompt in its place.
+    pub(crate) fn put(self, place: &mut Option<OpenSearch>)
+        ensures { option_map seen_search place.new ≡ search_after self (option_map seen_search place.old) }
+    {
+        match self {
+            SearchChange::Stays => {}
+            SearchChange::Moves(edit) => {
+                if let Some(search) = place {
+                    search.prompt.move_by(edit);
+                }
+            }
+            SearchChange::Is(search) => *place = Some(Box::into_inner(search)),
+            SearchChange::Closes => *place = None,
+        }
+    }
 }

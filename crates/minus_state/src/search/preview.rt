@@ -1,16 +1,15 @@
 //! Where a query leads, before it is taken.
 ghost use Rattle.std.specs.Prelude.{◌≡◌, Some, map, string_bytes, option_map, IfOk};
 ghost use Rattle.regex.specs.Strings.{regex_pattern};
-ghost use Rattle.minus_text.specs.Matches.{match_at};
 ghost use Rattle.minus_state.specs.Confirming.{confirmed};
-ghost use Rattle.minus_state.specs.Control.{clamp, document_of, matches_in, searched_for};
 ghost use Rattle.minus_state.specs.Page.{shown};
-ghost use Rattle.minus_state.specs.Preview.{preview};
+ghost use Rattle.minus_state.specs.Preview.{preview, row_found, shown_at};
 ghost use Rattle.minus_state.specs.States.{control_of, IsFormed};
 
 use crate::rendering::render_rows_for_display;
 use crate::showing::ShownRows;
 use crate::state::PagerState;
+use minus_term::page_len;
 use minus_text::{Rows, Term};
 use regex::Regex;
 use std::alloc::{AllocError, Global};
@@ -23,15 +22,14 @@ fn rows_found_at(
     row: usize,
 ) -> Result<Rows, AllocError>
     ensures { IfOk result (λ rows. IsFormed state.now → map string_bytes rows.items
-        ≡ shown (clamp (record (searched_for (control_of state.now) (Some (regex_pattern query.now)))
-        { mark = row }))) }
+        ≡ shown_at (regex_pattern query.now) (control_of state.now) row) }
 {
     let term = Term {
         patterns: state.patterns(),
         pattern: query,
     };
     let mark = row.min(state.top());
-    let end = mark.saturating_add(state.rows - 1);
+    let end = mark.saturating_add(page_len(state.rows));
     let findings = state.screen.search_rows(alloc, Some(term), mark, end)?;
     let shown = ShownRows {
         view: state.screen.view_of(&findings),
@@ -44,9 +42,8 @@ fn rows_found_at(
 
 // The row that a query leads to, where some row matches it.
 fn row_found(alloc: Global, state: &PagerState, query: &Regex) -> Result<Option<usize>, AllocError>
-    ensures { IfOk result (λ row. IsFormed state.now → row
-        ≡ match_at (matches_in (Some (regex_pattern query.now)) (document_of (control_of state.now)))
-        (control_of state.now).mark) }
+    ensures { IfOk result (λ row. IsFormed state.now →
+        row ≡ row_found (regex_pattern query.now) (control_of state.now)) }
 {
     let term = Term {
         patterns: state.patterns(),
@@ -82,7 +79,7 @@ pub fn incremental_preview(
     state: &PagerState,
     query: &Regex,
 ) -> Result<Option<Rows>, AllocError>
-    ensures { IfOk result (λ rows. IsFormed state.now → option_map (λ v. map string_bytes v.items) rows
+    ensures { IfOk result (λ r. IsFormed state.now → option_map (λ v. map string_bytes v.items) r
         ≡ preview (regex_pattern query.now) (control_of state.now)) }
 {
     let first = row_found(alloc, state, query)?;

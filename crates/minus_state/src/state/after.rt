@@ -1,12 +1,13 @@
 //! What a state shows after a change.
-ghost use Rattle.std.specs.Prelude.{◌≡◌, ◌++◌, [], map, option_map, OnOk};
+ghost use Rattle.std.specs.Prelude.{◌≡◌, ◌++◌, [], map, option_map, unwrap_or, string_bytes, OnOk};
 ghost use Rattle.minus_state.specs.ShownRow.{before_rows};
 ghost use Rattle.minus_state.specs.Showing.{row_text};
 
-use crate::change::{Change, NextText, Redraw, Setting};
+use crate::change::{Change, MessageChange, Redraw};
 use crate::prompt::{PromptRow, format_prompt};
 use crate::showing::{ShownRow, ShownRows};
 use crate::state::PagerState;
+use minus_term::page_len;
 use minus_text::RowPlace;
 use std::alloc::{AllocError, Global};
 
@@ -21,44 +22,43 @@ fn push_shown<'a>(rows: &mut Vec<ShownRow<'a>>, row: Option<ShownRow<'a>>) -> Re
     }
 }
 
+// A text after a change: another one, or the one before.
+fn text_after<'a>(next: &'a Option<String>, before: &'a String) -> &'a str
+    ensures { result.now ≡ unwrap_or (option_map string_bytes next.now) (string_bytes before.now) }
+{
+    match next {
+        Some(text) => text.as_str(),
+        None => before.as_str(),
+    }
+}
+
 impl PagerState {
     ghost use Rattle.std.specs.Prelude.{◌≡◌, None, true, ◌+◌, ◌^◌, ◌<◌, length, map, take, drop, string_bytes, IfOk};
     ghost use Rattle.std.specs.List.{flat_map};
     ghost use Rattle.std.specs.Option.{option_map, unwrap_or};
     ghost use Rattle.minus_term.specs.FullRedraw.{row_ops};
     ghost use Rattle.minus_term.specs.Written.{written_all};
-    ghost use Rattle.minus_state.specs.Control.{Control, first_changed};
-    ghost use Rattle.minus_state.specs.ShownPrompt.{prompt_row};
+    ghost use Rattle.minus_state.specs.Control.{first_changed};
+    ghost use Rattle.minus_state.specs.ShownPrompt.{prompt_row, row_or};
     ghost use Rattle.minus_state.specs.PromptRow.{seen_prompt};
-    ghost use Rattle.minus_state.specs.States.{control_of, ends_of, IsFormed};
+    ghost use Rattle.minus_state.specs.States.{control_of, IsFormed};
     ghost use Rattle.minus_state.specs.NextTexts.{next_searched, Belongs};
     ghost use Rattle.minus_text.specs.Views.{viewed};
-    ghost use Rattle.minus_state.specs.Changes.{IsChange, IsFormedFor, left_set, ends_set, prompt_after, prompt_row_after, shown_prompt, displayed_prompt, shown_by};
+    ghost use Rattle.minus_state.specs.Changes.{WhereLed, IsFormedFor, prompt_after, prompt_row_after, shown_prompt, displayed_prompt, shown_by};
     ghost use Rattle.minus_state.specs.Showing.{row_text};
-
-    // The typed prefix after a change.
-    fn prefix_after<'a>(&'a self, change: &'a Change) -> &'a str
-        ensures { result.now ≡ unwrap_or (option_map string_bytes change.now.prefix)
-            (string_bytes self.now.prefix_num) }
-    {
-        match &change.prefix {
-            Some(prefix) => prefix.as_str(),
-            None => self.prefix_num.as_str(),
-        }
-    }
 
     // What the prompt row is formed of after a change.
     fn prompt_after<'a>(&'a self, change: &'a Change) -> PromptRow<'a>
         ensures { seen_prompt result ≡ prompt_after self.now change.now }
     {
         PromptRow {
-            is_shown: change.setting.is_shown(self.prompt_shown),
-            prompt: change.setting.prompt(self.prompt.as_str()),
-            message: change.setting.message(self.message_text()),
-            prefix: self.prefix_after(change),
+            is_shown: change.is_shown,
+            prompt: text_after(&change.prompt, &self.prompt),
+            message: change.message.after(self.message_text()),
+            prefix: text_after(&change.prefix, &self.prefix_num),
             search_mark: change.search_mark,
             match_count: change.text.match_count(&self.screen),
-            follow: change.setting.follow(self.follow),
+            follow: change.follow,
             cols: change.cols,
         }
     }
@@ -66,8 +66,7 @@ impl PagerState {
     /// The prompt row after a change; empty where it is hidden. Fails for want of memory alone.
     pub fn prompt_row_after(&self, alloc: Global, change: &Change) -> Result<String, AllocError>
         ensures row { IfOk result (λ row. string_bytes row ≡ prompt_row_after self.now change.now) }
-        ensures formed { IfOk result (λ row. (new : Control) → IsFormed self.now →
-            IsChange (control_of self.now) change.now new → string_bytes row ≡ prompt_row new) }
+        ensures formed { IfOk result (λ row. WhereLed self.now change.now (λ new. string_bytes row ≡ prompt_row new)) }
     {
         let row = self.prompt_after(change);
         let text = format_prompt(alloc, &row)?;
@@ -80,21 +79,23 @@ impl PagerState {
         ensures formed { IfOk result (λ row. IsFormed self.now →
             string_bytes row ≡ prompt_row (control_of self.now)) }
     {
-        let stays = self.change_to(NextText::Same, Redraw::Stays);
+        let stays = self.redrawn(Redraw::Stays);
         self.prompt_row_after(alloc, &stays)
     }
 
-    // Whether a change leaves the prompt row as it is: the columns, the prefix, what is told of the matches, and all
-    // that is set stay.
+    // Whether a change leaves the prompt row as it is: what it says is not set, and all else that it is formed of
+    // stays.
     fn keeps_prompt_row(&self, change: &Change) -> bool
         ensures { result ≡ true → prompt_after self.now change.now ≡ shown_prompt self.now }
     {
-        match change.setting {
-            Setting::Same | Setting::Left(_) | Setting::Ends(_) => {
+        match (&change.prompt, &change.message) {
+            (None, MessageChange::Stays) => {
                 change.cols == self.cols
+                    && change.is_shown == self.prompt_shown
+                    && change.follow == self.follow
                     && change.search_mark == self.search_mark
                     && change.text.match_count(&self.screen) == self.screen.match_count()
-                    && self.prefix_after(change) == self.prefix_num.as_str()
+                    && text_after(&change.prefix, &self.prefix_num) == self.prefix_num.as_str()
             }
             _ => false,
         }
@@ -109,9 +110,8 @@ impl PagerState {
     ) -> Result<Option<String>, AllocError>
         ensures row { IfOk result (λ row. unwrap_or (option_map string_bytes row) (displayed_prompt self.now)
             ≡ prompt_row_after self.now change.now) }
-        ensures formed { IfOk result (λ row. (new : Control) → IsFormed self.now →
-            IsChange (control_of self.now) change.now new →
-            unwrap_or (option_map string_bytes row) (prompt_row (control_of self.now)) ≡ prompt_row new) }
+        ensures formed { IfOk result (λ row. WhereLed self.now change.now
+            (λ new. row_or (control_of self.now) (option_map string_bytes row) ≡ prompt_row new)) }
     {
         if self.keeps_prompt_row(change) {
             return Ok(None);
@@ -128,20 +128,20 @@ impl PagerState {
     {
         let rows = change.text.view(&self.screen).len();
         let left = rows.saturating_sub(change.mark);
-        left.min(change.rows - 1)
+        left.min(page_len(change.rows))
     }
 
     // What rows are shown of after a change, and how.
     fn showing<'a>(&'a self, change: &'a Change) -> ShownRows<'a>
         requires { Belongs self.now.screen.document change.now.text }
         ensures view { viewed result.view ≡ next_searched self.now.screen change.now.text }
-        ensures left { result.left_mark ≡ left_set change.now.setting self.now.left_mark }
-        ensures ends { result.ends ≡ ends_set change.now.setting (ends_of self.now) }
+        ensures left { result.left_mark ≡ change.now.left }
+        ensures ends { result.ends ≡ change.now.ends }
     {
         ShownRows {
             view: change.text.view(&self.screen),
-            left_mark: change.setting.left(self.left_mark),
-            ends: change.setting.ends(self.ends()),
+            left_mark: change.left,
+            ends: change.ends,
         }
     }
 
@@ -178,7 +178,7 @@ impl PagerState {
         requires { IsFormedFor self.now change.now }
         ensures { IfOk result (λ v. map row_text v.items ≡ drop first (shown_by self.now change.now)) }
     {
-        self.shown_between(alloc, change, first, change.rows - 1)
+        self.shown_between(alloc, change, first, page_len(change.rows))
     }
 
     /// Adds the rows of text on the page that a change leads to, from one of them on and before another, both counted
@@ -226,7 +226,7 @@ impl PagerState {
         ensures { OnOk result (out.new.items ≡ out.old.items ++ written_all
             (flat_map row_ops (drop first (shown_by self.now change.now)))) }
     {
-        self.write_between(alloc, out, change, first, change.rows - 1)
+        self.write_between(alloc, out, change, first, page_len(change.rows))
     }
 
     /// The first row that an append may change, counted from 0: the first one of the line that no newline ends, or the

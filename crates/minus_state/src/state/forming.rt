@@ -1,10 +1,12 @@
 //! What changes of a state leave, formed beside it.
 ghost use Rattle.std.specs.Prelude.{◌≡◌, if◌then◌else◌};
 
-use crate::change::{Change, NextText, Redraw, Setting, boxed};
+use crate::change::{Change, MessageChange, NextText, Redraw, boxed};
 use crate::frame::Frame;
+use crate::search::open_search::SearchChange;
+use crate::state::help::HelpChange;
 use crate::state::{PagerState, formed, is_size, search_mark_anew};
-use minus_term::MinusError;
+use minus_term::{MinusError, top_of};
 use minus_text::{Layout, LineNumbers, RowsView, Screen, prefix_columns};
 use std::alloc::{AllocError, Global};
 
@@ -21,87 +23,68 @@ fn append_redraw(keeps_rows: bool) -> Redraw
 impl PagerState {
     ghost use Rattle.std.specs.Prelude.{◌≡◌, ◌↔◌, ◌+◌, ◌-◌, ◌^◌, ◌<◌, ◌==◌, ◌++◌, None, nat_le, min, length, unwrap_or, encode_utf8, string_bytes, if◌then◌else◌, IfOk, IfErr, OnOk};
     ghost use Rattle.minus_term.specs.Refusals.{refusal_of};
-    ghost use Rattle.minus_state.specs.Control.{top, moved_to, with_prefix, reformed};
+    ghost use Rattle.minus_term.specs.Marks.{top_of};
+    ghost use Rattle.minus_state.specs.Control.{top, moved_to, following, with_prefix, reformed, anew_at};
     ghost use Rattle.minus_state.specs.Redraws.{append_redraw, shift_redraw};
     ghost use Rattle.minus_state.specs.Appending.{appended};
     ghost use Rattle.minus_state.specs.Shifting.{width, may_shift, left_after};
     ghost use Rattle.minus_state.specs.States.{control_of, settings_of, ends_of, term_of, IsFormed};
     ghost use Rattle.minus_text.specs.Document.{rows_of, margin_in};
-    ghost use Rattle.minus_text.specs.Found.{row_numbers};
+    ghost use Rattle.minus_state.specs.Control.{search_mark_after};
     ghost use Rattle.minus_text.specs.FoundRows.{pattern_of};
-    ghost use Rattle.minus_text.specs.Matches.{nth_match};
     ghost use Rattle.minus_text.specs.Searched.{searched};
     ghost use Rattle.minus_text.specs.Views.{viewed};
     ghost use Rattle.minus_state.specs.View.{prefix_in};
     ghost use Rattle.minus_state.specs.NextTexts.{next_document, Belongs};
-    ghost use Rattle.minus_state.specs.Changes.{Leads, IsUnresized, with_setting};
+    ghost use Rattle.minus_state.specs.Changes.{Leads, IsUnresized, as_is, mark_after};
     ghost use Rattle.minus_state.specs.Sizes.{IsSize};
 
-    /// The state as it is, but for the text.
-    pub fn change_to(&self, text: NextText, redraw: Redraw) -> Change
-        ensures text { result.text ≡ text }
-        ensures mark { result.mark ≡ self.now.upper_mark }
-        ensures cols { result.cols ≡ self.now.cols }
-        ensures rows { result.rows ≡ self.now.rows }
-        ensures search_mark { result.search_mark ≡ self.now.search_mark }
-        ensures prefix { result.prefix ≡ None }
-        ensures setting { result.setting ≡ Setting.Same }
-        ensures redraw { result.redraw ≡ redraw }
-    {
-        Change {
-            text,
-            mark: self.upper_mark,
-            cols: self.cols,
-            rows: self.rows,
-            search_mark: self.search_mark,
-            prefix: None,
-            setting: Setting::Same,
-            redraw,
-        }
-    }
-
-    // The state at a mark, with one thing set beside its text.
-    pub(crate) fn changed(&self, mark: usize, setting: Setting, redraw: Redraw) -> Change
-        ensures next { Leads self.now result
-            (record (with_setting (control_of self.now) setting) { mark = mark }) }
+    /// The state as it is, to be drawn so.
+    pub fn redrawn(&self, redraw: Redraw) -> Change
+        ensures is { result ≡ as_is self.now redraw }
+        ensures next { Leads self.now result (control_of self.now) }
         ensures redraw { result.redraw ≡ redraw }
     {
         Change {
             text: NextText::Same,
-            mark,
+            mark: self.upper_mark,
             cols: self.cols,
             rows: self.rows,
             search_mark: self.search_mark,
+            left: self.left_mark,
+            ends: self.ends(),
+            is_shown: self.prompt_shown,
+            follow: self.follow,
+            mode: self.search_state.search_mode,
             prefix: None,
-            setting,
+            prompt: None,
+            message: MessageChange::Stays,
+            help: HelpChange::Stays,
+            search: SearchChange::Stays,
             redraw,
         }
     }
 
-    /// The state with one thing set beside its text.
-    pub fn set(&self, setting: Setting, redraw: Redraw) -> Change
-        ensures next { Leads self.now result (with_setting (control_of self.now) setting) }
-        ensures redraw { result.redraw ≡ redraw }
-    {
-        self.changed(self.upper_mark, setting, redraw)
-    }
-
-    /// The state as it is, to be drawn so.
-    pub fn redrawn(&self, redraw: Redraw) -> Change
-        ensures next { Leads self.now result (control_of self.now) }
-        ensures redraw { result.redraw ≡ redraw }
-    {
-        self.change_to(NextText::Same, redraw)
-    }
-
-    /// The state at another mark, a row counted from 0, with one thing set beside its text. The mark is taken as it
-    /// is, past the last page too: `moved_to` clamps it.
-    pub fn moved(&self, mark: usize, setting: Setting) -> Change
-        ensures next { Leads self.now result
-            (record (with_setting (control_of self.now) setting) { mark = mark }) }
+    /// The state at another mark, a row counted from 0. The mark is taken as it is, past the last page too: `moved_to`
+    /// clamps it.
+    pub fn moved(&self, mark: usize) -> Change
+        ensures is { result ≡ record (as_is self.now Redraw.Moved) { mark = mark; } }
+        ensures next { Leads self.now result (record (control_of self.now) { mark = mark }) }
         ensures redraw { result.redraw ≡ Redraw.Moved }
     {
-        self.changed(mark, setting, Redraw::Moved)
+        let mut change = self.redrawn(Redraw::Moved);
+        change.mark = mark;
+        change
+    }
+
+    /// The state at the greatest mark (`top`), where the page goes on with what is appended from now on, or no longer.
+    pub fn following(&self, follow: bool) -> Change
+        ensures next { Leads self.now result (following (control_of self.now) follow) }
+        ensures redraw { result.redraw ≡ Redraw.Moved }
+    {
+        let mut change = self.moved(self.top());
+        change.follow = follow;
+        change
     }
 
     /// The greatest mark, where the last page begins, a row counted from 0: the rows of text less those that a page
@@ -110,8 +93,7 @@ impl PagerState {
         ensures value { IsFormed self.now → result ≡ top (control_of self.now) }
         ensures few { result < 2 ^ 63 }
     {
-        let rows = self.screen.formatted_lines_count();
-        rows.saturating_sub(self.rows - 1)
+        top_of(self.screen.formatted_lines_count(), self.rows)
     }
 
     /// The state with its mark moved to a row, counted from 0, or to the greatest mark (`top`) where that is less.
@@ -120,7 +102,7 @@ impl PagerState {
         ensures next { Leads self.now result (moved_to (control_of self.now) mark) }
         ensures redraw { result.redraw ≡ Redraw.Moved }
     {
-        self.moved(mark.min(self.top()), Setting::Same)
+        self.moved(mark.min(self.top()))
     }
 
     // A copy of the text on show.
@@ -144,27 +126,26 @@ impl PagerState {
         formed(alloc, text, layout, self.searching())
     }
 
-    // The state with a text in a layout, which is formed anew.
-    fn formed_anew(&self, alloc: Global, text: String, layout: Layout) -> Result<Change, MinusError>
+    // The state at a mark, with a text in a layout, which is formed anew.
+    pub(crate) fn formed_anew(
+        &self,
+        alloc: Global,
+        text: String,
+        layout: Layout,
+        mark: usize,
+    ) -> Result<Change, MinusError>
         requires { layout.cols ≡ self.now.cols }
-        ensures next { IfOk result (λ c. Leads self.now c (reformed (record (control_of self.now)
-            { text = string_bytes text; numbers = layout.numbers; wrapping = layout.wrapping }))) }
+        ensures next { IfOk result (λ c. Leads self.now c
+            (anew_at (control_of self.now) (string_bytes text) layout mark)) }
         ensures redraw { IfOk result (λ c. c.redraw ≡ Redraw.Whole) }
         ensures memory { IfErr result (λ e. e ≡ MinusError.Memory) }
     {
         let next = self.formed(alloc, text, layout)?;
-        let search_mark = search_mark_anew(next.view(), self.upper_mark);
-        let whole = boxed(alloc, next)?;
-        Ok(Change {
-            text: NextText::Whole(whole),
-            mark: self.upper_mark,
-            cols: self.cols,
-            rows: self.rows,
-            search_mark,
-            prefix: None,
-            setting: Setting::Same,
-            redraw: Redraw::Whole,
-        })
+        let mut change = self.redrawn(Redraw::Whole);
+        change.mark = mark;
+        change.search_mark = search_mark_anew(next.view(), mark);
+        change.text = NextText::Whole(boxed(alloc, next)?);
+        Ok(change)
     }
 
     // The state with another text.
@@ -174,7 +155,7 @@ impl PagerState {
         ensures redraw { IfOk result (λ c. c.redraw ≡ Redraw.Whole) }
         ensures memory { IfErr result (λ e. e ≡ MinusError.Memory) }
     {
-        self.formed_anew(alloc, text, self.layout())
+        self.formed_anew(alloc, text, self.layout(), self.upper_mark)
     }
 
     /// The state with numbers before its rows, or none, for which the text is formed anew.
@@ -192,7 +173,7 @@ impl PagerState {
             numbers,
             ..self.layout()
         };
-        self.formed_anew(alloc, self.copied_text(alloc)?, layout)
+        self.formed_anew(alloc, self.copied_text(alloc)?, layout, self.upper_mark)
     }
 
     /// The state with its lines wrapped, or not, for which the text is formed anew.
@@ -210,7 +191,7 @@ impl PagerState {
             wrapping,
             ..self.layout()
         };
-        self.formed_anew(alloc, self.copied_text(alloc)?, layout)
+        self.formed_anew(alloc, self.copied_text(alloc)?, layout, self.upper_mark)
     }
 
     /// The state in another size, columns and rows, for which the text is formed anew.
@@ -235,18 +216,12 @@ impl PagerState {
             ..self.layout()
         };
         let screen = self.formed(alloc, text, layout)?;
-        let search_mark = search_mark_anew(screen.view(), self.upper_mark);
-        let whole = boxed(alloc, screen)?;
-        Ok(Change {
-            text: NextText::Whole(whole),
-            mark: self.upper_mark,
-            cols,
-            rows,
-            search_mark,
-            prefix: None,
-            setting: Setting::Same,
-            redraw: Redraw::Whole,
-        })
+        let mut change = self.redrawn(Redraw::Whole);
+        change.cols = cols;
+        change.rows = rows;
+        change.search_mark = search_mark_anew(screen.view(), self.upper_mark);
+        change.text = NextText::Whole(boxed(alloc, screen)?);
+        Ok(change)
     }
 
     // The columns that stand before the text of each row.
@@ -280,21 +255,21 @@ impl PagerState {
             (record (control_of self.now) { left = left_after (control_of self.now) left }) }
         ensures redraw { IsFormed self.now → result.redraw ≡ shift_redraw (control_of self.now) left }
     {
-        if self.may_shift(left) {
-            return self.set(Setting::Left(left), Redraw::Whole);
+        if !self.may_shift(left) {
+            return self.redrawn(Redraw::Stays);
         }
-        self.redrawn(Redraw::Stays)
+        let mut change = self.redrawn(Redraw::Whole);
+        change.left = left;
+        change
     }
 
     // Where an append leaves the mark: at the last page, where the page goes on with what is appended.
     fn mark_after(&self, text: &NextText) -> usize
         requires { Belongs self.now.screen.document text.now }
-        ensures { result ≡ (if self.now.follow
-            then length (rows_of (next_document self.now.screen.document text.now)) -
-            (self.now.rows - 1) else self.now.upper_mark) }
+        ensures { result ≡ mark_after self.now (next_document self.now.screen.document text.now) }
     {
         if self.follow {
-            return text.view(&self.screen).len().saturating_sub(self.rows - 1);
+            return top_of(text.view(&self.screen).len(), self.rows);
         }
         self.upper_mark
     }
@@ -313,9 +288,8 @@ impl PagerState {
     // Where an append leaves the search mark: at most at the last match, or, where all rows are formed anew, as that
     // sets it.
     pub(crate) fn search_mark_behind(&self, view: RowsView<'_>, keeps_rows: bool) -> usize
-        ensures { result ≡ (if keeps_rows
-            then min self.now.search_mark (length (viewed view.entry).found - 1)
-            else unwrap_or (nth_match (row_numbers (viewed view.entry).found) self.now.upper_mark 0) 0) }
+        ensures { result ≡ search_mark_after keeps_rows (viewed view.entry).found self.now.upper_mark
+            self.now.search_mark }
     {
         if keeps_rows {
             return self.search_mark.min(view.match_count().saturating_sub(1));
@@ -337,19 +311,12 @@ impl PagerState {
             .prepare_push(alloc, &text, self.line_numbers, self.cols, term)?;
         let formed = boxed(alloc, pending)?;
         let next = NextText::Pushed(text, formed);
-        let mark = self.mark_after(&next);
         let keeps_rows = self.keeps_rows(&next);
-        let search_mark = self.search_mark_behind(next.view(&self.screen), keeps_rows);
-        Ok(Change {
-            text: next,
-            mark,
-            cols: self.cols,
-            rows: self.rows,
-            search_mark,
-            prefix: None,
-            setting: Setting::Same,
-            redraw: append_redraw(keeps_rows),
-        })
+        let mut change = self.redrawn(append_redraw(keeps_rows));
+        change.mark = self.mark_after(&next);
+        change.search_mark = self.search_mark_behind(next.view(&self.screen), keeps_rows);
+        change.text = next;
+        Ok(change)
     }
 
     /// The state with one more character of the typed prefix.

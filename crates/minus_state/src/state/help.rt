@@ -3,8 +3,8 @@ ghost use Rattle.std.specs.Prelude.{◌≡◌, string_bytes, OnOk, OnErr, IfErr}
 ghost use Rattle.minus_state.specs.Aside.{aside_of};
 ghost use Rattle.minus_state.specs.Help.{text_aside, more_aside};
 
-use crate::change::{Change, NextText, Redraw, Setting, boxed};
-use crate::state::{PagerState, search_mark_anew};
+use crate::change::{Change, MessageChange, NextText, Redraw, boxed};
+use crate::state::PagerState;
 use minus_term::MinusError;
 use minus_text::{Layout, LineNumbers};
 use std::alloc::{AllocError, Global};
@@ -31,17 +31,32 @@ pub struct Saved {
     pub follow: bool,
 }
 
-/// What is set beside the text as help is opened or left, and what is put aside then. No message is shown.
+/// Whether help is opened or left.
 #[derive(Drop)]
-pub struct HelpSwitch {
-    /// What the prompt says.
-    pub prompt: String,
-    /// Whether the page goes on with what is appended.
-    pub follow: bool,
-    /// The left mark, in columns.
-    pub left: usize,
-    /// What is put aside; nothing as help is left.
-    pub saved: Option<Saved>,
+pub enum HelpChange {
+    /// Neither: what is put aside stays so.
+    Stays,
+    /// Help is opened: this is put aside. It stands in a box, since it is large and most changes have none.
+    Opens(Box<Saved>),
+    /// Help is left: nothing is put aside.
+    Closes,
+}
+
+impl HelpChange {
+    ghost use Rattle.std.specs.Prelude.{◌≡◌};
+    ghost use Rattle.minus_state.specs.Aside.{aside_of};
+    ghost use Rattle.minus_state.specs.Changes.{help_after};
+
+    // Puts what is put aside in its place.
+    pub(crate) fn put(self, place: &mut Option<Saved>)
+        ensures { aside_of place.new ≡ help_after self (aside_of place.old) }
+    {
+        match self {
+            HelpChange::Stays => {}
+            HelpChange::Opens(saved) => *place = Some(Box::into_inner(saved)),
+            HelpChange::Closes => *place = None,
+        }
+    }
 }
 
 // Puts another text in the place of the one that is put aside, if one is.
@@ -69,8 +84,7 @@ impl PagerState {
     ghost use Rattle.std.specs.Prelude.{◌≡◌, [], string_bytes, not, OnOk, OnErr, IfOk, IfErr};
     ghost use Rattle.std.specs.Option.{option_map, unwrap_or};
     ghost use Rattle.minus_state.specs.Changes.{Leads};
-    ghost use Rattle.minus_state.specs.Control.{reformed};
-    ghost use Rattle.minus_state.specs.Help.{switched, help_open, put_aside, opened, closed, shown_help, left_help, restored, turned, with_text};
+    ghost use Rattle.minus_state.specs.Help.{help_open, put_aside, opened, closed, shown_help, left_help, restored, turned, with_text};
     ghost use Rattle.minus_state.specs.Aside.{aside_in, aside_of};
     ghost use Rattle.minus_state.specs.States.{control_of, settings_of, IsFormed};
     ghost use Rattle.minus_state.specs.Appending.{added};
@@ -81,44 +95,6 @@ impl PagerState {
         ensures { result ≡ help_open (control_of self.now) }
     {
         self.saved.is_some()
-    }
-
-    // The state with another text on show, formed anew, at a mark, as help is opened or left.
-    fn switched(
-        &self,
-        alloc: Global,
-        text: String,
-        layout: Layout,
-        mark: usize,
-        switch: HelpSwitch,
-    ) -> Result<Change, MinusError>
-        requires { layout.cols ≡ self.now.cols }
-        ensures next { IfOk result (λ c. Leads self.now c (reformed (record (control_of self.now) {
-          text = string_bytes text;
-          numbers = layout.numbers;
-          wrapping = layout.wrapping;
-          mark = mark;
-          left = switch.left;
-          settings = switched (settings_of self.now) (string_bytes switch.prompt) switch.follow;
-          help = aside_of switch.saved;
-        }))) }
-        ensures redraw { IfOk result (λ c. c.redraw ≡ Redraw.Whole) }
-        ensures memory { IfErr result (λ e. e ≡ MinusError.Memory) }
-    {
-        let next = self.formed(alloc, text, layout)?;
-        let search_mark = search_mark_anew(next.view(), mark);
-        let whole = boxed(alloc, next)?;
-        let set = boxed(alloc, switch)?;
-        Ok(Change {
-            text: NextText::Whole(whole),
-            mark,
-            cols: self.cols,
-            rows: self.rows,
-            search_mark,
-            prefix: None,
-            setting: Setting::Switch(set),
-            redraw: Redraw::Whole,
-        })
     }
 
     // What is put aside as help is opened.
@@ -148,13 +124,15 @@ impl PagerState {
             wrapping: false,
             numbers: LineNumbers::Disabled,
         };
-        let switch = HelpSwitch {
-            prompt: String::from_str(alloc, PROMPT)?,
-            follow: false,
-            left: 0,
-            saved: Some(self.put_aside(alloc)?),
-        };
-        self.switched(alloc, text, layout, 0, switch)
+        let prompt = String::from_str(alloc, PROMPT)?;
+        let saved = boxed(alloc, self.put_aside(alloc)?)?;
+        let mut change = self.formed_anew(alloc, text, layout, 0)?;
+        change.left = 0;
+        change.follow = false;
+        change.prompt = Some(prompt);
+        change.message = MessageChange::Goes;
+        change.help = HelpChange::Opens(saved);
+        Ok(change)
     }
 
     // The state with help left, of what was put aside.
@@ -170,13 +148,14 @@ impl PagerState {
             numbers: saved.numbers,
         };
         let text = String::from_str(alloc, &saved.text)?;
-        let switch = HelpSwitch {
-            prompt: String::from_str(alloc, &saved.prompt)?,
-            follow: saved.follow,
-            left: saved.left_mark,
-            saved: None,
-        };
-        self.switched(alloc, text, layout, saved.upper_mark, switch)
+        let prompt = String::from_str(alloc, &saved.prompt)?;
+        let mut change = self.formed_anew(alloc, text, layout, saved.upper_mark)?;
+        change.left = saved.left_mark;
+        change.follow = saved.follow;
+        change.prompt = Some(prompt);
+        change.message = MessageChange::Goes;
+        change.help = HelpChange::Closes;
+        Ok(change)
     }
 
     /// The state with help left where it is open.
@@ -209,7 +188,11 @@ impl PagerState {
     {
         match &self.saved {
             Some(saved) => self.unhelped(alloc, saved),
-            None => Ok(self.set(Setting::Message(None), Redraw::Stays)),
+            None => {
+                let mut change = self.redrawn(Redraw::Stays);
+                change.message = MessageChange::Goes;
+                Ok(change)
+            }
         }
     }
 
@@ -242,7 +225,9 @@ impl PagerState {
         ensures memory { IfErr result (λ e. e ≡ MinusError.Memory) }
     {
         if self.help_open() {
-            return Ok(self.change_to(NextText::SavedWhole(text), Redraw::Stays));
+            let mut change = self.redrawn(Redraw::Stays);
+            change.text = NextText::SavedWhole(text);
+            return Ok(change);
         }
         self.with_text(alloc, text)
     }
@@ -261,7 +246,9 @@ impl PagerState {
         ensures memory { IfErr result (λ e. e ≡ MinusError.Memory) }
     {
         if self.help_open() {
-            return Ok(self.change_to(NextText::SavedMore(text), Redraw::Stays));
+            let mut change = self.redrawn(Redraw::Stays);
+            change.text = NextText::SavedMore(text);
+            return Ok(change);
         }
         self.appended(alloc, text)
     }

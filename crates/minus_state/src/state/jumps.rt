@@ -2,7 +2,7 @@
 ghost use Rattle.std.specs.Prelude.{◌≡◌};
 ghost use Rattle.minus_state.specs.MatchJumps.{row_above};
 
-use crate::change::{Change, Redraw, Setting};
+use crate::change::{Change, Redraw};
 use crate::state::PagerState;
 
 // A row, if there is one and it stands above a mark.
@@ -27,8 +27,7 @@ impl PagerState {
         ensures next { Leads self.now result (told_at (control_of self.now) search_mark row) }
         ensures redraw { result.redraw ≡ Redraw.Moved }
     {
-        let mark = row.unwrap_or(self.upper_mark);
-        let mut change = self.changed(mark, Setting::Same, Redraw::Moved);
+        let mut change = self.moved(row.unwrap_or(self.upper_mark));
         change.search_mark = search_mark;
         change
     }

@@ -98,8 +98,8 @@ impl PagerState {
         event: &Event,
     ) -> Result<Option<Regex>, MinusError>
         requires { prompt.now ≡ fed before.now (edit_of event.now) }
-        ensures found { IfOk result (λ found. MayPreview C.judges (option_map (λ q. q.now) condition.entry) self.now
-            before.now event.now (option_map regex_pattern found)) }
+        ensures found { IfOk result (λ f. MayPreview C.judges (option_map (λ q. q.now) condition.entry) self.now
+            before.now event.now (option_map regex_pattern f)) }
         ensures memory { IfErr result (λ e. e ≡ MinusError.Memory) }
     {
         let Some(pattern) = pattern_of(alloc, prompt.query())? else {
@@ -113,8 +113,8 @@ impl PagerState {
 
     // The state with its search prompt closed, and the query taken if it was edited.
     fn entered(&self, alloc: Global, search: &OpenSearch) -> Result<Change, MinusError>
-        ensures next { IfOk result (λ c. (found : Option Re) × MayTake search.now.prompt found
-            × Leads self.now c (entered (control_of self.now) search.now.edited found)) }
+        ensures next { IfOk result (λ c. (f : Option Re) × MayTake search.now.prompt f
+            × Leads self.now c (entered (control_of self.now) search.now.edited f)) }
         ensures redraw { IfOk result (λ c. c.redraw ≡ Redraw.Closing) }
         ensures memory { IfErr result (λ e. e ≡ MinusError.Memory) }
         ensures taking { IfErr result (λ e. search.now.edited ≡ true) }
@@ -137,10 +137,8 @@ impl PagerState {
         event: &Event,
     ) -> Result<Change, MinusError>
         requires { takes_memory (edit_of event.now) ≡ true }
-        ensures next { IfOk result (λ c. (found : Option Re)
-            × MayFind C.judges (option_map (λ q. q.now) condition.entry) self.now (seen_search search.now)
-            event.now found
-            × Leads self.now c (keyed (control_of self.now) (seen_search search.now) (edit_of event.now) found)) }
+        ensures next { IfOk result (λ c. MayLead C.judges (option_map (λ q. q.now) condition.entry) self.now event.now c
+            (Some (seen_search search.now))) }
         ensures redraw { IfOk result (λ c. c.redraw ≡ keyed_redraw (seen_search search.now) (edit_of event.now)) }
         ensures refused { IfErr result (λ e. IsUnkeyed (refusal_of e) (seen_search search.now) (edit_of event.now)) }
     {
@@ -176,10 +174,8 @@ impl PagerState {
         event: &Event,
     ) -> Result<Change, MinusError>
         requires { (control_of self.now).search ≡ Some (seen_search search.now) }
-        ensures next { IfOk result (λ c. (found : Option Re)
-            × MayFind C.judges (option_map (λ q. q.now) condition.entry) self.now (seen_search search.now)
-            event.now found
-            × Leads self.now c (keyed (control_of self.now) (seen_search search.now) (edit_of event.now) found)) }
+        ensures next { IfOk result (λ c. MayLead C.judges (option_map (λ q. q.now) condition.entry) self.now event.now c
+            (Some (seen_search search.now))) }
         ensures redraw { IfOk result (λ c. c.redraw ≡ keyed_redraw (seen_search search.now) (edit_of event.now)) }
         ensures refused { IfErr result (λ e. IsUnkeyed (refusal_of e) (seen_search search.now) (edit_of event.now)) }
     {
@@ -195,9 +191,9 @@ impl PagerState {
 
     /// The state after an event that its open search prompt is fed: the query edited or its cursor moved, or the prompt
     /// closed, with the query taken or not; as it is, where none is open. Where the query was edited and a pattern was
-    /// built of it, the condition is asked: without one the answer is yes where the query has more than one byte and the
-    /// text has at most 5,000 lines. Where it says yes, the page shows the match that the query leads to, if some row
-    /// matches. A query that is taken without a pattern leaves a message.
+    /// built of it, the condition is asked: without one the answer is yes where the query has more than one byte and
+    /// the text has at most 5,000 lines. Where it says yes, the page shows the match that the query leads to, if some
+    /// row matches. A query that is taken without a pattern leaves a message.
     ///
     /// # Errors
     ///

@@ -1,9 +1,9 @@
 //! What becomes of a state as a search prompt is opened, edited and closed, formed beside it.
-use crate::change::{Change, Redraw, Setting};
+use crate::change::{Change, MessageChange, Redraw, boxed};
 use crate::search::SearchMode;
 use crate::search::keys::QueryEdit;
 use crate::search::open_prompt::OpenPrompt;
-use crate::search::open_search::{OpenSearch, SearchStep};
+use crate::search::open_search::{OpenSearch, SearchChange};
 use crate::state::PagerState;
 use minus_term::MinusError;
 use minus_text::Term;
@@ -13,7 +13,7 @@ use std::alloc::{AllocError, Global};
 impl PagerState {
     ghost use Rattle.std.specs.Prelude.{◌≡◌, Some, option_map, string_bytes, IfOk, IfErr};
     ghost use Rattle.regex.specs.Strings.{regex_pattern};
-    ghost use Rattle.minus_state.specs.Changes.{Leads};
+    ghost use Rattle.minus_state.specs.Changes.{Leads, as_is};
     ghost use Rattle.minus_state.specs.Confirming.{confirmed};
     ghost use Rattle.minus_state.specs.Control.{with_message};
     ghost use Rattle.minus_state.specs.OpenSearches.{seen_search};
@@ -42,18 +42,28 @@ impl PagerState {
             return Ok(self.redrawn(Redraw::Stays));
         };
         let prompt = OpenPrompt::of_mode(alloc, &self.patterns, mode, search_char)?;
-        let step = SearchStep::Opens(prompt);
-        let mut change = self.set(Setting::Search(step), Redraw::Opening);
+        let search = OpenSearch {
+            prompt,
+            edited: false,
+            preview: None,
+        };
+        let search = boxed(alloc, search)?;
+        let mut change = self.redrawn(Redraw::Opening);
         change.search_mark = 0;
+        change.mode = mode;
+        change.search = SearchChange::Is(search);
         Ok(change)
     }
 
     /// The state with its search prompt closed. Nothing more changes.
     pub fn closed(&self) -> Change
+        ensures is { result ≡ record (as_is self.now Redraw.Closing) { search = SearchChange.Closes; } }
         ensures next { Leads self.now result (closed (control_of self.now)) }
         ensures redraw { result.redraw ≡ Redraw.Closing }
     {
-        self.set(Setting::Search(SearchStep::Closes(None)), Redraw::Closing)
+        let mut change = self.redrawn(Redraw::Closing);
+        change.search = SearchChange::Closes;
+        change
     }
 
     /// The state with its search prompt closed and a message, which has no newline.
@@ -61,8 +71,9 @@ impl PagerState {
         ensures next { Leads self.now result (closed (with_message (control_of self.now) (string_bytes message))) }
         ensures redraw { result.redraw ≡ Redraw.Closing }
     {
-        let step = SearchStep::Closes(Some(message));
-        self.set(Setting::Search(step), Redraw::Closing)
+        let mut change = self.closed();
+        change.message = MessageChange::Says(message);
+        change
     }
 
     /// The state with its search prompt closed and a query's pattern taken, as [`PagerState::confirmed`] says.
@@ -76,7 +87,7 @@ impl PagerState {
         ensures redraw { IfOk result (λ c. c.redraw ≡ Redraw.Closing) }
     {
         let mut change = self.confirmed(alloc, query)?;
-        change.setting = Setting::Search(SearchStep::Closes(None));
+        change.search = SearchChange::Closes;
         change.redraw = Redraw::Closing;
         Ok(change)
     }
@@ -86,7 +97,9 @@ impl PagerState {
         ensures next { Leads self.now result (cursor_moved (control_of self.now) edit) }
         ensures redraw { result.redraw ≡ Redraw.Cursor }
     {
-        self.set(Setting::Search(SearchStep::Moves(edit)), Redraw::Cursor)
+        let mut change = self.redrawn(Redraw::Cursor);
+        change.search = SearchChange::Moves(edit);
+        change
     }
 
     // A pattern, where some row matches it.
@@ -95,7 +108,7 @@ impl PagerState {
         alloc: Global,
         found: Option<Regex>,
     ) -> Result<Option<Box<Regex>>, AllocError>
-        ensures { IfOk result (λ shown. IsFormed self.now → option_map (λ b. regex_pattern b.value) shown
+        ensures { IfOk result (λ b. IsFormed self.now → option_map (λ r. regex_pattern r.value) b
             ≡ previewed (control_of self.now) (option_map regex_pattern found)) }
     {
         let Some(query) = found else {
@@ -132,11 +145,14 @@ impl PagerState {
         ensures redraw { IfOk result (λ c. c.redraw ≡ Redraw.Edit) }
     {
         let preview = self.previewed(alloc, found)?;
-        let step = SearchStep::Edits(OpenSearch {
+        let search = OpenSearch {
             prompt,
             edited: true,
             preview,
-        });
-        Ok(self.set(Setting::Search(step), Redraw::Edit))
+        };
+        let search = boxed(alloc, search)?;
+        let mut change = self.redrawn(Redraw::Edit);
+        change.search = SearchChange::Is(search);
+        Ok(change)
     }
 }

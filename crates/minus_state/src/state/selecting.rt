@@ -2,10 +2,11 @@
 ghost use Rattle.std.specs.Prelude.{◌≡◌};
 ghost use Rattle.minus_state.specs.Redraws.{whole_where};
 
-use crate::change::{Change, Redraw, Setting};
+use crate::change::{Change, Redraw};
 use crate::selection::{Selection, SelectionEnds};
 use crate::state::PagerState;
 use crate::view::{View, selection_from_coordinates};
+use minus_term::page_len;
 
 // The whole page is drawn where something has changed, and else nothing.
 fn whole_where(changed: bool) -> Redraw
@@ -39,6 +40,16 @@ impl PagerState {
         selection_from_coordinates(&self.screen, view, x, y)
     }
 
+    // The state with these ends of what is selected, and the page drawn whole or not at all.
+    fn with_ends(&self, ends: SelectionEnds, redraw: Redraw) -> Change
+        ensures next { Leads self.now result (record (control_of self.now) { ends = ends }) }
+        ensures redraw { result.redraw ≡ redraw }
+    {
+        let mut change = self.redrawn(redraw);
+        change.ends = ends;
+        change
+    }
+
     // The state with a selection that begins at an end, if there is one.
     fn begun(&self, end: Option<Selection>) -> Change
         ensures next { Leads self.now result
@@ -51,7 +62,7 @@ impl PagerState {
                     anchor: Some(end),
                     selection: Some(end),
                 };
-                self.set(Setting::Ends(ends), Redraw::Whole)
+                self.with_ends(ends, Redraw::Whole)
             }
             None => self.redrawn(Redraw::Stays),
         }
@@ -81,7 +92,7 @@ impl PagerState {
         if y == 0 {
             return self.upper_mark.saturating_sub(1);
         }
-        if usize::from(y) >= self.rows - 1 {
+        if usize::from(y) >= page_len(self.rows) {
             return self.upper_mark.saturating_add(1).min(self.top());
         }
         self.upper_mark
@@ -133,7 +144,9 @@ impl PagerState {
         let mark = self.mark_led_to(y);
         let ends = self.ends_led_to(mark, x, y);
         let stays = self.stays_at(mark, ends);
-        self.changed(mark, Setting::Ends(ends), whole_where(!stays))
+        let mut change = self.with_ends(ends, whole_where(!stays));
+        change.mark = mark;
+        change
     }
 
     // Whether an end of a selection is there.
@@ -152,6 +165,6 @@ impl PagerState {
             anchor: None,
             selection: None,
         };
-        self.set(Setting::Ends(ends), whole_where(self.has_ends()))
+        self.with_ends(ends, whole_where(self.has_ends()))
     }
 }

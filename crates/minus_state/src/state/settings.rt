@@ -1,12 +1,12 @@
 //! What is set in a state, one thing by itself, at once or formed beside it.
-use crate::change::{Change, Redraw, Setting};
+use crate::change::{Change, MessageChange, Redraw};
 use crate::state::{PagerState, has_newline};
 use minus_term::MinusError;
 
 impl PagerState {
     ghost use Rattle.std.specs.Prelude.{◌≡◌, true, false, string_bytes, OnOk, OnErr, IfOk, IfErr};
     ghost use Rattle.minus_state.specs.Changes.{Leads};
-    ghost use Rattle.minus_state.specs.Control.{with_message};
+    ghost use Rattle.minus_state.specs.Control.{with_message, with_prompt_shown};
     ghost use Rattle.minus_state.specs.Help.{with_prompt};
     ghost use Rattle.minus_state.specs.States.{control_of};
     ghost use Rattle.minus_state.specs.ShownPrompt.{has_newline, IsNewlineRefused};
@@ -44,6 +44,16 @@ impl PagerState {
         self.prompt_shown = is_shown;
     }
 
+    /// The state with its prompt row shown, or hidden.
+    pub fn with_prompt_shown(&self, is_shown: bool) -> Change
+        ensures next { Leads self.now result (with_prompt_shown (control_of self.now) is_shown) }
+        ensures redraw { result.redraw ≡ Redraw.Stays }
+    {
+        let mut change = self.redrawn(Redraw::Stays);
+        change.is_shown = is_shown;
+        change
+    }
+
     /// The state with another prompt; while help is open, with that of help.
     ///
     /// # Errors
@@ -62,7 +72,9 @@ impl PagerState {
         if self.help_open() {
             return Ok(self.redrawn(Redraw::Stays));
         }
-        Ok(self.set(Setting::Prompt(text), Redraw::Stays))
+        let mut change = self.redrawn(Redraw::Stays);
+        change.prompt = Some(text);
+        Ok(change)
     }
 
     /// The state with a message in the prompt's place.
@@ -80,6 +92,8 @@ impl PagerState {
         if has_newline(&message) {
             return Err(MinusError::NewlineInPrompt);
         }
-        Ok(self.set(Setting::Message(Some(message)), Redraw::Stays))
+        let mut change = self.redrawn(Redraw::Stays);
+        change.message = MessageChange::Says(message);
+        Ok(change)
     }
 }

@@ -1,5 +1,5 @@
 //! The term that rows are searched for, and the rows that match it.
-use crate::change::{Change, NextText, Redraw, Setting};
+use crate::change::{Change, NextText, Redraw};
 use crate::search::matches::Matches;
 use crate::state::{PagerState, search_mark_anew, searching};
 use minus_term::MinusError;
@@ -116,22 +116,16 @@ impl PagerState {
         ensures next { IfOk result (λ c. Leads self.now c
             (confirmed (control_of self.now) (regex_pattern query))) }
         ensures redraw { IfOk result (λ c. c.redraw ≡ Redraw.Whole) }
-        ensures beside { IfOk result (λ c. c.setting ≡ Setting.Same) }
     {
         let findings = self.search(alloc, &query)?;
         let view = self.screen.view_of(&findings);
         let search_mark = search_mark_anew(view, self.upper_mark);
         let mark = view.match_row(search_mark).unwrap_or(self.upper_mark);
         let pattern = Box::new(alloc, query)?;
-        Ok(Change {
-            text: NextText::Found(pattern, findings),
-            mark: mark.min(self.top()),
-            cols: self.cols,
-            rows: self.rows,
-            search_mark,
-            prefix: None,
-            setting: Setting::Same,
-            redraw: Redraw::Whole,
-        })
+        let mut change = self.redrawn(Redraw::Whole);
+        change.mark = mark.min(self.top());
+        change.search_mark = search_mark;
+        change.text = NextText::Found(pattern, findings);
+        Ok(change)
     }
 }

@@ -11,6 +11,9 @@ use Rattle.minus_state.specs.declared.change.NextText.TheVariants.{Pushed}
 use Rattle.minus_state.specs.declared.change.Redraw.TheVariants.{Appended, Whole}
 use Rattle.minus_state.specs.declared.state.PagerState.{PagerState}
 use Rattle.minus_state.specs.Control.{Control, document_of}
+use Rattle.minus_state.specs.Changes.{settings_after, help_after}
+use Rattle.minus_state.specs.OpenSearches.{search_after}
+use Rattle.minus_state.specs.declared.change.Change.{Change}
 use Rattle.minus_state.specs.NextTexts.{IsNext}
 use Rattle.minus_state.specs.States.{control_of}
 use Rattle.minus_state.proofs.AppendLaws.{document_is, keeps_by_margin, search_mark_is}
@@ -36,20 +39,21 @@ returns-clause-next c = λ f.
     let here = ap (λ (d : Document). pushed d bytes pending.push.numbers pending.push.cols) (document_is state f) ∙ document in
     let keeps = c.keeps_rows-keeps_rows.ensures ∙ ap₂ (λ (a b : Document). margin_in a == margin_in b) here (document_is state f) ∙ sym (keeps_by_margin k bytes) in
     let found = ap (λ (x : Searched). x.found) c.view.ensures ∙ found_next k.term state.screen text next ∙ ap (λ (d : Document). found_by k.term 0 (rows_of d)) here in
+    let base = c.redrawn-change.ensures.is in
     record {
       belongs = subst (λ (x : Searched). IsNext k.term x text) f.screen next;
       document = document;
-      mark_is = c.mark_after-mark.ensures ∙ ap (λ (d : Document). if state.follow then length (rows_of d) - (state.rows - 1) else state.upper_mark) here;
-      cols_are = refl;
-      rows_are = refl;
-      left_is = refl;
-      ends_are = refl;
+      mark_is = c.mark_after.ensures ∙ ap (λ (d : Document). if state.follow then length (rows_of d) - (state.rows - 1) else state.upper_mark) here;
+      cols_are = ap (λ (x : Change). x.cols) base;
+      rows_are = ap (λ (x : Change). x.rows) base;
+      left_is = ap (λ (x : Change). x.left) base;
+      ends_are = ap (λ (x : Change). x.ends) base;
       term_is = refl;
-      search_mark_is = search_mark_is k bytes _ _ _ keeps found c.search_mark_behind-search_mark.ensures;
-      settings_are = refl;
-      help_is = refl;
-      mode_is = refl;
-      search_is = refl;
+      search_mark_is = search_mark_is k bytes _ _ _ keeps found c.search_mark_behind.ensures;
+      settings_are = ap (settings_after k.settings) base;
+      help_is = ap (λ (x : Change). help_after x.help k.help) base;
+      mode_is = ap (λ (x : Change). x.mode) base;
+      search_is = ap (λ (x : Change). search_after x.search k.search) base;
     }
 
 pub returns-clause-redraw : goal.returns-clause-redraw
@@ -63,4 +67,4 @@ returns-clause-redraw c = λ f.
     let told = c.in_ok-pending.ensures in
     let here = ap (λ (d : Document). pushed d bytes pending.push.numbers pending.push.cols) (document_is state f) ∙ ap (λ (p : SearchedPush). pushed (document_of k) bytes p.push.numbers p.push.cols) is ∙ ap₂ (λ (n : LineNumbers) (m : ℕ). pushed (document_of k) bytes n m) told.ok.its_numbers told.ok.its_cols in
     let keeps = c.keeps_rows-keeps_rows.ensures ∙ ap₂ (λ (a b : Document). margin_in a == margin_in b) here (document_is state f) ∙ sym (keeps_by_margin k bytes) in
-    c.append_redraw.ensures ∙ ap (λ (b : Bool). if b then Appended else Whole) keeps
+    c.redrawn-change.ensures.redraw ∙ c.append_redraw.ensures ∙ ap (λ (b : Bool). if b then Appended else Whole) keeps

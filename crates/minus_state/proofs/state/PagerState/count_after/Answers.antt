@@ -7,18 +7,17 @@ use Rattle.minus_text.specs.Searched.{Searched}
 use Rattle.minus_state.specs.declared.selection.SelectionEnds.{SelectionEnds}
 use Rattle.minus_state.specs.Selection.{ends_in_order}
 use Rattle.minus_state.proofs.ShownRowsLaws.{length-shown_rows}
-use Rattle.minus_state.specs.Changes.{left_set, ends_set}
 use Rattle.minus_state.specs.NextTexts.{next_document, next_term}
 use Rattle.minus_state.specs.Page.{shown_of}
-use Rattle.minus_state.specs.States.{ends_of, term_of}
+use Rattle.minus_state.specs.States.{term_of}
 use Rattle.minus_state.proofs.state.PagerState.count_after.Goals as goal
 
 pub returns-clause-count : goal.returns-clause-count
 returns-clause-count c =
     let change = c.args.change.now in
     let d : Document = next_document c.args.self.now.screen.document change.text in
-    let left : ℕ = left_set change.setting c.args.self.now.left_mark in
-    let ends : SelectionEnds = ends_set c.args.change.now.setting (ends_of c.args.self.now) in
+    let left : ℕ = change.left in
+    let ends : SelectionEnds = c.args.change.now.ends in
     let term : Option Re = next_term (term_of c.args.self.now) change.text in
     let rows : List (List ℕ) = shown_of term d left ends in
     let all = length-shown_rows term d left (ends_in_order ends) in

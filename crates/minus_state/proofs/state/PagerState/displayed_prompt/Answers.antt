@@ -8,10 +8,8 @@ use Rattle.minus_state.proofs.state.PagerState.displayed_prompt.Goals as goal
 
 pub returns-clause-row : goal.returns-clause-row
 returns-clause-row c =
-    let is = c.change_to-stays.ensures in
-    IfOk-weaker c.prompt_row_after.result _ _ (λ row h. h ∙ ap prompt_row (prompt_stays c.args.self.now c.change_to-stays.result is.text is.cols is.search_mark is.prefix is.setting)) c.prompt_row_after.ensures.row
+    IfOk-weaker c.prompt_row_after.result _ _ (λ row h. h ∙ ap prompt_row (prompt_stays c.args.self.now c.redrawn-stays.result _ c.redrawn-stays.ensures.is)) c.prompt_row_after.ensures.row
 
 pub returns-clause-formed : goal.returns-clause-formed
 returns-clause-formed c =
-    let is = c.change_to-stays.ensures in
-    IfOk-weaker c.prompt_row_after.result _ _ (λ row h f. h (control_of c.args.self.now) f (unchanged c.args.self.now c.change_to-stays.result is.text is.mark is.cols is.rows is.search_mark is.prefix is.setting)) c.prompt_row_after.ensures.formed
+    IfOk-weaker c.prompt_row_after.result _ _ (λ row h f. h (control_of c.args.self.now) f (unchanged c.args.self.now c.redrawn-stays.result _ c.redrawn-stays.ensures.is)) c.prompt_row_after.ensures.formed

@@ -8,10 +8,9 @@ use Rattle.minus_text.specs.Searched.{Searched, IsFoundBy}
 use Rattle.minus_state.specs.declared.selection.SelectionEnds.{SelectionEnds}
 use Rattle.minus_state.specs.Selection.{ends_in_order}
 use Rattle.minus_state.proofs.ShownRowsLaws.{length-shown_rows}
-use Rattle.minus_state.specs.Changes.{left_set, ends_set}
 use Rattle.minus_state.specs.NextTexts.{next_document, next_term}
 use Rattle.minus_state.specs.Page.{shown_of}
-use Rattle.minus_state.specs.States.{ends_of, term_of}
+use Rattle.minus_state.specs.States.{term_of}
 use Rattle.minus_state.specs.Showing.{row_text}
 use Rattle.minus_state.proofs.ShownLaws.{shown_next, shown_part}
 use Rattle.minus_state.proofs.ShowingLaws.{row_shown}
@@ -21,8 +20,8 @@ use Rattle.minus_state.proofs.state.PagerState.shown_between.Goals as goal
 pub loop-i-preserved : goal.loop-i-preserved
 loop-i-preserved c =
     let d : Document = next_document c.args.self.now.screen.document c.args.change.now.text in
-    let left : ℕ = left_set c.args.change.now.setting c.args.self.now.left_mark in
-    let ends : SelectionEnds = ends_set c.args.change.now.setting (ends_of c.args.self.now) in
+    let left : ℕ = c.args.change.now.left in
+    let ends : SelectionEnds = c.args.change.now.ends in
     let term : Option Re = next_term (term_of c.args.self.now) c.args.change.now.text in
     let rows : List (List ℕ) = shown_of term d left ends in
     let mark : ℕ = c.args.change.now.mark in
@@ -41,7 +40,7 @@ loop-i-preserved c =
 pub returns : goal.returns
 returns c =
     let d : Document = next_document c.args.self.now.screen.document c.args.change.now.text in
-    let shown : List (List ℕ) = drop c.args.change.now.mark (shown_of (next_term (term_of c.args.self.now) c.args.change.now.text) d (left_set c.args.change.now.setting c.args.self.now.left_mark) (ends_set c.args.change.now.setting (ends_of c.args.self.now))) in
+    let shown : List (List ℕ) = drop c.args.change.now.mark (shown_of (next_term (term_of c.args.self.now) c.args.change.now.text) d c.args.change.now.left c.args.change.now.ends) in
     let count : c.min-count.result ≡ min (length (take (c.args.change.now.rows - 1) shown)) c.args.end = c.min-count.ensures ∙ ap (λ n. min n c.args.end) c.count_after.ensures.count in
     let start = c.min-start.ensures in
     let end : c.loop-i.i ≡ c.min-count.result = omega (arith, start, c.loop-i-test.false, c.loop-i.auto.i-end) in

@@ -1,12 +1,11 @@
 -- The rows so far.
 use Rattle.std.proofs.Common.{◌≡◌, map, take, drop}
-use Rattle.minus_state.specs.Changes.{left_set, ends_set}
 use Rattle.minus_state.specs.NextTexts.{next_document, next_term}
 use Rattle.minus_state.specs.Page.{shown_of}
-use Rattle.minus_state.specs.States.{ends_of, term_of}
+use Rattle.minus_state.specs.States.{term_of}
 use Rattle.minus_state.specs.Showing.{row_text}
 use Rattle.minus_state.proofs.state.PagerState.shown_between.Given as goal
 
 abbrev pub invariant-loop-i : goal.invariant-loop-i
 invariant-loop-i l =
-    map row_text l.shown.items ≡ drop l.start (take l.i (drop l.change.mark (shown_of (next_term (term_of l.self) l.change.text) (next_document l.self.screen.document l.change.text) (left_set l.change.setting l.self.left_mark) (ends_set l.change.setting (ends_of l.self)))))
+    map row_text l.shown.items ≡ drop l.start (take l.i (drop l.change.mark (shown_of (next_term (term_of l.self) l.change.text) (next_document l.self.screen.document l.change.text) l.change.left l.change.ends)))
