@@ -1,5 +1,6 @@
 -- How the page is drawn.
 use Rattle.std.specs.Prelude.{◌≡◌, ℕ, ◌-◌, ◌++◌, min, List, [], bytes_eq, Bool, true, false, Option, None, Some, if◌then◌else◌}
+use Rattle.minus_term.specs.Marks.{page_len}
 use Rattle.minus_term.specs.Operations.{Op}
 use Rattle.std.specs.List.{flat_map}
 use Rattle.minus_term.specs.FullRedraw.{full_ops, prompt_ops, row_ops}
@@ -11,7 +12,8 @@ use Rattle.minus.specs.declared.step_drawing.Drawing.TheVariants.{Nothing, Full,
 use Rattle.minus_state.specs.Control.{Control, moved_to}
 use Rattle.minus_state.specs.declared.change.Redraw.TheVariants.{Moved}
 use Rattle.minus.specs.Table.{drawing_by}
-use Rattle.minus_state.specs.Confirming.{confirmed_by}
+use Rattle.minus_state.specs.Confirming.{confirmed, confirmed_by}
+use Rattle.regex.specs.Patterns.{Re}
 use Rattle.minus_state.specs.OpenSearches.{OpenSearch, typed_in}
 use Rattle.minus_state.specs.Page.{shown}
 use Rattle.minus_state.specs.ShownPrompt.{prompt_row}
@@ -26,7 +28,14 @@ page_rows c = flat_map row_ops (shown c)
 
 -- the list that draws the rows of text of a page from a row of the text on, where there were so many rows in all
 abbrev pub append_from : Control → ℕ → ℕ → List Op
-append_from c first were = append_ops (first - c.mark) (min (were - c.mark) (c.rows - 1)) (shown c)
+append_from c first were = append_ops (first - c.mark) (min (were - c.mark) (page_len c.rows)) (shown c)
+
+-- the list that draws a page whole which shows where a pattern leads, if there is one, with this in its last row
+abbrev pub preview_ops : ℕ → Control → Re → List ℕ → List Op
+preview_ops rows c pattern last = full_ops rows (shown (confirmed c pattern)) last
+
+abbrev pub page_by : Control → Option Re → List ℕ → List Op
+page_by c pattern last = full_ops c.rows (shown (confirmed_by c pattern)) last
 
 -- the list that draws the prompt row
 abbrev pub whole_prompt : Control → List Op

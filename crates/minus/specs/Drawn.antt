@@ -2,6 +2,7 @@
 use Rattle.std.specs.Prelude.{◌≡◌, ℕ, ◌+◌, ◌-◌, ◌≤◌, min, List, [], ◌∷◌, ◌++◌, length, map, false, Option, None, Some, if◌then◌else◌}
 use Rattle.std.specs.List.{Contains}
 use Rattle.std.specs.Io.KnownBytes.{Appends}
+use Rattle.minus_term.specs.Marks.{page_len}
 use Rattle.minus_term.specs.Operations.{Op}
 use Rattle.minus_term.specs.Counts.{AppendsFront}
 use Rattle.minus_term.specs.PlayedScreen.{PlayedScreen, Shows, play_all, screen_of, unknown_screen}
@@ -26,7 +27,7 @@ screen_before old works new = if some_full works then unknown_screen new.rows el
 abbrev pub most_of : Drawing → Control → Option ℕ
 most_of Nothing new = Some 0
 most_of Full new = None
-most_of (Scroll from to) new = Some (min (distance from to) (new.rows - 1))
+most_of (Scroll from to) new = Some (min (distance from to) (page_len new.rows))
 most_of (Append first old_count) new = Some (length (text_rows new) - first)
 most_of Prompt new = Some 0
 most_of Opening new = Some 0
@@ -85,7 +86,8 @@ Drawn old_bytes new_bytes old works new = (ops : List Op) × Appends old_bytes n
 
 -- the sink grew by a beginning of the written form of one such list
 abbrev pub BrokenOff : Option (List ℕ) → Option (List ℕ) → Control → List Work → Control → Type 0
-BrokenOff old_bytes new_bytes old works new = (ops : List Op) × AppendsFront old_bytes new_bytes (written_all ops) × IsDrawing ops old works new × (IsQuiet old works → ⊥)
+BrokenOff old_bytes new_bytes old works new =
+    (ops : List Op) × AppendsFront old_bytes new_bytes (written_all ops) × IsDrawing ops old works new × (IsQuiet old works → ⊥)
 
 -- the operations take every screen of the control's size to its page, and put rows of the pages of the controls passed
 -- alone, of which it is one
@@ -113,4 +115,5 @@ RedrawBreaksOff old_bytes new_bytes control = (ops : List Op) × AppendsFront ol
 
 -- a sink that was put in the place of another one, and told its bytes, is left with the page
 abbrev pub ExchangeLeavesItsPage : Type 0
-ExchangeLeavesItsPage = (bytes : List ℕ) (new_bytes : Option (List ℕ)) (control : Control) → Redraws (Some bytes) new_bytes control → Leaves new_bytes (control ∷ []) control
+ExchangeLeavesItsPage =
+    (bytes : List ℕ) (new_bytes : Option (List ℕ)) (control : Control) → Redraws (Some bytes) new_bytes control → Leaves new_bytes (control ∷ []) control

@@ -23,7 +23,8 @@ use Rattle.minus.specs.Unmoved.{unmoved}
 use Rattle.minus.specs.Works.{IsFaultBeside}
 
 -- a command that asks for a drawing waits behind all others, and nothing else is done
-pub record IsQueued {P H E Q K : Type 0} (old : PartsOf P H E Q K) (waiting : List (CommandOf P H E Q K)) (command : CommandOf P H E Q K) (new : PartsOf P H E Q K) (queue : List (CommandOf P H E Q K)) (handled : Handled) : Type 0 where
+pub record IsQueued {P H E Q K : Type 0} (old : PartsOf P H E Q K) (waiting : List (CommandOf P H E Q K)) (command : CommandOf P H E Q K)
+    (new : PartsOf P H E Q K) (queue : List (CommandOf P H E Q K)) (handled : Handled) : Type 0 where
   pub parts : new ≡ old
   pub queue_is : queue ≡ waiting ++ command ∷ []
   pub exited : handled.exited ≡ false
@@ -31,7 +32,8 @@ pub record IsQueued {P H E Q K : Type 0} (old : PartsOf P H E Q K) (waiting : Li
 
 -- what a command asks for was done without its move, its drawing and the opening of a search prompt: these wait behind all others. An
 -- exit is answered
-pub record IsDone {P H E Q K : Type 0} (old : PartsOf P H E Q K) (waiting : List (CommandOf P H E Q K)) (w : Wanted Q K) (new : PartsOf P H E Q K) (queue : List (CommandOf P H E Q K)) (handled : Handled) : Type 0 where
+pub record IsDone {P H E Q K : Type 0} (old : PartsOf P H E Q K) (waiting : List (CommandOf P H E Q K)) (w : Wanted Q K) (new : PartsOf P H E Q K)
+    (queue : List (CommandOf P H E Q K)) (handled : Handled) : Type 0 where
   pub control : control_of new.state ≡ unmoved (control_of old.state) w
   pub free : IsFreeFor (kept_of old).ids (handed w)
   pub kept : kept_of new ≡ kept_after (kept_of old) (handed w)
@@ -46,15 +48,21 @@ abbrev pub IsRequestTo : {P H E Q K : Type 0} → Classifies K → PartsOf P H E
 IsRequestTo says parts command w = IsRequest says parts.classifier (control_of parts.state).help (wanted_of command) w
 
 -- a command was handled: one that asks for a drawing waits itself
-abbrev pub HandlesAs : {P H E Q K : Type 0} → Option IoCommand → Classifies K → PartsOf P H E Q K → List (CommandOf P H E Q K) → CommandOf P H E Q K → PartsOf P H E Q K → List (CommandOf P H E Q K) → Handled → Type 0
+abbrev pub HandlesAs :
+    {P H E Q K : Type 0} → Option IoCommand → Classifies K → PartsOf P H E Q K → List (CommandOf P H E Q K) → CommandOf P H E Q K → PartsOf P H E Q K
+    → List (CommandOf P H E Q K) → Handled → Type 0
 HandlesAs (Some io) says old waiting command new queue handled = IsQueued old waiting command new queue handled
-HandlesAs {Q = Q} {K = K} None says old waiting command new queue handled = (w : Wanted Q K) × IsRequestTo says old command w × IsDone old waiting w new queue handled
+HandlesAs {Q =
+    Q} {K = K} None says old waiting command new queue handled = (w : Wanted Q K) × IsRequestTo says old command w × IsDone old waiting w new queue handled
 
-abbrev pub Handles : {P H E Q K : Type 0} → Classifies K → PartsOf P H E Q K → List (CommandOf P H E Q K) → CommandOf P H E Q K → PartsOf P H E Q K → List (CommandOf P H E Q K) → Handled → Type 0
+abbrev pub Handles :
+    {P H E Q K : Type 0} → Classifies K → PartsOf P H E Q K → List (CommandOf P H E Q K) → CommandOf P H E Q K → PartsOf P H E Q K → List (CommandOf P H E Q K)
+    → Handled → Type 0
 Handles says old waiting command new queue handled = HandlesAs (io_of command) says old waiting command new queue handled
 
 -- nothing has changed
-pub record IsUnhandled {P H E Q K : Type 0} (old : PartsOf P H E Q K) (waiting : List (CommandOf P H E Q K)) (new : PartsOf P H E Q K) (queue : List (CommandOf P H E Q K)) : Type 0 where
+pub record IsUnhandled {P H E Q K : Type 0} (old : PartsOf P H E Q K) (waiting : List (CommandOf P H E Q K)) (new : PartsOf P H E Q K)
+    (queue : List (CommandOf P H E Q K)) : Type 0 where
   pub control : control_of new.state ≡ control_of old.state
   pub kept : kept_of new ≡ kept_of old
   pub classifier : new.classifier ≡ old.classifier
@@ -83,7 +91,8 @@ abbrev pub ByHandAsByTheTable : (Q K : Type 0) → Type 0
 ByHandAsByTheTable Q K = (c : Control) (w : Wanted Q K) → all_io_left Q K (unmoved c w) (queued c w) ≡ changed_by (effect c w)
 
 -- what it asks for was done, and drawn on a sink
-pub record IsIoDone {S P H E Q K : Type 0} (sink : S → SinkSeen) (old : PartsOf P H E Q K) (before : S) (io : IoCommand) (new : PartsOf P H E Q K) (after : S) : Type 0 where
+pub record IsIoDone {S P H E Q K : Type 0} (sink : S → SinkSeen) (old : PartsOf P H E Q K) (before : S) (io : IoCommand) (new : PartsOf P H E Q K)
+    (after : S) : Type 0 where
   pub control : control_of new.state ≡ io_left Q K (control_of old.state) io
   pub drawn : Appends (sink before).bytes (sink after).bytes (written_all (io_ops Q K (control_of old.state) io))
   pub stays : Stays (sink before).refusals (sink after).refusals

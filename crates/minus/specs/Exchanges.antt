@@ -29,7 +29,8 @@ IsExchangeEarly refusal seen = ⊥
 
 -- the sink was exchanged: the session is over a terminal of this size, the new sink grew by the page, drawn whole, and refused nothing,
 -- and the old one came back
-pub record IsExchange {S P H E Q K : Type 0} (sink : S → SinkSeen) (old : Core S P H E Q K) (given : S) (cols rows : ℕ) (new : Core S P H E Q K) (other : S) : Type 0 where
+pub record IsExchange {S P H E Q K : Type 0} (sink : S → SinkSeen) (old : Core S P H E Q K) (given : S) (cols rows : ℕ) (new : Core S P H E Q K)
+    (other : S) : Type 0 where
   pub can : CanExchange (seen_of old)
   pub size : IsSize cols rows
   pub seen : seen_of new ≡ resized (seen_of old) cols rows
@@ -44,7 +45,8 @@ pub record IsUnexchanged {S P H E Q K : Type 0} (old : Core S P H E Q K) (given 
   pub back : other ≡ given
 
 -- the new sink refused the page, of which a beginning was written: the session has failed over it, and the old one came back
-pub record IsBrokenExchange {S P H E Q K : Type 0} (sink : S → SinkSeen) (old : Core S P H E Q K) (given : S) (cols rows : ℕ) (new : Core S P H E Q K) (other : S) : Type 0 where
+pub record IsBrokenExchange {S P H E Q K : Type 0} (sink : S → SinkSeen) (old : Core S P H E Q K) (given : S) (cols rows : ℕ) (new : Core S P H E Q K)
+    (other : S) : Type 0 where
   pub can : CanExchange (seen_of old)
   pub size : IsSize cols rows
   pub seen : seen_of new ≡ record (resized (seen_of old) cols rows) { status = status.Failed }
@@ -54,7 +56,8 @@ pub record IsBrokenExchange {S P H E Q K : Type 0} (sink : S → SinkSeen) (old 
 
 -- when an exchange is refused, and what it leaves
 abbrev pub RefusesExchange : {S P H E Q K : Type 0} → Refusal → (S → SinkSeen) → Core S P H E Q K → S → (cols rows : ℕ) → Core S P H E Q K → S → Type 0
-RefusesExchange (for_size c r) sink old given cols rows new other = CanExchange (seen_of old) × (c ≡ cols) × (r ≡ rows) × (IsSize cols rows → ⊥) × IsUnexchanged old given new other
+RefusesExchange (for_size c r) sink old given cols rows new other =
+    CanExchange (seen_of old) × (c ≡ cols) × (r ≡ rows) × (IsSize cols rows → ⊥) × IsUnexchanged old given new other
 RefusesExchange for_memory sink old given cols rows new other = CanExchange (seen_of old) × IsUnexchanged old given new other
 RefusesExchange at_drawing sink old given cols rows new other = IsBrokenExchange sink old given cols rows new other
 RefusesExchange refusal sink old given cols rows new other = IsExchangeEarly refusal (seen_of old) × IsUnexchanged old given new other

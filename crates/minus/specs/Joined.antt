@@ -5,7 +5,8 @@ use Rattle.std.specs.Str.Lines.{lines}
 use Rattle.minus_state.specs.Control.{Control}
 use Rattle.minus.specs.Reads.{Told, a_command}
 use Rattle.minus.specs.Table.{Wanted, appends_data, adds_text, changed_by}
-use Rattle.minus.specs.Starts.{taken_all}
+use Rattle.minus_state.specs.declared.hooks.HookId.{HookId}
+use Rattle.minus.specs.Starts.{taken_all, CanTakeAll}
 use Rattle.minus.specs.Unmoved.{unmoved}
 
 -- appends of these texts, one after another
@@ -20,6 +21,14 @@ MayJoin c = c.help ≡ None → (c.mark ≡ 0) × (c.term ≡ None)
 abbrev pub AppendsJoin : Type 0 → Type 0 → Type 0
 AppendsJoin Q K = (c : Control) (texts : List (List ℕ)) → MayJoin c → 0 < length texts
     → taken_all {Q = Q} {K = K} c (appends texts) ≡ unmoved {Q = Q} {K = K} c (appends_data (concat texts))
+
+-- some are taken over as this one first and then those that are left
+abbrev pub TakesFirst : {Q K : Type 0} → Control → (all : List (Wanted Q K)) → (first : Wanted Q K) → (left : List (Wanted Q K)) → Type 0
+TakesFirst c all first left = taken_all (unmoved c first) left ≡ taken_all c all
+
+-- where all can be taken over, so can those that are left
+abbrev pub CanTakeRest : {Q K : Type 0} → (all left : List (Wanted Q K)) → Type 0
+CanTakeRest all left = (ids : List HookId) → CanTakeAll ids all → (free : List HookId) × CanTakeAll free left
 
 -- some begin with appends, and others stand behind these; with a text before theirs, these are joined
 pub record AreJoined {X : Type 0} (append : List ℕ → X) (first : List ℕ) (all : List X) (joined : List ℕ) (behind : List X) : Type 0 where

@@ -11,4 +11,6 @@ use Rattle.minus.specs.Works.{key_work}
 
 -- what a key does is drawn so by some operations, over the page with the open prompt
 abbrev pub KeysAreDrawn : Type 0
-KeysAreDrawn = (c : Control) (o : OpenSearch) (edit : QueryEdit) (found : Option Re) → 1 ≤ c.rows → c.search ≡ Some o → (ops : List Op) × IsDrawing ops c (key_work c o edit found ∷ []) (keyed c o edit found)
+KeysAreDrawn =
+    (c : Control) (o : OpenSearch) (edit : QueryEdit) (found : Option Re) → 1 ≤ c.rows → c.search ≡ Some o
+    → (ops : List Op) × IsDrawing ops c (key_work c o edit found ∷ []) (keyed c o edit found)

@@ -7,6 +7,7 @@ pub mod Asked
 pub mod DefaultKeys
 pub mod Works
 pub mod Drawings
+pub mod AddedBytes
 pub mod Drawn
 pub mod Exchanges
 pub mod Handing
@@ -26,6 +27,7 @@ pub mod Joined
 pub mod Answers
 pub mod SessionDrawings
 pub mod SessionSteps
+pub mod TakenParts
 pub mod SessionStarts
 pub mod StaticPager
 pub mod WrittenRows

@@ -3,7 +3,9 @@ use Rattle.std.specs.Prelude.{string_bytes, length, Option, None, Some}
 use Rattle.std.specs.Option.{option_map}
 use Rattle.minus_term.specs.declared.event.Event.{Event}
 use Rattle.minus.specs.declared.commands.CommandOf.{CommandOf}
-use Rattle.minus.specs.declared.commands.CommandOf.TheVariants.{SetData, AppendData, SetPrompt, SendMessage, ShowPrompt, SetLineNumbers, LineWrapping, FollowOutput, UserInput, Io, SetExitStrategy, SetRunNoOverflow, AddExitCallback, AddHook, RemoveHook, IncrementalSearchCondition, SetInputClassifier}
+use Rattle.minus.specs.declared.commands.CommandOf.TheVariants.{SetData, AppendData, SetPrompt, SendMessage, ShowPrompt, SetLineNumbers, LineWrapping}
+use Rattle.minus.specs.declared.commands.CommandOf.TheVariants.{FollowOutput, UserInput, Io, SetExitStrategy, SetRunNoOverflow, AddExitCallback, AddHook}
+use Rattle.minus.specs.declared.commands.CommandOf.TheVariants.{RemoveHook, IncrementalSearchCondition, SetInputClassifier}
 use Rattle.minus.specs.declared.handed.Handed.{Handed}
 use Rattle.minus.specs.declared.handed.Handed.TheVariants as handed
 use Rattle.minus.specs.declared.parts.PartsOf.{PartsOf}
@@ -109,7 +111,12 @@ handing_of (handed.RunNoOverflow on) = a_run_no_overflow on
 
 -- what is kept beside the state, the classifier and the condition
 abbrev pub kept_of : {P H E Q K : Type 0} → PartsOf P H E Q K → Kept
-kept_of parts = record { ids = (held_by parts.hooks).ids; exit_callbacks = length (exits_of parts.exit_callbacks); exit = (parts.exit_strategy, parts.exit_code); run_no_overflow = parts.run_no_overflow }
+kept_of parts = record {
+  ids = (held_by parts.hooks).ids;
+  exit_callbacks = length (exits_of parts.exit_callbacks);
+  exit = (parts.exit_strategy, parts.exit_code);
+  run_no_overflow = parts.run_no_overflow;
+}
 
 -- what a request asks for
 abbrev pub wanted_by : {P H E Q K : Type 0} → Request P H E Q K → Wanted Q K

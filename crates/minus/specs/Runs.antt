@@ -33,7 +33,8 @@ StopsAfter (answer ∷ next ∷ answers) stopped rest = (ends_run answer ≡ fal
 -- a run: the inputs that were done, in order, the one that was refused, if any, and the rest; the steps of those done, the
 -- controls that they passed, their answers and what they reached; and, where the sink's bytes ended with a list of
 -- operations that takes every screen to the page, they still do as long as the session runs
-pub record IsRun {A Q K : Type 0} (says : Says Q K) (told : A → Told Q K) (old new : Seen Q K) (inputs : List A) (done : ℕ) (last : Option Answer) (stopped : Option MinusError) (rest : List A) (old_bytes new_bytes : Option (List ℕ)) : Type 0 where
+pub record IsRun {A Q K : Type 0} (says : Says Q K) (told : A → Told Q K) (old new : Seen Q K) (inputs : List A) (done : ℕ) (last : Option Answer)
+    (stopped : Option MinusError) (rest : List A) (old_bytes new_bytes : Option (List ℕ)) : Type 0 where
   pub taken : List A
   pub refused : List A
   pub passed : List Control

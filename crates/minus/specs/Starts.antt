@@ -6,7 +6,7 @@ use Rattle.minus_term.specs.declared.error.SetupError.{SetupError}
 use Rattle.minus_term.specs.declared.error.SetupError.TheVariants.{InvalidTerminal}
 use Rattle.minus_term.specs.Operations.{Op}
 use Rattle.minus_term.specs.Written.{written_all}
-use Rattle.minus_term.specs.Counts.{AppendsFront, Stays, Rises}
+use Rattle.minus_term.specs.Counts.{SinkSeen, AppendsFront, Stays, Rises}
 use Rattle.minus_term.specs.Terminal.{setup_bytes, cleanup_bytes, SetupBreaksOff}
 use Rattle.minus_state.specs.declared.state.RunMode.{RunMode}
 use Rattle.minus_state.specs.declared.state.RunMode.TheVariants.{Uninitialized}
@@ -85,11 +85,14 @@ move_ops c = ops_of_step (first_move c).drawing c (first_move c).left
 
 -- the page that a start draws first, and what is drawn over it
 abbrev pub BeginsAndMoves : Option (List ℕ) → Option (List ℕ) → Control → Type 0
-BeginsAndMoves old_bytes new_bytes first = (page : Option (List ℕ)) × Begins old_bytes page first × Drawn page new_bytes first (first_move first ∷ []) (first_move first).left
+BeginsAndMoves old_bytes new_bytes first =
+    (page : Option (List ℕ)) × Begins old_bytes page first × Drawn page new_bytes first (first_move first ∷ []) (first_move first).left
 
 -- a start leaves its page on a sink that told its bytes
 abbrev pub StartLeavesItsPage : Type 0
-StartLeavesItsPage = (bytes : List ℕ) (new_bytes : Option (List ℕ)) (first : Control) → BeginsAndMoves (Some bytes) new_bytes first → (let left : Control = (first_move first).left in Leaves new_bytes (first ∷ left ∷ []) left)
+StartLeavesItsPage =
+    (bytes : List ℕ) (new_bytes : Option (List ℕ)) (first : Control) → BeginsAndMoves (Some bytes) new_bytes first
+    → (let left : Control = (first_move first).left in Leaves new_bytes (first ∷ left ∷ []) left)
 
 -- a start is asked for as it can be: in a mode in which a session runs, and for a size of a terminal
 pub record CanStart (mode : RunMode) (cols rows : ℕ) : Type 0 where
@@ -116,16 +119,26 @@ pub record CanBegin {Q K : Type 0} (mode : RunMode) (cols rows : ℕ) (waiting :
 -- then since a fixed pattern was not built; out of memory once the mode and the size are those of a start
 abbrev pub IsFormRefused : {Q K : Type 0} → Refusal → RunMode → ℕ → ℕ → List (Wanted Q K) → Type 0
 IsFormRefused for_mode mode cols rows waiting = mode ≡ Uninitialized
-IsFormRefused (for_size c r) mode cols rows waiting = CannotStart (for_size c r) mode cols rows ⊎ (CanStart mode cols rows × IsUntaken (for_size c r) [] waiting)
+IsFormRefused (for_size c r) mode cols rows waiting =
+    CannotStart (for_size c r) mode cols rows ⊎ (CanStart mode cols rows × IsUntaken (for_size c r) [] waiting)
 IsFormRefused for_pattern mode cols rows waiting = CanBegin mode cols rows waiting
 IsFormRefused refusal mode cols rows waiting = CanStart mode cols rows × IsUntaken refusal [] waiting
 
 -- a start that ends well: on a terminal, where the session runs and has drawn its first page
-pub record IsStarted {Q K : Type 0} (seen : Seen Q K) (classifier : K) (waiting : List (Wanted Q K)) (mode : RunMode) (cols rows : ℕ) (terminal : Bool) (old_bytes new_bytes : Option (List ℕ)) : Type 0 where
+pub record IsStarted {Q K : Type 0} (seen : Seen Q K) (classifier : K) (waiting : List (Wanted Q K)) (mode : RunMode) (cols rows : ℕ) (terminal : Bool)
+    (old_bytes new_bytes : Option (List ℕ)) : Type 0 where
   pub can : CanStart mode cols rows
   pub takes : CanTakeAll [] waiting
   pub on_terminal : terminal ≡ true
-  pub begins : seen ≡ record { control = (first_move (first_control cols rows waiting)).left; classifier = classifier_taken classifier waiting; condition = condition_taken None waiting; kept = kept_taken kept_at_first waiting; mode = mode; waiting = []; status = status.Running }
+  pub begins : seen ≡ record {
+    control = (first_move (first_control cols rows waiting)).left;
+    classifier = classifier_taken classifier waiting;
+    condition = condition_taken None waiting;
+    kept = kept_taken kept_at_first waiting;
+    mode = mode;
+    waiting = [];
+    status = status.Running;
+  }
   pub drawn : BeginsAndMoves old_bytes new_bytes (first_control cols rows waiting)
 
 -- when a setup is refused: with the one error where the sink is no terminal
@@ -141,7 +154,8 @@ IsShowRefused refusal terminal = ⊥
 
 -- the terminal was cleaned up, or the sink refused that too, after a beginning of it
 abbrev pub CleansUp : Option (List ℕ) → Option (List ℕ) → Option ℕ → Option ℕ → Type 0
-CleansUp old_bytes new_bytes old_count new_count = (Appends old_bytes new_bytes cleanup_bytes × Stays old_count new_count) ⊎ (AppendsFront old_bytes new_bytes cleanup_bytes × Rises old_count new_count)
+CleansUp old_bytes new_bytes old_count new_count =
+    (Appends old_bytes new_bytes cleanup_bytes × Stays old_count new_count) ⊎ (AppendsFront old_bytes new_bytes cleanup_bytes × Rises old_count new_count)
 
 -- the sink grew by a beginning of these bytes, refused the rest of them, and was cleaned up as far as it took that
 pub record DrawsOff (old_bytes new_bytes : Option (List ℕ)) (old_count new_count : Option ℕ) (drawing : List ℕ) : Type 0 where
@@ -167,6 +181,9 @@ abbrev pub ShowBreaksOff : Refusal → Option (List ℕ) → Option (List ℕ) �
 ShowBreaksOff (at_setup cause) old_bytes new_bytes old_count new_count drawing = SetupBreaksOff cause old_bytes new_bytes
 ShowBreaksOff at_drawing old_bytes new_bytes old_count new_count drawing = DrawingBreaksOff old_bytes new_bytes old_count new_count drawing
 ShowBreaksOff refusal old_bytes new_bytes old_count new_count drawing = ⊥
+
+abbrev pub ShowBreaks : Refusal → (old new : SinkSeen) → List ℕ → Type 0
+ShowBreaks refusal old new drawing = ShowBreaksOff refusal old.bytes new.bytes old.refusals new.refusals drawing
 
 -- when a start is refused: for its mode first, then for its size, then for the first command that cannot be taken over, then since a
 -- fixed pattern was not built, then by the sink
@@ -197,7 +214,8 @@ pub record MoveBreaksOff (old_bytes new_bytes : Option (List ℕ)) (old_count ne
 abbrev pub StartBreaksOff : Refusal → Option (List ℕ) → Option (List ℕ) → Option ℕ → Option ℕ → Control → Type 0
 StartBreaksOff (at_setup cause) old_bytes new_bytes old_count new_count first = SetupBreaksOff cause old_bytes new_bytes
 StartBreaksOff at_drawing old_bytes new_bytes old_count new_count first =
-    ((ops : List Op) × DrawingBreaksOff old_bytes new_bytes old_count new_count (written_all ops) × IsWholeDrawing ops (first ∷ []) first) ⊎ MoveBreaksOff old_bytes new_bytes old_count new_count first
+    ((ops : List Op) × DrawingBreaksOff old_bytes new_bytes old_count new_count (written_all ops) × IsWholeDrawing ops (first ∷ []) first)
+      ⊎ MoveBreaksOff old_bytes new_bytes old_count new_count first
 StartBreaksOff refusal old_bytes new_bytes old_count new_count first = new_bytes ≡ old_bytes
 
 -- the sink refused a write or a flush, or took nothing

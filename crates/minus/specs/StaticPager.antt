@@ -43,7 +43,8 @@ printed true c kept = if kept.run_no_overflow then None else rows_that_fit c
 
 -- of the commands that wait in a pager
 abbrev pub printed_of : {P H E Q K : Type 0} → PagerOf P H E Q K → (cols rows : ℕ) → (terminal : Bool) → Option (List ℕ)
-printed_of pager cols rows terminal = let waiting = map wanted_of pager.queue.items in printed terminal (first_control cols rows waiting) (kept_taken kept_at_first waiting)
+printed_of pager cols rows terminal =
+    let waiting = map wanted_of pager.queue.items in printed terminal (first_control cols rows waiting) (kept_taken kept_at_first waiting)
 
 -- the sink took this, and refused nothing
 pub record IsWritten {S : Type 0} (seen : S → SinkSeen) (sink new : S) (wanted : Option (List ℕ)) : Type 0 where
@@ -69,15 +70,21 @@ pub record IsUnwritten {S P H E Q K : Type 0} (seen : S → SinkSeen) (sink : S)
 -- what came of the parts that a session would begin with
 abbrev pub IsShownAll : {S P H E Q K : Type 0} → (S → SinkSeen) → PartsOf P H E Q K → (sink : S) → PagedOf S P H E Q K → Type 0
 IsShownAll seen parts sink (paged.Written new) = IsWritten seen sink new (printed (seen sink).terminal (control_of parts.state) (kept_of parts))
-IsShownAll seen parts sink (paged.Started session) = (printed (seen sink).terminal (control_of parts.state) (kept_of parts) ≡ None) × IsOpened seen Static parts sink session
+IsShownAll seen parts sink (paged.Started session) =
+    (printed (seen sink).terminal (control_of parts.state) (kept_of parts) ≡ None) × IsOpened seen Static parts sink session
 
 abbrev pub IsNotShownAll : {S P H E Q K : Type 0} → (S → SinkSeen) → PartsOf P H E Q K → (sink : S) → StartErrorOf S P H E Q K → Type 0
-IsNotShownAll seen parts sink e = IsUnwritten seen sink e (printed (seen sink).terminal (control_of parts.state) (kept_of parts)) ⊎ ((printed (seen sink).terminal (control_of parts.state) (kept_of parts) ≡ None) × IsUnopened seen parts sink e)
+IsNotShownAll seen parts sink e =
+    IsUnwritten seen sink e (printed (seen sink).terminal (control_of parts.state) (kept_of parts))
+    ⊎ ((printed (seen sink).terminal (control_of parts.state) (kept_of parts) ≡ None) × IsUnopened seen parts sink e)
 
 -- what came of a text that is paged where it does not fit
-abbrev pub IsPaged : {S P H E Q K : Type 0} → (S → SinkSeen) → PagerOf P H E Q K → (cols rows : ℕ) → (classifier : K) → (sink : S) → PagedOf S P H E Q K → Type 0
-IsPaged seen pager cols rows classifier sink (paged.Written new) = CanBegin Static cols rows (map wanted_of pager.queue.items) × IsWritten seen sink new (printed_of pager cols rows (seen sink).terminal)
-IsPaged seen pager cols rows classifier sink (paged.Started session) = (printed_of pager cols rows (seen sink).terminal ≡ None) × IsStart seen pager Static cols rows classifier sink session
+abbrev pub IsPaged :
+    {S P H E Q K : Type 0} → (S → SinkSeen) → PagerOf P H E Q K → (cols rows : ℕ) → (classifier : K) → (sink : S) → PagedOf S P H E Q K → Type 0
+IsPaged seen pager cols rows classifier sink (paged.Written new) =
+    CanBegin Static cols rows (map wanted_of pager.queue.items) × IsWritten seen sink new (printed_of pager cols rows (seen sink).terminal)
+IsPaged seen pager cols rows classifier sink (paged.Started session) =
+    (printed_of pager cols rows (seen sink).terminal ≡ None) × IsStart seen pager Static cols rows classifier sink session
 
 -- neither: the sink refused what was to be written; or as a start is refused, early, or where it was to be paged
 abbrev pub IsUnpaged : {S P H E Q K : Type 0} → (S → SinkSeen) → PagerOf P H E Q K → (cols rows : ℕ) → (sink : S) → StartErrorOf S P H E Q K → Type 0
@@ -86,7 +93,8 @@ IsUnpaged seen pager cols rows sink e =
     ⊎ (IsRefusedStart seen pager Static cols rows sink e × ((IsEarly (refusal_of e.cause) → ⊥) → printed_of pager cols rows (seen sink).terminal ≡ None))
 
 -- a session begins with a classifier of its own at first
-pub record IsFirstPaged {S P H E Q K : Type 0} (IsFirst : K → Type 0) (seen : S → SinkSeen) (pager : PagerOf P H E Q K) (cols rows : ℕ) (sink : S) (paged : PagedOf S P H E Q K) : Type 0 where
+pub record IsFirstPaged {S P H E Q K : Type 0} (IsFirst : K → Type 0) (seen : S → SinkSeen) (pager : PagerOf P H E Q K) (cols rows : ℕ) (sink : S)
+    (paged : PagedOf S P H E Q K) : Type 0 where
   pub classifier : K
   pub first : IsFirst classifier
   pub is : IsPaged seen pager cols rows classifier sink paged

@@ -1,7 +1,8 @@
 -- Steps, and what a refusal leaves.
 use Rattle.std.specs.Prelude.{◌≡◌, ℕ, List, [], ◌∷◌, ◌++◌, Bool, true, false, Option, None, Some, ◌⊎◌}
 use Rattle.std.specs.Io.KnownBytes.{Appends}
-use Rattle.minus_term.specs.Refusals.{Refusal, for_memory, for_newline, for_hook_id, for_free_hook_id, for_size, for_query, after_failure, after_exit, at_cleanup, at_drawing}
+use Rattle.minus_term.specs.Refusals.{Refusal, for_memory, for_newline, for_hook_id, for_free_hook_id, for_size, for_query, after_failure, after_exit}
+use Rattle.minus_term.specs.Refusals.{at_cleanup, at_drawing}
 use Rattle.minus_term.specs.Terminal.{cleanup_bytes, CleanupBreaksOff}
 use Rattle.minus_term.specs.declared.error.CleanupError.{CleanupError}
 use Rattle.minus_state.specs.declared.state.RunMode.{RunMode}
@@ -28,7 +29,8 @@ status_after (Some exit) = status.Ended
 abbrev pub Ends : {Q K : Type 0} → Says Q K → Option Exit → Seen Q K → Told Q K → List Work → List Refusal → Option (List ℕ) → Seen Q K → Seen Q K → Type 0
 Ends says None old told works refused copied last new = Worked says old told works refused copied last × IsAtRest last × (new ≡ last)
 Ends says (Some exit) old told works refused copied last new =
-    (next : Told _ _) × (exits : Exits says last next exit) × Comes says old told works refused copied last next × (new ≡ record (taken last next exits.wanted) { waiting = []; status = status.Ended })
+    (next : Told _ _) × (exits : Exits says last next exit) × Comes says old told works refused copied last next
+      × (new ≡ record (taken last next exits.wanted) { waiting = []; status = status.Ended })
 
 -- what is written: one list of operations that draws the works, and at an exit what cleans the terminal up after it
 abbrev pub Writes : Option Exit → Control → List Work → Control → Option (List ℕ) → Option (List ℕ) → Type 0
@@ -38,7 +40,8 @@ Writes (Some exit) old works last old_bytes new_bytes = (drawn : Option (List �
 -- a step that ends well: the works that were done, the refusals of what was passed over, the text that was copied last, the exit, and
 -- the session before that; its answer and what it writes; and that the page which the sink's bytes left is left by them still, as long
 -- as the session runs
-pub record IsStep {Q K : Type 0} (says : Says Q K) (old : Seen Q K) (told : Told Q K) (new : Seen Q K) (answer : Answer) (old_bytes new_bytes : Option (List ℕ)) : Type 0 where
+pub record IsStep {Q K : Type 0} (says : Says Q K) (old : Seen Q K) (told : Told Q K) (new : Seen Q K) (answer : Answer)
+    (old_bytes new_bytes : Option (List ℕ)) : Type 0 where
   pub works : List Work
   pub refused : List Refusal
   pub copied : Option (List ℕ)
@@ -49,15 +52,19 @@ pub record IsStep {Q K : Type 0} (says : Says Q K) (old : Seen Q K) (told : Told
   pub stands : new.status ≡ status_after exit
   pub answers : IsAnswer exit copied refused answer
   pub writes : Writes exit old.control works last.control old_bytes new_bytes
-  pub leaves : (before : List Control) → Leaves old_bytes before old.control → new.status ≡ status.Running → Leaves new_bytes (before ++ passed_in works) new.control
+  pub leaves :
+      (before : List Control) → Leaves old_bytes before old.control → new.status ≡ status.Running → Leaves new_bytes (before ++ passed_in works) new.control
 
 -- steps that end well, one after another, with the controls that they pass, their answers and what they write
-pub data Steps {Q K : Type 0} (says : Says Q K) : Seen Q K → List (Told Q K) → List Control → List Answer → Seen Q K → Option (List ℕ) → Option (List ℕ) → Type 0 where
+pub data Steps {Q K : Type 0} (says : Says Q K) : Seen Q K → List (Told Q K) → List Control → List Answer → Seen Q K → Option (List ℕ) → Option (List ℕ)
+    → Type 0 where
   none : {a : Seen Q K} {x : Option (List ℕ)} → Steps says a [] [] [] a x x
-  more : {a b c : Seen Q K} {t : Told Q K} {ts : List (Told Q K)} {cs : List Control} {answer : Answer} {answers : List Answer} {x y z : Option (List ℕ)} → (s : IsStep says a t b answer x y) → Steps says b ts cs answers c y z → Steps says a (t ∷ ts) (passed_in s.works ++ cs) (answer ∷ answers) c x z
+  more : {a b c : Seen Q K} {t : Told Q K} {ts : List (Told Q K)} {cs : List Control} {answer : Answer} {answers : List Answer} {x y z : Option (List ℕ)}
+      → (s : IsStep says a t b answer x y) → Steps says b ts cs answers c y z → Steps says a (t ∷ ts) (passed_in s.works ++ cs) (answer ∷ answers) c x z
 
 -- a step whose last drawing was refused, of which a beginning was written: the session has failed
-pub record IsBrokenStep {Q K : Type 0} (says : Says Q K) (old : Seen Q K) (told : Told Q K) (new : Seen Q K) (old_bytes new_bytes : Option (List ℕ)) : Type 0 where
+pub record IsBrokenStep {Q K : Type 0} (says : Says Q K) (old : Seen Q K) (told : Told Q K) (new : Seen Q K)
+    (old_bytes new_bytes : Option (List ℕ)) : Type 0 where
   pub works : List Work
   pub refused : List Refusal
   pub copied : Option (List ℕ)
@@ -67,7 +74,8 @@ pub record IsBrokenStep {Q K : Type 0} (says : Says Q K) (old : Seen Q K) (told 
   pub failed : new ≡ record last { status = status.Failed }
 
 -- a step in which the cleanup of an exit was refused, of which a beginning was written: the session has failed
-pub record IsBrokenExit {Q K : Type 0} (says : Says Q K) (cause : CleanupError) (old : Seen Q K) (told : Told Q K) (new : Seen Q K) (old_bytes new_bytes : Option (List ℕ)) : Type 0 where
+pub record IsBrokenExit {Q K : Type 0} (says : Says Q K) (cause : CleanupError) (old : Seen Q K) (told : Told Q K) (new : Seen Q K)
+    (old_bytes new_bytes : Option (List ℕ)) : Type 0 where
   pub works : List Work
   pub refused : List Refusal
   pub copied : Option (List ℕ)
@@ -103,11 +111,16 @@ IsUntouched old new old_bytes new_bytes = (new ≡ old) × (new_bytes ≡ old_by
 -- cannot be done, or the session had exited or failed before; where the sink refused, or memory ran out for an input that waited, a
 -- session that has failed
 abbrev pub Refuses : {Q K : Type 0} → Says Q K → Refusal → Seen Q K → Told Q K → Seen Q K → Option (List ℕ) → Option (List ℕ) → Type 0
-Refuses says for_memory old told new old_bytes new_bytes = (old.status ≡ status.Running) × (IsUntouched old new old_bytes new_bytes ⊎ IsLate says old told new old_bytes new_bytes)
-Refuses says for_newline old told new old_bytes new_bytes = (old.status ≡ status.Running) × IsUnfit says old told for_newline × IsUntouched old new old_bytes new_bytes
-Refuses says (for_size cols rows) old told new old_bytes new_bytes = (old.status ≡ status.Running) × IsUnfit says old told (for_size cols rows) × IsUntouched old new old_bytes new_bytes
-Refuses says (for_hook_id hook id) old told new old_bytes new_bytes = (old.status ≡ status.Running) × IsUnfit says old told (for_hook_id hook id) × IsUntouched old new old_bytes new_bytes
-Refuses says for_free_hook_id old told new old_bytes new_bytes = (old.status ≡ status.Running) × IsUnfit says old told for_free_hook_id × IsUntouched old new old_bytes new_bytes
+Refuses says for_memory old told new old_bytes new_bytes =
+    (old.status ≡ status.Running) × (IsUntouched old new old_bytes new_bytes ⊎ IsLate says old told new old_bytes new_bytes)
+Refuses says for_newline old told new old_bytes new_bytes =
+    (old.status ≡ status.Running) × IsUnfit says old told for_newline × IsUntouched old new old_bytes new_bytes
+Refuses says (for_size cols rows) old told new old_bytes new_bytes =
+    (old.status ≡ status.Running) × IsUnfit says old told (for_size cols rows) × IsUntouched old new old_bytes new_bytes
+Refuses says (for_hook_id hook id) old told new old_bytes new_bytes =
+    (old.status ≡ status.Running) × IsUnfit says old told (for_hook_id hook id) × IsUntouched old new old_bytes new_bytes
+Refuses says for_free_hook_id old told new old_bytes new_bytes =
+    (old.status ≡ status.Running) × IsUnfit says old told for_free_hook_id × IsUntouched old new old_bytes new_bytes
 Refuses says for_query old told new old_bytes new_bytes = (old.status ≡ status.Running) × IsOverfull old told × IsUntouched old new old_bytes new_bytes
 Refuses says after_failure old told new old_bytes new_bytes = (old.status ≡ status.Failed) × IsUntouched old new old_bytes new_bytes
 Refuses says after_exit old told new old_bytes new_bytes = (old.status ≡ status.Ended) × IsUntouched old new old_bytes new_bytes
@@ -131,9 +144,11 @@ is_passed refusal = false
 
 -- one input was taken: its work was drawn; or it exits
 abbrev pub Took : {Q K : Type 0} → Says Q K → Option Exit → Seen Q K → Told Q K → Option (List ℕ) → Seen Q K → Option (List ℕ) → Option (List ℕ) → Type 0
-Took says None old told copied new old_bytes new_bytes = (work : Work) × Takes says old told work copied new × Drawn old_bytes new_bytes old.control (work ∷ []) new.control
+Took says None old told copied new old_bytes new_bytes =
+    (work : Work) × Takes says old told work copied new × Drawn old_bytes new_bytes old.control (work ∷ []) new.control
 Took says (Some exit) old told copied new old_bytes new_bytes =
-    (exits : Exits says old told exit) × (copied ≡ None) × (new ≡ record (taken old told exits.wanted) { waiting = []; status = status.Ended }) × Appends old_bytes new_bytes cleanup_bytes
+    (exits : Exits says old told exit) × (copied ≡ None) × (new ≡ record (taken old told exits.wanted) { waiting = []; status = status.Ended })
+      × Appends old_bytes new_bytes cleanup_bytes
 
 -- one input was not taken: nothing has changed, or the sink refused its drawing or its cleanup
 abbrev pub Fails : {Q K : Type 0} → Says Q K → Refusal → Seen Q K → Told Q K → Seen Q K → Option (List ℕ) → Option (List ℕ) → Type 0
@@ -144,20 +159,24 @@ Fails says (for_hook_id hook id) old told new old_bytes new_bytes = IsUnfit says
 Fails says for_free_hook_id old told new old_bytes new_bytes = IsUnfit says old told for_free_hook_id × IsUntouched old new old_bytes new_bytes
 Fails says for_query old told new old_bytes new_bytes = IsOverfull old told × IsUntouched old new old_bytes new_bytes
 Fails says (at_cleanup cause) old told new old_bytes new_bytes =
-    (exit : Exit) × (exits : Exits says old told exit) × CleanupBreaksOff cause old_bytes new_bytes × (new ≡ record (taken old told exits.wanted) { status = status.Failed })
+    (exit : Exit) × (exits : Exits says old told exit) × CleanupBreaksOff cause old_bytes new_bytes
+      × (new ≡ record (taken old told exits.wanted) { status = status.Failed })
 Fails says at_drawing old told new old_bytes new_bytes =
-    (work : Work) × (copied : Option (List ℕ)) × (last : Seen _ _) × Takes says old told work copied last × BrokenOff old_bytes new_bytes old.control (work ∷ []) last.control × (new ≡ record last { status = status.Failed })
+    (work : Work) × (copied : Option (List ℕ)) × (last : Seen _ _) × Takes says old told work copied last
+      × BrokenOff old_bytes new_bytes old.control (work ∷ []) last.control × (new ≡ record last { status = status.Failed })
 Fails says refusal old told new old_bytes new_bytes = ⊥
 
 -- an input that waited was taken, and with it, it may be, some of those behind it: their works were drawn; or it exits
 abbrev pub TookWith : {Q K : Type 0} → Says Q K → Option Exit → Seen Q K → Told Q K → Option (List ℕ) → Seen Q K → Option (List ℕ) → Option (List ℕ) → Type 0
-TookWith says None old told copied new old_bytes new_bytes = (works : List Work) × Worked says old told works [] copied new × Drawn old_bytes new_bytes old.control works new.control
+TookWith says None old told copied new old_bytes new_bytes =
+    (works : List Work) × Worked says old told works [] copied new × Drawn old_bytes new_bytes old.control works new.control
 TookWith says (Some exit) old told copied new old_bytes new_bytes = Took says (Some exit) old told copied new old_bytes new_bytes
 
 -- it was not taken: nothing has changed, or the sink refused its cleanup, or the drawing of it and of some of those behind it
 abbrev pub FailsWith : {Q K : Type 0} → Says Q K → Refusal → Seen Q K → Told Q K → Seen Q K → Option (List ℕ) → Option (List ℕ) → Type 0
 FailsWith says at_drawing old told new old_bytes new_bytes =
-    (works : List Work) × (copied : Option (List ℕ)) × (last : Seen _ _) × Worked says old told works [] copied last × BrokenOff old_bytes new_bytes old.control works last.control × (new ≡ record last { status = status.Failed })
+    (works : List Work) × (copied : Option (List ℕ)) × (last : Seen _ _) × Worked says old told works [] copied last
+      × BrokenOff old_bytes new_bytes old.control works last.control × (new ≡ record last { status = status.Failed })
 FailsWith says refusal old told new old_bytes new_bytes = Fails says refusal old told new old_bytes new_bytes
 
 -- what is still to be cleaned up: nothing after an exit

@@ -23,7 +23,8 @@ use Rattle.minus_term.specs.declared.hooks.Hook.{Hook}
 use Rattle.minus_state.specs.declared.hooks.HookId.{HookId}
 use Rattle.minus_state.specs.HookIds.{is_taken}
 use Rattle.minus.specs.Handing.{Handing, Exit, a_callback, kept_after, classifier_after, condition_after, IsFreeFor, HasNoNext}
-use Rattle.minus.specs.Table.{Wanted, hands_over, exits, restores_prompt, shows_help, effect, handed, hook_after, changed_by, drawing_by, drawing_of, IsPossible, IsFault}
+use Rattle.minus.specs.Table.{Wanted, hands_over, exits, restores_prompt, shows_help, effect, handed, hook_after, changed_by, drawing_by, drawing_of}
+use Rattle.minus.specs.Table.{IsPossible, IsFault}
 
 -- a work: how what comes of it is drawn, the control that it leaves, and the hook whose callbacks are called after that, if one is
 pub record Work : Type 0 where
@@ -45,7 +46,12 @@ reached c (w ∷ works) = reached w.left works
 
 -- what a session is seen as after a request
 abbrev pub after : {Q K : Type 0} → Seen Q K → Wanted Q K → Seen Q K
-after seen w = record seen { control = changed_by (effect seen.control w); classifier = classifier_after seen.classifier (handed w); condition = condition_after seen.condition (handed w); kept = kept_after seen.kept (handed w) }
+after seen w = record seen {
+  control = changed_by (effect seen.control w);
+  classifier = classifier_after seen.classifier (handed w);
+  condition = condition_after seen.condition (handed w);
+  kept = kept_after seen.kept (handed w);
+}
 
 -- what is left undrawn, and as it was
 abbrev pub undrawn : Control → Work
@@ -59,10 +65,14 @@ key_work c o edit found = record { drawing = drawing_by (keyed_redraw o edit) c 
 -- open it is worked off; with one open a command or a new size waits, and any other event is a key of that prompt: what is found for the
 -- query is free but for its pattern and for what the condition that is kept may answer, which is asked in a formed state with the control
 pub data Takes {Q K : Type 0} (says : Says Q K) (s : Seen Q K) : Told Q K → Work → Option (List ℕ) → Seen Q K → Type 0 where
-  worked : {told : Told Q K} (w : Wanted Q K) → s.control.search ≡ None → Asks says s told w → IsPossible w → IsFreeFor s.kept.ids (handed w) → (effect (taken s told w).control w).is_exit ≡ false
+  worked : {told : Told Q K} (w : Wanted Q K) → s.control.search ≡ None → Asks says s told w → IsPossible w → IsFreeFor s.kept.ids (handed w)
+      → (effect (taken s told w).control w).is_exit ≡ false
       → Takes says s told (work_of (taken s told w).control w) (effect (taken s told w).control w).copies (after (taken s told w) w)
-  waited : {told : Told Q K} (o : OpenSearch) (w : Wanted Q K) → s.control.search ≡ Some o → checked_as told ≡ Some w → IsPossible w → Takes says s told (undrawn s.control) None (record s { waiting = s.waiting ++ told ∷ [] })
-  edits : {event : Event} (o : OpenSearch) → s.control.search ≡ Some o → checked_as {Q = Q} {K = K} (an_event event) ≡ None → (state : PagerState) → IsFormed state → control_of state ≡ s.control → (found : Option Re) → MayFind says.condition s.condition state o event found
+  waited : {told : Told Q K} (o : OpenSearch) (w : Wanted Q K) → s.control.search ≡ Some o → checked_as told ≡ Some w → IsPossible w
+      → Takes says s told (undrawn s.control) None (record s { waiting = s.waiting ++ told ∷ [] })
+  edits :
+      {event : Event} (o : OpenSearch) → s.control.search ≡ Some o → checked_as {Q = Q} {K = K} (an_event event) ≡ None → (state : PagerState) → IsFormed state
+      → control_of state ≡ s.control → (found : Option Re) → MayFind says.condition s.condition state o event found
       → Takes says s (an_event event) (key_work s.control o (edit_of event) found) None (record s { control = keyed s.control o (edit_of event) found })
 
 -- an input that exits, as the session keeps it: no search prompt is open
@@ -114,15 +124,19 @@ leaving s rest = record s { waiting = rest }
 -- works, the refusals of those that were passed over, the text that was copied last, and what they leave
 pub data Worked {Q K : Type 0} (says : Says Q K) (old : Seen Q K) (told : Told Q K) : List Work → List Refusal → Option (List ℕ) → Seen Q K → Type 0 where
   first : {work : Work} {copied : Option (List ℕ)} {new : Seen Q K} → Takes says old told work copied new → Worked says old told (work ∷ []) [] copied new
-  more : {works : List Work} {refused : List Refusal} {copied : Option (List ℕ)} {s new : Seen Q K} {next : Told Q K} {rest : List (Told Q K)} {work : Work} {text : Option (List ℕ)} → Worked says old told works refused copied s → IsNext s next rest → Takes says (leaving s rest) next work text new
+  more : {works : List Work} {refused : List Refusal} {copied : Option (List ℕ)} {s new : Seen Q K} {next : Told Q K} {rest : List (Told Q K)} {work : Work}
+    {text : Option (List ℕ)} → Worked says old told works refused copied s → IsNext s next rest → Takes says (leaving s rest) next work text new
       → Worked says old told (works ++ work ∷ []) refused (last_copied copied text) new
-  passed : {works : List Work} {refused : List Refusal} {copied : Option (List ℕ)} {s : Seen Q K} {next : Told Q K} {rest : List (Told Q K)} (refusal : Refusal) → Worked says old told works refused copied s → IsNext s next rest → IsUnfit says (leaving s rest) next refusal
+  passed : {works : List Work} {refused : List Refusal} {copied : Option (List ℕ)} {s : Seen Q K} {next : Told Q K} {rest : List (Told Q K)} (refusal : Refusal)
+      → Worked says old told works refused copied s → IsNext s next rest → IsUnfit says (leaving s rest) next refusal
       → Worked says old told works (refused ++ refusal ∷ []) copied (leaving s rest)
 
 -- the input that comes next in a step, after those that it has taken: the one that it is told, or after it the next of those that wait
-pub data Comes {Q K : Type 0} (says : Says Q K) (old : Seen Q K) (told : Told Q K) : List Work → List Refusal → Option (List ℕ) → Seen Q K → Told Q K → Type 0 where
+pub data Comes {Q K : Type 0} (says : Says Q K) (old : Seen Q K) (told : Told Q K) : List Work → List Refusal → Option (List ℕ) → Seen Q K → Told Q K
+    → Type 0 where
   at_once : Comes says old told [] [] None old told
-  later : {works : List Work} {refused : List Refusal} {copied : Option (List ℕ)} {s : Seen Q K} {next : Told Q K} {rest : List (Told Q K)} → Worked says old told works refused copied s → IsNext s next rest → Comes says old told works refused copied (leaving s rest) next
+  later : {works : List Work} {refused : List Refusal} {copied : Option (List ℕ)} {s : Seen Q K} {next : Told Q K} {rest : List (Told Q K)}
+      → Worked says old told works refused copied s → IsNext s next rest → Comes says old told works refused copied (leaving s rest) next
 
 -- nothing more is worked off: the search prompt is open, or nothing waits
 abbrev pub IsAtRest : {Q K : Type 0} → Seen Q K → Type 0
@@ -136,7 +150,8 @@ pub record IsReady {Q K : Type 0} (s : Seen Q K) : Type 0 where
 -- with no search prompt open, and while nothing waits, an input is worked off alone
 abbrev pub AloneWithNoPrompt : {Q K : Type 0} → Says Q K → Type 0
 AloneWithNoPrompt {Q = Q} {K = K} says =
-    (old s : Seen Q K) (told : Told Q K) (works : List Work) (refused : List Refusal) (copied : Option (List ℕ)) → IsReady old → Worked says old told works refused copied s
+    (old s : Seen Q K) (told : Told Q K) (works : List Work) (refused : List Refusal) (copied : Option (List ℕ)) → IsReady old
+      → Worked says old told works refused copied s
     → (work : Work) × (works ≡ work ∷ []) × (refused ≡ []) × Takes says old told work copied s
 
 -- whether a drawing shows its page whatever the screen showed before
@@ -171,4 +186,5 @@ pub data LeavesHelp {Q K : Type 0} : Wanted Q K → Type 0 where
 abbrev pub HelpLeavesNoTrace : Type 0 → Type 0 → Type 0
 HelpLeavesNoTrace Q K =
     (c : Control) (text : Option (List ℕ)) (leaving : Wanted Q K) → c.help ≡ None → IsClamped c → LeavesHelp leaving
-    → changed_by (effect (changed_by (effect {Q = Q} {K = K} c (shows_help text))) leaving) ≡ reformed (record c { settings = record c.settings { message = None } })
+    → changed_by (effect (changed_by (effect {Q = Q} {K = K} c (shows_help text))) leaving)
+        ≡ reformed (record c { settings = record c.settings { message = None } })

@@ -2,10 +2,18 @@
 use Rattle.std.specs.Prelude.{ℕ, zero, suc, ◌-◌, ◌==◌, Bool, true, false, nat_lt, min, List, ◌∷◌, ◌++◌, length, map, take, drop, slice_index, if◌then◌else◌}
 use Rattle.std.specs.Fmt.{is_char_start}
 use Rattle.std.specs.List.{flat_map}
+use Rattle.std.specs.Io.KnownBytes.{Appends}
+use Rattle.minus_term.specs.Counts.{SinkSeen}
 use Rattle.minus_term.specs.Operations.{Op, GoTo, ClearAll}
+use Rattle.minus_term.specs.declared.error.MinusError.{MinusError}
+use Rattle.minus.specs.declared.written_rows.RowStyle.{RowStyle}
 use Rattle.minus_term.specs.FullRedraw.{row_ops}
+use Rattle.minus_term.specs.Marks.{page_len, top_of}
+use Rattle.minus_term.specs.Written.{written_all}
+use Rattle.minus_term.specs.Writes.{WriteRefuses}
 use Rattle.minus_text.specs.Crop.{cropped}
-use Rattle.minus_text.specs.Prefixes.{prefix_columns}
+use Rattle.minus_text.specs.Prefixes.{is_on, prefix_columns}
+use Rattle.minus_text.specs.declared.line_numbers.LineNumbers.{LineNumbers}
 use Rattle.minus_state.specs.ScrollBounds.{prefix_bytes}
 
 -- whether a text may be cut at a place: it ends there, or a character begins there
@@ -41,9 +49,37 @@ lines_ops wrapping cols left numbers line_count lines = flat_map row_ops (map (w
 -- of some lines those on a page of so many rows, the prompt's among them: from the mark on, which is at most the one at
 -- which the last page is full
 abbrev pub lines_of_page : {X : Type 0} → ℕ → ℕ → List X → List X
-lines_of_page mark rows lines = take (rows - 1) (drop (min mark (length lines - (rows - 1))) lines)
+lines_of_page mark rows lines = take (page_len rows) (drop (min mark (top_of (length lines) rows)) lines)
 
 -- the list that puts these alone on the screen, from its top
 abbrev pub text_ops : ℕ → ℕ → Bool → ℕ → ℕ → Bool → ℕ → List (List ℕ) → List Op
 text_ops mark rows wrapping cols left numbers line_count lines =
     GoTo 0 0 ∷ ClearAll ∷ lines_ops wrapping cols left numbers line_count (lines_of_page mark rows lines)
+
+-- such rows in a style
+abbrev pub styled_row : RowStyle → List ℕ → List ℕ
+styled_row s row = written_row s.wrapping s.cols s.left_mark s.numbers s.line_count row
+
+abbrev pub styled_lines : RowStyle → List (List ℕ) → List Op
+styled_lines s lines = lines_ops s.wrapping s.cols s.left_mark s.numbers s.line_count lines
+
+abbrev pub styled_text : ℕ → ℕ → RowStyle → List (List ℕ) → List Op
+styled_text mark rows s lines = text_ops mark rows s.wrapping s.cols s.left_mark s.numbers s.line_count lines
+
+-- a sink takes such rows, those of a page alone on the screen, or a beginning of their bytes
+abbrev pub AddsLines : (old new : SinkSeen) → Bool → ℕ → ℕ → Bool → ℕ → List (List ℕ) → Type 0
+AddsLines old new wrapping cols left numbers line_count lines =
+    Appends old.bytes new.bytes (written_all (lines_ops wrapping cols left numbers line_count lines))
+
+abbrev pub AddsText : (old new : SinkSeen) → ℕ → ℕ → Bool → ℕ → ℕ → LineNumbers → ℕ → List (List ℕ) → Type 0
+AddsText old new mark rows wrapping cols left numbers line_count lines =
+    Appends old.bytes new.bytes (written_all (text_ops mark rows wrapping cols left (is_on numbers) line_count lines))
+
+module _ {W : Type 0} (seen : W → SinkSeen) (e : MinusError) (old new : W) where
+  abbrev pub LinesRefused : Bool → ℕ → ℕ → Bool → ℕ → List (List ℕ) → Type 0
+  LinesRefused wrapping cols left numbers line_count lines =
+      WriteRefuses seen e old new (written_all (lines_ops wrapping cols left numbers line_count lines))
+
+  abbrev pub TextRefused : ℕ → ℕ → Bool → ℕ → ℕ → LineNumbers → ℕ → List (List ℕ) → Type 0
+  TextRefused mark rows wrapping cols left numbers line_count lines =
+      WriteRefuses seen e old new (written_all (text_ops mark rows wrapping cols left (is_on numbers) line_count lines))

@@ -55,8 +55,8 @@ pub enum CommandOf<P: Parts> {
     AddExitCallback(#[derive_where(skip)] P::Exit),
     /// Call this at a hook, behind all that is called there, and hold it under this id; 0 asks for the next free one.
     AddHook(Hook, u64, #[derive_where(skip)] P::Hook),
-    /// Call no longer what a hook holds under this id. Without the id 1 of [`Hook::PostPagerExit`], which the pager keeps
-    /// for itself, the process goes on after an exit.
+    /// Call no longer what a hook holds under this id. Without the id 1 of [`Hook::PostPagerExit`], which the pager
+    /// keeps for itself, the process goes on after an exit.
     RemoveHook(Hook, u64),
     /// Keep this condition: from now on it is asked whether the page shows where a query leads.
     IncrementalSearchCondition(#[derive_where(skip)] P::Condition),

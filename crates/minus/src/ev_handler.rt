@@ -51,8 +51,8 @@ impl Handled {
 /// # Errors
 ///
 /// [`MinusError::NewlineInPrompt`], [`MinusError::HookIdTaken`], [`MinusError::NoFreeHookId`] and
-/// [`MinusError::BadSize`] where a session's step has them, and [`MinusError::Memory`] where there is no memory; nothing
-/// has changed.
+/// [`MinusError::BadSize`] where a session's step has them, and [`MinusError::Memory`] where there is no memory;
+/// nothing has changed.
 pub fn handle_event<P: Calls>(
     alloc: Global,
     command: CommandOf<P>,
@@ -107,8 +107,8 @@ fn drawn_io<P: Calls>(
 }
 
 /// Does what a command asks for that asks for a drawing, by its line of the table of commands, and draws it. Then it
-/// calls the callbacks of [`Hook::EofReached`], where the mark was moved, also by no rows, and the page shows the end of
-/// more rows than the terminal has.
+/// calls the callbacks of [`Hook::EofReached`], where the mark was moved, also by no rows, and the page shows the end
+/// of more rows than the terminal has.
 ///
 /// # Errors
 ///

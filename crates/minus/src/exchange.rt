@@ -23,8 +23,8 @@ impl<S, P: Parts> Core<S, P> {
     ghost use Rattle.std.specs.Prelude.{◌≡◌};
     ghost use Rattle.minus.specs.Core.{seen_of};
 
-    /// Puts a sink in the place of the session's, which comes back with all that was written on it. Nothing is written: the
-    /// new sink is to lead to the screen that the old one led to. For another terminal there is
+    /// Puts a sink in the place of the session's, which comes back with all that was written on it. Nothing is written:
+    /// the new sink is to lead to the screen that the old one led to. For another terminal there is
     /// [`set_output_sink`](Core::set_output_sink).
     pub fn replace_sink(&mut self, sink: S) -> S
         ensures seen { seen_of self.new ≡ seen_of self.old }

@@ -18,11 +18,11 @@ ghost use Rattle.minus.specs.Drawings.{whole_page};
 ghost use Rattle.minus.specs.Handing.{kept_at_first, ids_after, IsFreeFor};
 ghost use Rattle.minus.specs.Reads.{kept_of, wanted_of};
 ghost use Rattle.minus.specs.Room.{HasRoomFor};
-ghost use Rattle.minus.specs.SessionStarts.{IsStart, IsFirstStart, IsRefusedStart, IsOpened, IsUnopened};
+ghost use Rattle.minus.specs.SessionStarts.{IsStart, IsBegun, IsUnbegun, IsFirstStart, IsRefusedStart, IsOpened, IsUnopened};
 ghost use Rattle.minus.specs.Starts.{kept_taken, classifier_taken, condition_taken, taken_all, first_control, first_mark, first_move, move_ops};
 ghost use Rattle.minus.specs.Starts.{CanStart, CanTakeAll, CanBegin, CannotStart, IsUnregistered};
 ghost use Rattle.minus.specs.Starts.{IsUnchecked, IsUntaken, IsFormRefused, IsShowRefused, IsStartFault};
-ghost use Rattle.minus.specs.Starts.{DrawsOff, ShowBreaksOff, StartLeavesItsPage};
+ghost use Rattle.minus.specs.Starts.{DrawsOff, ShowBreaks, StartLeavesItsPage};
 ghost use Rattle.minus.specs.Table.{handed, IsPossible};
 
 use crate::commands::CommandOf;
@@ -38,7 +38,7 @@ use crate::status::Status;
 use crate::step_drawing::{Drawing, draw_page, push_step};
 use crate::unmoved::take_over;
 use crate::waiting::check_command;
-use minus_state::change::{NextText, Redraw};
+use minus_state::change::Redraw;
 use minus_state::is_size;
 use minus_term::{MinusError, OutputSink, cleanup, draw_bytes, setup};
 use std::alloc::{AllocError, Global};
@@ -224,7 +224,7 @@ pub(crate) fn first_of<P: Parts>(
     check_start(mode, cols, rows)?;
     check_waiting(alloc, &pager.queue)?;
     let state = first_state(pager, cols, rows)?;
-    let change = state.change_to(NextText::Same, Redraw::Whole);
+    let change = state.redrawn(Redraw::Whole);
     let (prompt_row, page) = draw_page(alloc, &state, Drawing::Full, &change)?;
     let (movement, mark) = draw_move(alloc, &state, &prompt_row)?;
     let mut parts = PartsOf::new(alloc, state, classifier, None);
@@ -264,8 +264,7 @@ fn show<S: OutputSink>(sink: &mut S, drawing: &[u8]) -> Result<(), MinusError>
     ensures stays { OnOk result (Stays (S.seen sink.old).refusals (S.seen sink.new).refusals) }
     ensures terminal { OnOk result ((S.seen sink.old).terminal ≡ true) }
     ensures refused { IfErr result (λ e. IsShowRefused (refusal_of e) (S.seen sink.old).terminal) }
-    ensures broken { IfErr result (λ e. ShowBreaksOff (refusal_of e) (S.seen sink.old).bytes (S.seen sink.new).bytes
-        (S.seen sink.old).refusals (S.seen sink.new).refusals drawing.now) }
+    ensures broken { IfErr result (λ e. ShowBreaks (refusal_of e) (S.seen sink.old) (S.seen sink.new) drawing.now) }
     ensures rises { IfErr result (λ e. IsStartFault (refusal_of e) →
         Rises (S.seen sink.old).refusals (S.seen sink.new).refusals) }
     ensures untouched { IfErr result (λ e. (IsStartFault (refusal_of e) → ⊥) → sink.new ≡ sink.old) }
@@ -361,14 +360,8 @@ fn begin<S: OutputSink + Drop, P: Calls>(
     requires condition { first.parts.condition ≡ None }
     requires room { HasRoomFor first.parts (vec_len pager.queue) }
     requires can { CanTakeAll [] (map wanted_of pager.queue.items) }
-    ensures started { IfOk result (λ s. (cols rows : ℕ) →
-        CanBegin mode cols rows (map wanted_of pager.queue.items) →
-        control_of first.parts.state ≡ first_control cols rows (map wanted_of pager.queue.items) →
-        IsStart S.seen pager mode cols rows first.parts.classifier sink s) }
-    ensures refused { IfErr result (λ e. (cols rows : ℕ) →
-        CanBegin mode cols rows (map wanted_of pager.queue.items) →
-        control_of first.parts.state ≡ first_control cols rows (map wanted_of pager.queue.items) →
-        IsRefusedStart S.seen pager mode cols rows sink e) }
+    ensures started { IfOk result (λ s. IsBegun S.seen pager mode first.parts sink s) }
+    ensures refused { IfErr result (λ e. IsUnbegun S.seen pager mode first.parts sink e) }
 {
     let PagerOf { alloc, queue } = pager;
     let ready = prepare(first, queue);
@@ -386,11 +379,11 @@ fn begin<S: OutputSink + Drop, P: Calls>(
 /// The sink comes back in each. The pager too, unchanged, and nothing was written and no callback called, with
 /// [`MinusError::BadMode`] where the mode is `Uninitialized`, [`MinusError::BadSize`] where the columns or the rows are
 /// not from 1 to 65,535, with that of the first command that waits and cannot be taken over
-/// ([`MinusError::NewlineInPrompt`], [`MinusError::HookIdTaken`], [`MinusError::NoFreeHookId`], [`MinusError::BadSize`]),
-/// [`MinusError::SearchExpError`] where `regex` builds no matcher of a fixed pattern, and [`MinusError::Memory`] where
-/// there is no memory. [`MinusError::Setup`] where the sink is no terminal, or refused to set it up: a beginning of the
-/// setup was written. [`MinusError::Draw`] where the sink refused what is drawn: a beginning of it was written after
-/// the setup, and the cleanup as far as the sink took it.
+/// ([`MinusError::NewlineInPrompt`], [`MinusError::HookIdTaken`], [`MinusError::NoFreeHookId`],
+/// [`MinusError::BadSize`]), [`MinusError::SearchExpError`] where `regex` builds no matcher of a fixed pattern, and
+/// [`MinusError::Memory`] where there is no memory. [`MinusError::Setup`] where the sink is no terminal, or refused to
+/// set it up: a beginning of the setup was written. [`MinusError::Draw`] where the sink refused what is drawn: a
+/// beginning of it was written after the setup, and the cleanup as far as the sink took it.
 pub fn init_core_with<S: OutputSink + Drop, P: Calls>(
     pager: PagerOf<P>,
     mode: RunMode,

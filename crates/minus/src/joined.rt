@@ -1,12 +1,9 @@
 //! Neighbouring appends that are taken over, or worked off, in one go.
-ghost use Rattle.std.specs.Prelude.{◌≡◌, ◌≤◌, ◌∷◌, None, List, length, map, string_bytes, IsTrue, IfOk, IfSome};
+ghost use Rattle.std.specs.Prelude.{◌≡◌, ◌≤◌, ◌∷◌, None, length, map, string_bytes, IsTrue, IfOk, IfSome};
 ghost use Rattle.minus_state.specs.States.{control_of};
-ghost use Rattle.minus_state.specs.declared.hooks.HookId.{HookId};
-ghost use Rattle.minus.specs.Joined.{MayJoin, MayWorkJoined, MayGoWith, AreJoined, append_told};
+ghost use Rattle.minus.specs.Joined.{MayJoin, MayWorkJoined, MayGoWith, AreJoined, TakesFirst, CanTakeRest, append_told};
 ghost use Rattle.minus.specs.Reads.{told_of, wanted_by, wanted_of};
-ghost use Rattle.minus.specs.Starts.{taken_all, CanTakeAll};
 ghost use Rattle.minus.specs.Table.{appends_data, IsPossible};
-ghost use Rattle.minus.specs.Unmoved.{unmoved};
 
 use crate::commands::{CommandOf, InputOf};
 use crate::parts::Parts;
@@ -71,21 +68,19 @@ fn join_appends<'q, P: Parts>(
     Ok((text, rest))
 }
 
-// What is taken over next where a command waits and others behind it, and what is left of these: the command, or all the
-// appends that the commands begin with, where they may be taken over in one go.
+// What is taken over next where a command waits and others behind it, and what is left of these: the command, or all
+// the appends that the commands begin with, where they may be taken over in one go.
 pub(crate) fn next_taken<'q, P: Parts>(
     alloc: Global,
     state: &PagerState,
     command: &CommandOf<P>,
     behind: &'q [CommandOf<P>],
 ) -> Result<(Request<P>, &'q [CommandOf<P>]), AllocError>
-    ensures leads { IfOk result (λ r.
-        taken_all (unmoved (control_of state.now) (wanted_by r.0)) (map wanted_of r.1.now)
-        ≡ taken_all (control_of state.now) (wanted_of command.now ∷ map wanted_of behind.now)) }
+    ensures next { IfOk result (λ r. TakesFirst (control_of state.now)
+        (wanted_of command.now ∷ map wanted_of behind.now) (wanted_by r.0) (map wanted_of r.1.now)) }
     ensures possible { IfOk result (λ r. IsPossible (wanted_of command.now) → IsPossible (wanted_by r.0)) }
-    ensures can { IfOk result (λ r. (ids : List HookId) →
-        CanTakeAll ids (wanted_of command.now ∷ map wanted_of behind.now) →
-        (left : List HookId) × CanTakeAll left (map wanted_of r.1.now)) }
+    ensures can { IfOk result (λ r. CanTakeRest (wanted_of command.now ∷ map wanted_of behind.now)
+        (map wanted_of r.1.now)) }
     ensures less { IfOk result (λ r. length r.1.now ≤ length behind.now) }
 {
     match appended(command) {
@@ -125,8 +120,8 @@ pub(crate) struct JoinedAppends {
     pub(crate) count: usize,
 }
 
-// An input that is taken and the appends that wait behind it, where it is one too and they may be worked off in one go. Where
-// there is no memory to join them, they are worked off one after another.
+// An input that is taken and the appends that wait behind it, where it is one too and they may be worked off in one go.
+// Where there is no memory to join them, they are worked off one after another.
 pub(crate) fn joined_behind<P: Parts>(
     alloc: Global,
     state: &PagerState,

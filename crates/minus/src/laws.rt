@@ -34,8 +34,8 @@ pub fn help_leaves_no_trace<Q, K>()
     ensures { HelpLeavesNoTrace Q K }
 {}
 
-/// A law: a command that is handled by hand leaves, once what waits for it is done too, what the table says of it, which
-/// is what a step leaves.
+/// A law: a command that is handled by hand leaves, once what waits for it is done too, what the table says of it,
+/// which is what a step leaves.
 pub fn by_hand_as_by_the_table<Q, K>()
     ensures { ByHandAsByTheTable Q K }
 {}
@@ -46,8 +46,8 @@ pub fn an_input_is_alone_with_no_prompt<Q: ConditionCall, K: InputClassifier>()
 {}
 
 /// A law: neighbouring appends leave the same in one go, as one append of all their texts, while help is open, or while
-/// the page stays at its first row and nothing is searched for: where they are taken over by a start, and, with no search
-/// prompt open and unless the page goes on with what is appended, where they are worked off.
+/// the page stays at its first row and nothing is searched for: where they are taken over by a start, and, with no
+/// search prompt open and unless the page goes on with what is appended, where they are worked off.
 pub fn appends_join<Q, K>()
     ensures taken { AppendsJoin Q K }
     ensures worked { WorkedAppendsJoin }
@@ -56,13 +56,13 @@ pub fn appends_join<Q, K>()
 /// A law: as long as a session's classifier is a register of the default bindings, an event asks for what their table
 /// has for it, and for nothing else.
 pub fn events_ask_by_the_table<S>(session: &Session<S>)
-    ensures { EventsAskByTheTable (says_of ⟦<KeptCondition as ConditionCall>⟧.judges
-        ⟦<Classifier<KeptAction> as InputClassifier>⟧.says) IsDefault (seen_of session.now) }
+    ensures { EventsAskByTheTable ⟦<KeptCondition as ConditionCall>⟧.judges
+        ⟦<Classifier<KeptAction> as InputClassifier>⟧.says IsDefault (seen_of session.now) }
 {}
 
 /// A law: as long as a session's classifier is a register of the default bindings, the key `j` moves the mark down by
 /// as many rows as the typed prefix says, by one where it says none.
 pub fn j_moves_by_the_prefix<S>(session: &Session<S>)
-    ensures { JMovesByThePrefix (says_of ⟦<KeptCondition as ConditionCall>⟧.judges
-        ⟦<Classifier<KeptAction> as InputClassifier>⟧.says) IsDefault (seen_of session.now) }
+    ensures { JMovesByThePrefix ⟦<KeptCondition as ConditionCall>⟧.judges
+        ⟦<Classifier<KeptAction> as InputClassifier>⟧.says IsDefault (seen_of session.now) }
 {}

@@ -17,7 +17,7 @@ use crate::parts::Parts;
 use crate::request::Request;
 use crate::screen::Screen;
 use crate::state::PagerState;
-use minus_state::change::{Change, Redraw, Setting};
+use minus_state::change::{Change, Redraw};
 use minus_state::extract_selection;
 use minus_term::MinusError;
 use std::alloc::Global;
@@ -109,7 +109,7 @@ fn form_any<P: Parts>(
     match request {
         Request::SetText(text) => Ok(Outcome::of(state.replaced(alloc, text)?)),
         Request::AppendText(text) => Ok(Outcome::of(state.added(alloc, text)?)),
-        Request::MoveMark(mark) => Ok(Outcome::of(state.moved(mark, Setting::Same))),
+        Request::MoveMark(mark) => Ok(Outcome::of(state.moved(mark))),
         Request::Resize(cols, rows) => Ok(Outcome::of(state.resized(alloc, cols, rows)?)),
         Request::Exit => {
             let change = state.left_help(alloc)?;
@@ -123,14 +123,8 @@ fn form_any<P: Parts>(
         Request::Ignore => Ok(Outcome::of(state.redrawn(Redraw::Stays))),
         Request::SetPrompt(text) => Ok(Outcome::of(state.prompted(text)?)),
         Request::SendMessage(text) => Ok(Outcome::of(state.messaged(text)?)),
-        Request::ShowPrompt(is_shown) => Ok(Outcome::of(state.set(
-            Setting::Shown(is_shown),
-            Redraw::Stays,
-        ))),
-        Request::Follow(follow) => Ok(Outcome::of(state.moved(
-            state.top(),
-            Setting::Follow(follow),
-        ))),
+        Request::ShowPrompt(is_shown) => Ok(Outcome::of(state.with_prompt_shown(is_shown))),
+        Request::Follow(follow) => Ok(Outcome::of(state.following(follow))),
         Request::Type(character) => Ok(Outcome::of(state.typed(alloc, character)?)),
         Request::RestorePrompt => Ok(Outcome::of(state.restored(alloc)?)),
         Request::RedrawPrompt => Ok(Outcome::of(state.redrawn(Redraw::PromptRow))),
@@ -208,8 +202,8 @@ fn form_text<P: Parts>(
     }
 }
 
-// What comes of a request, before the mark is clamped and the typed prefix goes. It forms only a move of the mark itself,
-// which takes little room.
+// What comes of a request, before the mark is clamped and the typed prefix goes. It forms only a move of the mark
+// itself, which takes little room.
 pub(crate) fn form<P: Parts>(
     state: &PagerState,
     alloc: Global,
@@ -226,7 +220,7 @@ pub(crate) fn form<P: Parts>(
     ensures unformed { IfErr result (λ e. IsUnformed (refusal_of e) (wanted_by request)) }
 {
     match request {
-        Request::MoveMark(mark) => Ok(Outcome::of(state.moved(mark, Setting::Same))),
+        Request::MoveMark(mark) => Ok(Outcome::of(state.moved(mark))),
         request => form_text(state, alloc, request),
     }
 }

@@ -8,7 +8,7 @@ use crate::state::PagerState;
 use minus_state::change::Change;
 use minus_state::confirmed_rows;
 use minus_state::showing::ShownRow;
-use minus_term::MinusError;
+use minus_term::{MinusError, page_len};
 use regex::Regex;
 use std::alloc::{AllocError, Global};
 
@@ -61,7 +61,7 @@ fn page_rows(
 {
     let mut page = Vec::new(alloc);
     push_copies(alloc, &mut page, shown)?;
-    push_blanks(alloc, &mut page, rows - 1 - shown.len())?;
+    push_blanks(alloc, &mut page, page_len(rows) - shown.len())?;
     page.push(last)?;
     Ok(page)
 }
@@ -78,11 +78,9 @@ pub struct Page {
 impl Page {
     ghost use Rattle.std.specs.Prelude.{◌≡◌, ◌<◌, length, map, string_bytes, IfOk, IfErr};
     ghost use Rattle.minus_state.specs.Changes.{shown_by, IsFormedFor};
-    ghost use Rattle.minus_term.specs.SearchPrompt.{typed_page};
-    ghost use Rattle.minus_state.specs.OpenSearches.{typed_in};
     ghost use Rattle.regex.specs.Strings.{regex_pattern};
-    ghost use Rattle.minus_state.specs.Confirming.{confirmed};
-    ghost use Rattle.minus_state.specs.Page.{page_with, shown};
+    ghost use Rattle.minus.specs.Previews.{prompt_page, preview_page};
+    ghost use Rattle.minus_state.specs.Page.{page_with};
     ghost use Rattle.minus_state.specs.States.{control_of, IsFormed};
     ghost use Rattle.minus_state.specs.Showing.{row_text};
 
@@ -113,11 +111,9 @@ impl Page {
         requires belongs { IsFormedFor state.now change.now }
         requires rows { change.now.rows ≡ state.now.rows }
         ensures rows { IfOk result (λ p. map string_bytes p.rows.items
-            ≡ (typed_page state.now.rows (shown_by state.now change.now) (typed_in prompt.now)
-            prompt.now.editor.cursor).texts) }
+            ≡ (prompt_page state.now.rows (shown_by state.now change.now) prompt.now).texts) }
         ensures cursor { IfOk result (λ p. p.cursor
-            ≡ (typed_page state.now.rows (shown_by state.now change.now) (typed_in prompt.now)
-            prompt.now.editor.cursor).cursor) }
+            ≡ (prompt_page state.now.rows (shown_by state.now change.now) prompt.now).cursor) }
         ensures memory { IfErr result (λ e. e ≡ MinusError.Memory) }
     {
         let shown = state.shown_after(alloc, change, 0)?;
@@ -138,11 +134,9 @@ impl Page {
     ) -> Result<Page, MinusError>
         requires { IsFormed state.now }
         ensures rows { IfOk result (λ p. map string_bytes p.rows.items
-            ≡ (typed_page state.now.rows (shown (confirmed (control_of state.now) (regex_pattern pattern.now)))
-            (typed_in prompt.now) prompt.now.editor.cursor).texts) }
+            ≡ (preview_page (control_of state.now) (regex_pattern pattern.now) prompt.now).texts) }
         ensures cursor { IfOk result (λ p. p.cursor
-            ≡ (typed_page state.now.rows (shown (confirmed (control_of state.now) (regex_pattern pattern.now)))
-            (typed_in prompt.now) prompt.now.editor.cursor).cursor) }
+            ≡ (preview_page (control_of state.now) (regex_pattern pattern.now) prompt.now).cursor) }
         ensures memory { IfErr result (λ e. e ≡ MinusError.Memory) }
     {
         let found = confirmed_rows(alloc, state, pattern)?;

@@ -5,6 +5,7 @@ ghost use Rattle.minus_term.specs.Append.{rows_anew};
 ghost use Rattle.minus_term.specs.Operations.{GoTo, ClearRow, Put};
 ghost use Rattle.minus_term.specs.Written.{written_all};
 ghost use Rattle.minus_term.specs.FullRedraw.{full_ops, prompt_ops};
+ghost use Rattle.minus_term.specs.Marks.{page_len};
 ghost use Rattle.minus_term.specs.Scroll.{down_ops, up_ops};
 ghost use Rattle.minus_term.specs.SearchPrompt.{closing_ops};
 ghost use Rattle.minus_state.specs.Changes.{IsFormedFor, shown_by};
@@ -14,7 +15,7 @@ use crate::state::PagerState;
 use minus_state::change::Change;
 use minus_state::showing::ShownRow;
 use minus_term::{
-    DrawOp, write_closing_start, write_down_start, write_ops, write_page_start, write_prompt_row,
+    DrawOp, page_len, write_closing_start, write_down_start, write_ops, write_page_start, write_prompt_row,
     write_up_start,
 };
 use std::alloc::{AllocError, Global};
@@ -82,13 +83,13 @@ pub(crate) fn push_scroll_down(
     prompt: &str,
 ) -> Result<(), AllocError>
     requires belongs { IsFormedFor state.now change.now }
-    requires within { k ≤ change.now.rows - 1 }
+    requires within { k ≤ page_len change.now.rows }
     ensures { OnOk result (out.new.items ≡ out.old.items ++ written_all
         (down_ops change.now.rows k (shown_by state.now change.now) prompt.now)) }
 {
     let rows = change.rows as u16;
     write_down_start(out, rows, k)?;
-    state.write_after(alloc, out, change, change.rows - 1 - k as usize)?;
+    state.write_after(alloc, out, change, page_len(change.rows) - k as usize)?;
     write_prompt_row(out, rows, prompt)?;
     Ok(())
 }

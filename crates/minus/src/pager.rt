@@ -222,8 +222,8 @@ impl<P: Parts> PagerOf<P> {
         Ok(())
     }
 
-    /// Calls this at a hook, behind all that is called there, and holds it under this id; 0 asks for the next free one. A
-    /// start refuses an id that the hook holds then.
+    /// Calls this at a hook, behind all that is called there, and holds it under this id; 0 asks for the next free one.
+    /// A start refuses an id that the hook holds then.
     ///
     /// # Errors
     ///

@@ -97,8 +97,8 @@ impl<P: Parts> PartsOf<P> {
     ghost use Rattle.minus.specs.Handing.{kept_at_first};
     ghost use Rattle.minus.specs.Reads.{kept_of};
 
-    /// Parts with a state, and a classifier and a condition that are kept, or no condition. No callback is kept, an exit
-    /// ends the process with the code 0, and a text that fits the page is printed.
+    /// Parts with a state, and a classifier and a condition that are kept, or no condition. No callback is kept, an
+    /// exit ends the process with the code 0, and a text that fits the page is printed.
     pub fn new(
         alloc: Global,
         state: PagerState,

@@ -1,22 +1,19 @@
 //! The drawings of an open search prompt, in a buffer.
 ghost use Rattle.std.specs.Prelude.{◌≡◌, ◌∷◌, ◌++◌, option_map, string_bytes, OnOk};
 ghost use Rattle.regex.specs.Strings.{regex_pattern};
-ghost use Rattle.minus_term.specs.FullRedraw.{full_ops};
 ghost use Rattle.minus_term.specs.Written.{written_all};
-ghost use Rattle.minus_state.specs.Changes.{IsChange, IsFormedFor, search_set};
-ghost use Rattle.minus_state.specs.Confirming.{confirmed, confirmed_by};
-ghost use Rattle.minus_state.specs.Control.{Control};
+ghost use Rattle.minus_state.specs.Changes.{IsFormedFor};
 ghost use Rattle.minus_state.specs.OpenSearches.{seen_search, search_after};
-ghost use Rattle.minus_state.specs.Page.{shown};
 ghost use Rattle.minus_state.specs.States.{control_of, IsFormed};
-ghost use Rattle.minus.specs.Drawings.{opening_under, cursor_under, edit_under, EditsAlone};
+ghost use Rattle.minus.specs.AddedBytes.{AddsOps, AddsFound, AddsEditOps};
+ghost use Rattle.minus.specs.Drawings.{opening_under, cursor_under, edit_under, preview_ops};
 ghost use Rattle.minus.specs.Previews.{view_seen};
 
 use crate::page_bytes::push_page;
 use crate::search::OpenPrompt;
 use crate::state::PagerState;
-use minus_state::change::{Change, Setting};
-use minus_state::{OpenSearch, SearchStep, confirmed_rows};
+use minus_state::change::Change;
+use minus_state::{OpenSearch, QueryEdit, SearchChange, confirmed_rows};
 use minus_term::{write_page, write_search_cursor, write_search_opening};
 use regex::Regex;
 use std::alloc::{AllocError, Global};
@@ -57,36 +54,28 @@ fn open_in(state: &PagerState) -> Option<OpenView<'_>>
     }
 }
 
-// The one that is open after a step of it, if one is.
-fn open_after_step<'a>(state: &'a PagerState, step: &'a SearchStep) -> Option<OpenView<'a>>
-    ensures { option_map view_seen result ≡ search_after step.now (control_of state.now).search }
+// The one that is open in a state, if one is, with its cursor moved by an edit.
+fn open_moved(state: &PagerState, edit: QueryEdit) -> Option<OpenView<'_>>
+    ensures { option_map view_seen result ≡ search_after (SearchChange.Moves edit) (control_of state.now).search }
 {
-    match step {
-        SearchStep::Opens(prompt) => Some(OpenView {
-            prompt,
-            cursor: prompt.cursor() as u16,
-            edited: false,
-            preview: None,
+    match state.open_search() {
+        Some(search) => Some(OpenView {
+            cursor: search.prompt.cursor_after(edit) as u16,
+            ..view_of(search)
         }),
-        SearchStep::Moves(edit) => match state.open_search() {
-            Some(search) => Some(OpenView {
-                cursor: search.prompt.cursor_after(*edit) as u16,
-                ..view_of(search)
-            }),
-            None => None,
-        },
-        SearchStep::Edits(search) => Some(view_of(search)),
-        SearchStep::Closes(_) => None,
+        None => None,
     }
 }
 
 // The one that is open after a change, if one is.
 fn open_after<'a>(state: &'a PagerState, change: &'a Change) -> Option<OpenView<'a>>
-    ensures { option_map view_seen result ≡ search_set change.now.setting (control_of state.now).search }
+    ensures { option_map view_seen result ≡ search_after change.now.search (control_of state.now).search }
 {
-    match &change.setting {
-        Setting::Search(step) => open_after_step(state, step),
-        _ => open_in(state),
+    match &change.search {
+        SearchChange::Stays => open_in(state),
+        SearchChange::Moves(edit) => open_moved(state, *edit),
+        SearchChange::Is(search) => Some(view_of(search.as_ref())),
+        SearchChange::Closes => None,
     }
 }
 
@@ -97,8 +86,8 @@ pub(crate) fn push_opening(
     out: &mut Vec<u8>,
     change: &Change,
 ) -> Result<(), AllocError>
-    ensures { OnOk result ((new : Control) → IsChange (control_of state.now) change.now new →
-        out.new.items ≡ out.old.items ++ written_all (opening_under new.rows new.search)) }
+    ensures { OnOk result (AddsOps (control_of state.now) change.now
+        (λ new. opening_under new.rows new.search) out.old.items out.new.items) }
 {
     let Some(view) = open_after(state, change) else {
         return Ok(());
@@ -114,8 +103,8 @@ pub(crate) fn push_cursor(
     out: &mut Vec<u8>,
     change: &Change,
 ) -> Result<(), AllocError>
-    ensures { OnOk result ((new : Control) → IsChange (control_of state.now) change.now new →
-        out.new.items ≡ out.old.items ++ written_all (cursor_under new.rows new.search)) }
+    ensures { OnOk result (AddsOps (control_of state.now) change.now
+        (λ new. cursor_under new.rows new.search) out.old.items out.new.items) }
 {
     let Some(view) = open_after(state, change) else {
         return Ok(());
@@ -134,7 +123,7 @@ fn push_preview(
 ) -> Result<(), AllocError>
     requires { IsFormed state.now }
     ensures { OnOk result (out.new.items ≡ out.old.items ++ written_all
-        (full_ops rows (shown (confirmed (control_of state.now) (regex_pattern pattern.now))) typed.now)) }
+        (preview_ops rows (control_of state.now) (regex_pattern pattern.now) typed.now)) }
 {
     let found = confirmed_rows(alloc, state, pattern)?;
     write_page(out, rows, &found, typed)
@@ -152,10 +141,8 @@ fn push_previewed(
 ) -> Result<(), AllocError>
     requires formed { IsFormed state.now }
     requires belongs { IsFormedFor state.now change.now }
-    ensures { OnOk result ((new : Control) → IsChange (control_of state.now) change.now new →
-        new ≡ record (control_of state.now) { search = new.search } →
-        out.new.items ≡ out.old.items ++ written_all
-        (full_ops new.rows (shown (confirmed_by new (option_map (λ r. regex_pattern r.now) preview.entry))) typed.now)) }
+    ensures { OnOk result (AddsFound (control_of state.now) change.now
+        (option_map (λ r. regex_pattern r.now) preview.entry) typed.now out.old.items out.new.items) }
 {
     match preview {
         Some(pattern) => {
@@ -175,9 +162,8 @@ pub(crate) fn push_edit(
 ) -> Result<(), AllocError>
     requires formed { IsFormed state.now }
     requires belongs { IsFormedFor state.now change.now }
-    ensures { OnOk result ((new : Control) → IsChange (control_of state.now) change.now new →
-        EditsAlone (control_of state.now) new →
-        out.new.items ≡ out.old.items ++ written_all (edit_under new new.search)) }
+    ensures { OnOk result (AddsEditOps (control_of state.now) change.now
+        (λ new. edit_under new new.search) out.old.items out.new.items) }
 {
     let Some(view) = open_after(state, change) else {
         return Ok(());

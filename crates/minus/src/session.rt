@@ -21,7 +21,7 @@ use crate::status::Status;
 use crate::step_drawing::{Drawing, push_step};
 use crate::taken::Taken;
 use crate::waiting::{fed_event, last_of};
-use minus_state::change::{Change, NextText, Redraw};
+use minus_state::change::{Change, Redraw};
 use minus_term::{CleanupError, Event, MinusError, OutputSink, cleanup, draw_bytes};
 use std::alloc::Global;
 use std::collections::VecDeque;
@@ -83,18 +83,14 @@ fn keep<T: Drop>(kept: &mut T, new: Option<T>)
 impl<S, P: Parts> Core<S, P> {
     ghost use Rattle.std.specs.Prelude.{◌≡◌, map, OnOk, OnErr, IfOk, IfErr, string_bytes};
     ghost use Rattle.std.specs.Option.{option_map, unwrap_or};
-    ghost use Rattle.minus_state.specs.Changes.{IsChange, IsFormedFor};
-    ghost use Rattle.minus_state.specs.Control.{Control};
+    ghost use Rattle.minus_state.specs.Changes.{IsFormedFor};
     ghost use Rattle.minus_state.specs.Page.{page};
-    ghost use Rattle.minus_state.specs.ShownPrompt.{prompt_row};
     ghost use Rattle.minus_state.specs.Sizes.{IsSize};
     ghost use Rattle.minus_state.specs.States.{control_of};
     ghost use Rattle.minus.specs.Core.{seen_of};
-    ghost use Rattle.minus.specs.Drawings.{IsDrawable};
     ghost use Rattle.minus.specs.Outcomes.{LeadsClamped};
-    ghost use Rattle.minus.specs.SessionDrawings.{DrawsBetween};
+    ghost use Rattle.minus.specs.SessionDrawings.{DrawsWithRow, DrawsChange, PutsChange};
     ghost use Rattle.minus.specs.Steps.{mode_told};
-    ghost use Rattle.minus.specs.Table.{drawing_by};
 
     /// The state: what its screen answers is the document of the text on show.
     pub fn state(&self) -> &PagerState
@@ -124,7 +120,7 @@ impl<S, P: Parts> Core<S, P> {
         ensures cursor { IfOk result (λ p. p.cursor ≡ (page (seen_of self.now).control).cursor) }
         ensures memory { IfErr result (λ e. e ≡ MinusError.Memory) }
     {
-        let change = self.parts.state.change_to(NextText::Same, Redraw::Stays);
+        let change = self.parts.state.redrawn(Redraw::Stays);
         match self.parts.state.open_search() {
             Some(search) => match &search.preview {
                 Some(pattern) => {
@@ -158,13 +154,7 @@ impl<S, P: Parts> Core<S, P> {
     fn draw(&mut self, change: &Change, row: &Option<String>) -> Result<(), MinusError>
         requires belongs { IsFormedFor self.old.parts.state change.now }
         requires running { self.old.status ≡ Status.Running }
-        ensures drawn { OnOk result ((new : Control) → IsChange (control_of self.old.parts.state) change.now new →
-            IsDrawable (drawing_by change.now.redraw (control_of self.old.parts.state) change.now.mark)
-            (control_of self.old.parts.state) new →
-            unwrap_or (option_map string_bytes row.now) (prompt_row (control_of self.old.parts.state))
-            ≡ prompt_row new →
-            DrawsBetween self.new (drawing_by change.now.redraw (control_of self.old.parts.state) change.now.mark)
-            (control_of self.old.parts.state) new) }
+        ensures drawn { OnOk result (DrawsWithRow self.old change.now (option_map string_bytes row.now) self.new) }
         ensures rest { self.new ≡ record self.old { drawing = self.new.drawing } }
         ensures memory { IfErr result (λ e. e ≡ MinusError.Memory) }
     {
@@ -190,16 +180,8 @@ impl<S, P: Parts> Core<S, P> {
     pub(crate) fn apply(&mut self, outcome: Outcome) -> Result<Option<String>, MinusError>
         requires running { self.old.status ≡ Status.Running }
         requires leads { LeadsClamped (control_of self.old.parts.state) outcome.change }
-        ensures done { OnOk result ((new : Control) →
-            IsChange (control_of self.old.parts.state) outcome.change new →
-            seen_of self.new ≡ record (seen_of self.old) { control = new }) }
-        ensures drawn { OnOk result ((new : Control) →
-            IsChange (control_of self.old.parts.state) outcome.change new →
-            IsDrawable (drawing_by outcome.change.redraw (control_of self.old.parts.state) outcome.change.mark)
-            (control_of self.old.parts.state) new →
-            DrawsBetween self.new
-            (drawing_by outcome.change.redraw (control_of self.old.parts.state) outcome.change.mark)
-            (control_of self.old.parts.state) new) }
+        ensures done { OnOk result (PutsChange self.old outcome.change self.new) }
+        ensures drawn { OnOk result (DrawsChange self.old outcome.change self.new) }
         ensures copied { IfOk result (λ text. text ≡ outcome.copied) }
         ensures size { OnOk result (IsSize self.new.parts.state.cols self.new.parts.state.rows) }
         ensures sink { self.new.sink ≡ self.old.sink }
@@ -256,16 +238,18 @@ impl<S: OutputSink + Drop, P: Calls> Core<S, P> {
     ghost use Rattle.minus_term.specs.Refusals.{refusal_of, at_drawing};
     ghost use Rattle.minus_term.specs.Terminal.{CleanupBreaksOff};
     ghost use Rattle.minus_state.specs.States.{control_of};
-    ghost use Rattle.minus.specs.Asked.{Asks, taken, checked_as};
+    ghost use Rattle.minus.specs.Asked.{checked_as};
     ghost use Rattle.minus.specs.Core.{seen_of};
-    ghost use Rattle.minus.specs.Outcomes.{LeadsClamped, IsTakenBy, ExitsWith};
-    ghost use Rattle.minus.specs.Reads.{Told, an_event, told_of, event_wanted, wanted_of, wanted_by, handing_of};
+    ghost use Rattle.minus.specs.Outcomes.{LeadsClamped, IsTakenBy};
+    ghost use Rattle.minus.specs.Reads.{an_event, told_of, wanted_by, handing_of};
     ghost use Rattle.minus.specs.Says.{says_of};
-    ghost use Rattle.minus.specs.Joined.{MayGoWith};
     ghost use Rattle.minus.specs.SessionSteps.{IsAsked, IsTakenOf, IsUntakenOf, IsTakenWithOf, IsUntakenWithOf};
     ghost use Rattle.minus.specs.SessionSteps.{IsStepOf, IsRefusedStepOf};
+    ghost use Rattle.minus.specs.TakenParts.{IsOutcomeTaken, IsOutcomeUntaken, IsHandingTaken, IsHandingUntaken};
+    ghost use Rattle.minus.specs.TakenParts.{IsExitTaken, IsExitUntaken, IsTakenAs, IsUntakenAs};
+    ghost use Rattle.minus.specs.TakenParts.{AreJoinedTaken, AreJoinedUntaken};
     ghost use Rattle.minus.specs.Steps.{cleanup_after};
-    ghost use Rattle.minus.specs.Table.{Wanted, hands_over, lets_prefix_go};
+    ghost use Rattle.minus.specs.Table.{lets_prefix_go};
     ghost use Rattle.minus.specs.Works.{Work};
 
     // The request that an input is, for an event by the classifier's answer, and whether the typed prefix goes with it.
@@ -310,12 +294,10 @@ impl<S: OutputSink + Drop, P: Calls> Core<S, P> {
     fn change(&mut self, outcome: Outcome) -> Result<Taken, MinusError>
         requires running { self.old.status ≡ stands.Running }
         requires leads { LeadsClamped (control_of self.old.parts.state) outcome.change }
-        ensures taken { IfOk result (λ t. (told : Told P.Condition P.Classifier) → (work : Work) →
-            IsTakenBy (says_of P.Condition.judges P.Classifier.says) (seen_of self.old) told outcome work →
-            IsTakenOf S.seen (says_of P.Condition.judges P.Classifier.says) self.old told self.new t) }
-        ensures refused { IfErr result (λ e. (told : Told P.Condition P.Classifier) → (work : Work) →
-            IsTakenBy (says_of P.Condition.judges P.Classifier.says) (seen_of self.old) told outcome work →
-            IsUntakenOf S.seen (says_of P.Condition.judges P.Classifier.says) self.old told self.new e) }
+        ensures taken { IfOk result (λ t.
+            IsOutcomeTaken S.seen (says_of P.Condition.judges P.Classifier.says) self.old outcome self.new t) }
+        ensures refused { IfErr result (λ e.
+            IsOutcomeUntaken S.seen (says_of P.Condition.judges P.Classifier.says) self.old outcome self.new e) }
         ensures waiting { self.new.waiting ≡ self.old.waiting }
     {
         let hook = outcome.hook;
@@ -329,14 +311,10 @@ impl<S: OutputSink + Drop, P: Calls> Core<S, P> {
     fn take_handed(&mut self, handed: Handed<P>) -> Result<Taken, MinusError>
         requires running { self.old.status ≡ stands.Running }
         requires closed { (control_of self.old.parts.state).search ≡ None }
-        ensures taken { IfOk result (λ t. (told : Told P.Condition P.Classifier) →
-            Asks (says_of P.Condition.judges P.Classifier.says) (seen_of self.old) told
-            (hands_over (handing_of handed)) →
-            IsTakenOf S.seen (says_of P.Condition.judges P.Classifier.says) self.old told self.new t) }
-        ensures refused { IfErr result (λ e. (told : Told P.Condition P.Classifier) →
-            Asks (says_of P.Condition.judges P.Classifier.says) (seen_of self.old) told
-            (hands_over (handing_of handed)) →
-            IsUntakenOf S.seen (says_of P.Condition.judges P.Classifier.says) self.old told self.new e) }
+        ensures taken { IfOk result (λ t. IsHandingTaken S.seen (says_of P.Condition.judges P.Classifier.says)
+            self.old (handing_of handed) self.new t) }
+        ensures refused { IfErr result (λ e. IsHandingUntaken S.seen (says_of P.Condition.judges P.Classifier.says)
+            self.old (handing_of handed) self.new e) }
         ensures waiting { self.new.waiting ≡ self.old.waiting }
     {
         self.parts.keep(handed)?;
@@ -351,16 +329,10 @@ impl<S: OutputSink + Drop, P: Calls> Core<S, P> {
     fn exit(&mut self, prefix: Option<String>) -> Result<Taken, MinusError>
         requires running { self.old.status ≡ stands.Running }
         requires closed { (control_of self.old.parts.state).search ≡ None }
-        ensures taken { IfOk result (λ t.
-            (told : Told P.Condition P.Classifier) → (w : Wanted P.Condition P.Classifier) →
-            Asks (says_of P.Condition.judges P.Classifier.says) (seen_of self.old) told w →
-            ExitsWith (seen_of self.old) told w (option_map string_bytes prefix) →
-            IsTakenOf S.seen (says_of P.Condition.judges P.Classifier.says) self.old told self.new t) }
-        ensures refused { IfErr result (λ e.
-            (told : Told P.Condition P.Classifier) → (w : Wanted P.Condition P.Classifier) →
-            Asks (says_of P.Condition.judges P.Classifier.says) (seen_of self.old) told w →
-            ExitsWith (seen_of self.old) told w (option_map string_bytes prefix) →
-            IsUntakenOf S.seen (says_of P.Condition.judges P.Classifier.says) self.old told self.new e) }
+        ensures taken { IfOk result (λ t. IsExitTaken S.seen (says_of P.Condition.judges P.Classifier.says)
+            self.old (option_map string_bytes prefix) self.new t) }
+        ensures refused { IfErr result (λ e. IsExitUntaken S.seen (says_of P.Condition.judges P.Classifier.says)
+            self.old (option_map string_bytes prefix) self.new e) }
         ensures fewer { deque_len self.new.waiting ≤ deque_len self.old.waiting }
     {
         self.parts.leave(prefix);
@@ -383,12 +355,10 @@ impl<S: OutputSink + Drop, P: Calls> Core<S, P> {
         requires running { self.old.status ≡ stands.Running }
         requires closed { (control_of self.old.parts.state).search ≡ None }
         requires typed { clears_prefix ≡ true → lets_prefix_go (wanted_by request) ≡ true }
-        ensures taken { IfOk result (λ t. (told : Told P.Condition P.Classifier) →
-            IsAsked (says_of P.Condition.judges P.Classifier.says) self.old told (wanted_by request) clears_prefix →
-            IsTakenOf S.seen (says_of P.Condition.judges P.Classifier.says) self.old told self.new t) }
-        ensures refused { IfErr result (λ e. (told : Told P.Condition P.Classifier) →
-            IsAsked (says_of P.Condition.judges P.Classifier.says) self.old told (wanted_by request) clears_prefix →
-            IsUntakenOf S.seen (says_of P.Condition.judges P.Classifier.says) self.old told self.new e) }
+        ensures taken { IfOk result (λ t. IsTakenAs S.seen (says_of P.Condition.judges P.Classifier.says)
+            self.old (wanted_by request) clears_prefix self.new t) }
+        ensures refused { IfErr result (λ e. IsUntakenAs S.seen (says_of P.Condition.judges P.Classifier.says)
+            self.old (wanted_by request) clears_prefix self.new e) }
         ensures fewer { deque_len self.new.waiting ≤ deque_len self.old.waiting }
     {
         if let Request::HandOver(handed) = request {
@@ -461,19 +431,15 @@ impl<S: OutputSink + Drop, P: Calls> Core<S, P> {
         }
     }
 
-    // Works appends off in one go, the first of which was taken from those that wait: for want of memory the others wait
-    // still.
+    // Works appends off in one go, the first of which was taken from those that wait: for want of memory the others
+    // wait still.
     fn take_joined(&mut self, joined: JoinedAppends) -> Result<Taken, MinusError>
         requires running { self.old.status ≡ stands.Running }
         requires closed { (control_of self.old.parts.state).search ≡ None }
-        ensures taken { IfOk result (λ t. (told : Told P.Condition P.Classifier) →
-            MayGoWith (seen_of self.old).control told (seen_of self.old).waiting
-            (string_bytes joined.text) joined.count →
-            IsTakenWithOf S.seen (says_of P.Condition.judges P.Classifier.says) self.old told self.new t) }
-        ensures refused { IfErr result (λ e. (told : Told P.Condition P.Classifier) →
-            MayGoWith (seen_of self.old).control told (seen_of self.old).waiting
-            (string_bytes joined.text) joined.count →
-            IsUntakenWithOf S.seen (says_of P.Condition.judges P.Classifier.says) self.old told self.new e) }
+        ensures taken { IfOk result (λ t.
+            AreJoinedTaken S.seen (says_of P.Condition.judges P.Classifier.says) self.old joined self.new t) }
+        ensures refused { IfErr result (λ e.
+            AreJoinedUntaken S.seen (says_of P.Condition.judges P.Classifier.says) self.old joined self.new e) }
         ensures fewer { deque_len self.new.waiting ≤ deque_len self.old.waiting }
     {
         let JoinedAppends { text, count } = joined;
@@ -492,8 +458,8 @@ impl<S: OutputSink + Drop, P: Calls> Core<S, P> {
         }
     }
 
-    // Takes the next of those that waited, with no search prompt open: the appends behind it go with it, where they may be
-    // worked off in one go.
+    // Takes the next of those that waited, with no search prompt open: the appends behind it go with it, where they may
+    // be worked off in one go.
     fn take_next(&mut self, input: InputOf<P>) -> Result<Taken, MinusError>
         requires running { self.old.status ≡ stands.Running }
         requires closed { (control_of self.old.parts.state).search ≡ None }

@@ -13,7 +13,7 @@ ghost use Rattle.minus_state.specs.States.{IsFormed, control_of};
 
 use crate::state::PagerState;
 use crate::step_drawing::{Drawing, draw_page, push_append};
-use minus_state::change::{Change, NextText, Redraw};
+use minus_state::change::{Change, Redraw};
 use minus_term::{MinusError, OutputSink, draw_bytes, write_prompt_row};
 use std::alloc::{AllocError, Global};
 
@@ -148,7 +148,7 @@ pub fn draw_append_text<W: OutputSink>(
     ensures err { IfErr result (λ e. WriteRefuses W.seen e out.old out.new
         (written_all (append_from (control_of state.now) first old_count))) }
 {
-    let change = state.change_to(NextText::Same, Redraw::Stays);
+    let change = state.redrawn(Redraw::Stays);
     let mut bytes = Vec::new(alloc);
     push_append(state, alloc, &mut bytes, &change, first, old_count)?;
     draw_bytes(out, &bytes)?;

@@ -6,7 +6,8 @@ ghost use Rattle.minus_state.specs.ShownPrompt.{prompt_row};
 ghost use Rattle.minus_term.specs.Append.{append_ops};
 ghost use Rattle.minus_term.specs.Scroll.{scroll_ops};
 ghost use Rattle.minus_term.specs.Written.{written_all};
-ghost use Rattle.minus.specs.Drawings.{append_from, ops_of, ops_of_step, IsDrawable};
+ghost use Rattle.minus.specs.AddedBytes.{AddsOps, AddsDrawing, AddsStep, IsDrawnBy};
+ghost use Rattle.minus.specs.Drawings.{append_from, ops_of};
 ghost use Rattle.minus_state.specs.States.{control_of, IsFormed};
 ghost use Rattle.minus_state.specs.Changes.{IsChange, IsFormedFor, shown_by};
 
@@ -16,7 +17,7 @@ use crate::page_bytes::{
 use crate::prompt_drawing::{push_cursor, push_edit, push_opening};
 use crate::state::PagerState;
 use minus_state::change::{Change, Redraw};
-use minus_term::write_prompt_row;
+use minus_term::{page_len, write_prompt_row};
 use std::alloc::{AllocError, Global};
 
 // How a change is drawn over the page before it. What does not draw the prompt row is followed by it where it has
@@ -109,7 +110,7 @@ fn push_scroll(
     ensures { OnOk result (out.new.items ≡ out.old.items ++ written_all
         (scroll_ops change.now.rows from to (shown_by state.now change.now) prompt.now)) }
 {
-    let most = change.rows - 1;
+    let most = page_len(change.rows);
     if from <= to {
         let k = (to - from).min(most);
         return push_scroll_down(state, alloc, out, change, k as u16, prompt);
@@ -151,10 +152,10 @@ pub(crate) fn push_append<'a>(
 ) -> Result<(), AllocError>
     requires formed { IsFormed state.now }
     requires belongs { IsFormedFor state.now change.now }
-    ensures { OnOk result ((new : Control) → IsChange (control_of state.now) change.now new →
-        out.new.items ≡ out.old.items ++ written_all (append_from new first old_count)) }
+    ensures { OnOk result (AddsOps (control_of state.now) change.now
+        (λ new. append_from new first old_count) out.old.items out.new.items) }
 {
-    let were = old_count.saturating_sub(change.mark).min(change.rows - 1);
+    let were = old_count.saturating_sub(change.mark).min(page_len(change.rows));
     let first = first.saturating_sub(change.mark);
     push_rows_after(state, alloc, out, change, first, were)?;
     Ok(())
@@ -171,9 +172,8 @@ fn push_drawing<'a>(
 ) -> Result<(), AllocError>
     requires formed { IsFormed state.now }
     requires belongs { IsFormedFor state.now change.now }
-    ensures { OnOk result ((new : Control) → IsChange (control_of state.now) change.now new →
-        IsDrawable drawing (control_of state.now) new → prompt.now ≡ prompt_row new →
-        out.new.items ≡ out.old.items ++ written_all (ops_of drawing new)) }
+    ensures { OnOk result (AddsDrawing (control_of state.now) change.now drawing prompt.now
+        (λ new. ops_of drawing new) out.old.items out.new.items) }
 {
     match drawing {
         Drawing::Nothing => Ok(()),
@@ -203,9 +203,8 @@ pub(crate) fn push_step<'a>(
     requires formed { IsFormed state.now }
     requires belongs { IsFormedFor state.now change.now }
     requires before { before.now ≡ prompt_row (control_of state.now) }
-    ensures { OnOk result ((new : Control) → IsChange (control_of state.now) change.now new →
-        IsDrawable drawing (control_of state.now) new → prompt.now ≡ prompt_row new →
-        out.new.items ≡ out.old.items ++ written_all (ops_of_step drawing (control_of state.now) new)) }
+    ensures { OnOk result (AddsStep (control_of state.now) change.now drawing prompt.now
+        out.old.items out.new.items) }
 {
     push_drawing(state, alloc, out, drawing, change, prompt)?;
     if drawing.draws_prompt() {
@@ -226,9 +225,7 @@ pub(crate) fn draw_page(
     requires belongs { IsFormedFor state.now change.now }
     ensures prompt { IfOk result (λ d. (new : Control) → IsChange (control_of state.now) change.now new →
         string_bytes d.0 ≡ prompt_row new) }
-    ensures bytes { IfOk result (λ d. (new : Control) → IsChange (control_of state.now) change.now new →
-        IsDrawable drawing (control_of state.now) new →
-        d.1.items ≡ written_all (ops_of drawing new)) }
+    ensures bytes { IfOk result (λ d. IsDrawnBy (control_of state.now) change.now drawing d.1.items) }
 {
     let prompt = state.prompt_row_after(alloc, change)?;
     let mut bytes = Vec::new(alloc);

@@ -95,7 +95,7 @@ fn let_first_go<T: Drop>(queue: &mut VecDeque<T>, count: usize)
 }
 
 impl<S, P: Parts> Core<S, P> {
-    ghost use Rattle.std.specs.Prelude.{◌≡◌, ◌+◌, ◌≤◌, ◌⊎◌, ◌∷◌, ◌++◌, [], drop, is_some, true, false, None, string_bytes};
+    ghost use Rattle.std.specs.Prelude.{◌≡◌, ◌+◌, ◌≤◌, ◌∷◌, ◌++◌, [], drop, is_some, true, false, None, string_bytes};
     ghost use Rattle.std.specs.Prelude.{OnOk, OnErr, IfOk, IfErr, IfSome, IfNone};
     ghost use Rattle.std.specs.VecDeque.{deque_len};
     ghost use Rattle.minus_term.specs.Refusals.{refusal_of};
@@ -103,7 +103,7 @@ impl<S, P: Parts> Core<S, P> {
     ghost use Rattle.minus.specs.Joined.{MayGoWith};
     ghost use Rattle.minus.specs.Reads.{told_of};
     ghost use Rattle.minus.specs.Asked.{checked_as};
-    ghost use Rattle.minus.specs.SessionSteps.{IsKept, IsNotKept};
+    ghost use Rattle.minus.specs.SessionSteps.{IsKept, IsNotKept, IsNotPassed};
     ghost use Rattle.minus.specs.Steps.{is_passed};
     ghost use Rattle.minus.specs.Works.{IsNext, leaving, IsAtRest};
 
@@ -186,8 +186,7 @@ impl<S, P: Parts> Core<S, P> {
         ensures unchanged { OnOk result (self.new ≡ self.old) }
         ensures fails { OnErr result (seen_of self.new ≡ record (seen_of self.old) { status = stands.Failed }) }
         ensures sink { self.new.sink ≡ self.old.sink }
-        ensures cause { IfErr result (λ e. ((e ≡ refusal) × (is_passed (refusal_of refusal) ≡ false))
-            ⊎ ((e ≡ MinusError.Memory) × (is_passed (refusal_of refusal) ≡ true))) }
+        ensures cause { IfErr result (λ e. IsNotPassed e refusal) }
     {
         match refusal {
             MinusError::NewlineInPrompt

@@ -1,15 +1,13 @@
 //! Stored rows that are handed in, written on a sink without a state.
 ghost use Rattle.std.specs.Prelude.{◌≡◌, false, ◌++◌, map, string_bytes, OnOk, IfOk, IfErr};
-ghost use Rattle.std.specs.Io.KnownBytes.{Appends};
 ghost use Rattle.minus_term.specs.Counts.{Stays};
 ghost use Rattle.minus_term.specs.FullRedraw.{row_ops};
-ghost use Rattle.minus_term.specs.Writes.{WriteRefuses};
 ghost use Rattle.minus_term.specs.Written.{written_all};
-ghost use Rattle.minus_text.specs.Prefixes.{is_on};
-ghost use Rattle.minus.specs.WrittenRows.{row_from, written_row, lines_ops, lines_of_page, text_ops};
+ghost use Rattle.minus.specs.WrittenRows.{row_from, lines_of_page, styled_row, styled_lines, styled_text};
+ghost use Rattle.minus.specs.WrittenRows.{AddsLines, AddsText, LinesRefused, TextRefused};
 
 use minus_state::get_horizontal_scroll_bounds;
-use minus_term::{MinusError, OutputSink, draw_bytes, write_page_start, write_row};
+use minus_term::{MinusError, OutputSink, draw_bytes, page_len, top_of, write_page_start, write_row};
 use minus_text::{LineNumbers, Row, crop_columns, prefix_columns};
 use std::alloc::{AllocError, Global};
 use std::convert::AsStr;
@@ -54,8 +52,7 @@ fn push_shown(
     style: RowStyle,
 ) -> Result<(), AllocError>
     ensures { OnOk result (bytes.new.items ≡ bytes.old.items
-        ++ written_all (row_ops
-        (written_row style.wrapping style.cols style.left_mark style.numbers style.line_count row.now))) }
+        ++ written_all (row_ops (styled_row style row.now))) }
 {
     if style.wrapping {
         return write_row(bytes, row);
@@ -72,8 +69,7 @@ fn push_lines<L: AsStr>(
     style: RowStyle,
 ) -> Result<(), AllocError>
     ensures { OnOk result (bytes.new.items ≡ bytes.old.items
-        ++ written_all (lines_ops style.wrapping style.cols style.left_mark style.numbers style.line_count
-        (map L.text lines.now))) }
+        ++ written_all (styled_lines style (map L.text lines.now))) }
 {
     for line in lines {
         push_shown(alloc, bytes, line.as_str(), style)?;
@@ -100,11 +96,11 @@ pub fn write_lines<W: OutputSink, L: AsStr>(
     numbers: bool,
     line_count: usize,
 ) -> Result<(), MinusError>
-    ensures ok { OnOk result (Appends (W.seen out.old).bytes (W.seen out.new).bytes
-        (written_all (lines_ops wrapping cols left_mark numbers line_count (map L.text lines.now)))) }
+    ensures ok { OnOk result (AddsLines (W.seen out.old) (W.seen out.new)
+        wrapping cols left_mark numbers line_count (map L.text lines.now)) }
     ensures stays { OnOk result (Stays (W.seen out.old).refusals (W.seen out.new).refusals) }
-    ensures err { IfErr result (λ e. WriteRefuses W.seen e out.old out.new
-        (written_all (lines_ops wrapping cols left_mark numbers line_count (map L.text lines.now)))) }
+    ensures err { IfErr result (λ e. LinesRefused W.seen e out.old out.new
+        wrapping cols left_mark numbers line_count (map L.text lines.now)) }
 {
     let style = RowStyle {
         wrapping,
@@ -134,11 +130,11 @@ pub fn write_lines_in_horizontal_scroll<W: OutputSink, L: AsStr>(
     numbers: bool,
     line_count: usize,
 ) -> Result<(), MinusError>
-    ensures ok { OnOk result (Appends (W.seen out.old).bytes (W.seen out.new).bytes
-        (written_all (lines_ops false cols left_mark numbers line_count (map L.text lines.now)))) }
+    ensures ok { OnOk result (AddsLines (W.seen out.old) (W.seen out.new)
+        false cols left_mark numbers line_count (map L.text lines.now)) }
     ensures stays { OnOk result (Stays (W.seen out.old).refusals (W.seen out.new).refusals) }
-    ensures err { IfErr result (λ e. WriteRefuses W.seen e out.old out.new
-        (written_all (lines_ops false cols left_mark numbers line_count (map L.text lines.now)))) }
+    ensures err { IfErr result (λ e. LinesRefused W.seen e out.old out.new
+        false cols left_mark numbers line_count (map L.text lines.now)) }
 {
     write_lines(
         alloc, out, lines, cols, false, left_mark, numbers, line_count,
@@ -149,9 +145,8 @@ pub fn write_lines_in_horizontal_scroll<W: OutputSink, L: AsStr>(
 fn lines_of_page<L>(lines: &[L], upper_mark: usize, rows: usize) -> &[L]
     ensures { result.now ≡ lines_of_page upper_mark rows lines.now }
 {
-    let most = rows.saturating_sub(1);
-    let rest = &lines[upper_mark.min(lines.len().saturating_sub(most))..];
-    &rest[..rest.len().min(most)]
+    let rest = &lines[upper_mark.min(top_of(lines.len(), rows))..];
+    &rest[..rest.len().min(page_len(rows))]
 }
 
 // Adds the lines on a page, on a screen that is cleared first.
@@ -163,9 +158,8 @@ fn push_text<L: AsStr>(
     rows: usize,
     style: RowStyle,
 ) -> Result<(), AllocError>
-    ensures { OnOk result (bytes.new.items ≡ bytes.old.items ++ written_all
-        (text_ops upper_mark rows style.wrapping style.cols style.left_mark style.numbers style.line_count
-        (map L.text lines.now))) }
+    ensures { OnOk result (bytes.new.items ≡ bytes.old.items
+        ++ written_all (styled_text upper_mark rows style (map L.text lines.now))) }
 {
     write_page_start(bytes)?;
     push_lines(alloc, bytes, lines_of_page(lines, upper_mark, rows), style)?;
@@ -192,13 +186,11 @@ pub fn write_text_checked<W: OutputSink, L: AsStr>(
     line_numbers: LineNumbers,
     line_count: usize,
 ) -> Result<(), MinusError>
-    ensures ok { OnOk result (Appends (W.seen out.old).bytes (W.seen out.new).bytes
-        (written_all (text_ops upper_mark rows wrapping cols left_mark (is_on line_numbers) line_count
-        (map L.text lines.now)))) }
+    ensures ok { OnOk result (AddsText (W.seen out.old) (W.seen out.new)
+        upper_mark rows wrapping cols left_mark line_numbers line_count (map L.text lines.now)) }
     ensures stays { OnOk result (Stays (W.seen out.old).refusals (W.seen out.new).refusals) }
-    ensures err { IfErr result (λ e. WriteRefuses W.seen e out.old out.new
-        (written_all (text_ops upper_mark rows wrapping cols left_mark (is_on line_numbers) line_count
-        (map L.text lines.now)))) }
+    ensures err { IfErr result (λ e. TextRefused W.seen e out.old out.new
+        upper_mark rows wrapping cols left_mark line_numbers line_count (map L.text lines.now)) }
 {
     let style = RowStyle {
         wrapping,

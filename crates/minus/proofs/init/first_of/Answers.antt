@@ -13,9 +13,8 @@ draw_move-requires-clause-closed g c = ap (λ (k : Control). k.search) c.in_ok-s
 
 pub draw_move-requires-clause-prompt : goal.draw_move-requires-clause-prompt
 draw_move-requires-clause-prompt g c =
-    let is = c.change_to-change.ensures in
     let state = c.in_ok-state.state in
-    let same = unchanged state c.change_to-change.result is.text is.mark is.cols is.rows is.search_mark is.prefix is.setting in
+    let same = unchanged state c.redrawn-change.result _ c.redrawn-change.ensures.is in
     c.deref-2.ensures ∙ c.in_ok-prompt_row.ensures.prompt (control_of state) same
 
 pub returns-clause-begins : goal.returns-clause-begins
@@ -23,10 +22,9 @@ returns-clause-begins g c = record { can = c.in_ok-check_start.ensures.can; take
 
 pub invariant_of-result : goal.invariant_of-result
 invariant_of-result g c =
-    let is = c.change_to-change.ensures in
     let state = c.in_ok-state.state in
     let waiting = map wanted_of c.args.pager.now.queue.items in
-    let same = unchanged state c.change_to-change.result is.text is.mark is.cols is.rows is.search_mark is.prefix is.setting in
+    let same = unchanged state c.redrawn-change.result _ c.redrawn-change.ensures.is in
     let closed = ap (λ (k : Control). k.search) c.in_ok-state.ensures.control ∙ first_search c.args.cols c.args.rows waiting in
     let kept = ap (λ p. p.state) c.reserve.ensures.rest ∙ c.new-parts.ensures.state in
     record {

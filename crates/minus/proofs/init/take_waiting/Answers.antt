@@ -19,7 +19,7 @@ loop-command-preserved g c =
     let left = map wanted_of c.in_ok-request.left.now in
     let taken = c.in_ok-take_over.ensures in (
       taken.formed,
-      ap (λ k. taken_all k left) taken.control ∙ c.in_ok-request.ensures.leads ∙ ap (taken_all old) (sym all) ∙ at.invariant.1,
+      ap (λ k. taken_all k left) taken.control ∙ c.in_ok-request.ensures.next ∙ ap (taken_all old) (sym all) ∙ at.invariant.1,
       c.in_ok-request.ensures.can at.invariant.2.0 can,
     )
 

@@ -13,4 +13,4 @@ returns c =
     let blank : most - length c.args.shown.now ≡ most - length shown = ap (λ (n : ℕ). most - n) (sym (length-map c.args.shown.now row_text)) in
     ap (map string_bytes) c.in_ok-push.ensures.items ∙ map-append string_bytes c.push_blanks.new.rows.items (_ ∷ [])
     ∙ ap₂ (λ (rows : List (List ℕ)) (prompt : List ℕ). rows ++ prompt ∷ [])
-    (c.in_ok-push_blanks.ensures ∙ ap₂ (λ (rows : List (List ℕ)) (n : ℕ). rows ++ replicate n []) copied blank) refl
+    (c.in_ok-push_blanks.ensures ∙ ap₂ (λ (rows : List (List ℕ)) (n : ℕ). rows ++ replicate n []) copied (ap (λ (n : ℕ). n - length c.args.shown.now) c.page_len.ensures ∙ blank)) refl

@@ -10,7 +10,7 @@ use Rattle.minus.proofs.sink_calls.draw_append_text.Goals as goal
 
 pub returns-in_err-draw_bytes-clause-err : goal.returns-in_err-draw_bytes-clause-err
 returns-in_err-draw_bytes-clause-err g c =
-    write_refused g.W.OutputSink.seen c.from_residual-in_err-draw_bytes.result c.in_err-draw_bytes.field-0.0 c.args.out.now c.draw_bytes.new.out _ _ c.from_residual-in_err-draw_bytes.ensures c.in_err-draw_bytes.ensures.err c.in_err-draw_bytes.ensures.rises (c.deref.ensures.value ∙ c.in_ok-push_append.ensures _ (unchanged c.args.state.now c.change_to-change.result c.change_to-change.ensures.text c.change_to-change.ensures.mark c.change_to-change.ensures.cols c.change_to-change.ensures.rows c.change_to-change.ensures.search_mark c.change_to-change.ensures.prefix c.change_to-change.ensures.setting) ∙ ap (λ bs. bs ++ written_all (append_from (control_of c.args.state.now) c.args.first c.args.old_count)) c.new-bytes.ensures.items)
+    write_refused g.W.OutputSink.seen c.from_residual-in_err-draw_bytes.result c.in_err-draw_bytes.field-0.0 c.args.out.now c.draw_bytes.new.out _ _ c.from_residual-in_err-draw_bytes.ensures c.in_err-draw_bytes.ensures.err c.in_err-draw_bytes.ensures.rises (c.deref.ensures.value ∙ c.in_ok-push_append.ensures _ (unchanged c.args.state.now c.redrawn-change.result _ c.redrawn-change.ensures.is) ∙ ap (λ bs. bs ++ written_all (append_from (control_of c.args.state.now) c.args.first c.args.old_count)) c.new-bytes.ensures.items)
 
 pub returns-clause-ok : goal.returns-clause-ok
-returns-clause-ok g c = subst (λ bs. Appends (g.W.OutputSink.seen c.args.out.now).bytes (g.W.OutputSink.seen c.draw_bytes.new.out).bytes bs) (c.deref.ensures.value ∙ c.in_ok-push_append.ensures _ (unchanged c.args.state.now c.change_to-change.result c.change_to-change.ensures.text c.change_to-change.ensures.mark c.change_to-change.ensures.cols c.change_to-change.ensures.rows c.change_to-change.ensures.search_mark c.change_to-change.ensures.prefix c.change_to-change.ensures.setting) ∙ ap (λ bs. bs ++ written_all (append_from (control_of c.args.state.now) c.args.first c.args.old_count)) c.new-bytes.ensures.items) c.in_ok-draw_bytes.ensures.ok
+returns-clause-ok g c = subst (λ bs. Appends (g.W.OutputSink.seen c.args.out.now).bytes (g.W.OutputSink.seen c.draw_bytes.new.out).bytes bs) (c.deref.ensures.value ∙ c.in_ok-push_append.ensures _ (unchanged c.args.state.now c.redrawn-change.result _ c.redrawn-change.ensures.is) ∙ ap (λ bs. bs ++ written_all (append_from (control_of c.args.state.now) c.args.first c.args.old_count)) c.new-bytes.ensures.items) c.in_ok-draw_bytes.ensures.ok

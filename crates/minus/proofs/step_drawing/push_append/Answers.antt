@@ -1,5 +1,5 @@
 -- The rows from the first that it may change on, where so many were shown.
-use Rattle.std.proofs.Common.{◌≡◌, ℕ, ◌-◌, ◌++◌, min, List, ap, ◌∙◌}
+use Rattle.std.proofs.Common.{◌≡◌, ℕ, ◌-◌, ◌++◌, min, List, ap, ap₂, ◌∙◌}
 use Rattle.minus_term.specs.Append.{append_ops}
 use Rattle.minus_term.specs.Written.{written_all}
 use Rattle.minus_state.specs.Changes.{shown_by}
@@ -12,7 +12,7 @@ returns c new h =
     let out : List ℕ = c.args.out.now.items in
     let change : Change = c.args.change.now in
     let texts : List (List ℕ) = shown_by c.args.state.now change in
-    let were : c.min-were.result ≡ min (c.args.old_count - change.mark) (change.rows - 1) = c.min-were.ensures ∙ ap (λ (n : ℕ). min n (change.rows - 1)) c.saturating_sub.ensures in
+    let were : c.min-were.result ≡ min (c.args.old_count - change.mark) (change.rows - 1) = c.min-were.ensures ∙ ap₂ min c.saturating_sub.ensures c.page_len.ensures in
     c.in_ok-push_rows_after.ensures
     ∙ ap (λ (n : ℕ). out ++ written_all (append_ops n c.min-were.result texts)) c.saturating_sub-first.ensures
     ∙ ap (λ (n : ℕ). out ++ written_all (append_ops (c.args.first - change.mark) n texts)) were

@@ -17,8 +17,7 @@ use Rattle.minus.proofs.session.Core.page.Goals as goal
 pub returns-clause-rows : goal.returns-clause-rows
 returns-clause-rows g c =
     let state : PagerState = c.args.self.now.parts.state in
-    let is = c.change_to-change.ensures in
-    let rows = shown_is state c.change_to-change.result (control_of state) c.args.self.now.formed (unchanged state c.change_to-change.result is.text is.mark is.cols is.rows is.search_mark is.prefix is.setting) in
+    let rows = shown_is state c.redrawn-change.result (control_of state) c.args.self.now.formed (unchanged state c.redrawn-change.result _ c.redrawn-change.ensures.is) in
     let plain = page_plain (control_of state) (closed_as _ c.open_search.result (control_of state).search c.in-None.is c.open_search.ensures) in
     IfOk-weaker c.of_change.result _ _ (λ p h. h ∙ ap (λ rs. (page_with (control_of state) rs).texts) rows ∙ sym (ap (λ (s : ShownPage). s.texts) plain)) c.of_change.ensures.rows
 
@@ -32,8 +31,7 @@ pub returns-in-Some-clause-rows : goal.returns-in-Some-clause-rows
 returns-in-Some-clause-rows g c =
     let state : PagerState = c.args.self.now.parts.state in
     let control : Control = control_of state in
-    let is = c.change_to-change.ensures in
-    let rows = shown_is state c.change_to-change.result control c.args.self.now.formed (unchanged state c.change_to-change.result is.text is.mark is.cols is.rows is.search_mark is.prefix is.setting) in
+    let rows = shown_is state c.redrawn-change.result control c.args.self.now.formed (unchanged state c.redrawn-change.result _ c.redrawn-change.ensures.is) in
     let all = rows ∙ ap (λ p. shown (confirmed_by control (option_map (λ (b : Box Regex Global). regex_pattern b.value) p))) (sym c.in-None-preview.is) in
     let typed = page_of_prompt control _ _ (open_as _ c.open_search.result control.search _ c.in-Some.is c.open_search.ensures) all in
     IfOk-weaker c.with_prompt.result _ _ (λ p h. h ∙ sym (ap (λ (s : ShownPage). s.texts) typed)) c.with_prompt.ensures.rows
@@ -42,8 +40,7 @@ pub returns-in-Some-clause-cursor : goal.returns-in-Some-clause-cursor
 returns-in-Some-clause-cursor g c =
     let state : PagerState = c.args.self.now.parts.state in
     let control : Control = control_of state in
-    let is = c.change_to-change.ensures in
-    let rows = shown_is state c.change_to-change.result control c.args.self.now.formed (unchanged state c.change_to-change.result is.text is.mark is.cols is.rows is.search_mark is.prefix is.setting) in
+    let rows = shown_is state c.redrawn-change.result control c.args.self.now.formed (unchanged state c.redrawn-change.result _ c.redrawn-change.ensures.is) in
     let all = rows ∙ ap (λ p. shown (confirmed_by control (option_map (λ (b : Box Regex Global). regex_pattern b.value) p))) (sym c.in-None-preview.is) in
     let typed = page_of_prompt control _ _ (open_as _ c.open_search.result control.search _ c.in-Some.is c.open_search.ensures) all in
     IfOk-weaker c.with_prompt.result _ _ (λ p h. h ∙ sym (ap (λ (s : ShownPage). s.cursor) typed)) c.with_prompt.ensures.cursor

@@ -1,0 +1,39 @@
+-- What is added to the bytes of a drawing, for each control that a change leads to.
+use Rattle.std.specs.Prelude.{◌≡◌, ℕ, List, ◌++◌, Option}
+use Rattle.regex.specs.Patterns.{Re}
+use Rattle.minus_term.specs.Operations.{Op}
+use Rattle.minus_term.specs.Written.{written_all}
+use Rattle.minus.specs.declared.step_drawing.Drawing.{Drawing}
+use Rattle.minus_state.specs.declared.change.Change.{Change}
+use Rattle.minus_state.specs.Changes.{IsChange}
+use Rattle.minus_state.specs.Control.{Control}
+use Rattle.minus_state.specs.ShownPrompt.{prompt_row}
+use Rattle.minus.specs.Drawings.{ops_of, ops_of_step, page_by, EditsAlone, IsDrawable}
+
+-- these operations
+abbrev pub AddsOps : (old : Control) → Change → (Control → List Op) → (before after : List ℕ) → Type 0
+AddsOps old change ops before after = (new : Control) → IsChange old change new → after ≡ before ++ written_all (ops new)
+
+-- and where the search prompt alone has changed, or, after an edit, its query
+abbrev pub AddsSearchOps : (old : Control) → Change → (Control → List Op) → (before after : List ℕ) → Type 0
+AddsSearchOps old change ops before after =
+    (new : Control) → IsChange old change new → new ≡ record old { search = new.search } → after ≡ before ++ written_all (ops new)
+
+abbrev pub AddsFound : (old : Control) → Change → Option Re → (last before after : List ℕ) → Type 0
+AddsFound old change pattern last before after = AddsSearchOps old change (λ new. page_by new pattern last) before after
+
+abbrev pub AddsEditOps : (old : Control) → Change → (Control → List Op) → (before after : List ℕ) → Type 0
+AddsEditOps old change ops before after = (new : Control) → IsChange old change new → EditsAlone old new → after ≡ before ++ written_all (ops new)
+
+-- and where the change can be drawn so, with this prompt row
+abbrev pub AddsDrawing : (old : Control) → Change → Drawing → (prompt : List ℕ) → (Control → List Op) → (before after : List ℕ) → Type 0
+AddsDrawing old change drawing prompt ops before after =
+    (new : Control) → IsChange old change new → IsDrawable drawing old new → prompt ≡ prompt_row new → after ≡ before ++ written_all (ops new)
+
+abbrev pub AddsStep : (old : Control) → Change → Drawing → (prompt before after : List ℕ) → Type 0
+AddsStep old change drawing prompt before after = AddsDrawing old change drawing prompt (λ new. ops_of_step drawing old new) before after
+
+-- these bytes are the drawing
+abbrev pub IsDrawnBy : (old : Control) → Change → Drawing → (bytes : List ℕ) → Type 0
+IsDrawnBy old change drawing bytes =
+    (new : Control) → IsChange old change new → IsDrawable drawing old new → bytes ≡ written_all (ops_of drawing new)
