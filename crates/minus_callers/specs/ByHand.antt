@@ -26,7 +26,8 @@ left_by_all {Q = Q} {K = K} c (command ∷ rest) = left_by_all (left_by Q K c (i
 
 -- a command was worked off, with all that waited for it: the control is the one that the table gives, what it hands over is kept, and
 -- what the table answers is answered
-pub record IsWorkedOff {P H E Q K : Type 0} (says : Classifies K) (old : PartsOf P H E Q K) (command : CommandOf P H E Q K) (new : PartsOf P H E Q K) (handled : Handled) : Type 0 where
+pub record IsWorkedOff {P H E Q K : Type 0} (says : Classifies K) (old : PartsOf P H E Q K) (command : CommandOf P H E Q K) (new : PartsOf P H E Q K)
+    (handled : Handled) : Type 0 where
   pub wanted : Wanted Q K
   pub asked : IsRequestTo says old command wanted
   pub control : control_of new.state ≡ changed_by (effect (control_of old.state) wanted)

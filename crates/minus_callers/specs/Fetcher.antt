@@ -18,3 +18,7 @@ text_with fetched text more = if fetched then text ++ more else text
 pub record TakesText {Q K : Type 0} (seen : Seen Q K) : Type 0 where
   pub no_help : seen.control.help ≡ None
   pub ready : IsReady seen
+
+-- more of a text was fetched, or nothing was
+abbrev pub IsFetched : {Q K : Type 0} → Bool → (old new : Seen Q K) → List ℕ → Type 0
+IsFetched fetched old new more = TakesText old → new.control.text ≡ text_with fetched old.control.text more

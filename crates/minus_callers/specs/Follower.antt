@@ -1,5 +1,6 @@
 -- A text that is followed.
 use Rattle.std.specs.Prelude.{◌≡◌, ℕ, ◌++◌, ◌∷◌, [], List, true, None}
+use Rattle.std.specs.List.{flat_map}
 use Rattle.minus_state.specs.Control.{top}
 use Rattle.minus.specs.Seen.{Seen}
 use Rattle.minus.specs.Works.{IsReady}
@@ -15,3 +16,11 @@ pub record Follows {Q K : Type 0} (text : List ℕ) (seen : Seen Q K) : Type 0 w
   pub goes_on : seen.control.settings.follow ≡ true
   pub no_help : seen.control.help ≡ None
   pub ready : IsReady seen
+
+-- a text is followed, where help was not open and what was pushed did not wait
+abbrev pub FollowsThen : {Q K : Type 0} → (old new : Seen Q K) → (text : List ℕ) → Type 0
+FollowsThen old new text = old.control.help ≡ None → IsReady old → Follows text new
+
+-- lines, each with its newline, one behind another
+abbrev pub ended_all : List (List ℕ) → List ℕ
+ended_all lines = flat_map ended lines

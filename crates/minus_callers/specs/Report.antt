@@ -4,8 +4,7 @@ use Rattle.minus_input.specs.declared.bound.ActionOf.{ActionOf}
 use Rattle.minus_input.specs.declared.event_form.EventWrapper.{EventWrapper}
 use Rattle.minus_input.specs.DefaultBindings.{default_register}
 use Rattle.minus_input.specs.Described.{IsKey}
-use Rattle.minus_input.specs.EventTables.{called}
-use Rattle.minus_input.specs.Register.{Register, Binding}
+use Rattle.minus_input.specs.Register.{Register}
 use Rattle.minus_input.specs.RegisterCalls.{IsAdded}
 use Rattle.minus_state.specs.declared.input.InputEvent.{InputEvent}
 use Rattle.minus_state.specs.declared.input.InputEvent.TheVariants.{UpdateUpperMark, Ignore}
@@ -22,9 +21,9 @@ abbrev pub line_answer : ℕ → PagerState → InputEvent
 line_answer line state = row_answer (slice_get (line_map state.screen.document) line)
 
 -- the key goes to this line
-abbrev pub summary_key : ℕ → Binding (ActionOf GoToLine)
-summary_key line = let key : GoToLine = record { line = line } in called key (codes "go to the summary")
+abbrev pub summary_key : ℕ → GoToLine
+summary_key line = record { line = line }
 
 -- a register of the default bindings in which `s` is bound so
 abbrev pub HasSummaryKey : ℕ → Register EventWrapper (ActionOf GoToLine) → Type 0
-HasSummaryKey line register = IsAdded IsKey (codes "s" ∷ []) true (summary_key line) default_register register
+HasSummaryKey line register = IsAdded IsKey (codes "s" ∷ []) true (summary_key line) (codes "go to the summary") default_register register

@@ -1,7 +1,7 @@
 //! A program that shows the beginning of a text, and fetches more of it when the reader comes to its end.
 ghost use Rattle.std.specs.Prelude.{◌≡◌, string_bytes, IfOk};
 ghost use Rattle.minus.specs.Core.{seen_of};
-ghost use Rattle.minus_callers.specs.Fetcher.{one_at_end, text_with, TakesText};
+ghost use Rattle.minus_callers.specs.Fetcher.{one_at_end, IsFetched};
 
 use minus::{
     Calls, CommandOf, Core, DefaultInputClassifier, Hook, HookCall, InputOf, Kinds, MinusError,
@@ -50,8 +50,8 @@ pub fn page_beginning<S: OutputSink + Drop>(
     Ok(session)
 }
 
-/// Adds more text where the page has come to the end since the last call, and answers whether it has. A program calls it
-/// after each step, with what it would fetch next.
+/// Adds more text where the page has come to the end since the last call, and answers whether it has. A program calls
+/// it after each step, with what it would fetch next.
 ///
 /// # Errors
 ///
@@ -61,9 +61,8 @@ pub fn fetch<S: OutputSink + Drop, P: Calls>(
     is_at_end: &Cell<bool>,
     more: String,
 ) -> Result<bool, MinusError>
-    ensures { IfOk result (λ fetched. TakesText (seen_of session.old) →
-        (seen_of session.new).control.text
-        ≡ text_with fetched (seen_of session.old).control.text (string_bytes more)) }
+    ensures { IfOk result (λ fetched.
+        IsFetched fetched (seen_of session.old) (seen_of session.new) (string_bytes more)) }
 {
     if !is_at_end.replace(false) {
         return Ok(false);

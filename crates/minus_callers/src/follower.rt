@@ -1,8 +1,7 @@
 //! A follower: it pushes lines while the text is followed.
-ghost use Rattle.std.specs.Prelude.{◌≡◌, ◌++◌, ℕ, List, None, OnOk, map, flat_map};
+ghost use Rattle.std.specs.Prelude.{◌++◌, ℕ, List, OnOk, map};
 ghost use Rattle.minus.specs.Core.{seen_of};
-ghost use Rattle.minus.specs.Works.{IsReady};
-ghost use Rattle.minus_callers.specs.Follower.{Follows, ended};
+ghost use Rattle.minus_callers.specs.Follower.{Follows, FollowsThen, ended, ended_all};
 
 use minus::{Calls, CommandOf, Core, InputOf, MinusError, OutputSink};
 use std::alloc::Global;
@@ -13,8 +12,8 @@ use std::alloc::Global;
 ///
 /// Those of [`Core::step`].
 pub fn follow<S: OutputSink + Drop, P: Calls>(session: &mut Core<S, P>) -> Result<(), MinusError>
-    ensures { OnOk result ((seen_of session.old).control.help ≡ None → IsReady (seen_of session.old) →
-        Follows (seen_of session.old).control.text (seen_of session.new)) }
+    ensures { OnOk result (FollowsThen (seen_of session.old) (seen_of session.new)
+        (seen_of session.old).control.text) }
 {
     let _ = session.step(InputOf::Command(CommandOf::FollowOutput(true)))?;
     Ok(())
@@ -48,9 +47,8 @@ pub fn push_lines<S: OutputSink + Drop, P: Calls>(
     alloc: Global,
     lines: &[&str],
 ) -> Result<(), MinusError>
-    ensures { OnOk result ((seen_of session.old).control.help ≡ None → IsReady (seen_of session.old) →
-        Follows ((seen_of session.old).control.text ++ flat_map ended (map (λ l. l.now) lines.now))
-        (seen_of session.new)) }
+    ensures { OnOk result (FollowsThen (seen_of session.old) (seen_of session.new)
+        ((seen_of session.old).control.text ++ ended_all (map (λ l. l.now) lines.now))) }
 {
     follow(session)?;
     for line in lines {

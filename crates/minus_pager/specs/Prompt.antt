@@ -1,5 +1,6 @@
 -- What the prompt row of the program says.
-use Rattle.std.specs.Prelude.{ℕ, ◌+◌, ◌-◌, List, [], ◌++◌, codes, length, min}
+use Rattle.std.specs.Prelude.{ℕ, ◌+◌, List, [], ◌++◌, codes, length, min}
+use Rattle.minus_term.specs.Marks.{page_len}
 use Rattle.minus_text.specs.Document.{rows_of}
 use Rattle.minus_state.specs.declared.state.PagerState.{PagerState}
 use Rattle.minus_view.specs.Place.{place_text}
@@ -22,7 +23,7 @@ abbrev pub first_row : PagerState → ℕ
 first_row state = min (row_count state) (state.upper_mark + 1)
 
 abbrev pub last_row : PagerState → ℕ
-last_row state = min (row_count state) (state.upper_mark + (state.rows - 1))
+last_row state = min (row_count state) (state.upper_mark + page_len state.rows)
 
 -- what is said of the text, and the place of the page in it
 abbrev pub prompt_text : List ℕ → PagerState → Notice → List ℕ

@@ -3,6 +3,7 @@ ghost use Rattle.std.specs.Prelude.{◌≡◌, ◌+◌, ◌<◌, min, string_byt
 ghost use Rattle.minus_pager.specs.Prompt.{notice_text, prompt_text};
 
 use minus::PagerState;
+use minus_term::page_len;
 use minus_view::place_text;
 use std::alloc::{AllocError, Global};
 
@@ -63,7 +64,7 @@ pub fn prompt_text(
 {
     let rows = state.screen.formatted_lines_count();
     let first = row_after(state.upper_mark, 1, rows);
-    let last = row_after(state.upper_mark, state.rows.saturating_sub(1), rows);
+    let last = row_after(state.upper_mark, page_len(state.rows), rows);
     let place = place_text(alloc, name, first, last, rows)?;
     let notice = notice.text();
     format!(in alloc; "{notice}{place}")

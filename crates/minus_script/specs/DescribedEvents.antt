@@ -10,7 +10,8 @@ use Rattle.minus_input.specs.Number.{usize_of}
 use Rattle.minus_input.proofs.DescriptionLaws.{each_text}
 
 -- the one of two that holds, if it is the first: what a text describes, where nothing else says why it describes nothing
-abbrev pub what_holds : {D : Type 0} {Describes : D → Type 0} {Fault : DescriptionError → Type 0} → ((d : D) × Describes d) ⊎ ((e : DescriptionError) × Fault e) → Option D
+abbrev pub what_holds :
+    {D : Type 0} {Describes : D → Type 0} {Fault : DescriptionError → Type 0} → ((d : D) × Describes d) ⊎ ((e : DescriptionError) × Fault e) → Option D
 what_holds (inl described) = Some described.0
 what_holds (inr fault) = None
 

@@ -17,6 +17,15 @@ IsProgramFault words old_input new_input old_output new_output Usage = arguments
 IsProgramFault words old_input new_input old_output new_output (Script fault) =
     (a : Arguments) × (arguments_of words ≡ Some a) × IsRunFault a.mode a.cols a.rows old_input new_input old_output new_output fault
 
+-- over a reader, by what remains in it, and a writer, by what it holds
+module _ {R W : Type 0} (remaining : R → Option (List ℕ)) (contents : W → Option (List ℕ)) (words : List (List ℕ)) (in_old in_new : R)
+    (out_old out_new : W) where
+  abbrev pub ProgramRuns : Type 0
+  ProgramRuns = IsProgramRun words (remaining in_old) (remaining in_new) (contents out_old) (contents out_new)
+
+  abbrev pub ProgramFails : ProgramFault → Type 0
+  ProgramFails fault = IsProgramFault words (remaining in_old) (remaining in_new) (contents out_old) (contents out_new) fault
+
 -- a fault that came before anything was printed
 abbrev pub IsSilent : ProgramFault → Type 0
 IsSilent Usage = Unit {0}

@@ -3,9 +3,13 @@ use Rattle.std.specs.Prelude.{◌≡◌, ℕ, List, [], ◌∷◌, ◌++◌, tru
 use Rattle.std.specs.List.{last_or}
 use Rattle.std.specs.Option.{option_and_then, option_map}
 use Rattle.std.specs.Io.KnownBytes.{Appends, Consumes, IsAtEnd}
-use Rattle.minus_term.specs.Counts.{AppendsFront}
-use Rattle.minus_term.specs.Refusals.{Refusal, for_memory, for_newline, for_hook_id, for_free_hook_id, for_size, for_query, for_pattern, at_setup, at_cleanup, at_drawing, refusal_of}
+use Rattle.minus_term.specs.Counts.{AppendsFront, SinkSeen}
+use Rattle.minus_term.specs.Refusals.{Refusal, for_memory, for_newline, for_hook_id, for_free_hook_id, for_size, for_query, for_pattern, at_setup, at_cleanup}
+use Rattle.minus_term.specs.Refusals.{at_drawing, refusal_of}
+use Rattle.minus_term.specs.declared.error.MinusError.{MinusError}
 use Rattle.minus_term.specs.declared.error.MinusError.TheVariants.{Memory}
+use Rattle.minus.specs.Core.{seen_of}
+use Rattle.minus.specs.declared.session.Core.{Core}
 use Rattle.minus_state.specs.declared.search.condition.NeverShows.{NeverShows}
 use Rattle.minus_script.specs.declared.keys.DefaultKeys.{DefaultKeys}
 use Rattle.minus.specs.declared.answer.Answer.{Answer}
@@ -32,7 +36,8 @@ use Rattle.minus_script.specs.declared.fault.ScriptFault.{ScriptFault}
 use Rattle.minus_script.specs.declared.fault.ScriptFault.TheVariants.{Io, Line, Refused}
 
 -- a session took what it was told in order, with these answers, up to a rest
-pub record IsWorkedOff (old new : Seen NeverShows DefaultKeys) (told : List (Told NeverShows DefaultKeys)) (answers : List Answer) (rest : List (Told NeverShows DefaultKeys)) (old_bytes new_bytes : Option (List ℕ)) : Type 0 where
+pub record IsWorkedOff (old new : Seen NeverShows DefaultKeys) (told : List (Told NeverShows DefaultKeys)) (answers : List Answer)
+    (rest : List (Told NeverShows DefaultKeys)) (old_bytes new_bytes : Option (List ℕ)) : Type 0 where
   pub taken : List (Told NeverShows DefaultKeys)
   pub passed : List Control
   pub steps : Steps script_says old taken passed answers new old_bytes new_bytes
@@ -40,7 +45,8 @@ pub record IsWorkedOff (old new : Seen NeverShows DefaultKeys) (told : List (Tol
 
 -- a pager was started with the default keys and without a text over a sink that held nothing, and took what it was told in order, with
 -- these answers, up to a rest
-pub record IsTaken (cols rows : ℕ) (told : List (Told NeverShows DefaultKeys)) (answers : List Answer) (reached : Seen NeverShows DefaultKeys) (bytes : Option (List ℕ)) (rest : List (Told NeverShows DefaultKeys)) : Type 0 where
+pub record IsTaken (cols rows : ℕ) (told : List (Told NeverShows DefaultKeys)) (answers : List Answer) (reached : Seen NeverShows DefaultKeys)
+    (bytes : Option (List ℕ)) (rest : List (Told NeverShows DefaultKeys)) : Type 0 where
   pub keys : DefaultKeys
   pub first : Seen NeverShows DefaultKeys
   pub begun : Option (List ℕ)
@@ -60,7 +66,8 @@ abbrev pub IsWhole : List Answer → List (Told NeverShows DefaultKeys) → Type
 IsWhole answers rest = (rest ≡ []) ⊎ (is_some (exit_code (last_or None answers)) ≡ true)
 
 -- a session worked off all that it was told, or all up to an exit, with this last answer
-pub record IsRunOn (old new : Seen NeverShows DefaultKeys) (told : List (Told NeverShows DefaultKeys)) (last : Option Answer) (old_bytes new_bytes : Option (List ℕ)) : Type 0 where
+pub record IsRunOn (old new : Seen NeverShows DefaultKeys) (told : List (Told NeverShows DefaultKeys)) (last : Option Answer)
+    (old_bytes new_bytes : Option (List ℕ)) : Type 0 where
   pub answers : List Answer
   pub rest : List (Told NeverShows DefaultKeys)
   pub worked : IsWorkedOff old new told answers rest old_bytes new_bytes
@@ -68,7 +75,8 @@ pub record IsRunOn (old new : Seen NeverShows DefaultKeys) (told : List (Told Ne
   pub whole : IsWhole answers rest
 
 -- a session that ran refused one of those that it was told, after those before it
-pub record IsStoppedBy (refusal : Refusal) (old new : Seen NeverShows DefaultKeys) (told : List (Told NeverShows DefaultKeys)) (old_bytes new_bytes : Option (List ℕ)) : Type 0 where
+pub record IsStoppedBy (refusal : Refusal) (old new : Seen NeverShows DefaultKeys) (told : List (Told NeverShows DefaultKeys))
+    (old_bytes new_bytes : Option (List ℕ)) : Type 0 where
   pub answers : List Answer
   pub reached : Seen NeverShows DefaultKeys
   pub refused : Told NeverShows DefaultKeys
@@ -193,9 +201,19 @@ IsRunFault mode cols rows old_input new_input old_output new_output (Io Output c
 IsRunFault mode cols rows old_input new_input old_output new_output (Line number) =
     (script : List ℕ) × IsRead old_input new_input script × (script_told (script_lines script) ≡ Err number)
 IsRunFault mode cols rows old_input new_input old_output new_output (Refused cause) =
-    (cause ≡ Memory) ⊎ ((script : List ℕ) × (told : List (Told NeverShows DefaultKeys)) × IsRead old_input new_input script × (script_told (script_lines script) ≡ Ok told) × IsRefusal (refusal_of cause) cols rows told)
+    (cause ≡ Memory) ⊎ ((script : List ℕ) × (told : List (Told NeverShows DefaultKeys)) × IsRead old_input new_input script
+      × (script_told (script_lines script) ≡ Ok told) × IsRefusal (refusal_of cause) cols rows told)
 
 -- a fault that came before anything was printed
 abbrev pub IsBeforePrinting : ScriptFault → Type 0
 IsBeforePrinting (Io Output cause) = ⊥
 IsBeforePrinting fault = Unit {0}
+
+-- a session over a sink worked off what it was told; or it refused one of those
+abbrev pub RunsOn : {S P H E : Type 0} → (S → SinkSeen) → (old new : Core S P H E NeverShows DefaultKeys) → List (Told NeverShows DefaultKeys)
+    → Option Answer → Type 0
+RunsOn sink old new told last = IsRunOn (seen_of old) (seen_of new) told last (sink old.sink).bytes (sink new.sink).bytes
+
+abbrev pub IsStopped : {S P H E : Type 0} → (S → SinkSeen) → (old new : Core S P H E NeverShows DefaultKeys) → List (Told NeverShows DefaultKeys)
+    → MinusError → Type 0
+IsStopped sink old new told e = IsStoppedBy (refusal_of e) (seen_of old) (seen_of new) told (sink old.sink).bytes (sink new.sink).bytes

@@ -1,5 +1,6 @@
 -- The script: its lines, and what each of them tells the session.
-use Rattle.std.specs.Prelude.{ℕ, ◌+◌, ◌==◌, ◌++◌, nat_lt, List, [], ◌∷◌, length, map, Bool, true, false, Option, Some, None, Result, Ok, Err, bytes_eq, codes, ◌&&◌, if◌then◌else◌}
+use Rattle.std.specs.Prelude.{ℕ, ◌+◌, ◌==◌, ◌++◌, nat_lt, List, [], ◌∷◌, length, map, Bool, true, false, Option, Some, None, Result, Ok, Err, bytes_eq, codes}
+use Rattle.std.specs.Prelude.{◌&&◌, if◌then◌else◌}
 use Rattle.std.specs.Option.{option_map}
 use Rattle.std.specs.Str.{is_utf8, chars}
 use Rattle.std.specs.List.{slice_split, before_first, after_first, position_or_len}
@@ -13,7 +14,8 @@ use Rattle.minus_text.specs.declared.line_numbers.LineNumbers.TheVariants.{Alway
 use Rattle.minus_state.specs.declared.search.condition.NeverShows.{NeverShows}
 use Rattle.minus_script.specs.declared.keys.DefaultKeys.{DefaultKeys}
 use Rattle.minus.specs.Reads.{Told, a_command, an_event}
-use Rattle.minus.specs.Table.{Wanted, sets_data, appends_data, moves_mark, resizes, sets_prompt, sends_message, follows, shows_prompt, sets_numbers, sets_wrapping}
+use Rattle.minus.specs.Table.{Wanted, sets_data, appends_data, moves_mark, resizes, sets_prompt, sends_message, follows, shows_prompt, sets_numbers}
+use Rattle.minus.specs.Table.{sets_wrapping}
 use Rattle.minus_input.specs.Number.{usize_of}
 use Rattle.minus_script.specs.DescribedEvents.{key_described, mouse_said}
 use Rattle.minus_script.specs.Escapes.{unescaped}
@@ -115,7 +117,8 @@ abbrev pub line_told : List ℕ → Option (List (Told NeverShows DefaultKeys))
 line_told line = if is_utf8 line && has_blank line then word_told (before_first is_blank line) (after_first is_blank line) else None
 
 -- what a first line tells, and then the later ones, or the number of the first faulty line
-abbrev pub then_told : Option (List (Told NeverShows DefaultKeys)) → Result (List (Told NeverShows DefaultKeys)) ℕ → Result (List (Told NeverShows DefaultKeys)) ℕ
+abbrev pub then_told :
+    Option (List (Told NeverShows DefaultKeys)) → Result (List (Told NeverShows DefaultKeys)) ℕ → Result (List (Told NeverShows DefaultKeys)) ℕ
 then_told None later = Err 1
 then_told (Some first) (Ok later) = Ok (first ++ later)
 then_told (Some first) (Err number) = Err (number + 1)

@@ -1,6 +1,6 @@
 //! The program's faults, and the statuses that it ends with.
 ghost use Rattle.std.specs.Prelude.{◌≡◌, map, string_bytes, OnOk, IfErr, IsErrOf};
-ghost use Rattle.minus_script.specs.Programs.{IsProgramRun, IsProgramFault, IsSilent};
+ghost use Rattle.minus_script.specs.Programs.{ProgramRuns, ProgramFails, IsSilent};
 ghost use Rattle.minus_script.specs.declared.program.ProgramFault.TheVariants.{Usage, Script};
 ghost use Rattle.minus_script.specs.declared.fault.ScriptFault.TheVariants.{Refused};
 ghost use Rattle.minus_term.specs.declared.error.MinusError.TheVariants.{Memory};
@@ -77,10 +77,10 @@ pub fn run_words<R: Read, W: Write>(
     reader: &mut R,
     writer: &mut W,
 ) -> Result<(), ProgramFault>
-    ensures run { OnOk result (IsProgramRun (map string_bytes words.now)
-        (R.remaining reader.old) (R.remaining reader.new) (W.contents writer.old) (W.contents writer.new)) }
-    ensures fault { IfErr result (IsProgramFault (map string_bytes words.now)
-        (R.remaining reader.old) (R.remaining reader.new) (W.contents writer.old) (W.contents writer.new)) }
+    ensures run { OnOk result (ProgramRuns R.remaining W.contents (map string_bytes words.now)
+        reader.old reader.new writer.old writer.new) }
+    ensures fault { IfErr result (ProgramFails R.remaining W.contents (map string_bytes words.now)
+        reader.old reader.new writer.old writer.new) }
     ensures unread { IsErrOf result ProgramFault.Usage → reader.new ≡ reader.old }
     ensures unwritten { IfErr result (λ e. IsSilent e → writer.new ≡ writer.old) }
 {

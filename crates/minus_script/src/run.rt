@@ -7,7 +7,7 @@ ghost use Rattle.minus.specs.Steps.{cleanup_after};
 ghost use Rattle.minus.specs.declared.status.Status.TheVariants.{Running};
 ghost use Rattle.minus_term.specs.Refusals.{refusal_of};
 ghost use Rattle.minus_script.specs.Runs.{exit_code, printed_exit, printed_after, IsShown, IsScriptRun, IsRunFault, IsBeforePrinting};
-ghost use Rattle.minus_script.specs.Runs.{IsRunOn, IsStoppedBy};
+ghost use Rattle.minus_script.specs.Runs.{RunsOn, IsStopped};
 ghost use Rattle.minus_script.specs.ShowFaults.{IsShowFault, IsMemory};
 
 use crate::arguments::Mode;
@@ -90,10 +90,10 @@ fn work_off<S: OutputSink + Drop>(
     inputs: Vec<ScriptInput>,
 ) -> Result<Option<Answer>, MinusError>
     requires { (seen_of session.old).status ≡ Running }
-    ensures run { IfOk result (λ last. IsRunOn (seen_of session.old) (seen_of session.new)
-        (map told_of inputs.items) last (S.seen session.old.sink).bytes (S.seen session.new.sink).bytes) }
-    ensures refused { IfErr result (λ e. IsStoppedBy (refusal_of e) (seen_of session.old) (seen_of session.new)
-        (map told_of inputs.items) (S.seen session.old.sink).bytes (S.seen session.new.sink).bytes) }
+    ensures run { IfOk result (λ last.
+        RunsOn S.seen session.old session.new (map told_of inputs.items) last) }
+    ensures refused { IfErr result (λ e.
+        IsStopped S.seen session.old session.new (map told_of inputs.items) e) }
 {
     let mut left = inputs;
     let mut last = None;

@@ -1,5 +1,6 @@
 -- What the words behind the program's name ask for, and why they ask for nothing. They are read from the left.
-use Rattle.std.specs.Prelude.{ℕ, ◌+◌, ◌-◌, ◌*◌, ◌==◌, ◌&&◌, ◌||◌, ◌^◌, true, false, List, [], ◌∷◌, Option, Some, None, Result, Ok, Err, if◌then◌else◌, codes, bytes_eq, nat_lt}
+use Rattle.std.specs.Prelude.{ℕ, ◌+◌, ◌-◌, ◌*◌, ◌==◌, ◌&&◌, ◌||◌, ◌^◌, true, false, List, [], ◌∷◌, Option, Some, None, Result, Ok, Err, if◌then◌else◌, codes}
+use Rattle.std.specs.Prelude.{bytes_eq, nat_lt}
 use Rattle.std.specs.Int.{is_in_range}
 use Rattle.std.specs.Borrow.{Bor}
 use Rattle.minus_view.specs.declared.arguments.Source.{Source}

@@ -16,6 +16,10 @@ Reads (unit ∷ units) bytes rest =
 abbrev pub events_of : List (List ℕ) → List Event
 events_of units = filter_map meaning units
 
+-- the events of whole units at the front of bytes are added, and a rest is left
+abbrev pub AddsEvents : (old new : List Event) → (bytes rest : List ℕ) → Type 0
+AddsEvents old new bytes rest = (units : List (List ℕ)) × Reads units bytes rest × (new ≡ old ++ events_of units)
+
 -- the events of a rest that nothing has followed for a while: one `ESC` is the Esc key, and any other rest waits
 abbrev pub late_events : List ℕ → List Event
 late_events rest = if bytes_eq rest (27 ∷ []) then press Esc 0 ∷ [] else []

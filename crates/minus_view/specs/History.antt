@@ -1,5 +1,6 @@
 -- The queries that were taken, and where among them the reader of a search prompt is.
-use Rattle.std.specs.Prelude.{ℕ, ◌≡◌, ◌+◌, ◌-◌, ◌<◌, ◌==◌, ◌||◌, Bool, false, List, [], ◌∷◌, ◌++◌, Option, Some, None, length, nat_lt, slice_get, bytes_eq, if◌then◌else◌}
+use Rattle.std.specs.Prelude.{ℕ, ◌≡◌, ◌+◌, ◌-◌, ◌<◌, ◌==◌, ◌||◌, Bool, false, List, [], ◌∷◌, ◌++◌, Option, Some, None, length, nat_lt, slice_get, bytes_eq}
+use Rattle.std.specs.Prelude.{if◌then◌else◌}
 
 -- the queries, oldest first; how many of them, from the newest on, the reader has gone back; what they had typed before
 pub record Queries : Type 0 where

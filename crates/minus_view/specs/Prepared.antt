@@ -1,5 +1,6 @@
 -- What of a text was read and is not handed out yet, and when a text is handed out as it is.
-use Rattle.std.specs.Prelude.{ℕ, ◌≡◌, ◌+◌, ◌-◌, ◌%◌, ◌==◌, ◌||◌, Bool, true, false, List, [], ◌∷◌, ◌++◌, Option, Some, None, string_bytes, encode_utf8, replicate, unwrap_or, if◌then◌else◌}
+use Rattle.std.specs.Prelude.{ℕ, ◌≡◌, ◌+◌, ◌-◌, ◌%◌, ◌==◌, ◌||◌, Bool, true, false, List, [], ◌∷◌, ◌++◌, Option, Some, None, string_bytes, encode_utf8}
+use Rattle.std.specs.Prelude.{drop, replicate, unwrap_or, if◌then◌else◌}
 use Rattle.std.specs.List.{list_all}
 use Rattle.unicode_width.specs.Width.{char_width}
 use Rattle.minus_view.specs.declared.look.Glyph.{Glyph}
@@ -81,6 +82,24 @@ pub record Takes (col : ℕ) (old new : Preparation) (bytes rest : List ℕ) : T
   pub left : IsText rest
   pub text : held new ++ expanded next rest ≡ held old ++ expanded col bytes
   pub ends : column_after next rest ≡ column_after col bytes
+
+-- a front of some bytes was taken, so many of them
+abbrev pub TakesFront : (old new : Preparation) → List ℕ → ℕ → Type 0
+TakesFront old new bytes n = (col : ℕ) → IsPlain old → IsAt col old → IsText bytes → Takes col old new bytes (drop n bytes)
+
+-- a tab was taken: spaces stand for it
+abbrev pub TakesTab : (old new : Preparation) → Type 0
+TakesTab old new = (col : ℕ) → IsPlain old → IsAt col old → IsPlain new × (held new ≡ held old ++ replicate (tab_len col) 32)
+
+-- what was held and what bytes become is handed out, or held again
+abbrev pub HandsOut : (old new : Preparation) → (bytes before after : List ℕ) → Type 0
+HandsOut old new bytes before after =
+    (col : ℕ) → IsPlainAt col old → IsText bytes
+    → IsPlainAt (column_after col bytes) new × (after ++ held new ≡ before ++ (held old ++ expanded col bytes))
+
+-- all that was held is handed out
+abbrev pub HandsOutHeld : (old new : Preparation) → (before after : List ℕ) → Type 0
+HandsOutHeld old new before after = (col : ℕ) → IsPlainAt col old → IsPlainAt col new × (after ≡ before ++ held old)
 
 -- printed ASCII characters and newlines stay as they are
 abbrev pub PlainTextStays : Type 0

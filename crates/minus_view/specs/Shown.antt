@@ -59,3 +59,7 @@ ShownTextsAreClean = (bytes : List ℕ) → IsShown bytes → is_clean false (ch
 -- a printed ASCII character; or a newline, where these are allowed
 abbrev pub is_plain : Bool → ℕ → Bool
 is_plain newlines b = is_in_range 0x20 0x7E b || (newlines && (b == 10))
+
+-- a text that leads from a line, in which a style is open or not, to a place in a line, was added to a text, and a style is open then or not
+abbrev pub PutsLine : (text : List ℕ) → (was : Bool) → (before after : List ℕ) → (styled : Bool) → Type 0
+PutsLine text was before after styled = (s : Bool) → read (chars text) (Some (Line was)) ≡ Some (Line s) → (after ≡ before ++ text) × (styled ≡ s)

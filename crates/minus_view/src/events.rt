@@ -1,7 +1,7 @@
 //! All events that some bytes make, and how many of the bytes they are.
 ghost use Rattle.std.specs.Prelude.{◌≡◌, ◌+◌, ◌++◌, ◌∷◌, [], ◌≤◌, drop, take, length, IfOk, IfErr, None, List, ℕ};
 ghost use Rattle.minus_view.specs.Units.{unit_len};
-ghost use Rattle.minus_view.specs.Events.{Reads, events_of, late_events, PiecesJoin, UnitsAreDetermined};
+ghost use Rattle.minus_view.specs.Events.{AddsEvents, events_of, late_events, PiecesJoin, UnitsAreDetermined};
 
 use crate::keys::press;
 use crate::meaning::meaning;
@@ -23,8 +23,8 @@ fn push_event(events: &mut Vec<Event>, unit: &[u8]) -> Result<(), AllocError>
 // Adds the events of the whole units at the front; where there is no memory, of some of them.
 fn push_events(events: &mut Vec<Event>, bytes: &[u8]) -> Result<usize, AllocError>
     ensures within { IfOk result (λ taken. taken ≤ length bytes.now) }
-    ensures read { IfOk result (λ taken. (units : List (List ℕ)) × Reads units bytes.now (drop taken bytes.now)
-        × (events.new.items ≡ events.old.items ++ events_of units)) }
+    ensures read { IfOk result (λ taken.
+        AddsEvents events.old.items events.new.items bytes.now (drop taken bytes.now)) }
     ensures cut { IfOk result (λ taken. unit_len (drop taken bytes.now) ≡ None) }
     ensures short { IfOk result (λ taken. length bytes.now ≤ taken + 65) }
     ensures front { IfErr result (λ _. take (length events.old.items) events.new.items ≡ events.old.items) }
@@ -45,8 +45,8 @@ fn push_events(events: &mut Vec<Event>, bytes: &[u8]) -> Result<usize, AllocErro
 /// [`AllocError`] where there is no memory: nothing is added then.
 pub fn read_events(events: &mut Vec<Event>, bytes: &[u8]) -> Result<usize, AllocError>
     ensures within { IfOk result (λ taken. taken ≤ length bytes.now) }
-    ensures read { IfOk result (λ taken. (units : List (List ℕ)) × Reads units bytes.now (drop taken bytes.now)
-        × (events.new.items ≡ events.old.items ++ events_of units)) }
+    ensures read { IfOk result (λ taken.
+        AddsEvents events.old.items events.new.items bytes.now (drop taken bytes.now)) }
     ensures cut { IfOk result (λ taken. unit_len (drop taken bytes.now) ≡ None) }
     ensures short { IfOk result (λ taken. length bytes.now ≤ taken + 65) }
     ensures kept { IfErr result (λ _. events.new.items ≡ events.old.items) }

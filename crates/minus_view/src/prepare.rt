@@ -13,6 +13,7 @@ ghost use Rattle.std.specs.Prelude.{ℕ, ◌≡◌, ◌++◌, ◌≤◌, ◌<◌
 ghost use Rattle.std.specs.List.{list_all, prefix_len};
 ghost use Rattle.minus_view.specs.Shown.{is_plain, IsShown};
 ghost use Rattle.minus_view.specs.Prepared.{column_after, expanded, glyph_bytes, held, IsAt, IsPlain, IsPlainAt, IsText, PlainTextStays, Takes};
+ghost use Rattle.minus_view.specs.Prepared.{HandsOut, HandsOutHeld, TakesFront};
 
 mod bytes;
 mod characters;
@@ -114,8 +115,7 @@ impl Preparation {
         requires { 0 < length bytes.now }
         ensures within { IfOk result (λ n. n ≤ length bytes.now) }
         ensures some { IfOk result (λ n. 0 < n) }
-        ensures text { IfOk result (λ n. (col : ℕ) → IsPlain self.old → IsAt col self.old → IsText bytes.now
-            → Takes col self.old self.new bytes.now (drop n bytes.now)) }
+        ensures text { IfOk result (λ n. TakesFront self.old self.new bytes.now n) }
     {
         if self.is_text() {
             if bytes[0] == b'\t' {
@@ -174,9 +174,8 @@ impl Preparation {
         ensures shown { IsShown (string_bytes out.old) → IsShown (string_bytes out.new) }
         ensures kept { IfErr result (λ _. string_bytes out.new ≡ string_bytes out.old) }
         ensures waits { IfOk result (λ _. length (held self.new) ≤ 4) }
-        ensures plain { IfOk result (λ _. (col : ℕ) → IsPlainAt col self.old → IsText bytes.now
-            → IsPlainAt (column_after col bytes.now) self.new × (string_bytes out.new ++ held self.new
-            ≡ string_bytes out.old ++ (held self.old ++ expanded col bytes.now))) }
+        ensures plain { IfOk result (λ _.
+            HandsOut self.old self.new bytes.now (string_bytes out.old) (string_bytes out.new)) }
     {
         self.take(bytes)?;
         self.hand_out(out)
@@ -191,8 +190,8 @@ impl Preparation {
         ensures shown { IsShown (string_bytes out.old) → IsShown (string_bytes out.new) }
         ensures kept { IfErr result (λ _. string_bytes out.new ≡ string_bytes out.old) }
         ensures empty { IfOk result (λ _. held self.new ≡ []) }
-        ensures plain { IfOk result (λ _. (col : ℕ) → IsPlainAt col self.old
-            → IsPlainAt col self.new × (string_bytes out.new ≡ string_bytes out.old ++ held self.old)) }
+        ensures plain { IfOk result (λ _.
+            HandsOutHeld self.old self.new (string_bytes out.old) (string_bytes out.new)) }
     {
         self.release()?;
         self.hand_out(out)?;
@@ -209,8 +208,8 @@ impl Preparation {
         ensures shown { IsShown (string_bytes out.old) → IsShown (string_bytes out.new) }
         ensures kept { IfErr result (λ _. string_bytes out.new ≡ string_bytes out.old) }
         ensures empty { IfOk result (λ _. held self.new ≡ []) }
-        ensures plain { IfOk result (λ _. (col : ℕ) → IsPlainAt col self.old
-            → IsPlainAt col self.new × (string_bytes out.new ≡ string_bytes out.old ++ held self.old)) }
+        ensures plain { IfOk result (λ _.
+            HandsOutHeld self.old self.new (string_bytes out.old) (string_bytes out.new)) }
     {
         self.end()?;
         self.pause(out)

@@ -2,7 +2,7 @@
 ghost use Rattle.std.specs.Prelude.{encode_utf8, ◌≡◌, ◌++◌, ◌∷◌, [], true, false, chars, string_bytes, IfOk, IfErr, Some, Bool};
 ghost use Rattle.std.specs.Char.{IsScalar};
 ghost use Rattle.std.specs.List.{list_all};
-ghost use Rattle.minus_view.specs.Shown.{read, is_control, is_plain, IsShown};
+ghost use Rattle.minus_view.specs.Shown.{read, is_control, is_plain, IsShown, PutsLine};
 ghost use Rattle.minus_view.specs.declared.shown.Spot.TheVariants.{Line};
 
 use crate::shown::{Spot, is_control, read};
@@ -70,9 +70,8 @@ impl Sheet {
 
     /// Puts a text on it that leads from the text's end to a place in a line; any other text is left out.
     pub(crate) fn put(&mut self, text: &str) -> Result<(), AllocError>
-        ensures put { IfOk result (λ _. (s : Bool) →
-            read (chars text.now) (Some (Line self.old.styled)) ≡ Some (Line s) →
-            (string_bytes self.new.text ≡ string_bytes self.old.text ++ text.now) × (self.new.styled ≡ s)) }
+        ensures put { IfOk result (λ _. PutsLine text.now self.old.styled
+            (string_bytes self.old.text) (string_bytes self.new.text) self.new.styled) }
     {
         if let Some(Spot::Line(styled)) = read(Spot::Line(self.styled), text) {
             self.text.push_str(text)?;

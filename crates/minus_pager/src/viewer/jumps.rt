@@ -1,16 +1,13 @@
 //! The jumps among the matches that the program asks for itself.
-ghost use Rattle.std.specs.Prelude.{◌≡◌, ◌<◌, Some, length};
-ghost use Rattle.minus_text.specs.Matches.{nth_match};
-ghost use Rattle.minus_state.specs.Control.{matches_of};
+ghost use Rattle.std.specs.Prelude.{◌≡◌};
 ghost use Rattle.minus_state.specs.States.{control_of, IsFormed};
-ghost use Rattle.minus_pager.specs.Jumps.{jump_back};
+ghost use Rattle.minus_pager.specs.Jumps.{jump_back, LeadsToMatch};
 
 use minus::{InputEvent, PagerState};
 
 /// The jump on from the page that leads to the match at this place, counted from 0.
 pub fn jump_to(state: &PagerState, place: usize) -> usize
-    ensures { IsFormed state.now → place < length (matches_of (control_of state.now))
-        → nth_match (matches_of (control_of state.now)) state.now.upper_mark result ≡ Some place }
+    ensures { IsFormed state.now → LeadsToMatch (control_of state.now) state.now.upper_mark place result }
 {
     let matches = state.matches();
     let count = matches.len();

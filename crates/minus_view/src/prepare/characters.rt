@@ -2,7 +2,7 @@
 ghost use Rattle.std.specs.Prelude.{ℕ, ◌≡◌, ◌+◌, ◌%◌, ◌≤◌, ◌++◌, [], true, false, string_bytes, replicate, IfOk, None};
 ghost use Rattle.std.specs.List.{list_all};
 ghost use Rattle.minus_view.specs.Shown.{is_plain};
-ghost use Rattle.minus_view.specs.Prepared.{char_columns, column_after, tab_len, held, IsAt, IsPlain, IsPlainGlyph};
+ghost use Rattle.minus_view.specs.Prepared.{char_columns, column_after, tab_len, held, IsAt, IsPlain, IsPlainGlyph, TakesTab};
 ghost use Rattle.minus_view.specs.declared.look.Look.TheVariants.{Plain};
 ghost use Rattle.minus_view.specs.declared.prepare.Place.TheVariants.{Text};
 
@@ -173,8 +173,7 @@ impl Preparation {
 
     // A tab.
     pub(super) fn tab(&mut self) -> Result<(), AllocError>
-        ensures plain { IfOk result (λ _. (col : ℕ) → IsPlain self.old → IsAt col self.old → IsPlain self.new
-            × (held self.new ≡ held self.old ++ replicate (tab_len col) 32)) }
+        ensures plain { IfOk result (λ _. TakesTab self.old self.new) }
         ensures column { IfOk result (λ _. (col : ℕ) → IsAt col self.old → IsAt (col + tab_len col) self.new) }
     {
         self.release()?;
