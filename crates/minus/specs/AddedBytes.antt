@@ -10,11 +10,12 @@ use Rattle.minus_state.specs.Control.{Control}
 use Rattle.minus_state.specs.ShownPrompt.{prompt_row}
 use Rattle.minus.specs.Drawings.{ops_of, ops_of_step, page_by, EditsAlone, IsDrawable}
 
--- these operations
+-- its operations are added
 abbrev pub AddsOps : (old : Control) → Change → (Control → List Op) → (before after : List ℕ) → Type 0
 AddsOps old change ops before after = (new : Control) → IsChange old change new → after ≡ before ++ written_all (ops new)
 
--- and where the search prompt alone has changed, or, after an edit, its query
+-- they are added where the search prompt alone has changed; with the rows that a pattern leads to, if there is one; after an edit of the
+-- query
 abbrev pub AddsSearchOps : (old : Control) → Change → (Control → List Op) → (before after : List ℕ) → Type 0
 AddsSearchOps old change ops before after =
     (new : Control) → IsChange old change new → new ≡ record old { search = new.search } → after ≡ before ++ written_all (ops new)
@@ -25,7 +26,7 @@ AddsFound old change pattern last before after = AddsSearchOps old change (λ ne
 abbrev pub AddsEditOps : (old : Control) → Change → (Control → List Op) → (before after : List ℕ) → Type 0
 AddsEditOps old change ops before after = (new : Control) → IsChange old change new → EditsAlone old new → after ≡ before ++ written_all (ops new)
 
--- and where the change can be drawn so, with this prompt row
+-- they are added where the change can be drawn so and has this prompt row; and those of a step
 abbrev pub AddsDrawing : (old : Control) → Change → Drawing → (prompt : List ℕ) → (Control → List Op) → (before after : List ℕ) → Type 0
 AddsDrawing old change drawing prompt ops before after =
     (new : Control) → IsChange old change new → IsDrawable drawing old new → prompt ≡ prompt_row new → after ≡ before ++ written_all (ops new)

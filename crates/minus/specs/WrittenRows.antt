@@ -56,7 +56,7 @@ abbrev pub text_ops : ℕ → ℕ → Bool → ℕ → ℕ → Bool → ℕ → 
 text_ops mark rows wrapping cols left numbers line_count lines =
     GoTo 0 0 ∷ ClearAll ∷ lines_ops wrapping cols left numbers line_count (lines_of_page mark rows lines)
 
--- such rows in a style
+-- a stored row, stored rows one below another, and those of a page alone on the screen, in a style
 abbrev pub styled_row : RowStyle → List ℕ → List ℕ
 styled_row s row = written_row s.wrapping s.cols s.left_mark s.numbers s.line_count row
 
@@ -66,7 +66,7 @@ styled_lines s lines = lines_ops s.wrapping s.cols s.left_mark s.numbers s.line_
 abbrev pub styled_text : ℕ → ℕ → RowStyle → List (List ℕ) → List Op
 styled_text mark rows s lines = text_ops mark rows s.wrapping s.cols s.left_mark s.numbers s.line_count lines
 
--- a sink takes such rows, those of a page alone on the screen, or a beginning of their bytes
+-- a sink takes stored rows, or those of a page alone on the screen; or it takes a beginning of their bytes
 abbrev pub AddsLines : (old new : SinkSeen) → Bool → ℕ → ℕ → Bool → ℕ → List (List ℕ) → Type 0
 AddsLines old new wrapping cols left numbers line_count lines =
     Appends old.bytes new.bytes (written_all (lines_ops wrapping cols left numbers line_count lines))

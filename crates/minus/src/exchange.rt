@@ -39,7 +39,6 @@ impl<S: OutputSink + Drop, P: Parts> Core<S, P> {
     ghost use Rattle.std.specs.Prelude.{◌≡◌, OnOk, OnErr, IfOk, IfErr};
     ghost use Rattle.minus_term.specs.Refusals.{refusal_of};
     ghost use Rattle.minus_term.specs.Written.{written_all};
-    ghost use Rattle.minus_state.specs.States.{control_of};
     ghost use Rattle.minus_state.specs.Sizes.{IsSize};
     ghost use Rattle.minus.specs.Core.{seen_of};
     ghost use Rattle.minus.specs.Drawings.{whole_page};

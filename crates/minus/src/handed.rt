@@ -23,7 +23,7 @@ pub(crate) enum Handed<P: Parts> {
 impl<P: Parts> PartsOf<P> {
     ghost use Rattle.std.specs.Prelude.{ℕ, ◌≡◌, ◌+◌, IsErrOf, OnOk, OnErr, IfErr, map, vec_len};
     ghost use Rattle.minus_term.specs.Refusals.{refusal_of};
-    ghost use Rattle.minus.specs.Handing.{exit_by, exit_without, kept_with, classifier_with, condition_with, IsFree, IsUnhanded};
+    ghost use Rattle.minus.specs.Handing.{exit_by, kept_with, classifier_with, condition_with, IsFree, IsUnhanded};
     ghost use Rattle.minus.specs.Handing.{kept_after, classifier_after, condition_after, IsFreeFor};
     ghost use Rattle.minus.specs.Reads.{kept_of, handing_of, wanted_of};
     ghost use Rattle.minus.specs.Room.{HasRoomFor};

@@ -1,5 +1,5 @@
 //! The start of a session.
-ghost use Rattle.std.specs.Prelude.{ℕ, ◌≡◌, ◌<◌, ◌++◌, [], true, false, None, is_some, length, map, vec_len, string_bytes, OnOk, OnErr, IfOk, IfErr};
+ghost use Rattle.std.specs.Prelude.{◌≡◌, ◌<◌, ◌++◌, [], true, false, None, is_some, length, map, vec_len, string_bytes, OnOk, OnErr, IfOk, IfErr};
 ghost use Rattle.std.specs.Io.KnownBytes.{Appends};
 ghost use Rattle.minus_term.specs.Counts.{Stays, Rises};
 ghost use Rattle.minus_term.specs.Refusals.{refusal_of, for_memory, at_drawing};

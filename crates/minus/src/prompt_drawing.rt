@@ -1,5 +1,5 @@
 //! The drawings of an open search prompt, in a buffer.
-ghost use Rattle.std.specs.Prelude.{◌≡◌, ◌∷◌, ◌++◌, option_map, string_bytes, OnOk};
+ghost use Rattle.std.specs.Prelude.{◌≡◌, ◌++◌, option_map, OnOk};
 ghost use Rattle.regex.specs.Strings.{regex_pattern};
 ghost use Rattle.minus_term.specs.Written.{written_all};
 ghost use Rattle.minus_state.specs.Changes.{IsFormedFor};

@@ -3,7 +3,7 @@ ghost use Rattle.std.specs.Prelude.{◌≡◌, string_bytes};
 ghost use Rattle.std.specs.Option.{option_map, unwrap_or};
 ghost use Rattle.minus_state.specs.Control.{IsClamped};
 ghost use Rattle.minus_state.specs.ShownPrompt.{prompt_row as row_shown};
-ghost use Rattle.minus_state.specs.States.{control_of, settings_of, IsFormed};
+ghost use Rattle.minus_state.specs.States.{control_of, IsFormed};
 ghost use Rattle.minus.specs.declared.status.Status.TheVariants as stands;
 
 use crate::answer::Answer;
@@ -82,7 +82,7 @@ fn keep<T: Drop>(kept: &mut T, new: Option<T>)
 
 impl<S, P: Parts> Core<S, P> {
     ghost use Rattle.std.specs.Prelude.{◌≡◌, map, OnOk, OnErr, IfOk, IfErr, string_bytes};
-    ghost use Rattle.std.specs.Option.{option_map, unwrap_or};
+    ghost use Rattle.std.specs.Option.{option_map};
     ghost use Rattle.minus_state.specs.Changes.{IsFormedFor};
     ghost use Rattle.minus_state.specs.Page.{page};
     ghost use Rattle.minus_state.specs.Sizes.{IsSize};
@@ -231,11 +231,10 @@ impl<S: OutputSink, P: Parts> Core<S, P> {
 }
 
 impl<S: OutputSink + Drop, P: Calls> Core<S, P> {
-    ghost use Rattle.std.specs.Prelude.{◌≡◌, ◌≤◌, ◌<◌, ◌↔◌, is_some, true, length, map, option_map, string_bytes, None, Some, OnOk, OnErr, IfOk, IfErr, IsOk, IsErrOf};
+    ghost use Rattle.std.specs.Prelude.{◌≡◌, ◌≤◌, ◌<◌, ◌↔◌, is_some, true, option_map, string_bytes, None, Some, OnOk, OnErr, IfOk, IfErr, IsOk, IsErrOf};
     ghost use Rattle.std.specs.VecDeque.{deque_len};
     ghost use Rattle.std.specs.Io.KnownBytes.{Appends};
-    ghost use Rattle.minus_term.specs.Counts.{AppendsFront, Stays, Rises};
-    ghost use Rattle.minus_term.specs.Refusals.{refusal_of, at_drawing};
+    ghost use Rattle.minus_term.specs.Counts.{Stays, Rises};
     ghost use Rattle.minus_term.specs.Terminal.{CleanupBreaksOff};
     ghost use Rattle.minus_state.specs.States.{control_of};
     ghost use Rattle.minus.specs.Asked.{checked_as};

@@ -6,8 +6,8 @@ ghost use Rattle.minus_term.specs.Counts.{Stays};
 ghost use Rattle.minus_term.specs.FullRedraw.{prompt_ops, row_ops};
 ghost use Rattle.minus_term.specs.Writes.{WriteRefuses};
 ghost use Rattle.minus_term.specs.Written.{written_all};
-ghost use Rattle.minus_state.specs.Control.{Control, clamp, moved_to};
-ghost use Rattle.minus_state.specs.Changes.{IsChange, IsFormedFor, shown_by};
+ghost use Rattle.minus_state.specs.Control.{clamp, moved_to};
+ghost use Rattle.minus_state.specs.Changes.{IsFormedFor, shown_by};
 ghost use Rattle.minus.specs.Drawings.{whole_page, page_rows, append_from, scroll_to};
 ghost use Rattle.minus_state.specs.States.{IsFormed, control_of};
 

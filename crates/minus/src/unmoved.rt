@@ -1,5 +1,5 @@
 //! What a request changes without its move, its drawing and the opening of a search prompt.
-ghost use Rattle.std.specs.Prelude.{◌≡◌, None, false, if◌then◌else◌, option_map, string_bytes, OnOk, OnErr, IfOk, IfErr};
+ghost use Rattle.std.specs.Prelude.{◌≡◌, None, false, if◌then◌else◌, OnOk, OnErr, IfOk, IfErr};
 ghost use Rattle.minus_term.specs.Refusals.{refusal_of};
 ghost use Rattle.minus_state.specs.Changes.{IsChange};
 ghost use Rattle.minus_state.specs.Control.{clamp};

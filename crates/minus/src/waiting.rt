@@ -95,7 +95,7 @@ fn let_first_go<T: Drop>(queue: &mut VecDeque<T>, count: usize)
 }
 
 impl<S, P: Parts> Core<S, P> {
-    ghost use Rattle.std.specs.Prelude.{◌≡◌, ◌+◌, ◌≤◌, ◌∷◌, ◌++◌, [], drop, is_some, true, false, None, string_bytes};
+    ghost use Rattle.std.specs.Prelude.{◌≡◌, ◌+◌, ◌≤◌, ◌∷◌, ◌++◌, [], drop, is_some, true, None, string_bytes};
     ghost use Rattle.std.specs.Prelude.{OnOk, OnErr, IfOk, IfErr, IfSome, IfNone};
     ghost use Rattle.std.specs.VecDeque.{deque_len};
     ghost use Rattle.minus_term.specs.Refusals.{refusal_of};

@@ -1,5 +1,5 @@
 //! Lists of descriptions, read as keys of a register.
-ghost use Rattle.std.specs.Prelude.{◌≡◌, ℕ, List, map, IfOk, IfErr, OnOk};
+ghost use Rattle.std.specs.Prelude.{ℕ, List, map, IfOk, IfErr, OnOk};
 ghost use Rattle.minus_term.specs.declared.error.DescriptionError.{DescriptionError};
 ghost use Rattle.minus_term.specs.Refusals.{refusal_of};
 ghost use Rattle.minus_input.specs.Description.{KeyFault, MouseFault};

@@ -1,6 +1,6 @@
 //! The names of keys, and the table of them that a help page shows.
-ghost use Rattle.std.specs.Prelude.{◌≡◌, ◌++◌, ◌==◌, map, not, length, IfOk, OnOk, string_bytes};
-ghost use Rattle.std.specs.List.{filter, flat_map};
+ghost use Rattle.std.specs.Prelude.{◌≡◌, ◌==◌, map, not, IfOk, OnOk, string_bytes};
+ghost use Rattle.std.specs.List.{flat_map};
 ghost use Rattle.minus_input.specs.HelpTable.{named_code_name, code_name, key_name, shown, shows_shift, entry_of, seen_entry, add_once, names_of, descriptions, group_line, help_table};
 
 use bitflags::Flags;

@@ -1,6 +1,5 @@
 //! The names that a description is made of.
-ghost use Rattle.std.specs.Prelude.{◌≡◌, ℕ, List, Option, map, codes, bytes_eq};
-ghost use Rattle.std.specs.Char.{to_ascii_lowercase};
+ghost use Rattle.std.specs.Prelude.{◌≡◌, Option, bytes_eq};
 ghost use Rattle.std.specs.Option.{option_map};
 ghost use Rattle.minus_input.specs.Names.{modifier_bit, modifier_letter, lowered, look_up, editing_keys, moving_keys, function_keys, key_named, button_actions, other_actions, action_named};
 

@@ -1,11 +1,10 @@
 //! A run of a script.
-ghost use Rattle.std.specs.Prelude.{◌≡◌, map, Some, string_bytes, IfOk, IfErr, OnOk};
+ghost use Rattle.std.specs.Prelude.{◌≡◌, map, Some, IfOk, IfErr, OnOk};
 ghost use Rattle.std.specs.Io.KnownBytes.{Appends};
 ghost use Rattle.minus.specs.Reads.{told_of};
 ghost use Rattle.minus.specs.Core.{seen_of};
 ghost use Rattle.minus.specs.Steps.{cleanup_after};
 ghost use Rattle.minus.specs.declared.status.Status.TheVariants.{Running};
-ghost use Rattle.minus_term.specs.Refusals.{refusal_of};
 ghost use Rattle.minus_script.specs.Runs.{exit_code, printed_exit, printed_after, IsShown, IsScriptRun, IsRunFault, IsBeforePrinting};
 ghost use Rattle.minus_script.specs.Runs.{RunsOn, IsStopped};
 ghost use Rattle.minus_script.specs.ShowFaults.{IsShowFault, IsMemory};

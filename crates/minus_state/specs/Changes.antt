@@ -92,7 +92,7 @@ as_is s redraw = record {
 abbrev pub Leads : PagerState → Change → Control → Type 0
 Leads s change new = IsFormed s → IsChange (control_of s) change new
 
--- so it is of each control that the change leads a formed state to
+-- this holds of each control that the change leads a formed state to
 abbrev pub WhereLed : PagerState → Change → (Control → Type 0) → Type 0
 WhereLed s change holds = (new : Control) → IsFormed s → IsChange (control_of s) change new → holds new
 

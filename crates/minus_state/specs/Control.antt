@@ -1,5 +1,5 @@
 -- What the commands define: the text on show and how it is laid out, the size, the part of it that the page shows, and what is set beside it.
-use Rattle.std.specs.Prelude.{◌≡◌, ℕ, ◌-◌, ◌≤◌, ◌==◌, ◌&&◌, nat_lt, min, List, [], length, unwrap_or, Option, Some, Bool, if◌then◌else◌}
+use Rattle.std.specs.Prelude.{◌≡◌, ℕ, ◌-◌, ◌≤◌, ◌==◌, ◌&&◌, nat_lt, min, List, [], length, unwrap_or, Option, None, Some, Bool, if◌then◌else◌}
 use Rattle.regex.specs.Patterns.{Re}
 use Rattle.minus_term.specs.Marks.{top_of}
 use Rattle.minus_text.specs.declared.layout.Layout.{Layout}
@@ -122,6 +122,10 @@ following c follow = record c { mark = top c; settings = record c.settings { fol
 -- a message stands in the prompt's place
 abbrev pub with_message : Control → List ℕ → Control
 with_message c text = record c { settings = record c.settings { message = Some text } }
+
+-- no message stands there
+abbrev pub without_message : Control → Control
+without_message c = record c { settings = record c.settings { message = None } }
 
 -- the prompt row is shown, or hidden
 abbrev pub with_prompt_shown : Control → Bool → Control

@@ -2,7 +2,7 @@
 use Rattle.std.specs.Prelude.{ℕ, ◌++◌, List, is_some, Bool, false, Option, None, Some, codes, if◌then◌else◌}
 use Rattle.std.specs.Option.{option_map}
 use Rattle.minus_text.specs.declared.line_numbers.LineNumbers.TheVariants.{Disabled}
-use Rattle.minus_state.specs.Control.{Control, Saved, Settings, reformed}
+use Rattle.minus_state.specs.Control.{Control, Saved, Settings, reformed, without_message}
 
 -- what the prompt says while help is open
 abbrev pub help_prompt : List ℕ
@@ -58,7 +58,7 @@ shown_help c (Some saved) text = c
 
 -- help is left where it is open, and else the message goes
 abbrev pub restored : Control → Option Saved → Control
-restored c None = record c { settings = record c.settings { message = None } }
+restored c None = without_message c
 restored c (Some saved) = closed c saved
 
 -- help is left where it is open, and else opened with a text

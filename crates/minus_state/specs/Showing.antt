@@ -14,7 +14,8 @@ abbrev pub row_text : ShownRow → List ℕ
 row_text (Own row) = row.now
 row_text (Formed row) = string_bytes row
 
--- this is shown of a row with a number, if there is one, where its line is one row and nothing is selected; or where nothing is; or of any
+-- this is shown of the row with a number, if there is one: of a line that is its one row, where nothing is selected; of any row, where
+-- nothing is selected; of any row
 abbrev pub IsCroppedRow : ShownRows → ℕ → Option (List ℕ) → Type 0
 IsCroppedRow shown i row =
     (term : Option Re) → IsFoundAt term (viewed shown.view) i → row ≡ cropped_row term (viewed shown.view).document shown.left_mark i

@@ -15,8 +15,8 @@ abbrev pub some_row_ops : Option (List ℕ) → List Op
 some_row_ops None = []
 some_row_ops (Some row) = row_ops row
 
--- what is shown of a row with a number, if there is one, is added to bytes: as it is stored; where its line is one row and nothing is
--- selected; where nothing is selected; or of any
+-- what is shown of the row with a number, if there is one, is added to bytes: as it is stored; of a line that is its one row, where nothing
+-- is selected; of any row, where nothing is selected; of any row
 abbrev pub WritesStored : ShownRows → ℕ → (old new : List ℕ) → Type 0
 WritesStored shown i old new =
     (term : Option Re) → IsFoundAt term (viewed shown.view) i

@@ -1,6 +1,6 @@
 //! The prompt row.
 ghost use Rattle.std.specs.Prelude.{◌≡◌, true, string_bytes, IfOk};
-ghost use Rattle.minus_state.specs.PromptRow.{seen_prompt, said, said_style, prefix_indicator, match_indicator, follow_indicator, columns_left, prompt_row, FillsItsRow, PromptFillsItsRow};
+ghost use Rattle.minus_state.specs.PromptRow.{seen_prompt, said, said_style, prefix_indicator, match_indicator, follow_indicator, prompt_row, FillsItsRow, PromptFillsItsRow};
 
 use minus_text::{columns, fit_columns};
 use std::alloc::{AllocError, Global};

@@ -1,7 +1,7 @@
 //! What of a row stands in the columns of the screen.
-ghost use Rattle.std.specs.Prelude.{◌≡◌, ◌+◌, ◌&&◌, ◌^◌, ◌<◌, nat_lt, [], length, Some, None, if◌then◌else◌};
+ghost use Rattle.std.specs.Prelude.{◌≡◌, ◌+◌, ◌&&◌, ◌<◌, nat_lt, [], Some, None, if◌then◌else◌};
 ghost use Rattle.minus_text.specs.Crop.{is_inside};
-ghost use Rattle.minus_state.specs.ScrollBounds.{IsLastCut, prefix_bytes, AreScrollBounds, joined, seen_range, range_behind};
+ghost use Rattle.minus_state.specs.ScrollBounds.{IsLastCut, prefix_bytes, AreScrollBounds, joined, seen_range};
 ghost use Rattle.minus_state.specs.VisibleCharacters.{row_units};
 
 use minus_text::{Units, Window, prefix_columns};

@@ -1,6 +1,6 @@
 //! What is selected, and which characters of a row are.
-ghost use Rattle.std.specs.Prelude.{◌≡◌, option_map};
-ghost use Rattle.minus_state.specs.Selection.{comes_first, in_order, ends_in_order, is_between, first_column, column_behind, visible_at, marked_range};
+ghost use Rattle.std.specs.Prelude.{◌≡◌};
+ghost use Rattle.minus_state.specs.Selection.{comes_first, in_order, ends_in_order, first_column, column_behind, visible_at, marked_range};
 
 /// An end of what is selected: a row of the document and a column of it, both counted from 0.
 #[derive(Clone, Copy, Debug, PartialEq, Eq)]

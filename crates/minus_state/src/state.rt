@@ -176,7 +176,7 @@ impl PagerState {
     ghost use Rattle.minus_text.specs.Searched.{searched};
     ghost use Rattle.minus_state.specs.Control.{document_of};
     ghost use Rattle.minus_term.specs.Refusals.{refusal_of};
-    ghost use Rattle.minus_state.specs.States.{control_of, settings_of, ends_of, term_of, search_of, IsFormed, at_start};
+    ghost use Rattle.minus_state.specs.States.{control_of, ends_of, term_of, IsFormed, at_start};
     ghost use Rattle.minus_state.specs.NextTexts.{next_document, next_term, aside_with, FindsNext};
     ghost use Rattle.minus_state.specs.Aside.{aside_of};
     ghost use Rattle.minus_state.specs.Changes.{WhereLed, KeepsBeside, IsPlaced, IsUnformedState};

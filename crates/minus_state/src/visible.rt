@@ -1,5 +1,5 @@
 //! The visible characters of a row: those outside of `ESC[` sequences, the row taken as one piece.
-ghost use Rattle.std.specs.Prelude.{◌≡◌, ◌^◌, ◌<◌, ◌++◌, length, string_bytes, IfOk};
+ghost use Rattle.std.specs.Prelude.{◌≡◌, ◌<◌, ◌++◌, string_bytes, IfOk};
 ghost use Rattle.minus_text.specs.TextUnits.{units_left, bytes_left};
 ghost use Rattle.minus_state.specs.VisibleCharacters.{before_visible, behind_visible, text_of, place_of_visible, place_after_visible, marked, MarksAloneAreAdded};
 

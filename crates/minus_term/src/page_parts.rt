@@ -1,6 +1,6 @@
 //! The parts of a page's drawing, each added to a buffer in few calls. An `Err` is for want of memory alone; it may
 //! leave some of a part behind.
-ghost use Rattle.std.specs.Prelude.{◌≡◌, [], ◌∷◌, ◌++◌, ◌-◌, ◌^◌, ◌<◌, ◌≤◌, OnOk};
+ghost use Rattle.std.specs.Prelude.{◌≡◌, [], ◌∷◌, ◌++◌, ◌-◌, ◌<◌, ◌≤◌, OnOk};
 ghost use Rattle.minus_term.specs.FullRedraw.{prompt_ops, row_ops};
 ghost use Rattle.minus_term.specs.Marks.{page_len};
 ghost use Rattle.minus_term.specs.Operations.{ClearAll, ClearRow, GoTo, HideCursor, NextRow, Return, ScrollDown, ScrollUp};

@@ -1,10 +1,10 @@
 //! The setup of a terminal and its cleanup.
-ghost use Rattle.std.specs.Prelude.{◌≡◌, ◌++◌, ◌↔◌, ⊤, [], true, false, OnOk, OnErr, IfErr, IsOk, IsErrOf, if◌then◌else◌};
+ghost use Rattle.std.specs.Prelude.{◌≡◌, ◌↔◌, [], true, false, OnOk, OnErr, IfErr, IsOk, IsErrOf, if◌then◌else◌};
 ghost use Rattle.std.specs.Io.KnownBytes.{Appends};
-ghost use Rattle.minus_term.specs.Counts.{Stays, Rises, AppendsFront, AppendsPart};
+ghost use Rattle.minus_term.specs.Counts.{Stays, Rises, AppendsFront};
 ghost use Rattle.minus_term.specs.Operations as op;
 ghost use Rattle.minus_term.specs.Written.{written};
-ghost use Rattle.minus_term.specs.Terminal.{alternate_screen, main_screen, mouse_on, mouse_off, setup_bytes, cleanup_bytes, SetupBreaksOff, CleanupBreaksOff};
+ghost use Rattle.minus_term.specs.Terminal.{setup_bytes, cleanup_bytes, SetupBreaksOff, CleanupBreaksOff};
 
 use crate::error::{CleanupError, SetupError, TermError};
 use crate::sink::{OutputSink, draw_bytes};

@@ -14,8 +14,8 @@ matches_of f = record { row = f.row; escapes = f.escapes.items; matches = f.matc
 abbrev pub AddsFound : (old new : List FoundRow) → List RowMatches → Type 0
 AddsFound old new found = map matches_of new ≡ map matches_of old ++ found
 
--- what was found in a row with a number, if there is one, was added: among the rows from the first of which on it is that one, the old ones
--- and the new ones stand
+-- what was found in a row with a number, if there is one, was added to what was found: where the row is one of these, and the old places
+-- stand in these rows, so do the new ones
 abbrev pub StaysPlaced : ℕ → Option (List ℕ) → (old new : List FoundRow) → Type 0
 StaysPlaced n row old new =
     (first : ℕ) (rows : List (List ℕ)) (i : ℕ) → n ≡ first + i → row ≡ slice_get rows i → ArePlaced first rows (map matches_of old)

@@ -44,7 +44,7 @@ IsFoundBetween term s start end = (i : ℕ) → start ≤ i → i < end → IsFo
 abbrev pub IsFoundInPush : Option Re → SearchedPush → Type 0
 IsFoundInPush term p = p.found ≡ found_by term p.push.kept_rows (rows_in p.push.tail)
 
--- where a term finds what was found in a document and in a push, it finds what is found then
+-- where what was found in a document and in a push is what a term finds, so is what is kept as found then
 abbrev pub FindsOn : Option Re → (old : Searched) → SearchedPush → (new : Searched) → Type 0
 FindsOn term old p new = IsFoundBy term old → IsFoundInPush term p → IsFoundBy term new
 

@@ -69,7 +69,7 @@ marked_stretch text at end (m ∷ ms) =
     if nat_lt start stop then slice_range text at start ++ (reverse_on ++ (slice_range text start stop ++ (reverse_off ++ marked_stretch text stop end ms)))
     else marked_stretch text at end ms
 
--- the first of the matches that a stretch of a text has from a place on was added to bytes, and the stretch goes on from another place
+-- a match of a stretch of a text, as far as the stretch has it behind a place, was added to bytes: the stretch goes on from the next place
 abbrev pub AddsMatch : (old new text : List ℕ) → (at next end : ℕ) → ℕ × ℕ → Type 0
 AddsMatch old new text at next end place =
     (ms : List (ℕ × ℕ)) → new ++ marked_stretch text next end ms ≡ old ++ marked_stretch text at end (place ∷ ms)

@@ -1,5 +1,5 @@
 //! Buffers that take rows.
-ghost use Rattle.std.specs.Prelude.{◌≡◌, ℕ, List, [], ◌∷◌, ◌++◌, ◌+◌, ◌≤◌, length, map, take, string_bytes, IfSome, OnOk, OnErr, vec_len};
+ghost use Rattle.std.specs.Prelude.{◌≡◌, ℕ, List, [], ◌+◌, ◌≤◌, length, map, take, string_bytes, IfSome, OnOk, OnErr, vec_len};
 ghost use Rattle.minus_text.specs.Buffers.{GrowsByText, PutsText};
 
 use crate::screen::Rows;

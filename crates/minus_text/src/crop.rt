@@ -1,7 +1,6 @@
 //! Texts cut to some columns.
 ghost use Rattle.std.specs.Prelude.{◌≡◌, ◌≤◌, ◌+◌, ◌-◌, ◌==◌, ◌++◌, max, true, length, take, drop, chars, string_bytes, if◌then◌else◌, IfOk, IfSome, OnOk, IsTrue, ℕ, List};
-ghost use Rattle.std.specs.List.{concat, list_all};
-ghost use Rattle.std.specs.Str.{encode_utf8_all};
+ghost use Rattle.std.specs.List.{list_all};
 ghost use Rattle.minus_text.specs.Plain.{is_printable, is_unescaped};
 ghost use Rattle.minus_text.specs.RowText.{IsUnescapedFrom};
 ghost use Rattle.minus_text.specs.Units.{unit_columns, columns, begins_sequence};

@@ -1,6 +1,6 @@
 //! Rows formed of a text, beside what is kept.
-ghost use Rattle.std.specs.Prelude.{◌≡◌, ℕ, List, ◌+◌, ◌-◌, ◌^◌, ◌<◌, ◌≤◌, ◌∷◌, [], ◌++◌, length, drop, max, IsTrue, IfOk, OnOk};
-ghost use Rattle.std.specs.Str.{IsUtf8, IsCharBoundary};
+ghost use Rattle.std.specs.Prelude.{◌≡◌, ℕ, ◌+◌, ◌-◌, ◌^◌, ◌<◌, ◌≤◌, ◌∷◌, [], ◌++◌, length, drop, max, IsTrue, IfOk, OnOk};
+ghost use Rattle.std.specs.Str.{IsCharBoundary};
 ghost use Rattle.minus_text.specs.Lines.{cut, whole};
 ghost use Rattle.minus_text.specs.Layouts.{own_rows};
 ghost use Rattle.minus_text.specs.Units.{columns};

@@ -1,6 +1,5 @@
 //! A map from each line to the number of its first row.
 ghost use Rattle.std.specs.Prelude.{◌≡◌, ℕ, true, ◌+◌, ◌^◌, ◌<◌, ◌≤◌, ◌==◌, List, [], ◌∷◌, ◌++◌, length, map, take, slice_get, slice_index, OnOk, OnErr, MatchOption};
-ghost use Rattle.std.specs.List.{All};
 ghost use Rattle.std.specs.List.Sorted.{IsStrictlyIncreasing};
 ghost use Rattle.minus_text.specs.LineMaps.{entries_kept, IsLineOfRow, IsLineIn};
 

@@ -47,7 +47,7 @@ fn row_of(alloc: Global, row: Option<ViewedRow<'_>>) -> Result<Option<Row>, Allo
 }
 
 impl<'s> RowsView<'s> {
-    ghost use Rattle.std.specs.Prelude.{◌≡◌, ◌==◌, ℕ, List, Some, length, string_bytes, option_map, slice_get, IfOk, IfSome};
+    ghost use Rattle.std.specs.Prelude.{◌≡◌, ◌==◌, Some, length, string_bytes, option_map, slice_get, IfOk, IfSome};
     ghost use Rattle.std.specs.List.{position_or_len};
     ghost use Rattle.minus_text.specs.Document.{rows_of, line_count, IsPrefixOf};
     ghost use Rattle.minus_text.specs.Formatted.{prefix_of};

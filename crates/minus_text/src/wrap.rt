@@ -1,13 +1,12 @@
 //! The rows that a line fills.
-ghost use Rattle.std.specs.Prelude.{◌≡◌, ℕ, ◌+◌, ◌*◌, ◌^◌, ◌<◌, ◌≤◌, List, [], ◌∷◌, ◌++◌, length, take, drop, map, chars, encode_utf8, true, false, IsCharBoundary, nat_le, nat_lt, ◌||◌, ◌&&◌, ◌==◌, if◌then◌else◌, string_bytes, IsTrue, IfOk, IfSome, IfNone, OnOk, MatchOption};
+ghost use Rattle.std.specs.Prelude.{◌≡◌, ℕ, ◌+◌, ◌*◌, ◌^◌, ◌<◌, ◌≤◌, List, [], ◌∷◌, ◌++◌, length, take, drop, map, chars, encode_utf8, true, false, IsCharBoundary, ◌||◌, ◌&&◌, ◌==◌, string_bytes, IsTrue, IfOk, IfSome, IfNone, OnOk, MatchOption};
 ghost use Rattle.std.specs.Char.{len_utf8};
-ghost use Rattle.std.specs.Str.{encode_utf8_all};
 ghost use Rattle.std.specs.List.{flat_map, prefix_len, position_or_len, sum_by, list_all};
 ghost use Rattle.std.specs.Option.{SomeIff};
 ghost use Rattle.minus_text.specs.Units.{char_columns, is_final, begins_sequence, units, unit_columns, unit_columns_in, body_of, columns};
 ghost use Rattle.minus_text.specs.Plain.{is_printable, is_unescaped, is_unhyphened};
 ghost use Rattle.minus_text.specs.Runs.{IsRun, AreRuns};
-ghost use Rattle.minus_text.specs.Pieces.{pieces, is_space, body_len, parts, fronts, with_spaces, part_len_after, begins_alphanumeric, IsOnePart};
+ghost use Rattle.minus_text.specs.Pieces.{pieces, is_space, body_len, parts, fronts, with_spaces, begins_alphanumeric, IsOnePart};
 ghost use Rattle.minus_text.specs.Kept.{IsBorder};
 ghost use Rattle.minus_text.specs.Settled.{SettlesFirst};
 ghost use Rattle.minus_text.specs.Joints.{WordsAreCutAtJoints};

@@ -1,5 +1,5 @@
 //! All events that some bytes make, and how many of the bytes they are.
-ghost use Rattle.std.specs.Prelude.{◌≡◌, ◌+◌, ◌++◌, ◌∷◌, [], ◌≤◌, drop, take, length, IfOk, IfErr, None, List, ℕ};
+ghost use Rattle.std.specs.Prelude.{◌≡◌, ◌+◌, ◌++◌, ◌∷◌, [], ◌≤◌, drop, take, length, IfOk, IfErr, None};
 ghost use Rattle.minus_view.specs.Units.{unit_len};
 ghost use Rattle.minus_view.specs.Events.{AddsEvents, events_of, late_events, PiecesJoin, UnitsAreDetermined};
 

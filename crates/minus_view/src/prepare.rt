@@ -9,10 +9,10 @@
 //! [`Preparation::add`] takes the bytes in pieces that are cut anywhere, and each text that it hands out is reset at
 //! its end. It holds back the last character, since a backspace may follow, and what was begun;
 //! [`Preparation::pause`] hands out the character, and [`Preparation::finish`] all of it.
-ghost use Rattle.std.specs.Prelude.{ℕ, ◌≡◌, ◌++◌, ◌≤◌, ◌<◌, [], Bool, true, false, drop, length, string_bytes, IfOk, IfErr};
-ghost use Rattle.std.specs.List.{list_all, prefix_len};
+ghost use Rattle.std.specs.Prelude.{ℕ, ◌≡◌, ◌++◌, ◌≤◌, ◌<◌, [], true, false, length, string_bytes, IfOk, IfErr};
+ghost use Rattle.std.specs.List.{prefix_len};
 ghost use Rattle.minus_view.specs.Shown.{is_plain, IsShown};
-ghost use Rattle.minus_view.specs.Prepared.{column_after, expanded, glyph_bytes, held, IsAt, IsPlain, IsPlainAt, IsText, PlainTextStays, Takes};
+ghost use Rattle.minus_view.specs.Prepared.{glyph_bytes, held, IsAt, IsPlain, IsPlainAt, IsText, PlainTextStays, Takes};
 ghost use Rattle.minus_view.specs.Prepared.{HandsOut, HandsOutHeld, TakesFront};
 
 mod bytes;

@@ -1,5 +1,5 @@
 //! A shown text that is put together: whatever is put on it, it stays one.
-ghost use Rattle.std.specs.Prelude.{encode_utf8, ◌≡◌, ◌++◌, ◌∷◌, [], true, false, chars, string_bytes, IfOk, IfErr, Some, Bool};
+ghost use Rattle.std.specs.Prelude.{encode_utf8, ◌≡◌, ◌++◌, [], true, false, chars, string_bytes, IfOk, Some};
 ghost use Rattle.std.specs.Char.{IsScalar};
 ghost use Rattle.std.specs.List.{list_all};
 ghost use Rattle.minus_view.specs.Shown.{read, is_control, is_plain, IsShown, PutsLine};

@@ -21,17 +21,16 @@ fn append_redraw(keeps_rows: bool) -> Redraw
 }
 
 impl PagerState {
-    ghost use Rattle.std.specs.Prelude.{◌≡◌, ◌↔◌, ◌+◌, ◌-◌, ◌^◌, ◌<◌, ◌==◌, ◌++◌, None, nat_le, min, length, unwrap_or, encode_utf8, string_bytes, if◌then◌else◌, IfOk, IfErr, OnOk};
+    ghost use Rattle.std.specs.Prelude.{◌≡◌, ◌+◌, ◌-◌, ◌^◌, ◌<◌, ◌==◌, ◌++◌, None, nat_le, min, encode_utf8, string_bytes, if◌then◌else◌, IfOk, IfErr, OnOk};
     ghost use Rattle.minus_term.specs.Refusals.{refusal_of};
     ghost use Rattle.minus_term.specs.Marks.{top_of};
     ghost use Rattle.minus_state.specs.Control.{top, moved_to, following, with_prefix, reformed, anew_at};
     ghost use Rattle.minus_state.specs.Redraws.{append_redraw, shift_redraw};
     ghost use Rattle.minus_state.specs.Appending.{appended};
     ghost use Rattle.minus_state.specs.Shifting.{width, may_shift, left_after};
-    ghost use Rattle.minus_state.specs.States.{control_of, settings_of, ends_of, term_of, IsFormed};
-    ghost use Rattle.minus_text.specs.Document.{rows_of, margin_in};
+    ghost use Rattle.minus_state.specs.States.{control_of, term_of, IsFormed};
+    ghost use Rattle.minus_text.specs.Document.{margin_in};
     ghost use Rattle.minus_state.specs.Control.{search_mark_after};
-    ghost use Rattle.minus_text.specs.FoundRows.{pattern_of};
     ghost use Rattle.minus_text.specs.Searched.{searched};
     ghost use Rattle.minus_text.specs.Views.{viewed};
     ghost use Rattle.minus_state.specs.View.{prefix_in};
@@ -39,15 +38,13 @@ impl PagerState {
     ghost use Rattle.minus_state.specs.Changes.{Leads, IsUnresized, as_is, mark_after};
     ghost use Rattle.minus_state.specs.Sizes.{IsSize};
 
-    /// The state as it is, to be drawn so.
-    pub fn redrawn(&self, redraw: Redraw) -> Change
-        ensures is { result ≡ as_is self.now redraw }
-        ensures next { Leads self.now result (control_of self.now) }
-        ensures redraw { result.redraw ≡ redraw }
+    // The state as it is, at a mark.
+    fn at_mark(&self, mark: usize, redraw: Redraw) -> Change
+        ensures { result ≡ record (as_is self.now redraw) { mark = mark; } }
     {
         Change {
             text: NextText::Same,
-            mark: self.upper_mark,
+            mark,
             cols: self.cols,
             rows: self.rows,
             search_mark: self.search_mark,
@@ -65,6 +62,15 @@ impl PagerState {
         }
     }
 
+    /// The state as it is, to be drawn so.
+    pub fn redrawn(&self, redraw: Redraw) -> Change
+        ensures is { result ≡ as_is self.now redraw }
+        ensures next { Leads self.now result (control_of self.now) }
+        ensures redraw { result.redraw ≡ redraw }
+    {
+        self.at_mark(self.upper_mark, redraw)
+    }
+
     /// The state at another mark, a row counted from 0. The mark is taken as it is, past the last page too: `moved_to`
     /// clamps it.
     pub fn moved(&self, mark: usize) -> Change
@@ -72,9 +78,7 @@ impl PagerState {
         ensures next { Leads self.now result (record (control_of self.now) { mark = mark }) }
         ensures redraw { result.redraw ≡ Redraw.Moved }
     {
-        let mut change = self.redrawn(Redraw::Moved);
-        change.mark = mark;
-        change
+        self.at_mark(mark, Redraw::Moved)
     }
 
     /// The state at the greatest mark (`top`), where the page goes on with what is appended from now on, or no longer.

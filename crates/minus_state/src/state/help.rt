@@ -85,8 +85,8 @@ impl PagerState {
     ghost use Rattle.std.specs.Option.{option_map, unwrap_or};
     ghost use Rattle.minus_state.specs.Changes.{Leads};
     ghost use Rattle.minus_state.specs.Help.{help_open, put_aside, opened, closed, shown_help, left_help, restored, turned, with_text};
-    ghost use Rattle.minus_state.specs.Aside.{aside_in, aside_of};
-    ghost use Rattle.minus_state.specs.States.{control_of, settings_of, IsFormed};
+    ghost use Rattle.minus_state.specs.Aside.{aside_in};
+    ghost use Rattle.minus_state.specs.States.{control_of, IsFormed};
     ghost use Rattle.minus_state.specs.Appending.{added};
     ghost use Rattle.minus_state.specs.Redraws.{whole_where, added_redraw};
 
@@ -188,11 +188,7 @@ impl PagerState {
     {
         match &self.saved {
             Some(saved) => self.unhelped(alloc, saved),
-            None => {
-                let mut change = self.redrawn(Redraw::Stays);
-                change.message = MessageChange::Goes;
-                Ok(change)
-            }
+            None => Ok(self.unmessaged()),
         }
     }
 

@@ -50,7 +50,7 @@ impl PagerState {
     ghost use Rattle.minus_state.specs.Changes.{Leads};
     ghost use Rattle.minus_state.specs.Conditions.{MayShow, MayPreview};
     ghost use Rattle.minus_state.specs.Keying.{entered, keyed, keyed_redraw, redraw_at};
-    ghost use Rattle.minus_state.specs.Keying.{IsUnkeyed, IsUnkeyedAt, MayFind, MayLead};
+    ghost use Rattle.minus_state.specs.Keying.{IsUnkeyed, IsUnkeyedAt, MayLead};
     ghost use Rattle.minus_state.specs.OpenPrompts.{fed};
     ghost use Rattle.minus_state.specs.OpenSearches.{seen_search};
     ghost use Rattle.minus_state.specs.QueryEditor.{moves, takes_memory};

@@ -6,7 +6,7 @@ use minus_term::MinusError;
 impl PagerState {
     ghost use Rattle.std.specs.Prelude.{◌≡◌, true, false, string_bytes, OnOk, OnErr, IfOk, IfErr};
     ghost use Rattle.minus_state.specs.Changes.{Leads};
-    ghost use Rattle.minus_state.specs.Control.{with_message, with_prompt_shown};
+    ghost use Rattle.minus_state.specs.Control.{with_message, with_prompt_shown, without_message};
     ghost use Rattle.minus_state.specs.Help.{with_prompt};
     ghost use Rattle.minus_state.specs.States.{control_of};
     ghost use Rattle.minus_state.specs.ShownPrompt.{has_newline, IsNewlineRefused};
@@ -75,6 +75,16 @@ impl PagerState {
         let mut change = self.redrawn(Redraw::Stays);
         change.prompt = Some(text);
         Ok(change)
+    }
+
+    // The state without a message.
+    pub(crate) fn unmessaged(&self) -> Change
+        ensures next { Leads self.now result (without_message (control_of self.now)) }
+        ensures redraw { result.redraw ≡ Redraw.Stays }
+    {
+        let mut change = self.redrawn(Redraw::Stays);
+        change.message = MessageChange::Goes;
+        change
     }
 
     /// The state with a message in the prompt's place.

@@ -1,8 +1,8 @@
 //! Searches in a screen.
-ghost use Rattle.std.specs.Prelude.{◌≡◌, ℕ, ◌≤◌, ◌<◌, IfOk, IfErr, OnOk, OnErr, Some};
+ghost use Rattle.std.specs.Prelude.{◌≡◌, ◌<◌, IfOk, IfErr, OnOk, OnErr, Some};
 ghost use Rattle.minus_text.specs.Document.{rows_of};
 ghost use Rattle.minus_text.specs.Pending.{IsPending};
-ghost use Rattle.minus_text.specs.Found.{AreFoundIn, found_by, found_of_row, row_numbers};
+ghost use Rattle.minus_text.specs.Found.{AreFoundIn, found_by, row_numbers};
 ghost use Rattle.minus_text.specs.Matches.{match_at};
 ghost use Rattle.regex.specs.Strings.{regex_pattern};
 ghost use Rattle.minus_text.specs.FoundRows.{pattern_of};

@@ -1,5 +1,5 @@
 //! The escape sequences of a text, and the text without them.
-ghost use Rattle.std.specs.Prelude.{◌≡◌, ◌↔◌, ◌≤◌, map, length, option_map, IfOk, IfSome, IsTrue, string_bytes, slice_range};
+ghost use Rattle.std.specs.Prelude.{◌≡◌, ◌↔◌, ◌≤◌, map, length, option_map, IfOk, IfSome, IsTrue, string_bytes};
 ghost use Rattle.regex_hir.specs.Find.{find_after};
 ghost use Rattle.regex.specs.Patterns.{find_str, span};
 ghost use Rattle.regex.specs.Strings.{matcher_pattern, match_span, match_haystack};

@@ -1,5 +1,5 @@
 //! What a term finds in rows.
-ghost use Rattle.std.specs.Prelude.{◌≡◌, ℕ, ◌+◌, List, Some, slice_get, ◌++◌, map, IfOk, OnOk};
+ghost use Rattle.std.specs.Prelude.{◌≡◌, Some, IfOk, OnOk};
 ghost use Rattle.std.specs.Option.{ForSome};
 ghost use Rattle.regex.specs.Strings.{regex_pattern, matcher_pattern};
 ghost use Rattle.minus_text.specs.Escapes.{escape_places, outside, CutsText};

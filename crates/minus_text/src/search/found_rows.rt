@@ -1,5 +1,5 @@
 //! The rows of a text that a term matches.
-ghost use Rattle.std.specs.Prelude.{◌≡◌, ℕ, true, false, ◌+◌, ◌-◌, ◌≤◌, List, [], ◌++◌, length, map, take, drop, option_map, nat_le, slice_get, slice_index_or, IfOk, OnOk, ◌<◌, ◌^◌};
+ghost use Rattle.std.specs.Prelude.{◌≡◌, true, false, ◌+◌, ◌-◌, ◌≤◌, [], ◌++◌, length, map, take, drop, option_map, nat_le, slice_get, slice_index_or, IfOk, OnOk, ◌<◌, ◌^◌};
 ghost use Rattle.std.specs.List.{position_or_len};
 ghost use Rattle.regex.specs.Strings.{regex_pattern};
 ghost use Rattle.minus_text.specs.Document.{rows_of};

@@ -1,5 +1,5 @@
 //! The patterns that a pager searches with beside its user's.
-ghost use Rattle.std.specs.Prelude.{◌≡◌, IfOk, IfErr};
+ghost use Rattle.std.specs.Prelude.{IfOk, IfErr};
 ghost use Rattle.regex.specs.Strings.{regex_pattern};
 ghost use Rattle.minus_text.specs.FixedPatterns.{escape_sequence, query_word, MatchesAs, IsBuiltOf, IsPatternText, IsPatternRefusal};
 

@@ -1,5 +1,5 @@
 //! Bytes, one after another.
-ghost use Rattle.std.specs.Prelude.{◌≡◌, IfOk};
+ghost use Rattle.std.specs.Prelude.{◌≡◌};
 ghost use Rattle.minus_view.specs.Prepared.{IsPlain};
 
 use super::{Place, Preparation};

@@ -1,5 +1,5 @@
 //! Characters on their way to the sheet.
-ghost use Rattle.std.specs.Prelude.{ℕ, ◌≡◌, ◌+◌, ◌%◌, ◌≤◌, ◌++◌, [], true, false, string_bytes, replicate, IfOk, None};
+ghost use Rattle.std.specs.Prelude.{ℕ, ◌≡◌, ◌+◌, ◌%◌, ◌≤◌, ◌++◌, [], true, false, string_bytes, IfOk, None};
 ghost use Rattle.std.specs.List.{list_all};
 ghost use Rattle.minus_view.specs.Shown.{is_plain};
 ghost use Rattle.minus_view.specs.Prepared.{char_columns, column_after, tab_len, held, IsAt, IsPlain, IsPlainGlyph, TakesTab};
