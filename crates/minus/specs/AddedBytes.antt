@@ -20,8 +20,8 @@ abbrev pub AddsSearchOps : (old : Control) → Change → (Control → List Op) 
 AddsSearchOps old change ops before after =
     (new : Control) → IsChange old change new → new ≡ record old { search = new.search } → after ≡ before ++ written_all (ops new)
 
-abbrev pub AddsFound : (old : Control) → Change → Option Re → (last before after : List ℕ) → Type 0
-AddsFound old change pattern last before after = AddsSearchOps old change (λ new. page_by new pattern last) before after
+abbrev pub AddsPage : (old : Control) → Change → Option Re → (last before after : List ℕ) → Type 0
+AddsPage old change pattern last before after = AddsSearchOps old change (λ new. page_by new pattern last) before after
 
 abbrev pub AddsEditOps : (old : Control) → Change → (Control → List Op) → (before after : List ℕ) → Type 0
 AddsEditOps old change ops before after = (new : Control) → IsChange old change new → EditsAlone old new → after ≡ before ++ written_all (ops new)

@@ -5,7 +5,7 @@ ghost use Rattle.minus_term.specs.Written.{written_all};
 ghost use Rattle.minus_state.specs.Changes.{IsFormedFor};
 ghost use Rattle.minus_state.specs.OpenSearches.{seen_search, search_after};
 ghost use Rattle.minus_state.specs.States.{control_of, IsFormed};
-ghost use Rattle.minus.specs.AddedBytes.{AddsOps, AddsFound, AddsEditOps};
+ghost use Rattle.minus.specs.AddedBytes.{AddsOps, AddsPage, AddsEditOps};
 ghost use Rattle.minus.specs.Drawings.{opening_under, cursor_under, edit_under, preview_ops};
 ghost use Rattle.minus.specs.Previews.{view_seen};
 
@@ -141,7 +141,7 @@ fn push_previewed(
 ) -> Result<(), AllocError>
     requires formed { IsFormed state.now }
     requires belongs { IsFormedFor state.now change.now }
-    ensures { OnOk result (AddsFound (control_of state.now) change.now
+    ensures { OnOk result (AddsPage (control_of state.now) change.now
         (option_map (λ r. regex_pattern r.now) preview.entry) typed.now out.old.items out.new.items) }
 {
     match preview {
