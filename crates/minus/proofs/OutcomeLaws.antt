@@ -68,7 +68,7 @@ unmoved_leads s change mark sized after moved new formed h is e =
     clamped_change s x after new formed (subst (λ (k : Control). IsChange (control_of s) x k) is (remarked s change x moved mark sized h refl)) e
 
 -- what is set after a change, and no prefix is typed
-pub cleared_settings : (before : Settings) (change : Change) (new : Settings) (none : String Global) → string_bytes none ≡ [] → settings_after before change ≡ new → (let x : Change = record change { prefix = Some none; } in settings_after before x) ≡ record new { prefix = [] }
+pub cleared_settings : (before : Settings) (change : Change) (new : Settings) (none : String Global) → string_bytes none ≡ [] → settings_after before change ≡ new → (let x : Change = record change { prefix = Some none } in settings_after before x) ≡ record new { prefix = [] }
 cleared_settings before change new none empty is =
     ap (λ (s : Settings). let r : Settings = record s { prefix = string_bytes none } in r) is ∙ ap (λ (p : List ℕ). let r : Settings = record new { prefix = p } in r) empty
 

@@ -18,7 +18,7 @@ abbrev pub EventsAskByTheTable : {Q K : Type 0} → Judges Q → Classifies K �
 EventsAskByTheTable {Q} {K} judges events IsFirst seen =
     (e : Event) (w : Wanted Q K) → IsFirst seen.classifier → Asks (says_of judges events) seen (an_event e) w
     → (state : PagerState) × IsFormed state × (control_of state ≡ seen.control)
-        × IsRequest events seen.classifier seen.control.help (event_wanted (default_asks e state)) w
+    × IsRequest events seen.classifier seen.control.help (event_wanted (default_asks e state)) w
 
 -- the key `j` asks for a move of the mark by as many rows as the typed prefix says
 abbrev pub JMovesByThePrefix : {Q K : Type 0} → Judges Q → Classifies K → (K → Type 0) → Seen Q K → Type 0

@@ -65,7 +65,7 @@ pub record IsRefusedStart {S P H E Q K : Type 0} (seen : S → SinkSeen) (pager 
   pub returned : IsEarly (refusal_of e.cause) → e.pager ≡ Some pager
   pub gone : (IsEarly (refusal_of e.cause) → ⊥) → e.pager ≡ None
   pub broken : StartBreaksOff (refusal_of e.cause) (seen sink).bytes (seen e.sink).bytes (seen sink).refusals (seen e.sink).refusals
-    (first_control cols rows (map wanted_of pager.queue.items))
+      (first_control cols rows (map wanted_of pager.queue.items))
   pub rises : IsStartFault (refusal_of e.cause) → Rises (seen sink).refusals (seen e.sink).refusals
   pub untouched : (IsStartFault (refusal_of e.cause) → ⊥) → e.sink ≡ sink
 

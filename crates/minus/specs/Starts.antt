@@ -215,7 +215,7 @@ abbrev pub StartBreaksOff : Refusal → Option (List ℕ) → Option (List ℕ) 
 StartBreaksOff (at_setup cause) old_bytes new_bytes old_count new_count first = SetupBreaksOff cause old_bytes new_bytes
 StartBreaksOff at_drawing old_bytes new_bytes old_count new_count first =
     ((ops : List Op) × DrawingBreaksOff old_bytes new_bytes old_count new_count (written_all ops) × IsWholeDrawing ops (first ∷ []) first)
-      ⊎ MoveBreaksOff old_bytes new_bytes old_count new_count first
+    ⊎ MoveBreaksOff old_bytes new_bytes old_count new_count first
 StartBreaksOff refusal old_bytes new_bytes old_count new_count first = new_bytes ≡ old_bytes
 
 -- the sink refused a write or a flush, or took nothing

@@ -30,7 +30,7 @@ abbrev pub Ends : {Q K : Type 0} → Says Q K → Option Exit → Seen Q K → T
 Ends says None old told works refused copied last new = Worked says old told works refused copied last × IsAtRest last × (new ≡ last)
 Ends says (Some exit) old told works refused copied last new =
     (next : Told _ _) × (exits : Exits says last next exit) × Comes says old told works refused copied last next
-      × (new ≡ record (taken last next exits.wanted) { waiting = []; status = status.Ended })
+    × (new ≡ record (taken last next exits.wanted) { waiting = []; status = status.Ended })
 
 -- what is written: one list of operations that draws the works, and at an exit what cleans the terminal up after it
 abbrev pub Writes : Option Exit → Control → List Work → Control → Option (List ℕ) → Option (List ℕ) → Type 0
@@ -148,7 +148,7 @@ Took says None old told copied new old_bytes new_bytes =
     (work : Work) × Takes says old told work copied new × Drawn old_bytes new_bytes old.control (work ∷ []) new.control
 Took says (Some exit) old told copied new old_bytes new_bytes =
     (exits : Exits says old told exit) × (copied ≡ None) × (new ≡ record (taken old told exits.wanted) { waiting = []; status = status.Ended })
-      × Appends old_bytes new_bytes cleanup_bytes
+    × Appends old_bytes new_bytes cleanup_bytes
 
 -- one input was not taken: nothing has changed, or the sink refused its drawing or its cleanup
 abbrev pub Fails : {Q K : Type 0} → Says Q K → Refusal → Seen Q K → Told Q K → Seen Q K → Option (List ℕ) → Option (List ℕ) → Type 0
@@ -160,10 +160,10 @@ Fails says for_free_hook_id old told new old_bytes new_bytes = IsUnfit says old 
 Fails says for_query old told new old_bytes new_bytes = IsOverfull old told × IsUntouched old new old_bytes new_bytes
 Fails says (at_cleanup cause) old told new old_bytes new_bytes =
     (exit : Exit) × (exits : Exits says old told exit) × CleanupBreaksOff cause old_bytes new_bytes
-      × (new ≡ record (taken old told exits.wanted) { status = status.Failed })
+    × (new ≡ record (taken old told exits.wanted) { status = status.Failed })
 Fails says at_drawing old told new old_bytes new_bytes =
     (work : Work) × (copied : Option (List ℕ)) × (last : Seen _ _) × Takes says old told work copied last
-      × BrokenOff old_bytes new_bytes old.control (work ∷ []) last.control × (new ≡ record last { status = status.Failed })
+    × BrokenOff old_bytes new_bytes old.control (work ∷ []) last.control × (new ≡ record last { status = status.Failed })
 Fails says refusal old told new old_bytes new_bytes = ⊥
 
 -- an input that waited was taken, and with it, it may be, some of those behind it: their works were drawn; or it exits
@@ -176,7 +176,7 @@ TookWith says (Some exit) old told copied new old_bytes new_bytes = Took says (S
 abbrev pub FailsWith : {Q K : Type 0} → Says Q K → Refusal → Seen Q K → Told Q K → Seen Q K → Option (List ℕ) → Option (List ℕ) → Type 0
 FailsWith says at_drawing old told new old_bytes new_bytes =
     (works : List Work) × (copied : Option (List ℕ)) × (last : Seen _ _) × Worked says old told works [] copied last
-      × BrokenOff old_bytes new_bytes old.control works last.control × (new ≡ record last { status = status.Failed })
+    × BrokenOff old_bytes new_bytes old.control works last.control × (new ≡ record last { status = status.Failed })
 FailsWith says refusal old told new old_bytes new_bytes = Fails says refusal old told new old_bytes new_bytes
 
 -- what is still to be cleaned up: nothing after an exit

@@ -35,11 +35,11 @@ module _ {S P H E Q K : Type 0} (sink : S → SinkSeen) (says : Says Q K) (old :
   -- the session has exited, with the typed prefix as it is then: the input that asks for an exit was taken; or it was not
   abbrev pub IsExitTaken : (prefix : Option (List ℕ)) (new : Core S P H E Q K) → Taken → Type 0
   IsExitTaken prefix new of = (told : Told Q K) (w : Wanted Q K) → Asks says (seen_of old) told w → ExitsWith (seen_of old) told w prefix
-    → IsTakenOf sink says old told new of
+      → IsTakenOf sink says old told new of
 
   abbrev pub IsExitUntaken : (prefix : Option (List ℕ)) (new : Core S P H E Q K) → MinusError → Type 0
   IsExitUntaken prefix new e = (told : Told Q K) (w : Wanted Q K) → Asks says (seen_of old) told w → ExitsWith (seen_of old) told w prefix
-    → IsUntakenOf sink says old told new e
+      → IsUntakenOf sink says old told new e
 
   -- a request was worked off, and the typed prefix has gone first, or stays: the input that asks for it was taken; or it was not
   abbrev pub IsTakenAs : (w : Wanted Q K) (clears : Bool) (new : Core S P H E Q K) → Taken → Type 0

@@ -125,7 +125,7 @@ leaving s rest = record s { waiting = rest }
 pub data Worked {Q K : Type 0} (says : Says Q K) (old : Seen Q K) (told : Told Q K) : List Work → List Refusal → Option (List ℕ) → Seen Q K → Type 0 where
   first : {work : Work} {copied : Option (List ℕ)} {new : Seen Q K} → Takes says old told work copied new → Worked says old told (work ∷ []) [] copied new
   more : {works : List Work} {refused : List Refusal} {copied : Option (List ℕ)} {s new : Seen Q K} {next : Told Q K} {rest : List (Told Q K)} {work : Work}
-    {text : Option (List ℕ)} → Worked says old told works refused copied s → IsNext s next rest → Takes says (leaving s rest) next work text new
+      {text : Option (List ℕ)} → Worked says old told works refused copied s → IsNext s next rest → Takes says (leaving s rest) next work text new
       → Worked says old told (works ++ work ∷ []) refused (last_copied copied text) new
   passed : {works : List Work} {refused : List Refusal} {copied : Option (List ℕ)} {s : Seen Q K} {next : Told Q K} {rest : List (Told Q K)} (refusal : Refusal)
       → Worked says old told works refused copied s → IsNext s next rest → IsUnfit says (leaving s rest) next refusal
@@ -151,7 +151,7 @@ pub record IsReady {Q K : Type 0} (s : Seen Q K) : Type 0 where
 abbrev pub AloneWithNoPrompt : {Q K : Type 0} → Says Q K → Type 0
 AloneWithNoPrompt {Q = Q} {K = K} says =
     (old s : Seen Q K) (told : Told Q K) (works : List Work) (refused : List Refusal) (copied : Option (List ℕ)) → IsReady old
-      → Worked says old told works refused copied s
+    → Worked says old told works refused copied s
     → (work : Work) × (works ≡ work ∷ []) × (refused ≡ []) × Takes says old told work copied s
 
 -- whether a drawing shows its page whatever the screen showed before
@@ -187,4 +187,4 @@ abbrev pub HelpLeavesNoTrace : Type 0 → Type 0 → Type 0
 HelpLeavesNoTrace Q K =
     (c : Control) (text : Option (List ℕ)) (leaving : Wanted Q K) → c.help ≡ None → IsClamped c → LeavesHelp leaving
     → changed_by (effect (changed_by (effect {Q = Q} {K = K} c (shows_help text))) leaving)
-        ≡ reformed (record c { settings = record c.settings { message = None } })
+    ≡ reformed (record c { settings = record c.settings { message = None } })

@@ -15,8 +15,8 @@ use crate::state::PagerState;
 use minus_state::change::Change;
 use minus_state::showing::ShownRow;
 use minus_term::{
-    DrawOp, page_len, write_closing_start, write_down_start, write_ops, write_page_start, write_prompt_row,
-    write_up_start,
+    DrawOp, page_len, write_closing_start, write_down_start, write_ops, write_page_start,
+    write_prompt_row, write_up_start,
 };
 use std::alloc::{AllocError, Global};
 

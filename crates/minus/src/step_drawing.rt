@@ -155,7 +155,9 @@ pub(crate) fn push_append<'a>(
     ensures { OnOk result (AddsOps (control_of state.now) change.now
         (λ new. append_from new first old_count) out.old.items out.new.items) }
 {
-    let were = old_count.saturating_sub(change.mark).min(page_len(change.rows));
+    let were = old_count
+        .saturating_sub(change.mark)
+        .min(page_len(change.rows));
     let first = first.saturating_sub(change.mark);
     push_rows_after(state, alloc, out, change, first, were)?;
     Ok(())

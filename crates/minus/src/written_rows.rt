@@ -7,7 +7,9 @@ ghost use Rattle.minus.specs.WrittenRows.{row_from, lines_of_page, styled_row, s
 ghost use Rattle.minus.specs.WrittenRows.{AddsLines, AddsText, LinesRefused, TextRefused};
 
 use minus_state::get_horizontal_scroll_bounds;
-use minus_term::{MinusError, OutputSink, draw_bytes, page_len, top_of, write_page_start, write_row};
+use minus_term::{
+    MinusError, OutputSink, draw_bytes, page_len, top_of, write_page_start, write_row,
+};
 use minus_text::{LineNumbers, Row, crop_columns, prefix_columns};
 use std::alloc::{AllocError, Global};
 use std::convert::AsStr;

@@ -202,7 +202,7 @@ IsRunFault mode cols rows old_input new_input old_output new_output (Line number
     (script : List ℕ) × IsRead old_input new_input script × (script_told (script_lines script) ≡ Err number)
 IsRunFault mode cols rows old_input new_input old_output new_output (Refused cause) =
     (cause ≡ Memory) ⊎ ((script : List ℕ) × (told : List (Told NeverShows DefaultKeys)) × IsRead old_input new_input script
-      × (script_told (script_lines script) ≡ Ok told) × IsRefusal (refusal_of cause) cols rows told)
+    × (script_told (script_lines script) ≡ Ok told) × IsRefusal (refusal_of cause) cols rows told)
 
 -- a fault that came before anything was printed
 abbrev pub IsBeforePrinting : ScriptFault → Type 0

@@ -149,7 +149,7 @@ prompt_row_after s change = prompt_row (prompt_after s change)
 abbrev pub shown_by : PagerState → Change → List (List ℕ)
 shown_by s change =
     take (page_len change.rows) (drop change.mark (shown_of (next_term (term_of s) change.text)
-      (next_document s.screen.document change.text) change.left change.ends))
+    (next_document s.screen.document change.text) change.left change.ends))
 
 -- why a state was not resized: for the size, or, where that is one, for want of memory
 abbrev pub IsUnresized : Refusal → ℕ → ℕ → Type 0

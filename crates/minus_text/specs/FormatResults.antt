@@ -62,4 +62,4 @@ TellsPrepared result term s piece p =
 abbrev pub TellsFound : FormatResult → List RowMatches → Document → List ℕ → LineNumbers → ℕ → Type 0
 TellsFound result found d piece numbers cols =
     (let plan = plan_of d piece numbers cols in TellsWith result (row_numbers (found_from (first_formed d plan) found))
-        (formed_by d.text piece plan) (first_formed d plan) (is_clean d.text plan))
+    (formed_by d.text piece plan) (first_formed d plan) (is_clean d.text plan))

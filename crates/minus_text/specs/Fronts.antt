@@ -28,10 +28,10 @@ front_rule cols = record {
     | inl e ↦
         let l = leb-true (sum_by unit_columns (us ++ vs)) cols e in
         or_left (nat_le (sum_by unit_columns us) cols) (nat_le (count_by is_wide us) 1)
-            (le-leb (sum_by unit_columns us) cols (omega (arith, sum_by-append unit_columns us vs)))
+        (le-leb (sum_by unit_columns us) cols (omega (arith, sum_by-append unit_columns us vs)))
     | inr e ↦
         let l = leb-true (count_by is_wide (us ++ vs)) 1 e in
         or_right (nat_le (sum_by unit_columns us) cols) (nat_le (count_by is_wide us) 1)
-            (le-leb (count_by is_wide us) 1 (omega (arith, sum_by-append (λ u. cond (is_wide u) 1 0) us vs)))
+        (le-leb (count_by is_wide us) 1 (omega (arith, sum_by-append (λ u. cond (is_wide u) 1 0) us vs)))
   ];
 }

@@ -71,7 +71,7 @@ runs_from-are fits rule run (x ∷ xs) some fitting =
     elim (cases_Bool (fits (run ++ x ∷ []))) [
       | inl e ↦
           let h : AreRuns fits ((run ++ x ∷ []) ++ xs) (runs_from fits (run ++ x ∷ []) xs)
-              = runs_from-are fits rule (run ++ x ∷ []) xs (omega (arith, length-append run (x ∷ []))) e in
+          = runs_from-are fits rule (run ++ x ∷ []) xs (omega (arith, length-append run (x ∷ []))) e in
           rw e (rw (append_assoc run (x ∷ []) xs) at h)
       | inr e ↦
           rw e (x ∷ xs, refl, record { some = some; fitting = fitting; full = e }, runs_from-are fits rule (x ∷ []) xs (omega arith) (rule.one x))

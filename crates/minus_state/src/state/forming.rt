@@ -40,7 +40,7 @@ impl PagerState {
 
     // The state as it is, at a mark.
     fn at_mark(&self, mark: usize, redraw: Redraw) -> Change
-        ensures { result ≡ record (as_is self.now redraw) { mark = mark; } }
+        ensures { result ≡ record (as_is self.now redraw) { mark = mark } }
     {
         Change {
             text: NextText::Same,
@@ -74,7 +74,7 @@ impl PagerState {
     /// The state at another mark, a row counted from 0. The mark is taken as it is, past the last page too: `moved_to`
     /// clamps it.
     pub fn moved(&self, mark: usize) -> Change
-        ensures is { result ≡ record (as_is self.now Redraw.Moved) { mark = mark; } }
+        ensures is { result ≡ record (as_is self.now Redraw.Moved) { mark = mark } }
         ensures next { Leads self.now result (record (control_of self.now) { mark = mark }) }
         ensures redraw { result.redraw ≡ Redraw.Moved }
     {

@@ -57,7 +57,7 @@ impl PagerState {
 
     /// The state with its search prompt closed. Nothing more changes.
     pub fn closed(&self) -> Change
-        ensures is { result ≡ record (as_is self.now Redraw.Closing) { search = SearchChange.Closes; } }
+        ensures is { result ≡ record (as_is self.now Redraw.Closing) { search = SearchChange.Closes } }
         ensures next { Leads self.now result (closed (control_of self.now)) }
         ensures redraw { result.redraw ≡ Redraw.Closing }
     {
