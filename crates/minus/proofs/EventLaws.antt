@@ -5,6 +5,7 @@ use Rattle.minus_term.specs.Refusals.{Refusal, for_memory, for_newline, for_size
 use Rattle.minus_state.specs.Classifying.{Classifies}
 use Rattle.minus_state.specs.Control.{Control}
 use Rattle.minus_state.specs.Prompting.{opening_redraw}
+use Rattle.minus_state.specs.declared.change.Redraw.{Redraw}
 use Rattle.minus_state.specs.declared.search.SearchMode.{SearchMode}
 use Rattle.minus_state.specs.declared.search.SearchMode.TheVariants.{Forward, Reverse, Unknown}
 use Rattle.minus.specs.declared.commands.CommandOf.{CommandOf}
@@ -13,13 +14,14 @@ use Rattle.minus.specs.declared.commands.IoCommand.TheVariants.{RedrawPrompt, Re
 use Rattle.minus.specs.declared.ev_handler.Handled.{Handled}
 use Rattle.minus.specs.declared.parts.PartsOf.{PartsOf}
 use Rattle.minus.specs.Drawings.{IsDrawable}
-use Rattle.minus.specs.declared.unmoved.Left.{Left}
+use Rattle.minus.specs.declared.outcome.Outcome.{Outcome}
 use Rattle.minus.specs.EvHandler.{HandlesAs, IsQueued, IsDone, IsRequestTo, CannotHandle}
 use Rattle.minus.specs.Outcomes.{IsUnformed}
-use Rattle.minus.specs.Queued.{listed, queued, drawing_command, draws_prompt_row}
+use Rattle.minus.specs.Queued.{listed, queued, drawing_command, move_command}
 use Rattle.minus.specs.Reads.{as_command, io_wanted}
-use Rattle.minus.specs.Unmoved.{IsLeft}
-use Rattle.minus.specs.Table.{Wanted, moves_mark, fetches_query, effect, changed_by, drawing_by, drawing_of}
+use Rattle.minus.specs.Shapes.{Effect}
+use Rattle.minus.specs.Unmoved.{IsUnmoved}
+use Rattle.minus.specs.Table.{Wanted, moves_mark, fetches_query, effect_of, changed_by, drawing_by, drawing_of}
 use Rattle.minus.proofs.KeyedLaws.{moved_drawable}
 
 -- a command that asks for a drawing waits
@@ -44,17 +46,19 @@ pub io_drawable : (Q K : Type 0) (c new : Control) (io : IoCommand) → IsDrawab
 io_drawable Q K c new RedrawPrompt = tt
 io_drawable Q K c new RedrawDisplay = tt
 io_drawable Q K c new (DrawAppendedText unfinished rows style) = tt
-io_drawable Q K c new (SetUpperMark mark) = moved_drawable c new (changed_by (effect {Q = Q} {K = K} c (moves_mark mark))).mark
-io_drawable Q K c new FetchSearchQuery = fetch_drawable c.mode c new (changed_by (effect {Q = Q} {K = K} c fetches_query)).mark
+io_drawable Q K c new (SetUpperMark mark) = moved_drawable c new (changed_by (effect_of {Q = Q} {K = K} c (moves_mark mark))).mark
+io_drawable Q K c new FetchSearchQuery = fetch_drawable c.mode c new (changed_by (effect_of {Q = Q} {K = K} c fetches_query)).mark
 
 -- the drawing waits behind what waited, and the move behind that
-pub both_wait : {P H E Q K : Type 0} (c : Control) (w : Wanted Q K) (left : Left) (waiting kept first last : List (CommandOf P H E Q K)) → IsLeft c w left → kept ≡ waiting → first ≡ kept ++ map as_command (listed left.drawing) → last ≡ first ++ map as_command (listed left.movement)
-    → last ≡ waiting ++ map as_command (queued c w)
-both_wait {P = P} {H = H} {E = E} {Q = Q} {K = K} c w left waiting kept first last is same drawn moved =
+pub both_wait : {P H E Q K : Type 0} (c : Control) (w : Wanted Q K) (outcome : Outcome) (drawing movement : Option IoCommand) (waiting kept first last : List (CommandOf P H E Q K)) → IsUnmoved c w outcome → drawing ≡ drawing_command outcome.change.redraw outcome.row_only → movement ≡ move_command outcome.moves_to → kept ≡ waiting
+    → first ≡ kept ++ map as_command (listed drawing) → last ≡ first ++ map as_command (listed movement) → last ≡ waiting ++ map as_command (queued c w)
+both_wait {P = P} {H = H} {E = E} {Q = Q} {K = K} c w outcome drawing movement waiting kept first last is drawing_is movement_is same drawn moved =
     let commands : List IoCommand → List (CommandOf P H E Q K) = map as_command in
-    let behind : last ≡ waiting ++ (commands (listed left.drawing) ++ commands (listed left.movement)) = moved ∙ ap (λ l. l ++ commands (listed left.movement)) (drawn ∙ ap (λ l. l ++ commands (listed left.drawing)) same) ∙ append_assoc waiting (commands (listed left.drawing)) (commands (listed left.movement)) in
-    let both : listed left.drawing ++ listed left.movement ≡ queued c w = ap (λ d. listed d ++ listed left.movement) is.drawing ∙ ap (λ m. listed (drawing_command (effect c w).redraw (draws_prompt_row c w)) ++ listed m) is.movement in
-    behind ∙ ap (λ l. waiting ++ l) (sym (map-append as_command (listed left.drawing) (listed left.movement)) ∙ ap commands both)
+    let e : Effect = effect_of c w in
+    let behind : last ≡ waiting ++ (commands (listed drawing) ++ commands (listed movement)) = moved ∙ ap (λ l. l ++ commands (listed movement)) (drawn ∙ ap (λ l. l ++ commands (listed drawing)) same) ∙ append_assoc waiting (commands (listed drawing)) (commands (listed movement)) in
+    let draws : drawing ≡ drawing_command e.redraw e.row_only = drawing_is ∙ ap (λ (r : Redraw). drawing_command r outcome.row_only) is.redraw ∙ ap (drawing_command e.redraw) is.row_only in
+    let both : listed drawing ++ listed movement ≡ queued c w = ap (λ d. listed d ++ listed movement) draws ∙ ap (λ m. listed (drawing_command e.redraw e.row_only) ++ listed m) (movement_is ∙ ap move_command is.moves_to) in
+    behind ∙ ap (λ l. waiting ++ l) (sym (map-append as_command (listed drawing) (listed movement)) ∙ ap commands both)
 
 -- why a request was not formed is why its command is not handled
 pub cannot_form : {P H E Q K : Type 0} (refusal : Refusal) (says : Classifies K) (parts : PartsOf P H E Q K) (command : CommandOf P H E Q K) (w : Wanted Q K) → IsRequestTo says parts command w → IsUnformed refusal w → CannotHandle refusal says parts command

@@ -1,13 +1,13 @@
 -- Help, opened and left.
 use Rattle.std.proofs.Common.{◌≡◌, ℕ, List, Option, None, sym, subst}
 use Rattle.minus_state.specs.Control.{Control, Saved, reformed}
-use Rattle.minus.specs.Table.{Wanted, exits, restores_prompt, shows_help, effect, changed_by}
+use Rattle.minus.specs.Table.{Wanted, exits, restores_prompt, shows_help, effect_of, changed_by}
 use Rattle.minus.specs.Works.{HelpLeavesNoTrace, by_prompt, by_help, by_exit}
 use Rattle.minus.proofs.TableLaws.{clamp_still}
 
 -- what help that was opened and left by a command leaves
 abbrev ComesBack : {Q K : Type 0} → Control → Option (List ℕ) → Wanted Q K → Type 0
-ComesBack {Q = Q} {K = K} c text leaving = changed_by (effect (changed_by (effect {Q = Q} {K = K} c (shows_help text))) leaving) ≡ reformed (record c { settings = record c.settings { message = None } })
+ComesBack {Q = Q} {K = K} c text leaving = changed_by (effect_of (changed_by (effect_of {Q = Q} {K = K} c (shows_help text))) leaving) ≡ reformed (record c { settings = record c.settings { message = None } })
 
 comes_back : {Q K : Type 0} (c : Control) (text : Option (List ℕ)) (leaving : Wanted Q K) → (let k : Control = record c { help = None } in ComesBack k text leaving) → c.help ≡ None → ComesBack c text leaving
 comes_back c text leaving h e = subst (λ (help : Option Saved). let k : Control = record c { help = help } in ComesBack k text leaving) (sym e) h

@@ -17,7 +17,7 @@ use Rattle.minus.specs.declared.session.Core.{Core}
 use Rattle.minus.specs.declared.taken.Taken.{Taken}
 use Rattle.minus.specs.Core.{seen_of}
 use Rattle.minus.specs.SessionSteps.{IsTakenOf, IsUntakenOf, IsTakenWithOf, IsUntakenWithOf}
-use Rattle.minus.specs.Asked.{Asks, taken, Wants}
+use Rattle.minus.specs.Asked.{Asks, clears_prefix, Wants}
 use Rattle.minus.specs.Drawn.{IsDrawing}
 use Rattle.minus.specs.Handing.{Exit}
 use Rattle.minus.specs.Joined.{appended_to, append_told, appending, MayGoWith}
@@ -25,7 +25,7 @@ use Rattle.minus.specs.Reads.{Told, an_event}
 use Rattle.minus.specs.Says.{Says}
 use Rattle.minus.specs.Seen.{Seen}
 use Rattle.minus.specs.Steps.{Took, TookWith, Fails, FailsWith}
-use Rattle.minus.specs.Table.{Wanted, appends_data, hands_over, resizes, effect}
+use Rattle.minus.specs.Table.{Wanted, appends_data, hands_over, resizes, effect_of}
 use Rattle.minus.specs.Works.{Work, Takes, worked, waited, edits, work_of, after, leaving, IsUnfit, IsFaultIn, Worked, first, IsQuiet}
 use Rattle.minus.proofs.JoinedWorksLaws.{append_work, append_works, appends_worked, drawn_joined, quiet_joined}
 
@@ -35,7 +35,7 @@ module _ {Q K : Type 0} where
   IsOne m text work copied new = (work ≡ append_work m.control text) × (copied ≡ None) × (new ≡ record m { control = appended_to m.control text })
 
   abbrev IsOneOf : Seen Q K → List ℕ → Told Q K → Wanted Q K → Type 0
-  IsOneOf m text told w = IsOne m text (work_of (taken m told w).control w) (effect (taken m told w).control w).copies (after (taken m told w) w)
+  IsOneOf m text told w = IsOne m text (work_of (clears_prefix told w) m.control w) (effect_of m.control w).copies (after (clears_prefix told w) m w)
 
   as_one : (says : Says Q K) (m new : Seen Q K) (told : Told Q K) (text : List ℕ) (work : Work) (copied : Option (List ℕ)) → m.control.search ≡ None → told ≡ append_told text → Takes says m told work copied new → IsOne m text work copied new
   as_one says m new told text work copied closed is (worked w none asked possible free on) =
@@ -72,7 +72,7 @@ module _ {Q K : Type 0} where
   pub took_with : (says : Says Q K) (exit : Option Exit) (m mid new : Seen Q K) (told : Told Q K) (joined : List ℕ) (count : ℕ) (copied a b : Option (List ℕ)) (g : MayGoWith m.control told m.waiting joined count) → new ≡ leaving mid (drop count mid.waiting) → Took says exit m (append_told joined) copied mid a b → TookWith says exit m told copied new a b
   took_with says (Some exit) m mid new told joined count copied a b g is h =
       let asked : h.0.wanted ≡ appends_data joined = h.0.asked in
-      absurd (let both : false ≡ true = ap (λ (w : Wanted Q K). (effect (taken m (append_told joined) w).control w).is_exit) (sym asked) ∙ h.0.exits in cc)
+      absurd (let both : false ≡ true = ap (λ (w : Wanted Q K). (effect_of m.control w).is_exit) (sym asked) ∙ h.0.exits in cc)
   took_with says None m mid new told joined count copied a b g is (work, t, d) =
       let (work_is, none, mid_is) = as_one says m mid (append_told joined) joined work copied g.may.closed refl t in
       let gone = gone_as m mid new told joined count g (ap (λ (x : Seen Q K). x.waiting) mid_is) is in
@@ -100,7 +100,7 @@ module _ {Q K : Type 0} where
   fails_with says for_query m mid new told joined count a b g runs kept gone h = absurd (let both : append_told joined ≡ an_event h.0.event = h.0.key in cc)
   fails_with says (at_cleanup cause) m mid new told joined count a b g runs kept gone (exit, x, broken, fails) =
       let asked : x.wanted ≡ appends_data joined = x.asked in
-      absurd (let both : false ≡ true = ap (λ (w : Wanted Q K). (effect (taken m (append_told joined) w).control w).is_exit) (sym asked) ∙ x.exits in cc)
+      absurd (let both : false ≡ true = ap (λ (w : Wanted Q K). (effect_of m.control w).is_exit) (sym asked) ∙ x.exits in cc)
   fails_with says at_drawing m mid new told joined count a b g runs kept gone (work, copied, last, t, broken, fails) =
       let (work_is, none, last_is) = as_one says m last (append_told joined) joined work copied g.may.closed refl t in
       let works = append_works m.control (g.text ∷ g.texts) in

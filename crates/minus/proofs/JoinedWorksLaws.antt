@@ -1,5 +1,5 @@
 -- Neighbouring appends that are worked off in one go.
-use Rattle.std.proofs.Common.{◌≡◌, ℕ, zero, suc, ◌+◌, ◌-◌, ◌^◌, ◌<◌, ◌≤◌, ◌&&◌, ◌==◌, Bool, true, false, not, List, [], ◌∷◌, ◌++◌, length, map, Option, None, Some, refl, sym, ap, subst, ◌∙◌, arith, append_assoc, inl, inr, if◌then◌else◌}
+use Rattle.std.proofs.Common.{◌≡◌, ℕ, zero, suc, ◌+◌, ◌-◌, ◌^◌, ◌<◌, ◌≤◌, ◌&&◌, ◌==◌, is_some, Bool, true, false, List, [], ◌∷◌, ◌++◌, length, map, Option, None, Some, refl, sym, ap, subst, ◌∙◌, arith, append_assoc, inl, inr, if◌then◌else◌}
 use Rattle.std.specs.List.{concat, Contains}
 use Rattle.std.specs.Str.Lines.{lines}
 use Rattle.std.proofs.lemmas.Bool.{cases_Bool, eq-eqb}
@@ -12,8 +12,7 @@ use Rattle.minus_text.specs.Layouts.{margin}
 use Rattle.minus_state.specs.declared.change.Redraw.{Redraw}
 use Rattle.minus_state.specs.declared.change.Redraw.TheVariants.{Appended, Whole}
 use Rattle.minus_state.specs.Appending.{with_more}
-use Rattle.minus_state.specs.Control.{Control, Saved, keeps_rows_with, first_changed, text_rows, clamp, shows_end}
-use Rattle.minus_state.specs.Help.{help_open}
+use Rattle.minus_state.specs.Control.{Control, Saved, keeps_rows_with, first_changed, text_rows, clamp}
 use Rattle.minus_state.specs.Page.{page}
 use Rattle.minus_state.specs.Redraws.{append_redraw, added_redraw}
 use Rattle.minus_state.specs.ShownPrompt.{prompt_row}
@@ -24,7 +23,8 @@ use Rattle.minus.specs.Joined.{appended_to, appended_all, append_told, appending
 use Rattle.minus.specs.Reads.{Told}
 use Rattle.minus.specs.Says.{Says}
 use Rattle.minus.specs.Seen.{Seen}
-use Rattle.minus.specs.Table.{appends_data, adds_text, moved, drawing_by, end_hook}
+use Rattle.minus.specs.Shapes.{adds_text}
+use Rattle.minus.specs.Table.{appends_data, moved, drawing_by, end_hook, is_at_end}
 use Rattle.minus.specs.Works.{Work, reached, passed_in, some_full, IsQuiet, Takes, worked, Worked, first, more, IsNext, leaving}
 use Rattle.minus.proofs.JoinLaws.{quiet_reached, no_bound}
 use Rattle.minus.proofs.JoinedKindsLaws.{keeps_join}
@@ -37,7 +37,7 @@ use Rattle.minus.proofs.LeavesLaws.{tail_there}
 as_left : (c : Control) (text : List ℕ) (h : Option Saved) → c.help ≡ h → MayWorkJoined c → appended_to c text ≡ left_by c text
 as_left c text None e may =
     let stays = may.stays e in
-    let to : (adds_text c text).moves_to ≡ Some c.mark = rw (e, stays) refl in
+    let to : (adds_text c text).moves_to ≡ None = rw (e, stays) refl in
     ap (λ (m : Option ℕ). clamp (moved (with_more c text) m)) to
 as_left c text (Some saved) e may =
     let to : (adds_text c text).moves_to ≡ None = rw e refl in
@@ -233,7 +233,7 @@ keeps_none c =
 abbrev pub append_work : Control → List ℕ → Work
 append_work c text =
     let new : Control = appended_to c text in
-    record { drawing = drawing_by (adds_text c text).redraw c new.mark; left = new; hook = end_hook (c.settings.follow && not (help_open c)) (shows_end (length (text_rows new)) new.rows new.mark) }
+    record { drawing = drawing_by (adds_text c text).redraw c new.mark; left = new; hook = end_hook (is_some (adds_text c text).moves_to) (is_at_end new) }
 
 abbrev pub append_works : Control → List (List ℕ) → List Work
 append_works c [] = []

@@ -22,10 +22,11 @@ use Rattle.minus.specs.declared.session.Core.{Core}
 use Rattle.minus_state.specs.declared.hooks.HookId.{HookId}
 use Rattle.minus.specs.Handing.{ids_after, IsFreeFor}
 use Rattle.minus.specs.Outcomes.{IsUnformed}
-use Rattle.minus.specs.Table.{Wanted, moves_mark, sets_prompt, sends_message, handed, HasNewline, IsPossible}
+use Rattle.minus.specs.Shapes.{moves}
+use Rattle.minus.specs.Table.{Wanted, sets_prompt, sends_message, handed, HasNewline, IsPossible}
 use Rattle.minus.specs.Starts.{first_control, CanStart, CanBegin, CannotStart, IsUnregistered, IsUnchecked, IsUntaken, IsFormRefused, IsStartFault, IsStartRefused, IsEarly, IsShowRefused, CleansUp, DrawsOff, DrawingBreaksOff, ShowBreaksOff, StartBreaksOff, BeginsAndMoves, StartLeavesItsPage, first_mark, first_move, move_ops}
 use Rattle.minus.specs.Works.{Work}
-use Rattle.minus.proofs.CommandLaws.{draws_for}
+use Rattle.minus.proofs.CommandLaws.{shape_draws}
 use Rattle.minus.proofs.LeavesLaws.{head_there, tail_there, leaves_more}
 use Rattle.minus.specs.Drawings.{whole_page}
 use Rattle.minus.specs.Drawn.{IsDrawing, Redraws, RedrawBreaksOff, ExchangeLeavesItsPage}
@@ -189,7 +190,7 @@ redraw_leaves bytes (Some new) c h = (bytes, h.0, h.1, h.2)
 
 -- it is drawn by its operations
 pub move_drawn : (c : Control) → c.search ≡ None → IsClamped c → 1 ≤ c.rows → IsDrawing (move_ops c) c (first_move c ∷ []) (first_move c).left
-move_drawn c closed h some = draws_for {Q = Unit {0}} {K = Unit {0}} c false (moves_mark (first_mark c)) None refl closed h some some
+move_drawn c closed h some = shape_draws {Q = Unit {0}} {K = Unit {0}} c false (moves c.settings c.search_mark (Some (first_mark c))) tt closed h some some
 
 -- the first page, and what is drawn over it
 pub page_and_move : (a mid b : Option (List ℕ)) (page movement : List ℕ) (c : Control) → c.search ≡ None → IsClamped c → 1 ≤ c.rows → page ≡ written_all (whole_page c) → movement ≡ written_all (move_ops c) → Appends a mid (setup_bytes ++ page) → Appends mid b movement → BeginsAndMoves a b c

@@ -1,5 +1,5 @@
 -- One input that is worked off, from what the parts of a step ensure.
-use Rattle.std.proofs.Common.{◌≡◌, ℕ, ◌≤◌, Bool, true, false, List, [], ◌∷◌, length, Option, None, Some, String, Global, string_bytes, refl, sym, ap, subst, ◌∙◌, ◌<◌, arith}
+use Rattle.std.proofs.Common.{◌≡◌, ℕ, ◌≤◌, is_some, Bool, true, false, List, [], ◌∷◌, length, Option, None, Some, String, Global, string_bytes, refl, sym, ap, subst, ◌∙◌, ◌<◌, arith}
 use Rattle.std.specs.Io.KnownBytes.{Appends}
 use Rattle.std.specs.Option.{option_map, unwrap_or}
 use Rattle.regex.specs.Patterns.{Re}
@@ -28,14 +28,14 @@ use Rattle.minus.specs.declared.status.Status.{Status}
 use Rattle.minus.specs.declared.status.Status.TheVariants as status
 use Rattle.minus_state.specs.declared.state.RunMode.{RunMode}
 use Rattle.minus.specs.declared.step_drawing.Drawing.{Drawing}
-use Rattle.minus.specs.Asked.{Asks, Wants, checked_as, taken}
+use Rattle.minus.specs.Asked.{Asks, Wants, checked_as, clears_prefix, taken}
 use Rattle.minus.specs.Drawings.{ops_of_step, IsDrawable}
 use Rattle.minus.specs.Drawn.{IsDrawing, Drawn}
 use Rattle.minus.specs.Outcomes.{IsOutcome, IsTakenBy, ExitsWith}
 use Rattle.minus.specs.Reads.{Told, a_command, an_event}
 use Rattle.minus.specs.Seen.{Seen}
 use Rattle.minus.specs.Handing.{Exit, Handing, Kept, kept_after, classifier_after, condition_after, kept_with, classifier_with, condition_with, IsFree, IsFreeFor, IsUnhanded}
-use Rattle.minus.specs.Table.{Wanted, hands_over, effect, handed, changed_by, drawing_by, drawing_of, IsPossible}
+use Rattle.minus.specs.Table.{Wanted, hands_over, shape, effect_of, handed, changed_by, control_after, drawing_by, drawing_of, end_hook, is_at_end, IsPossible}
 use Rattle.minus.specs.Works.{Work, work_of, undrawn, key_work, after, Takes, worked, edits, IsQuiet}
 use Rattle.minus.specs.Core.{seen_of}
 use Rattle.minus.specs.SessionSteps.{IsUntakenOf}
@@ -43,29 +43,27 @@ use Rattle.minus.specs.declared.session.Core.{Core}
 use Rattle.minus.specs.Steps.{Took, Fails, IsSinkFault}
 use Rattle.minus.proofs.DrawnLaws.{undrawn_drawn}
 use Rattle.minus.proofs.TableLaws.{clamp_still, exit_still}
-use Rattle.minus.proofs.CommandLaws.{drawn_on, work_draws, work_drawable}
+use Rattle.minus.proofs.CommandLaws.{work_draws, work_drawable}
 use Rattle.minus.proofs.KeyedLaws.{key_drawable}
 use Rattle.minus.proofs.KeyLaws.{key_drawn}
 
 -- a change is drawn as the table says of its request
-pub drawn_as : {Q K : Type 0} (c : Control) (clears : Bool) (w : Wanted Q K) (redraw : Redraw) (mark : ℕ) → redraw ≡ (effect (cleared clears c) w).redraw → mark ≡ (changed_by (effect (cleared clears c) w)).mark → drawing_by redraw c mark ≡ drawing_of (cleared clears c) w
-drawn_as c clears w redraw mark r m =
-    ap (λ (x : Redraw). drawing_by x c mark) r ∙ ap (λ (n : ℕ). drawing_by (effect (cleared clears c) w).redraw c n) m
-    ∙ drawn_on c clears w
+pub drawn_as : {Q K : Type 0} (c : Control) (w : Wanted Q K) (redraw : Redraw) (mark : ℕ) → redraw ≡ (effect_of c w).redraw → mark ≡ (changed_by (effect_of c w)).mark → drawing_by redraw c mark ≡ drawing_of c w
+drawn_as c w redraw mark r m = ap (λ (x : Redraw). drawing_by x c mark) r ∙ ap (λ (n : ℕ). drawing_by (effect_of c w).redraw c n) m
 
 -- what is left where nothing is handed over
-after_alone : {Q K : Type 0} (seen : Seen Q K) (w : Wanted Q K) → handed w ≡ None → (let left : Seen Q K = record seen { control = changed_by (effect seen.control w) } in left ≡ after seen w)
-after_alone {Q = Q} {K = K} seen w none =
-    ap (λ (h : Option (Handing Q K)). let left : Seen Q K = record seen { control = changed_by (effect seen.control w); classifier = classifier_after seen.classifier h; condition = condition_after seen.condition h; kept = kept_after seen.kept h } in left) (sym none)
+after_alone : {Q K : Type 0} (clears : Bool) (seen : Seen Q K) (w : Wanted Q K) → handed w ≡ None → (let left : Seen Q K = record seen { control = control_after clears seen.control w } in left ≡ after clears seen w)
+after_alone {Q = Q} {K = K} clears seen w none =
+    ap (λ (h : Option (Handing Q K)). let left : Seen Q K = record seen { control = control_after clears seen.control w; classifier = classifier_after seen.classifier h; condition = condition_after seen.condition h; kept = kept_after seen.kept h } in left) (sym none)
 
 -- an exit leaves the control, but for the typed prefix
-pub exits_with : {Q K : Type 0} (seen : Seen Q K) (told : Told Q K) (w : Wanted Q K) (outcome : Outcome) (prefix : Option (String Global)) → IsClamped seen.control → IsOutcome seen.control (taken seen told w).control w outcome → outcome.exits ≡ true → prefix ≡ outcome.change.prefix → ExitsWith seen told w (option_map string_bytes prefix)
+pub exits_with : {Q K : Type 0} (seen : Seen Q K) (told : Told Q K) (w : Wanted Q K) (outcome : Outcome) (prefix : Option (String Global)) → IsClamped seen.control → IsOutcome (clears_prefix told w) seen.control w outcome → outcome.exits ≡ true → prefix ≡ outcome.change.prefix → ExitsWith seen told w (option_map string_bytes prefix)
 exits_with seen told w outcome prefix clamped o is same =
     let exits = sym o.exits ∙ is in
     record {
       exits = exits;
       typed = ap (λ (p : Option (String Global)). unwrap_or (option_map string_bytes p) seen.control.settings.prefix) same
-          ∙ ap (λ (s : Settings). s.prefix) o.leads.settings_are ∙ ap (λ (k : Control). k.settings.prefix) (exit_still (taken seen told w).control w clamped exits);
+          ∙ ap (λ (s : Settings). s.prefix) o.leads.settings_are ∙ ap (λ (k : Control). (cleared (clears_prefix told w) k).settings.prefix) (exit_still seen.control (shape seen.control w) clamped exits);
     }
 
 -- the session after that
@@ -75,36 +73,38 @@ prefix_placed seen told w prefix before after is placed x =
     ap control_of placed ∙ ap (λ (p : List ℕ). with_prefix (control_of before) p) (typed_after prefix before.prefix_num) ∙ ap (λ (k : Control). with_prefix k (unwrap_or (option_map string_bytes prefix) k.settings.prefix)) (sym is) ∙ ap (λ (p : List ℕ). with_prefix seen.control p) x.typed
 
 -- the input was worked off
-takes : {Q K : Type 0} (says : Says Q K) (old new : Seen Q K) (told : Told Q K) (w : Wanted Q K) (copied : Option (List ℕ)) → old.control.search ≡ None → Asks says old told w → IsPossible w → IsFreeFor old.kept.ids (handed w) → (effect (taken old told w).control w).is_exit ≡ false → new ≡ after (taken old told w) w → copied ≡ (effect (taken old told w).control w).copies
-    → Takes says old told (work_of (taken old told w).control w) copied new
+takes : {Q K : Type 0} (says : Says Q K) (old new : Seen Q K) (told : Told Q K) (w : Wanted Q K) (copied : Option (List ℕ)) → old.control.search ≡ None → Asks says old told w → IsPossible w → IsFreeFor old.kept.ids (handed w) → (effect_of old.control w).is_exit ≡ false → new ≡ after (clears_prefix told w) old w → copied ≡ (effect_of old.control w).copies
+    → Takes says old told (work_of (clears_prefix told w) old.control w) copied new
 takes {Q = Q} {K = K} says old new told w copied closed asks possible free on is copies =
-    subst (λ (x : Seen Q K). Takes says old told (work_of (taken old told w).control w) copied x) (sym is)
-    (subst (λ (text : Option (List ℕ)). Takes says old told (work_of (taken old told w).control w) text (after (taken old told w) w)) (sym copies) (worked w closed asks possible free on))
+    let work : Work = work_of (clears_prefix told w) old.control w in
+    subst (λ (x : Seen Q K). Takes says old told work copied x) (sym is)
+    (subst (λ (text : Option (List ℕ)). Takes says old told work text (after (clears_prefix told w) old w)) (sym copies) (worked w closed asks possible free on))
 
 -- it was worked off by a change, and hands nothing over
-pub worked_by : {Q K : Type 0} (says : Says Q K) (old : Seen Q K) (told : Told Q K) (w : Wanted Q K) (outcome : Outcome) → old.control.search ≡ None → IsClamped old.control → 1 ≤ old.control.rows → Asks says old told w → handed w ≡ None → IsOutcome old.control (taken old told w).control w outcome → outcome.exits ≡ false → IsTakenBy says old told outcome (work_of (taken old told w).control w)
+pub worked_by : {Q K : Type 0} (says : Says Q K) (old : Seen Q K) (told : Told Q K) (w : Wanted Q K) (outcome : Outcome) → old.control.search ≡ None → IsClamped old.control → 1 ≤ old.control.rows → Asks says old told w → handed w ≡ None → IsOutcome (clears_prefix told w) old.control w outcome → outcome.exits ≡ false → IsTakenBy says old told outcome (work_of (clears_prefix told w) old.control w)
 worked_by {Q = Q} {K = K} says old told w outcome closed clamped some asks none o on =
-    let work : Work = work_of (taken old told w).control w in
+    let clears : Bool = clears_prefix told w in
+    let work : Work = work_of clears old.control w in
     let next : Seen _ _ = record old { control = work.left } in
     record {
-      takes = takes says old next told w (option_map string_bytes outcome.copied) closed asks o.possible (subst (λ (h : Option (Handing Q K)). IsFreeFor old.kept.ids h) (sym none) tt) (sym o.exits ∙ on) (after_alone (taken old told w) w none) o.copied;
+      takes = takes says old next told w (option_map string_bytes outcome.copied) closed asks o.possible (subst (λ (h : Option (Handing Q K)). IsFreeFor old.kept.ids h) (sym none) tt) (sym o.exits ∙ on) (after_alone clears old w none) o.copied;
       leads = o.leads;
-      drawing = drawn_as old.control _ w outcome.change.redraw outcome.change.mark o.redraw o.leads.mark_is;
-      drawable = work_drawable old.control (taken old told w).control w closed;
-      hook = o.hook;
-      draws = λ left_some. work_draws old.control _ w closed clamped some left_some;
+      drawing = drawn_as old.control w outcome.change.redraw outcome.change.mark o.redraw o.leads.mark_is;
+      drawable = work_drawable old.control clears w closed;
+      hook = ap (λ (to : Option ℕ). end_hook (is_some to) (is_at_end work.left)) o.moves_to;
+      draws = λ left_some. work_draws old.control clears w closed clamped some left_some;
     }
 
 -- an event was taken by the search prompt that is open
 pub keyed_by : {Q K : Type 0} (says : Says Q K) (old : Seen Q K) (event : Event) (o : OpenSearch) (found : Option Re) (outcome : Outcome) → old.control.search ≡ Some o → checked_as {Q = Q} {K = K} (an_event event) ≡ None → (state : PagerState) → IsFormed state → control_of state ≡ old.control → MayFind says.condition old.condition state o event found → 1 ≤ old.control.rows
-    → IsChange old.control outcome.change (keyed old.control o (edit_of event) found) → outcome.change.redraw ≡ keyed_redraw o (edit_of event) → outcome.copied ≡ None → outcome.hook ≡ None → IsTakenBy says old (an_event event) outcome (key_work old.control o (edit_of event) found)
-keyed_by says old event o found outcome searching alone state formed is may some leads redraw none quiet =
+    → IsChange old.control outcome.change (keyed old.control o (edit_of event) found) → outcome.change.redraw ≡ keyed_redraw o (edit_of event) → outcome.copied ≡ None → outcome.moves_to ≡ None → IsTakenBy says old (an_event event) outcome (key_work old.control o (edit_of event) found)
+keyed_by says old event o found outcome searching alone state formed is may some leads redraw none still =
     let work : Work = key_work old.control o (edit_of event) found in
     record {
       takes = rw none (edits o searching alone state formed is found may);
       leads = leads;
       drawing = ap (λ (r : Redraw). drawing_by r old.control outcome.change.mark) redraw ∙ ap (λ (n : ℕ). drawing_by (keyed_redraw o (edit_of event)) old.control n) leads.mark_is;
-      hook = quiet;
+      hook = ap (λ (to : Option ℕ). end_hook (is_some to) (is_at_end work.left)) still;
       drawable = key_drawable (told_by o (edit_of event)) old.control o.edited (fed o.prompt (edit_of event)) found work.left.mark;
       draws = λ left_some. key_drawn old.control o (edit_of event) found some searching;
     }
@@ -161,9 +161,9 @@ seen_alike {Q = Q} {K = K} x y a b c d e f g =
 -- ---- what is handed over
 
 -- no event hands anything over, so the typed prefix stays
-taken_same : {Q K : Type 0} (old : Seen Q K) (told : Told Q K) (handing : Handing Q K) → taken old told (hands_over handing) ≡ old
-taken_same old (a_command asked) handing = refl
-taken_same old (an_event event) handing = refl
+prefix_stays : {Q K : Type 0} (told : Told Q K) (handing : Handing Q K) → clears_prefix told (hands_over handing) ≡ false
+prefix_stays (a_command asked) handing = refl
+prefix_stays (an_event event) handing = refl
 
 -- it is kept
 pub handed_take : {Q K : Type 0} (says : Says Q K) (old new : Seen Q K) (told : Told Q K) (handing : Handing Q K) (a : Option (List ℕ)) → old.control.search ≡ None → IsClamped old.control → Asks says old told (hands_over handing) → IsFree old.kept.ids handing
@@ -172,12 +172,12 @@ handed_take {Q = Q} {K = K} says old new told handing a closed clamped asks free
     let c : Control = old.control in
     let w : Wanted Q K = hands_over handing in
     let stays : clamp c ≡ c = clamp_still c clamped in
-    let same : taken old told w ≡ old = taken_same old told handing in
-    let left : new ≡ after (taken old told w) w =
+    let same = prefix_stays told handing in
+    let left : new ≡ after (clears_prefix told w) old w =
     is ∙ ap (λ (k : Control). let r : Seen Q K = record old { control = k; classifier = classifier_with old.classifier handing; condition = condition_with old.condition handing; kept = kept_with old.kept handing } in r) (sym stays)
-    ∙ ap (λ (s : Seen Q K). after s w) (sym same) in
-    let work : work_of (taken old told w).control w ≡ undrawn c =
-    ap (λ (s : Seen Q K). work_of s.control w) same ∙ ap undrawn stays in
+    ∙ ap (λ (b : Bool). after b old w) (sym same) in
+    let work : work_of (clears_prefix told w) c w ≡ undrawn c =
+    ap (λ (b : Bool). work_of b c w) same ∙ ap undrawn stays in
     let t : Takes says old told (undrawn c) None new = subst (λ (x : Work). Takes says old told x None new) work (takes says old new told w None closed asks tt free refl left refl) in
     let at : new.control ≡ c = ap (λ (s : Seen Q K). s.control) is in
     (undrawn c, t, subst (λ (k : Control). Drawn a a c (undrawn c ∷ []) k) (sym at) (undrawn_drawn a c))
@@ -215,11 +215,11 @@ unkeyed_take sink says old event o e searching h =
     record { fails = fails; rises = λ fault. absurd (no_fault fault); untouched = λ well. refl }
 
 -- an exit
-pub exit_take : {Q K : Type 0} (says : Says Q K) (old new : Seen Q K) (told : Told Q K) (w : Wanted Q K) (x : Exit) (copied a b : Option (List ℕ)) → old.control.search ≡ None → Asks says old told w → (effect (taken old told w).control w).is_exit ≡ true → x ≡ old.kept.exit → copied ≡ None → new ≡ record (taken old told w) { waiting = []; status = status.Ended } → Appends a b cleanup_bytes
+pub exit_take : {Q K : Type 0} (says : Says Q K) (old new : Seen Q K) (told : Told Q K) (w : Wanted Q K) (x : Exit) (copied a b : Option (List ℕ)) → old.control.search ≡ None → Asks says old told w → (effect_of old.control w).is_exit ≡ true → x ≡ old.kept.exit → copied ≡ None → new ≡ record (taken old told w) { waiting = []; status = status.Ended } → Appends a b cleanup_bytes
     → Took says (Some x) old told copied new a b
 exit_take says old new told w x copied a b closed asks exits by none ends h = (record { wanted = w; closed = closed; asked = asks; exits = exits; by = by }, none, ends, h)
 
 -- its cleanup was refused
-pub exit_broken : {Q K : Type 0} (says : Says Q K) (old new : Seen Q K) (told : Told Q K) (w : Wanted Q K) (cause : CleanupError) (a b : Option (List ℕ)) → old.control.search ≡ None → Asks says old told w → (effect (taken old told w).control w).is_exit ≡ true → new ≡ record (taken old told w) { status = status.Failed } → CleanupBreaksOff cause a b
+pub exit_broken : {Q K : Type 0} (says : Says Q K) (old new : Seen Q K) (told : Told Q K) (w : Wanted Q K) (cause : CleanupError) (a b : Option (List ℕ)) → old.control.search ≡ None → Asks says old told w → (effect_of old.control w).is_exit ≡ true → new ≡ record (taken old told w) { status = status.Failed } → CleanupBreaksOff cause a b
     → Fails says (at_cleanup cause) old told new a b
 exit_broken says old new told w cause a b closed asks exits fails h = (old.kept.exit, record { wanted = w; closed = closed; asked = asks; exits = exits; by = refl }, h, fails)

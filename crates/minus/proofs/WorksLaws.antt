@@ -7,7 +7,6 @@ use Rattle.std.proofs.lemmas.List.Folds.{list_any-append}
 use Rattle.minus_term.specs.Refusals.{Refusal}
 use Rattle.minus.specs.Says.{Says}
 use Rattle.minus_state.specs.Control.{Control}
-use Rattle.minus.specs.Asked.{taken}
 use Rattle.minus.specs.Reads.{Told}
 use Rattle.minus.specs.Seen.{Seen}
 use Rattle.minus.specs.Works.{Work, Takes, worked, waited, edits, Worked, first, more, passed, IsNext, leaving, passed_in, reached, is_full, some_full, AloneWithNoPrompt}
@@ -32,7 +31,7 @@ takes_status says s new told work text (edits o searching alone state formed is 
 
 -- what is not drawn in full keeps the size
 pub takes_rows : {Q K : Type 0} (says : Says Q K) (s new : Seen Q K) (told : Told Q K) (work : Work) (text : Option (List ℕ)) → Takes says s told work text new → is_full work.drawing ≡ false → s.control.rows ≡ new.control.rows
-takes_rows says s new told work text (worked w closed asked possible free on) e = (resizes_full_lem (taken s told w).control w e).same_rows
+takes_rows says s new told work text (worked w closed asked possible free on) e = (resizes_full_lem s.control w e).same_rows
 takes_rows says s new told work text (waited o w searching wants possible) e = refl
 takes_rows says s new told work text (edits {event = event} o searching alone state formed is found may) e = sym (keyed_rows (told_by o (edit_of event)) s.control o.edited (fed o.prompt (edit_of event)) found)
 

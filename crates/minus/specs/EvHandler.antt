@@ -18,7 +18,7 @@ use Rattle.minus.specs.Drawings.{ops_of}
 use Rattle.minus.specs.Handing.{kept_after, classifier_after, condition_after, IsFreeFor}
 use Rattle.minus.specs.Queued.{queued}
 use Rattle.minus.specs.Reads.{as_command, io_of, io_wanted, kept_of, wanted_of}
-use Rattle.minus.specs.Table.{Wanted, effect, handed, changed_by, drawing_of}
+use Rattle.minus.specs.Table.{Wanted, effect_of, handed, changed_by, drawing_of}
 use Rattle.minus.specs.Unmoved.{unmoved}
 use Rattle.minus.specs.Works.{IsFaultBeside}
 
@@ -40,8 +40,8 @@ pub record IsDone {P H E Q K : Type 0} (old : PartsOf P H E Q K) (waiting : List
   pub classifier : new.classifier ≡ classifier_after old.classifier (handed w)
   pub condition : new.condition ≡ condition_after old.condition (handed w)
   pub queue_is : queue ≡ waiting ++ map as_command (queued (control_of old.state) w)
-  pub exited : handled.exited ≡ (effect (control_of old.state) w).is_exit
-  pub copied : option_map string_bytes handled.copied ≡ (effect (control_of old.state) w).copies
+  pub exited : handled.exited ≡ (effect_of (control_of old.state) w).is_exit
+  pub copied : option_map string_bytes handled.copied ≡ (effect_of (control_of old.state) w).copies
 
 -- the request that comes of a command, with the classifier of these parts
 abbrev pub IsRequestTo : {P H E Q K : Type 0} → Classifies K → PartsOf P H E Q K → CommandOf P H E Q K → Wanted Q K → Type 0
@@ -76,7 +76,7 @@ CannotHandle {Q = Q} {K = K} refusal says parts command = (w : Wanted Q K) × Is
 
 -- the control that a command which asks for a drawing leaves, and what is drawn then
 abbrev pub io_left : (Q K : Type 0) → Control → IoCommand → Control
-io_left Q K c io = changed_by (effect {Q = Q} {K = K} c (io_wanted io))
+io_left Q K c io = changed_by (effect_of {Q = Q} {K = K} c (io_wanted io))
 
 abbrev pub io_ops : (Q K : Type 0) → Control → IoCommand → List Op
 io_ops Q K c io = ops_of (drawing_of {Q = Q} {K = K} c (io_wanted io)) (io_left Q K c io)
@@ -88,7 +88,7 @@ all_io_left Q K c (io ∷ rest) = all_io_left Q K (io_left Q K c io) rest
 
 -- the law that a command which is done by hand leaves, once what waits for it is done too, what the table says of it
 abbrev pub ByHandAsByTheTable : (Q K : Type 0) → Type 0
-ByHandAsByTheTable Q K = (c : Control) (w : Wanted Q K) → all_io_left Q K (unmoved c w) (queued c w) ≡ changed_by (effect c w)
+ByHandAsByTheTable Q K = (c : Control) (w : Wanted Q K) → all_io_left Q K (unmoved c w) (queued c w) ≡ changed_by (effect_of c w)
 
 -- what it asks for was done, and drawn on a sink
 pub record IsIoDone {S P H E Q K : Type 0} (sink : S → SinkSeen) (old : PartsOf P H E Q K) (before : S) (io : IoCommand) (new : PartsOf P H E Q K)

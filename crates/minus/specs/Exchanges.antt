@@ -1,5 +1,5 @@
 -- Exchanges of a session's sink.
-use Rattle.std.specs.Prelude.{◌≡◌, ℕ, true, is_some, None}
+use Rattle.std.specs.Prelude.{◌≡◌, ℕ, true, false, is_some, None}
 use Rattle.minus_term.specs.Counts.{SinkSeen, Stays, Rises}
 use Rattle.minus_term.specs.Refusals.{Refusal, for_memory, for_size, for_mode, after_failure, after_exit, at_drawing}
 use Rattle.minus_state.specs.Sizes.{IsSize}
@@ -13,7 +13,7 @@ use Rattle.minus.specs.Works.{after}
 
 -- what a session is seen as over a terminal of this size
 abbrev pub resized : {Q K : Type 0} → Seen Q K → (cols rows : ℕ) → Seen Q K
-resized seen cols rows = after seen (resizes cols rows)
+resized seen cols rows = after false seen (resizes cols rows)
 
 -- the sink can be exchanged: the session runs, and no search prompt is open
 pub record CanExchange {Q K : Type 0} (seen : Seen Q K) : Type 0 where

@@ -4,7 +4,8 @@ use Rattle.std.specs.List.{concat}
 use Rattle.std.specs.Str.Lines.{lines}
 use Rattle.minus_state.specs.Control.{Control}
 use Rattle.minus.specs.Reads.{Told, a_command}
-use Rattle.minus.specs.Table.{Wanted, appends_data, adds_text, changed_by}
+use Rattle.minus.specs.Shapes.{adds_text}
+use Rattle.minus.specs.Table.{Wanted, appends_data, changed_by}
 use Rattle.minus_state.specs.declared.hooks.HookId.{HookId}
 use Rattle.minus.specs.Starts.{taken_all, CanTakeAll}
 use Rattle.minus.specs.Unmoved.{unmoved}

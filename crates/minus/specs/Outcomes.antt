@@ -1,5 +1,5 @@
 -- What comes of a request.
-use Rattle.std.specs.Prelude.{◌≡◌, ℕ, ◌≤◌, List, [], ◌∷◌, true, Option, string_bytes}
+use Rattle.std.specs.Prelude.{◌≡◌, ℕ, ◌≤◌, List, [], ◌∷◌, Bool, true, is_some, Option, string_bytes}
 use Rattle.std.specs.Option.{option_map, unwrap_or}
 use Rattle.minus_term.specs.Refusals.{Refusal, for_memory}
 use Rattle.minus_state.specs.declared.change.Change.{Change}
@@ -12,17 +12,17 @@ use Rattle.minus.specs.Drawings.{ops_of_step, IsDrawable}
 use Rattle.minus.specs.Drawn.{IsDrawing}
 use Rattle.minus.specs.Reads.{Told}
 use Rattle.minus.specs.Seen.{Seen}
-use Rattle.minus.specs.Table.{Wanted, effect, hook_after, changed_by, drawing_by, IsPossible, IsFault}
+use Rattle.minus.specs.Table.{Wanted, effect_of, control_after, drawing_by, end_hook, is_at_end, IsPossible, IsFault}
 use Rattle.minus.specs.Works.{Work, Takes}
 
--- what comes of a request by the table, for a control that was taken, formed beside the control before that
-pub record IsOutcome {Q K : Type 0} (old taken : Control) (w : Wanted Q K) (outcome : Outcome) : Type 0 where
+-- what comes of a request by the table, after which the typed prefix goes, or stays
+pub record IsOutcome {Q K : Type 0} (clears : Bool) (old : Control) (w : Wanted Q K) (outcome : Outcome) : Type 0 where
   pub possible : IsPossible w
-  pub leads : IsChange old outcome.change (changed_by (effect taken w))
-  pub redraw : outcome.change.redraw ≡ (effect taken w).redraw
-  pub copied : option_map string_bytes outcome.copied ≡ (effect taken w).copies
-  pub exits : outcome.exits ≡ (effect taken w).is_exit
-  pub hook : outcome.hook ≡ hook_after taken w
+  pub leads : IsChange old outcome.change (control_after clears old w)
+  pub redraw : outcome.change.redraw ≡ (effect_of old w).redraw
+  pub moves_to : outcome.moves_to ≡ (effect_of old w).moves_to
+  pub copied : option_map string_bytes outcome.copied ≡ (effect_of old w).copies
+  pub exits : outcome.exits ≡ (effect_of old w).is_exit
 
 -- the change leads to a control whose mark the clamp leaves
 abbrev pub LeadsClamped : Control → Change → Type 0
@@ -34,12 +34,12 @@ pub record IsTakenBy {Q K : Type 0} (says : Says Q K) (old : Seen Q K) (told : T
   pub leads : IsChange old.control outcome.change work.left
   pub drawing : drawing_by outcome.change.redraw old.control outcome.change.mark ≡ work.drawing
   pub drawable : IsDrawable work.drawing old.control work.left
-  pub hook : outcome.hook ≡ work.hook
+  pub hook : end_hook (is_some outcome.moves_to) (is_at_end work.left) ≡ work.hook
   pub draws : 1 ≤ work.left.rows → IsDrawing (ops_of_step work.drawing old.control work.left) old.control (work ∷ []) work.left
 
 -- an exit, and the typed prefix as the input that was taken leaves it: another one, or the one before
 pub record ExitsWith {Q K : Type 0} (seen : Seen Q K) (told : Told Q K) (w : Wanted Q K) (prefix : Option (List ℕ)) : Type 0 where
-  pub exits : (effect (taken seen told w).control w).is_exit ≡ true
+  pub exits : (effect_of seen.control w).is_exit ≡ true
   pub typed : unwrap_or prefix seen.control.settings.prefix ≡ (taken seen told w).control.settings.prefix
 
 -- why a request was not formed: out of memory, or for what cannot be done

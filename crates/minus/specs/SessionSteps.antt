@@ -90,13 +90,14 @@ pub record IsRunOf {S P H E Q K : Type 0} (sink : S → SinkSeen) (says : Says Q
   pub stays : (StopsAtSink stopped → ⊥) → Stays (sink old.sink).refusals (sink new.sink).refusals
   pub rises : StopsAtSink stopped → Rises (sink old.sink).refusals (sink new.sink).refusals
 
--- a run of inputs, by what it answers; and one of inputs that are taken from the end of a list, by how far it came
-abbrev pub IsRanBy : {S P H E Q K : Type 0} → (S → SinkSeen) → Says Q K → (old new : Core S P H E Q K) → List (InputOf P H E Q K) → RanOf P H E Q K → Type 0
-IsRanBy sink says old new inputs ran = IsRunOf sink says old new inputs ran.done ran.last ran.stopped ran.rest.items
+-- a run of these inputs ends with this answer
+abbrev pub RunsTo : {S P H E Q K : Type 0} → (S → SinkSeen) → Says Q K → (old new : Core S P H E Q K) → List (InputOf P H E Q K) → RanOf P H E Q K → Type 0
+RunsTo sink says old new inputs ran = IsRunOf sink says old new inputs ran.done ran.last ran.stopped ran.rest.items
 
-abbrev pub IsRanFromEnd :
+-- a run of inputs that are taken from the end of a list comes this far
+abbrev pub RunsFromEndTo :
     {S P H E Q K : Type 0} → (S → SinkSeen) → Says Q K → (old new : Core S P H E Q K) → (left rest : List (InputOf P H E Q K)) → Progress → Type 0
-IsRanFromEnd sink says old new left rest ran = IsRunOf sink says old new (reverse left) ran.done ran.last ran.stopped (reverse rest)
+RunsFromEndTo sink says old new left rest ran = IsRunOf sink says old new (reverse left) ran.done ran.last ran.stopped (reverse rest)
 
 -- why the refusal of an input that waited is not kept, and this is answered in its place: it is no refusal of what is passed over, or there
 -- is no memory for it

@@ -77,7 +77,7 @@ first_mark c = if c.settings.follow then top c else c.mark
 
 -- the mark moves there as in a scroll, but no hook is called
 abbrev pub first_move : Control → Work
-first_move c = record (work_of {Q = Unit {0}} {K = Unit {0}} c (moves_mark (first_mark c))) { hook = None }
+first_move c = record (work_of {Q = Unit {0}} {K = Unit {0}} false c (moves_mark (first_mark c))) { hook = None }
 
 -- the operations that draw this
 abbrev pub move_ops : Control → List Op

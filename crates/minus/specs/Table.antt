@@ -14,16 +14,14 @@ use Rattle.minus_state.specs.declared.search.SearchMode.{SearchMode}
 use Rattle.minus_term.specs.declared.hooks.Hook.{Hook}
 use Rattle.minus_term.specs.declared.hooks.Hook.TheVariants.{EofReached}
 use Rattle.minus_state.specs.Sizes.{IsSize}
-use Rattle.minus_state.specs.Appending.{followed, with_more}
-use Rattle.minus_state.specs.Redraws.{append_redraw, added_redraw, shift_redraw, whole_where, led_redraw}
-use Rattle.minus_state.specs.Shifting.{left_after}
+use Rattle.minus_state.specs.Shifting.{may_shift, left_after}
 use Rattle.minus_state.specs.MatchJumps.{next_match, next_match_row, prev_match, prev_match_row}
-use Rattle.minus_state.specs.Prompting.{opened, opening_redraw}
 use Rattle.minus_state.specs.ShownPrompt.{has_newline}
-use Rattle.minus_state.specs.Selecting.{no_ends, has_ends, end_at, ends_begun, mark_led, ends_led}
-use Rattle.minus_state.specs.Control.{Control, Settings, document_of, text_rows, first_changed, with_message, with_prefix, reformed, clamp, top, shows_end}
+use Rattle.minus_state.specs.Selecting.{no_ends, has_ends, end_at, ends_begun, mark_led, ends_led, stays_led}
+use Rattle.minus_state.specs.Control.{Control, document_of, text_rows, first_changed, with_message, cleared, reformed, clamp, top, shows_end}
+use Rattle.minus_state.specs.Help.{help_open, turned, with_prompt, with_text}
 use Rattle.minus.specs.Handing.{Handing}
-use Rattle.minus_state.specs.Help.{help_open, left_help, restored, turned, with_prompt, with_text}
+use Rattle.minus.specs.Shapes.{Effect, Shape, effect, stays, registers, sets, moves, appends, shows, draws_row, opens, restores, leaves}
 
 -- a request, as values alone: what is handed over changes what the session keeps beside its state, and help has the text that it is
 -- opened with: none where the classifier gives none, or where help is open
@@ -56,74 +54,39 @@ pub data Wanted (Q K : Type 0) : Type 0 where
   searches : SearchMode → Wanted Q K
   fetches_query : Wanted Q K
 
--- what a command does: the control that it changes, the move of the mark after it, if any, what it asks to be drawn, whether it is an
--- exit, and the text that is copied, if one is
-pub record Effect : Type 0 where
-  pub changed : Control
-  pub moves_to : Option ℕ
-  pub redraw : Redraw
-  pub is_exit : Bool
-  pub copies : Option (List ℕ)
+-- the table: the shape of each command
+abbrev pub shape : {Q K : Type 0} → Control → Wanted Q K → Shape Q K
+shape c (sets_data text) = shows (with_text c text) (not (help_open c)) None
+shape c (appends_data text) = appends text
+shape c (moves_mark mark) = moves c.settings c.search_mark (Some mark)
+shape c (resizes cols rows) = shows (reformed (record c { cols = cols; rows = rows })) true None
+shape c exits = leaves
+shape c ignores = stays
+shape c (sets_prompt text) = sets (with_prompt c text).settings
+shape c (sends_message text) = sets (with_message c text).settings
+shape c (shows_prompt is_shown) = sets (record c.settings { is_shown = is_shown })
+shape c (follows follow) = moves (record c.settings { follow = follow }) c.search_mark (Some (top c))
+shape c (types character) = sets (record c.settings { prefix = c.settings.prefix ++ encode_utf8 character })
+shape c restores_prompt = restores
+shape c redraws_prompt = draws_row
+shape c redraws_page = shows c true None
+shape c (hands_over handing) = registers handing
+shape c (sets_numbers numbers) = shows (reformed (record c { numbers = numbers })) true None
+shape c (sets_wrapping wrapping) = shows (reformed (record c { wrapping = wrapping })) true None
+shape c (shifts left) = shows (record c { left = left_after c left }) (may_shift c left) None
+shape c (starts_selection x y) = shows (record c { ends = ends_begun c.ends (end_at c x y) }) (is_some (end_at c x y)) None
+shape c (updates_selection x y) = shows (record c { mark = mark_led c y; ends = ends_led c x y }) (not (stays_led c x y)) None
+shape c clears_selection = shows (record c { ends = no_ends }) (has_ends c.ends) None
+shape c copies_selection = shows (record c { ends = no_ends }) (has_ends c.ends) (copied (document_of c) (ends_in_order c.ends))
+shape c (shows_help text) = shows (turned c c.help (unwrap_or text [])) true None
+shape c (moves_to_next_match jump) = moves c.settings (next_match c jump) (next_match_row c jump)
+shape c (moves_to_prev_match jump) = moves c.settings (prev_match c jump) (prev_match_row c jump)
+shape c (searches mode) = opens mode
+shape c fetches_query = opens c.mode
 
--- what only changes the control
-abbrev pub changes : Control → Redraw → Effect
-changes c redraw = record { changed = c; moves_to = None; redraw = redraw; is_exit = false; copies = None }
-
--- what only sets something beside the text: of the page only the prompt row may change
-abbrev pub sets : Control → Settings → Effect
-sets c settings = changes (record c { settings = settings }) Stays
-
-abbrev pub appends : Control → List ℕ → Effect
-appends c text = let new : Control = record c { text = c.text ++ text } in record (changes new (append_redraw c text)) { moves_to = Some (followed c new) }
-
--- a text is added at the end; while help is open nothing moves and nothing is drawn
-abbrev pub adds_text : Control → List ℕ → Effect
-adds_text c text = record (appends c text) {
-  changed = with_more c text;
-  moves_to = if help_open c then None else (appends c text).moves_to;
-  redraw = added_redraw c text;
-}
-
--- nothing is selected any more
-abbrev pub unselects : Control → Effect
-unselects c = changes (record c { ends = no_ends }) (whole_where (has_ends c.ends))
-
--- the search prompt opens for a search in a direction
-abbrev pub opens_search : Control → SearchMode → Effect
-opens_search c mode = changes (opened c mode) (opening_redraw mode)
-
--- a match is told of in the prompt row, and the mark moves to a row, if there is one
-abbrev pub tells_match : Control → ℕ → Option ℕ → Effect
-tells_match c search_mark row = record (changes (record c { search_mark = search_mark }) Moved) { moves_to = row }
-
-abbrev pub effect : {Q K : Type 0} → Control → Wanted Q K → Effect
-effect c (sets_data text) = changes (with_text c text) (whole_where (not (help_open c)))
-effect c (appends_data text) = adds_text c text
-effect c (moves_mark mark) = record (changes c Moved) { moves_to = Some mark }
-effect c (resizes cols rows) = changes (reformed (record c { cols = cols; rows = rows })) Whole
-effect c exits = record (changes (left_help c c.help) (whole_where (help_open c))) { is_exit = not (help_open c) }
-effect c ignores = changes c Stays
-effect c (sets_prompt text) = changes (with_prompt c text) Stays
-effect c (sends_message text) = changes (with_message c text) Stays
-effect c (shows_prompt is_shown) = sets c (record c.settings { is_shown = is_shown })
-effect c (follows follow) = record (changes (record c { settings = record c.settings { follow = follow } }) Moved) { moves_to = Some (top c) }
-effect c (types character) = changes (with_prefix c (c.settings.prefix ++ encode_utf8 character)) Stays
-effect c restores_prompt = changes (restored c c.help) (whole_where (help_open c))
-effect c redraws_prompt = changes c PromptRow
-effect c redraws_page = changes c Whole
-effect c (hands_over handing) = changes c Stays
-effect c (sets_numbers numbers) = changes (reformed (record c { numbers = numbers })) Whole
-effect c (sets_wrapping wrapping) = changes (reformed (record c { wrapping = wrapping })) Whole
-effect c (shifts left) = changes (record c { left = left_after c left }) (shift_redraw c left)
-effect c (starts_selection x y) = changes (record c { ends = ends_begun c.ends (end_at c x y) }) (whole_where (is_some (end_at c x y)))
-effect c (updates_selection x y) = changes (record c { mark = mark_led c y; ends = ends_led c x y }) (led_redraw c x y)
-effect c clears_selection = unselects c
-effect c copies_selection = record (unselects c) { copies = copied (document_of c) (ends_in_order c.ends) }
-effect c (shows_help text) = changes (turned c c.help (unwrap_or text [])) Whole
-effect c (moves_to_next_match jump) = tells_match c (next_match c jump) (next_match_row c jump)
-effect c (moves_to_prev_match jump) = tells_match c (prev_match c jump) (prev_match_row c jump)
-effect c (searches mode) = opens_search c mode
-effect c fetches_query = opens_search c c.mode
+-- what a command does
+abbrev pub effect_of : {Q K : Type 0} → Control → Wanted Q K → Effect
+effect_of c w = effect c (shape c w)
 
 -- what is handed over, if something is
 abbrev pub handed : {Q K : Type 0} → Wanted Q K → Option (Handing Q K)
@@ -155,18 +118,17 @@ IsFault for_newline w = HasNewline w
 IsFault (for_size cols rows) w = (w ≡ resizes cols rows) × (IsSize cols rows → ⊥)
 IsFault refusal w = ⊥
 
--- the mark after a move
+-- the control after a move of the mark, if it is moved
 abbrev pub moved : Control → Option ℕ → Control
-moved c None = c
-moved c (Some mark) = record c { mark = mark }
+moved c to = record c { mark = unwrap_or to c.mark }
 
--- the control after its move
-abbrev pub moved_by : Effect → Control
-moved_by e = moved e.changed e.moves_to
-
--- the control that a command leaves: the clamp ends each
+-- the control after an effect: its move, and the clamp, which ends each
 abbrev pub changed_by : Effect → Control
-changed_by e = clamp (moved_by e)
+changed_by e = clamp (moved e.changed e.moves_to)
+
+-- the control that a command leaves: the typed prefix goes last, or stays
+abbrev pub control_after : {Q K : Type 0} → Bool → Control → Wanted Q K → Control
+control_after clears c w = cleared clears (changed_by (effect_of c w))
 
 -- how what is asked for is drawn over the page of a control, by the mark that the clamp leaves: a move not at all where the mark stays,
 -- and an append in full where it does not
@@ -181,24 +143,21 @@ drawing_by redraws.Cursor old mark = Cursor
 drawing_by redraws.Edit old mark = Edit
 drawing_by redraws.Closing old mark = Closing
 
--- how what comes of a request is drawn
-abbrev pub drawing_of : {Q K : Type 0} → Control → Wanted Q K → Drawing
-drawing_of c w = drawing_by (effect c w).redraw c (changed_by (effect c w)).mark
+-- how an effect is drawn, and so what comes of a request
+abbrev pub drawn_by : Control → Effect → Drawing
+drawn_by c e = drawing_by e.redraw c (changed_by e).mark
 
--- whether it moves the mark, as a scroll does; also where the mark stays then
-abbrev pub moves : {Q K : Type 0} → Control → Wanted Q K → Bool
-moves c (appends_data text) = c.settings.follow && not (help_open c)
-moves c (moves_mark mark) = true
-moves c (follows follow) = true
-moves c (moves_to_next_match jump) = is_some (next_match_row c jump)
-moves c (moves_to_prev_match jump) = is_some (prev_match_row c jump)
-moves c w = false
+abbrev pub drawing_of : {Q K : Type 0} → Control → Wanted Q K → Drawing
+drawing_of c w = drawn_by c (effect_of c w)
 
 -- the hook whose callbacks are called after what moves the mark, or moves none, and after which the page shows an end, or not
 abbrev pub end_hook : Bool → Bool → Option Hook
 end_hook is_move at_end = if is_move && at_end then Some EofReached else None
 
--- the hook whose callbacks are called after what a request asks for, if one is: a move has come to the end of more rows than the
--- terminal has
+-- whether the page shows the end of more rows than the terminal has
+abbrev pub is_at_end : Control → Bool
+is_at_end c = shows_end (length (text_rows c)) c.rows c.mark
+
+-- the hook whose callbacks are called after what a request asks for, if one is: a move, also one where the mark stays, has come to the end
 abbrev pub hook_after : {Q K : Type 0} → Control → Wanted Q K → Option Hook
-hook_after c w = let new : Control = changed_by (effect c w) in end_hook (moves c w) (shows_end (length (text_rows new)) new.rows new.mark)
+hook_after c w = end_hook (is_some (effect_of c w).moves_to) (is_at_end (changed_by (effect_of c w)))

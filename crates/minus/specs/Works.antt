@@ -15,7 +15,7 @@ use Rattle.minus_state.specs.QueryKeys.{edit_of}
 use Rattle.minus_state.specs.ShownPrompt.{prompt_row}
 use Rattle.minus_state.specs.States.{control_of, IsFormed}
 use Rattle.minus_state.specs.Control.{Control, reformed, IsClamped, SameSize}
-use Rattle.minus.specs.Asked.{Asks, Wants, checked_as, taken}
+use Rattle.minus.specs.Asked.{Asks, Wants, checked_as, clears_prefix}
 use Rattle.minus.specs.Reads.{Told, an_event}
 use Rattle.minus_state.specs.OpenSearches.{OpenSearch}
 use Rattle.minus.specs.Seen.{Seen}
@@ -23,8 +23,8 @@ use Rattle.minus_term.specs.declared.hooks.Hook.{Hook}
 use Rattle.minus_state.specs.declared.hooks.HookId.{HookId}
 use Rattle.minus_state.specs.HookIds.{is_taken}
 use Rattle.minus.specs.Handing.{Handing, Exit, a_callback, kept_after, classifier_after, condition_after, IsFreeFor, HasNoNext}
-use Rattle.minus.specs.Table.{Wanted, hands_over, exits, restores_prompt, shows_help, effect, handed, hook_after, changed_by, drawing_by, drawing_of}
-use Rattle.minus.specs.Table.{IsPossible, IsFault}
+use Rattle.minus.specs.Table.{Wanted, hands_over, exits, restores_prompt, shows_help, effect_of, handed, hook_after, changed_by, control_after}
+use Rattle.minus.specs.Table.{drawing_by, drawing_of, IsPossible, IsFault}
 
 -- a work: how what comes of it is drawn, the control that it leaves, and the hook whose callbacks are called after that, if one is
 pub record Work : Type 0 where
@@ -32,8 +32,9 @@ pub record Work : Type 0 where
   pub left : Control
   pub hook : Option Hook
 
-abbrev pub work_of : {Q K : Type 0} → Control → Wanted Q K → Work
-work_of c w = record { drawing = drawing_of c w; left = changed_by (effect c w); hook = hook_after c w }
+-- the work of a request, after which the typed prefix goes, or stays
+abbrev pub work_of : {Q K : Type 0} → Bool → Control → Wanted Q K → Work
+work_of clears c w = record { drawing = drawing_of c w; left = control_after clears c w; hook = hook_after c w }
 
 -- the controls that works pass
 abbrev pub passed_in : List Work → List Control
@@ -45,9 +46,9 @@ reached c [] = c
 reached c (w ∷ works) = reached w.left works
 
 -- what a session is seen as after a request
-abbrev pub after : {Q K : Type 0} → Seen Q K → Wanted Q K → Seen Q K
-after seen w = record seen {
-  control = changed_by (effect seen.control w);
+abbrev pub after : {Q K : Type 0} → Bool → Seen Q K → Wanted Q K → Seen Q K
+after clears seen w = record seen {
+  control = control_after clears seen.control w;
   classifier = classifier_after seen.classifier (handed w);
   condition = condition_after seen.condition (handed w);
   kept = kept_after seen.kept (handed w);
@@ -66,8 +67,8 @@ key_work c o edit found = record { drawing = drawing_by (keyed_redraw o edit) c 
 -- query is free but for its pattern and for what the condition that is kept may answer, which is asked in a formed state with the control
 pub data Takes {Q K : Type 0} (says : Says Q K) (s : Seen Q K) : Told Q K → Work → Option (List ℕ) → Seen Q K → Type 0 where
   worked : {told : Told Q K} (w : Wanted Q K) → s.control.search ≡ None → Asks says s told w → IsPossible w → IsFreeFor s.kept.ids (handed w)
-      → (effect (taken s told w).control w).is_exit ≡ false
-      → Takes says s told (work_of (taken s told w).control w) (effect (taken s told w).control w).copies (after (taken s told w) w)
+      → (effect_of s.control w).is_exit ≡ false
+      → Takes says s told (work_of (clears_prefix told w) s.control w) (effect_of s.control w).copies (after (clears_prefix told w) s w)
   waited : {told : Told Q K} (o : OpenSearch) (w : Wanted Q K) → s.control.search ≡ Some o → checked_as told ≡ Some w → IsPossible w
       → Takes says s told (undrawn s.control) None (record s { waiting = s.waiting ++ told ∷ [] })
   edits :
@@ -80,7 +81,7 @@ pub record Exits {Q K : Type 0} (says : Says Q K) (s : Seen Q K) (told : Told Q 
   pub wanted : Wanted Q K
   pub closed : s.control.search ≡ None
   pub asked : Asks says s told wanted
-  pub exits : (effect (taken s told wanted).control wanted).is_exit ≡ true
+  pub exits : (effect_of s.control wanted).is_exit ≡ true
   pub by : exit ≡ s.kept.exit
 
 -- why it cannot be worked off beside these ids of hooks: for a newline or a size, or for an id
@@ -172,7 +173,7 @@ IsQuiet old (w ∷ works) = (w.drawing ≡ Nothing) × (prompt_row w.left ≡ pr
 
 -- what is not drawn in full keeps the size
 abbrev pub ResizesAreFull : Type 0 → Type 0 → Type 0
-ResizesAreFull Q K = (c : Control) (w : Wanted Q K) → is_full (drawing_of c w) ≡ false → SameSize c (changed_by (effect c w))
+ResizesAreFull Q K = (c : Control) (w : Wanted Q K) → is_full (drawing_of c w) ≡ false → SameSize c (changed_by (effect_of c w))
 
 -- what leaves help where it is open
 pub data LeavesHelp {Q K : Type 0} : Wanted Q K → Type 0 where
@@ -186,5 +187,5 @@ pub data LeavesHelp {Q K : Type 0} : Wanted Q K → Type 0 where
 abbrev pub HelpLeavesNoTrace : Type 0 → Type 0 → Type 0
 HelpLeavesNoTrace Q K =
     (c : Control) (text : Option (List ℕ)) (leaving : Wanted Q K) → c.help ≡ None → IsClamped c → LeavesHelp leaving
-    → changed_by (effect (changed_by (effect {Q = Q} {K = K} c (shows_help text))) leaving)
+    → changed_by (effect_of (changed_by (effect_of {Q = Q} {K = K} c (shows_help text))) leaving)
     ≡ reformed (record c { settings = record c.settings { message = None } })

@@ -3,21 +3,20 @@ ghost use Rattle.std.specs.Prelude.{◌≡◌, OnOk, OnErr, IfOk, IfErr};
 ghost use Rattle.minus_term.specs.Refusals.{refusal_of};
 ghost use Rattle.minus_term.specs.Written.{written_all};
 ghost use Rattle.minus_state.specs.Changes.{IsChange};
+ghost use Rattle.minus_state.specs.Control.{clamp};
 ghost use Rattle.minus_state.specs.States.{control_of, IsFormed};
 ghost use Rattle.minus.specs.EvHandler.{Handles, IsUnhandled, CannotHandle, io_left, io_ops, IsIoDone, IsIoUndone};
-ghost use Rattle.minus.specs.Queued.{waiting_in};
+ghost use Rattle.minus.specs.Queued.{waiting_in, drawing_command, move_command};
 ghost use Rattle.minus.specs.Reads.{kept_of};
 
 use crate::command_queue::CommandQueueOf;
 use crate::commands::{CommandOf, IoCommand};
-use crate::hooks::Hook;
-use crate::outcome::outcome_of;
+use crate::outcome::{Outcome, end_hook, outcome_of, unmoved};
 use crate::parts::{Calls, PartsOf};
 use crate::request::Request;
 use crate::state::PagerState;
 use crate::step_drawing::{Drawing, draw_page};
-use crate::unmoved::{clamp_mark, take_over};
-use minus_state::change::Change;
+use minus_state::change::Redraw;
 use minus_term::{MinusError, OutputSink, draw_bytes};
 use std::alloc::Global;
 
@@ -42,6 +41,34 @@ impl Handled {
             copied: None,
         }
     }
+}
+
+// The command for what is asked to be drawn, or for the prompt row where only that may have changed, if either is.
+fn drawing_command(redraw: Redraw, row_only: bool) -> Option<IoCommand>
+    ensures { result ≡ drawing_command redraw row_only }
+{
+    match redraw {
+        Redraw::Whole | Redraw::Appended => Some(IoCommand::RedrawDisplay),
+        Redraw::Opening => Some(IoCommand::FetchSearchQuery),
+        _ if row_only => Some(IoCommand::RedrawPrompt),
+        _ => None,
+    }
+}
+
+// The command for a move to a mark, if the mark is moved.
+fn move_command(to: Option<usize>) -> Option<IoCommand>
+    ensures { result ≡ move_command to }
+{
+    Some(IoCommand::SetUpperMark(to?))
+}
+
+// Clamps the mark.
+fn clamp_mark(state: &mut PagerState)
+    requires { IsFormed state.old }
+    ensures control { control_of state.new ≡ clamp (control_of state.old) }
+    ensures formed { IsFormed state.new }
+{
+    state.upper_mark = state.upper_mark.min(state.top());
 }
 
 /// Handles a command by its line of the table of commands, without its drawing, its move, its callbacks and the opening
@@ -77,21 +104,27 @@ pub fn handle_event<P: Calls>(
         clamp_mark(&mut parts.state);
         return Ok(Handled::nothing());
     }
-    let left = take_over(&mut parts.state, alloc, request)?;
-    queue.push_reserved(left.drawing);
-    queue.push_reserved(left.movement);
-    Ok(left.handled)
+    let mut outcome = unmoved(&parts.state, alloc, request)?;
+    let drawing = drawing_command(outcome.change.redraw, outcome.row_only);
+    let movement = move_command(outcome.moves_to);
+    let handled = Handled {
+        exited: outcome.exits,
+        copied: outcome.copied.take(),
+    };
+    parts.state.place(alloc, outcome.into_change())?;
+    queue.push_reserved(drawing);
+    queue.push_reserved(movement);
+    Ok(handled)
 }
 
-// The change that a command which asks for a drawing comes to, the bytes of the drawing, and the hook whose callbacks
-// are called then, if one is.
+// What comes of a command that asks for a drawing, and the bytes of the drawing.
 fn drawn_io<P: Calls>(
     alloc: Global,
     state: &PagerState,
     command: IoCommand,
-) -> Result<(Change, Vec<u8>, Option<Hook>), MinusError>
+) -> Result<(Outcome, Vec<u8>), MinusError>
     requires formed { IsFormed state.now }
-    ensures leads { IfOk result (λ d. IsChange (control_of state.now) d.0
+    ensures leads { IfOk result (λ d. IsChange (control_of state.now) d.0.change
         (io_left P.Condition P.Classifier (control_of state.now) command)) }
     ensures bytes { IfOk result (λ d. d.1.items
         ≡ written_all (io_ops P.Condition P.Classifier (control_of state.now) command)) }
@@ -101,9 +134,7 @@ fn drawn_io<P: Calls>(
     let outcome = outcome_of(state, alloc, request, false)?;
     let drawing = Drawing::of(state, &outcome.change);
     let (_, bytes) = draw_page(alloc, state, drawing, &outcome.change)?;
-    let hook = outcome.hook;
-    let (change, _) = outcome.into_parts();
-    Ok((change, bytes, hook))
+    Ok((outcome, bytes))
 }
 
 /// Does what a command asks for that asks for a drawing, by its line of the table of commands, and draws it. Then it
@@ -128,12 +159,13 @@ pub fn handle_io_command<W: OutputSink, P: Calls>(
     ensures classifier { parts.new.classifier ≡ parts.old.classifier }
     ensures condition { parts.new.condition ≡ parts.old.condition }
 {
-    let (change, bytes, hook) = drawn_io::<P>(alloc, &parts.state, command)?;
-    parts.state.place(alloc, change)?;
+    let (outcome, bytes) = drawn_io::<P>(alloc, &parts.state, command)?;
+    let is_move = outcome.moves_to.is_some();
+    parts.state.place(alloc, outcome.into_change())?;
     if let Err(cause) = draw_bytes(out, &bytes) {
         return Err(MinusError::Draw(cause));
     }
-    if let Some(hook) = hook {
+    if let Some(hook) = end_hook(is_move, &parts.state) {
         parts.call(hook);
     }
     Ok(())

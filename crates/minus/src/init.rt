@@ -29,6 +29,7 @@ use crate::commands::CommandOf;
 use crate::hooks::{ExitCall, Hook, HookCall, HookList};
 use crate::input::{ActionCall, Classifier, EventTable, FixedSeed};
 use crate::joined::next_taken;
+use crate::outcome::unmoved;
 use crate::pager::PagerOf;
 use crate::parts::{Boxes, Calls, Keyed, Parts, PartsOf};
 use crate::search::ConditionCall;
@@ -36,7 +37,6 @@ use crate::session::Core;
 use crate::state::{PagerState, RunMode};
 use crate::status::Status;
 use crate::step_drawing::{Drawing, draw_page, push_step};
-use crate::unmoved::take_over;
 use crate::waiting::check_command;
 use minus_state::change::Redraw;
 use minus_state::is_size;
@@ -132,7 +132,8 @@ fn take_waiting<P: Parts>(
     let mut rest = queue;
     while let Some((command, behind)) = rest.split_first() {
         let (request, left) = next_taken(alloc, state, command, behind)?;
-        let _ = take_over(state, alloc, request)?;
+        let outcome = unmoved(state, alloc, request)?;
+        state.place(alloc, outcome.into_change())?;
         rest = left;
     }
     Ok(())

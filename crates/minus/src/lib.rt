@@ -35,7 +35,6 @@ mod static_pager;
 mod status;
 mod step_drawing;
 mod taken;
-mod unmoved;
 mod waiting;
 mod written_rows;
 

@@ -1,34 +1,36 @@
 //! What comes of a request, formed beside the state: [`form`] is read beside the table of `specs/Table`, a line each.
-ghost use Rattle.std.specs.Prelude.{◌≡◌, true, length, string_bytes, IfOk, IfErr, OnOk};
+ghost use Rattle.std.specs.Prelude.{◌≡◌, ◌&&◌, is_some, not, Some, None, string_bytes, length, if◌then◌else◌, IfOk, IfErr, OnOk};
 ghost use Rattle.std.specs.Option.{option_map};
+ghost use Rattle.minus_term.specs.Marks.{top_of};
 ghost use Rattle.minus_term.specs.Refusals.{refusal_of};
-ghost use Rattle.minus_state.specs.Changes.{Leads};
-ghost use Rattle.minus_state.specs.Control.{cleared};
+ghost use Rattle.minus_text.specs.Document.{rows_of};
+ghost use Rattle.minus_state.specs.Changes.{IsChange};
+ghost use Rattle.minus_state.specs.Help.{help_open};
+ghost use Rattle.minus_state.specs.NextTexts.{next_document, Belongs};
 ghost use Rattle.minus_state.specs.States.{control_of, IsFormed};
 ghost use Rattle.minus.specs.Outcomes.{IsOutcome, IsUnformed};
 ghost use Rattle.minus.specs.Reads.{wanted_by};
-ghost use Rattle.minus.specs.Table.{effect, end_hook, moved_by, lets_prefix_go, IsPossible};
-ghost use Rattle.minus_state.specs.Control.{shows_end};
-ghost use Rattle.minus_state.specs.NextTexts.{next_document, Belongs};
-ghost use Rattle.minus_text.specs.Document.{rows_of};
+ghost use Rattle.minus.specs.Table.{effect_of, end_hook, is_at_end, IsPossible};
+ghost use Rattle.minus.specs.Unmoved.{IsUnmoved};
 
 use crate::hooks::Hook;
 use crate::parts::Parts;
 use crate::request::Request;
-use crate::screen::Screen;
 use crate::state::PagerState;
 use minus_state::change::{Change, Redraw};
-use minus_state::extract_selection;
+use minus_state::{SearchChange, extract_selection};
 use minus_term::MinusError;
 use std::alloc::Global;
 
-// What comes of a request: a change, the text that is copied, if one is, whether it is an exit, and the hook whose
-// callbacks are called once the change is drawn, if one is.
+// What comes of a request: a change without its move, the row that the mark is moved to before the clamp, if it is
+// moved, whether of the page only the prompt row may have changed, the text that is copied, if one is, and whether it
+// is an exit.
 pub(crate) struct Outcome {
     pub(crate) change: Change,
+    pub(crate) moves_to: Option<usize>,
+    pub(crate) row_only: bool,
     pub(crate) copied: Option<String>,
     pub(crate) exits: bool,
-    pub(crate) hook: Option<Hook>,
 }
 
 // By hand: a derived drop would stand anew in the proof of each function that lets one go.
@@ -36,54 +38,96 @@ impl Drop for Outcome {
     fn drop(self) {
         let Outcome {
             change: _,
+            moves_to: _,
+            row_only: _,
             copied: _,
             exits: _,
-            hook: _,
         } = self;
     }
 }
 
 impl Outcome {
-    ghost use Rattle.std.specs.Prelude.{◌≡◌, None, false};
+    ghost use Rattle.std.specs.Prelude.{◌≡◌, None, true, false};
 
     // A change alone.
     pub(crate) fn of(change: Change) -> Outcome
         ensures change { result.change ≡ change }
+        ensures moves_to { result.moves_to ≡ None }
+        ensures row_only { result.row_only ≡ false }
         ensures copied { result.copied ≡ None }
         ensures exits { result.exits ≡ false }
-        ensures hook { result.hook ≡ None }
     {
         Outcome {
             change,
+            moves_to: None,
+            row_only: false,
             copied: None,
             exits: false,
-            hook: None,
         }
     }
 
-    // The change and the text.
-    pub(crate) fn into_parts(self) -> (Change, Option<String>)
-        ensures change { result.0 ≡ self.change }
-        ensures copied { result.1 ≡ self.copied }
+    // A change of which the page may show something in its prompt row alone.
+    fn setting(change: Change) -> Outcome
+        ensures change { result.change ≡ change }
+        ensures moves_to { result.moves_to ≡ None }
+        ensures row_only { result.row_only ≡ true }
+        ensures copied { result.copied ≡ None }
+        ensures exits { result.exits ≡ false }
+    {
+        let mut outcome = Outcome::of(change);
+        outcome.row_only = true;
+        outcome
+    }
+
+    // A change, and the row that the mark is moved to, if it is moved.
+    fn moving(change: Change, to: Option<usize>) -> Outcome
+        ensures change { result.change ≡ change }
+        ensures moves_to { result.moves_to ≡ to }
+        ensures row_only { result.row_only ≡ false }
+        ensures copied { result.copied ≡ None }
+        ensures exits { result.exits ≡ false }
+    {
+        let mut outcome = Outcome::of(change);
+        outcome.moves_to = to;
+        outcome
+    }
+
+    // The change alone.
+    pub(crate) fn into_change(self) -> Change
+        ensures { result ≡ self.change }
     {
         let Outcome {
             change,
-            copied,
+            moves_to: _,
+            row_only: _,
+            copied: _,
             exits: _,
-            hook: _,
         } = self;
-        (change, copied)
+        change
     }
 }
 
-// The hook whose callbacks are called after a change that moves the mark, or moves none, if one is.
-fn end_hook(moves: bool, change: &Change, screen: &Screen) -> Option<Hook>
-    requires { Belongs screen.now.document change.now.text }
-    ensures { result ≡ end_hook moves (shows_end
-        (length (rows_of (next_document screen.now.document change.now.text))) change.now.rows change.now.mark) }
+// The hook whose callbacks are called where a state was changed by what moves the mark, or moves none, if one is.
+pub(crate) fn end_hook(is_move: bool, state: &PagerState) -> Option<Hook>
+    requires { IsFormed state.now }
+    ensures { result ≡ end_hook is_move (is_at_end (control_of state.now)) }
 {
-    if moves && change.shows_end(screen) {
+    if is_move && state.shows_end() {
         return Some(Hook::EofReached);
+    }
+    None
+}
+
+// Where an append moves the mark to: the last page, where the page goes on with what is appended; nowhere while help is
+// open.
+fn followed(state: &PagerState, change: &Change) -> Option<usize>
+    requires { Belongs state.now.screen.document change.now.text }
+    ensures { result ≡ (if not (help_open (control_of state.now)) && state.now.follow
+        then Some (top_of (length (rows_of (next_document state.now.screen.document change.now.text))) change.now.rows)
+        else None) }
+{
+    if !state.help_open() && state.follow_output() {
+        return Some(change.top(&state.screen));
     }
     None
 }
@@ -96,37 +140,47 @@ fn form_any<P: Parts>(
     alloc: Global,
     request: Request<P>,
 ) -> Result<Outcome, MinusError>
-    ensures leads { IfOk result (λ o. Leads state.now o.change
-        (moved_by (effect (control_of state.now) (wanted_by request)))) }
-    ensures redraw { IfOk result (λ o. IsFormed state.now →
-        o.change.redraw ≡ (effect (control_of state.now) (wanted_by request)).redraw) }
-    ensures copied { IfOk result (λ o. IsFormed state.now → option_map string_bytes o.copied
-        ≡ (effect (control_of state.now) (wanted_by request)).copies) }
-    ensures exits { IfOk result (λ o. o.exits ≡ (effect (control_of state.now) (wanted_by request)).is_exit) }
+    requires { IsFormed state.now }
+    ensures leads { IfOk result (λ o. IsChange (control_of state.now) o.change
+        (effect_of (control_of state.now) (wanted_by request)).changed) }
+    ensures moves_to { IfOk result (λ o. o.moves_to ≡ (effect_of (control_of state.now) (wanted_by request)).moves_to) }
+    ensures redraw { IfOk result (λ o. o.change.redraw
+        ≡ (effect_of (control_of state.now) (wanted_by request)).redraw) }
+    ensures row_only { IfOk result (λ o. o.row_only ≡ (effect_of (control_of state.now) (wanted_by request)).row_only) }
+    ensures copied { IfOk result (λ o. option_map string_bytes o.copied
+        ≡ (effect_of (control_of state.now) (wanted_by request)).copies) }
+    ensures exits { IfOk result (λ o. o.exits ≡ (effect_of (control_of state.now) (wanted_by request)).is_exit) }
     ensures possible { OnOk result (IsPossible (wanted_by request)) }
     ensures unformed { IfErr result (λ e. IsUnformed (refusal_of e) (wanted_by request)) }
 {
     match request {
         Request::SetText(text) => Ok(Outcome::of(state.replaced(alloc, text)?)),
-        Request::AppendText(text) => Ok(Outcome::of(state.added(alloc, text)?)),
-        Request::MoveMark(mark) => Ok(Outcome::of(state.moved(mark))),
+        Request::AppendText(text) => {
+            let change = state.added(alloc, text)?;
+            let to = followed(state, &change);
+            Ok(Outcome::moving(change, to))
+        }
+        Request::MoveMark(mark) => Ok(Outcome::moving(state.redrawn(Redraw::Moved), Some(mark))),
         Request::Resize(cols, rows) => Ok(Outcome::of(state.resized(alloc, cols, rows)?)),
         Request::Exit => {
-            let change = state.left_help(alloc)?;
-            Ok(Outcome {
-                change,
-                copied: None,
-                exits: !state.help_open(),
-                hook: None,
-            })
+            let mut outcome = Outcome::of(state.left_help(alloc)?);
+            outcome.exits = !state.help_open();
+            Ok(outcome)
         }
         Request::Ignore => Ok(Outcome::of(state.redrawn(Redraw::Stays))),
-        Request::SetPrompt(text) => Ok(Outcome::of(state.prompted(text)?)),
-        Request::SendMessage(text) => Ok(Outcome::of(state.messaged(text)?)),
-        Request::ShowPrompt(is_shown) => Ok(Outcome::of(state.with_prompt_shown(is_shown))),
-        Request::Follow(follow) => Ok(Outcome::of(state.following(follow))),
-        Request::Type(character) => Ok(Outcome::of(state.typed(alloc, character)?)),
-        Request::RestorePrompt => Ok(Outcome::of(state.restored(alloc)?)),
+        Request::SetPrompt(text) => Ok(Outcome::setting(state.prompted(text)?)),
+        Request::SendMessage(text) => Ok(Outcome::setting(state.messaged(text)?)),
+        Request::ShowPrompt(is_shown) => Ok(Outcome::setting(state.with_prompt_shown(is_shown))),
+        Request::Follow(follow) => Ok(Outcome::moving(
+            state.with_follow(follow),
+            Some(state.top()),
+        )),
+        Request::Type(character) => Ok(Outcome::setting(state.typed(alloc, character)?)),
+        Request::RestorePrompt => {
+            let mut outcome = Outcome::of(state.restored(alloc)?);
+            outcome.row_only = !state.help_open();
+            Ok(outcome)
+        }
         Request::RedrawPrompt => Ok(Outcome::of(state.redrawn(Redraw::PromptRow))),
         Request::RedrawPage => Ok(Outcome::of(state.redrawn(Redraw::Whole))),
         Request::HandOver(_) => Ok(Outcome::of(state.redrawn(Redraw::Stays))),
@@ -138,21 +192,22 @@ fn form_any<P: Parts>(
         Request::ClearSelection => Ok(Outcome::of(state.unselected())),
         Request::CopySelection => {
             let copied = extract_selection(alloc, &state.screen, state.ends())?;
-            Ok(Outcome {
-                change: state.unselected(),
-                copied,
-                exits: false,
-                hook: None,
-            })
+            let mut outcome = Outcome::of(state.unselected());
+            outcome.copied = copied;
+            Ok(outcome)
         }
         Request::ShowHelp(text) => Ok(Outcome::of(state.turned(alloc, text)?)),
-        Request::MoveToNextMatch(jump) => Ok(Outcome::of(state.to_next_match(jump))),
-        Request::MoveToPrevMatch(jump) => Ok(Outcome::of(state.to_prev_match(jump))),
+        Request::MoveToNextMatch(jump) => {
+            Ok(Outcome::moving(state.telling_next(jump), state.next_match_row(jump)))
+        }
+        Request::MoveToPrevMatch(jump) => {
+            Ok(Outcome::moving(state.telling_prev(jump), state.prev_match_row(jump)))
+        }
         Request::Search(mode) => Ok(Outcome::of(state.opened(alloc, mode)?)),
-        Request::FetchSearchQuery => Ok(Outcome::of(state.opened(
-            alloc,
-            state.search_state.search_mode,
-        )?)),
+        Request::FetchSearchQuery => {
+            let mode = state.search_state.search_mode;
+            Ok(Outcome::of(state.opened(alloc, mode)?))
+        }
     }
 }
 
@@ -163,13 +218,16 @@ fn form_page<P: Parts>(
     alloc: Global,
     request: Request<P>,
 ) -> Result<Outcome, MinusError>
-    ensures leads { IfOk result (λ o. Leads state.now o.change
-        (moved_by (effect (control_of state.now) (wanted_by request)))) }
-    ensures redraw { IfOk result (λ o. IsFormed state.now →
-        o.change.redraw ≡ (effect (control_of state.now) (wanted_by request)).redraw) }
-    ensures copied { IfOk result (λ o. IsFormed state.now → option_map string_bytes o.copied
-        ≡ (effect (control_of state.now) (wanted_by request)).copies) }
-    ensures exits { IfOk result (λ o. o.exits ≡ (effect (control_of state.now) (wanted_by request)).is_exit) }
+    requires { IsFormed state.now }
+    ensures leads { IfOk result (λ o. IsChange (control_of state.now) o.change
+        (effect_of (control_of state.now) (wanted_by request)).changed) }
+    ensures moves_to { IfOk result (λ o. o.moves_to ≡ (effect_of (control_of state.now) (wanted_by request)).moves_to) }
+    ensures redraw { IfOk result (λ o. o.change.redraw
+        ≡ (effect_of (control_of state.now) (wanted_by request)).redraw) }
+    ensures row_only { IfOk result (λ o. o.row_only ≡ (effect_of (control_of state.now) (wanted_by request)).row_only) }
+    ensures copied { IfOk result (λ o. option_map string_bytes o.copied
+        ≡ (effect_of (control_of state.now) (wanted_by request)).copies) }
+    ensures exits { IfOk result (λ o. o.exits ≡ (effect_of (control_of state.now) (wanted_by request)).is_exit) }
     ensures possible { OnOk result (IsPossible (wanted_by request)) }
     ensures unformed { IfErr result (λ e. IsUnformed (refusal_of e) (wanted_by request)) }
 {
@@ -186,66 +244,90 @@ fn form_text<P: Parts>(
     alloc: Global,
     request: Request<P>,
 ) -> Result<Outcome, MinusError>
-    ensures leads { IfOk result (λ o. Leads state.now o.change
-        (moved_by (effect (control_of state.now) (wanted_by request)))) }
-    ensures redraw { IfOk result (λ o. IsFormed state.now →
-        o.change.redraw ≡ (effect (control_of state.now) (wanted_by request)).redraw) }
-    ensures copied { IfOk result (λ o. IsFormed state.now → option_map string_bytes o.copied
-        ≡ (effect (control_of state.now) (wanted_by request)).copies) }
-    ensures exits { IfOk result (λ o. o.exits ≡ (effect (control_of state.now) (wanted_by request)).is_exit) }
+    requires { IsFormed state.now }
+    ensures leads { IfOk result (λ o. IsChange (control_of state.now) o.change
+        (effect_of (control_of state.now) (wanted_by request)).changed) }
+    ensures moves_to { IfOk result (λ o. o.moves_to ≡ (effect_of (control_of state.now) (wanted_by request)).moves_to) }
+    ensures redraw { IfOk result (λ o. o.change.redraw
+        ≡ (effect_of (control_of state.now) (wanted_by request)).redraw) }
+    ensures row_only { IfOk result (λ o. o.row_only ≡ (effect_of (control_of state.now) (wanted_by request)).row_only) }
+    ensures copied { IfOk result (λ o. option_map string_bytes o.copied
+        ≡ (effect_of (control_of state.now) (wanted_by request)).copies) }
+    ensures exits { IfOk result (λ o. o.exits ≡ (effect_of (control_of state.now) (wanted_by request)).is_exit) }
     ensures possible { OnOk result (IsPossible (wanted_by request)) }
     ensures unformed { IfErr result (λ e. IsUnformed (refusal_of e) (wanted_by request)) }
 {
     match request {
-        Request::AppendText(text) => Ok(Outcome::of(state.added(alloc, text)?)),
+        Request::AppendText(text) => {
+            let change = state.added(alloc, text)?;
+            let to = followed(state, &change);
+            Ok(Outcome::moving(change, to))
+        }
         request => form_page(state, alloc, request),
     }
 }
 
-// What comes of a request, before the mark is clamped and the typed prefix goes. It forms only a move of the mark
-// itself, which takes little room.
-pub(crate) fn form<P: Parts>(
+// What comes of a request by the table, before its move, the clamp, and before the typed prefix goes. It forms only a
+// move of the mark itself, which takes little room.
+fn form<P: Parts>(
     state: &PagerState,
     alloc: Global,
     request: Request<P>,
 ) -> Result<Outcome, MinusError>
-    ensures leads { IfOk result (λ o. Leads state.now o.change
-        (moved_by (effect (control_of state.now) (wanted_by request)))) }
-    ensures redraw { IfOk result (λ o. IsFormed state.now →
-        o.change.redraw ≡ (effect (control_of state.now) (wanted_by request)).redraw) }
-    ensures copied { IfOk result (λ o. IsFormed state.now → option_map string_bytes o.copied
-        ≡ (effect (control_of state.now) (wanted_by request)).copies) }
-    ensures exits { IfOk result (λ o. o.exits ≡ (effect (control_of state.now) (wanted_by request)).is_exit) }
+    requires { IsFormed state.now }
+    ensures leads { IfOk result (λ o. IsChange (control_of state.now) o.change
+        (effect_of (control_of state.now) (wanted_by request)).changed) }
+    ensures moves_to { IfOk result (λ o. o.moves_to ≡ (effect_of (control_of state.now) (wanted_by request)).moves_to) }
+    ensures redraw { IfOk result (λ o. o.change.redraw
+        ≡ (effect_of (control_of state.now) (wanted_by request)).redraw) }
+    ensures row_only { IfOk result (λ o. o.row_only ≡ (effect_of (control_of state.now) (wanted_by request)).row_only) }
+    ensures copied { IfOk result (λ o. option_map string_bytes o.copied
+        ≡ (effect_of (control_of state.now) (wanted_by request)).copies) }
+    ensures exits { IfOk result (λ o. o.exits ≡ (effect_of (control_of state.now) (wanted_by request)).is_exit) }
     ensures possible { OnOk result (IsPossible (wanted_by request)) }
     ensures unformed { IfErr result (λ e. IsUnformed (refusal_of e) (wanted_by request)) }
 {
     match request {
-        Request::MoveMark(mark) => Ok(Outcome::of(state.moved(mark))),
+        Request::MoveMark(mark) => Ok(Outcome::moving(state.redrawn(Redraw::Moved), Some(mark))),
         request => form_text(state, alloc, request),
     }
 }
 
-// What comes of a request, formed beside the state: the mark is clamped last, and the typed prefix goes, or stays. What
-// is handed over is kept apart from this.
+// What comes of a request, formed beside the state: the mark is moved and clamped last, and the typed prefix goes, or
+// stays. What is handed over is kept apart from this.
 pub(crate) fn outcome_of<P: Parts>(
     state: &PagerState,
     alloc: Global,
     request: Request<P>,
     clears_prefix: bool,
 ) -> Result<Outcome, MinusError>
-    requires formed { IsFormed state.now }
-    requires typed { clears_prefix ≡ true → lets_prefix_go (wanted_by request) ≡ true }
-    ensures ok { IfOk result (IsOutcome (control_of state.now) (cleared clears_prefix (control_of state.now))
-        (wanted_by request)) }
+    requires { IsFormed state.now }
+    ensures ok { IfOk result (IsOutcome clears_prefix (control_of state.now) (wanted_by request)) }
     ensures unformed { IfErr result (λ e. IsUnformed (refusal_of e) (wanted_by request)) }
 {
-    let moves = request.moves(state);
     let mut outcome = form(state, alloc, request)?;
+    outcome.change.mark = outcome.moves_to.unwrap_or(outcome.change.mark);
     outcome.change.clamp(&state.screen);
-    outcome.hook = end_hook(moves, &outcome.change, &state.screen);
     if !clears_prefix {
         return Ok(outcome);
     }
     outcome.change.prefix = Some(String::new(alloc));
+    Ok(outcome)
+}
+
+// What comes of a request, formed beside the state, without its move and the opening of a search prompt; the mark is
+// clamped.
+pub(crate) fn unmoved<P: Parts>(
+    state: &PagerState,
+    alloc: Global,
+    request: Request<P>,
+) -> Result<Outcome, MinusError>
+    requires { IsFormed state.now }
+    ensures ok { IfOk result (IsUnmoved (control_of state.now) (wanted_by request)) }
+    ensures unformed { IfErr result (λ e. IsUnformed (refusal_of e) (wanted_by request)) }
+{
+    let mut outcome = form(state, alloc, request)?;
+    outcome.change.search = SearchChange::Stays;
+    outcome.change.clamp(&state.screen);
     Ok(outcome)
 }

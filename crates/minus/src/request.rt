@@ -4,7 +4,6 @@ use crate::handed::Handed;
 use crate::input::InputEvent;
 use crate::parts::Parts;
 use crate::search::SearchMode;
-use crate::state::PagerState;
 use minus_text::LineNumbers;
 use std::alloc::{AllocError, Global};
 
@@ -43,35 +42,8 @@ pub(crate) enum Request<P: Parts> {
 impl<P: Parts> Request<P> {
     ghost use Rattle.std.specs.Prelude.{◌≡◌, IfOk};
     ghost use Rattle.minus_state.specs.Control.{Control};
-    ghost use Rattle.minus_state.specs.States.{control_of, IsFormed};
-    ghost use Rattle.minus.specs.Queued.{draws_prompt_row};
     ghost use Rattle.minus.specs.Reads.{event_wanted, io_wanted, wanted_of, wanted_by};
-    ghost use Rattle.minus.specs.Table.{effect, moves, IsPossible};
-
-    // Whether it moves the mark, as a scroll does; also where the mark stays then.
-    pub(crate) fn moves(&self, state: &PagerState) -> bool
-        ensures { IsFormed state.now → result ≡ moves (control_of state.now) (wanted_by self.now) }
-    {
-        match self {
-            Request::MoveMark(_) | Request::Follow(_) => true,
-            Request::AppendText(_) => state.follow_output() && !state.help_open(),
-            Request::MoveToNextMatch(jump) => state.next_match_row(*jump).is_some(),
-            Request::MoveToPrevMatch(jump) => state.prev_match_row(*jump).is_some(),
-            _ => false,
-        }
-    }
-
-    // Whether the prompt row alone is drawn for it.
-    pub(crate) fn draws_prompt_row(&self, state: &PagerState) -> bool
-        ensures { result ≡ draws_prompt_row (control_of state.now) (wanted_by self.now) }
-    {
-        match self {
-            Request::SetPrompt(_) | Request::SendMessage(_) | Request::ShowPrompt(_) => true,
-            Request::Type(_) => true,
-            Request::RestorePrompt => !state.help_open(),
-            _ => false,
-        }
-    }
+    ghost use Rattle.minus.specs.Table.{effect_of, IsPossible};
 
     // What an event asks for. Help has no text yet.
     pub(crate) fn of_event(event: InputEvent) -> Request<P>
@@ -116,7 +88,7 @@ impl<P: Parts> Request<P> {
     // What a command asks for, with copies of its texts, where it hands nothing over; or else to change nothing.
     pub(crate) fn copied(alloc: Global, command: &CommandOf<P>) -> Result<Request<P>, AllocError>
         ensures effect { IfOk result (λ r. (c : Control) →
-            effect c (wanted_by r) ≡ effect c (wanted_of command.now)) }
+            effect_of c (wanted_by r) ≡ effect_of c (wanted_of command.now)) }
         ensures possible { IfOk result (λ r. IsPossible (wanted_of command.now) → IsPossible (wanted_by r)) }
     {
         let copied = match command {

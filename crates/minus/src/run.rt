@@ -32,12 +32,12 @@ struct Progress {
 
 impl<S: OutputSink + Drop, P: Calls> Core<S, P> {
     ghost use Rattle.minus.specs.Says.{says_of};
-    ghost use Rattle.minus.specs.SessionSteps.{IsRanBy, IsRanFromEnd};
+    ghost use Rattle.minus.specs.SessionSteps.{RunsTo, RunsFromEndTo};
 
     // Works inputs off from the end of a list, until one is refused, or after a step that exits, copies a text or
     // refuses items.
     fn run_from_end(&mut self, left: &mut Vec<InputOf<P>>) -> Progress
-        ensures { IsRanFromEnd S.seen (says_of P.Condition.judges P.Classifier.says) self.old self.new
+        ensures { RunsFromEndTo S.seen (says_of P.Condition.judges P.Classifier.says) self.old self.new
             left.old.items left.new.items result }
     {
         let mut done = 0;
@@ -75,7 +75,7 @@ impl<S: OutputSink + Drop, P: Calls> Core<S, P> {
     /// answer of the last step that ended well says which. An input that is refused is dropped, and those after it, or
     /// after such a step, are handed back.
     pub fn run(&mut self, inputs: Vec<InputOf<P>>) -> RanOf<P>
-        ensures { IsRanBy S.seen (says_of P.Condition.judges P.Classifier.says) self.old self.new inputs.items result }
+        ensures { RunsTo S.seen (says_of P.Condition.judges P.Classifier.says) self.old self.new inputs.items result }
     {
         let mut left = inputs;
         left.reverse();

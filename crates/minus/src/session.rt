@@ -12,7 +12,7 @@ use crate::handed::Handed;
 use crate::hooks::Hook;
 use crate::input::{InputClassifier, InputEvent};
 use crate::joined::JoinedAppends;
-use crate::outcome::{Outcome, outcome_of};
+use crate::outcome::{Outcome, end_hook, outcome_of};
 use crate::page::Page;
 use crate::parts::{Boxes, Calls, Parts, PartsOf};
 use crate::request::Request;
@@ -177,7 +177,7 @@ impl<S, P: Parts> Core<S, P> {
 
     // Draws what comes of a request into the buffer, and puts it in its place. Answers the text that it copies, if it
     // copies one. An `Err` changes nothing.
-    pub(crate) fn apply(&mut self, outcome: Outcome) -> Result<Option<String>, MinusError>
+    pub(crate) fn apply(&mut self, mut outcome: Outcome) -> Result<Option<String>, MinusError>
         requires running { self.old.status ≡ Status.Running }
         requires leads { LeadsClamped (control_of self.old.parts.state) outcome.change }
         ensures done { OnOk result (PutsChange self.old outcome.change self.new) }
@@ -189,7 +189,8 @@ impl<S, P: Parts> Core<S, P> {
         ensures err { OnErr result (seen_of self.new ≡ seen_of self.old) }
         ensures memory { IfErr result (λ e. e ≡ MinusError.Memory) }
     {
-        let (change, copied) = outcome.into_parts();
+        let copied = outcome.copied.take();
+        let change = outcome.into_change();
         let row = self.parts.state.new_prompt_row(self.alloc, &change)?;
         self.draw(&change, &row)?;
         self.parts.state.place(self.alloc, change)?;
@@ -248,14 +249,12 @@ impl<S: OutputSink + Drop, P: Calls> Core<S, P> {
     ghost use Rattle.minus.specs.TakenParts.{IsExitTaken, IsExitUntaken, IsTakenAs, IsUntakenAs};
     ghost use Rattle.minus.specs.TakenParts.{AreJoinedTaken, AreJoinedUntaken};
     ghost use Rattle.minus.specs.Steps.{cleanup_after};
-    ghost use Rattle.minus.specs.Table.{lets_prefix_go};
     ghost use Rattle.minus.specs.Works.{Work};
 
     // The request that an input is, for an event by the classifier's answer, and whether the typed prefix goes with it.
     fn resolve(&self, input: InputOf<P>) -> Result<(Request<P>, bool), MinusError>
         ensures asked { IfOk result (λ r.
             IsAsked (says_of P.Condition.judges P.Classifier.says) self.now (told_of input) (wanted_by r.0) r.1) }
-        ensures typed { IfOk result (λ r. r.1 ≡ true → lets_prefix_go (wanted_by r.0) ≡ true) }
         ensures memory { IfErr result (λ e. e ≡ MinusError.Memory) }
     {
         match input {
@@ -288,8 +287,8 @@ impl<S: OutputSink + Drop, P: Calls> Core<S, P> {
         }
     }
 
-    // Applies what comes of an input that does not exit, writes what was drawn, and then calls the callbacks of a hook,
-    // if one is asked for. A refusal of the sink fails the session.
+    // Applies what comes of an input that does not exit, writes what was drawn, and then calls the callbacks of the end,
+    // if the mark was moved and the page shows it. A refusal of the sink fails the session.
     fn change(&mut self, outcome: Outcome) -> Result<Taken, MinusError>
         requires running { self.old.status ≡ stands.Running }
         requires leads { LeadsClamped (control_of self.old.parts.state) outcome.change }
@@ -299,9 +298,10 @@ impl<S: OutputSink + Drop, P: Calls> Core<S, P> {
             IsOutcomeUntaken S.seen (says_of P.Condition.judges P.Classifier.says) self.old outcome self.new e) }
         ensures waiting { self.new.waiting ≡ self.old.waiting }
     {
-        let hook = outcome.hook;
+        let is_move = outcome.moves_to.is_some();
         let copied = self.apply(outcome)?;
         self.write_drawing()?;
+        let hook = end_hook(is_move, &self.parts.state);
         self.call_hook(hook);
         Ok(Taken { exit: None, copied })
     }
@@ -353,7 +353,6 @@ impl<S: OutputSink + Drop, P: Calls> Core<S, P> {
     fn execute(&mut self, request: Request<P>, clears_prefix: bool) -> Result<Taken, MinusError>
         requires running { self.old.status ≡ stands.Running }
         requires closed { (control_of self.old.parts.state).search ≡ None }
-        requires typed { clears_prefix ≡ true → lets_prefix_go (wanted_by request) ≡ true }
         ensures taken { IfOk result (λ t. IsTakenAs S.seen (says_of P.Condition.judges P.Classifier.says)
             self.old (wanted_by request) clears_prefix self.new t) }
         ensures refused { IfErr result (λ e. IsUntakenAs S.seen (says_of P.Condition.judges P.Classifier.says)

@@ -3,7 +3,7 @@ use minus::{Command, Event, Input, InputEvent, IoCommand, KeyEvent, LineNumbers,
 
 /// What is done to a session.
 #[derive(Clone, Copy)]
-pub enum Act {
+pub(crate) enum Act {
     /// The whole page is drawn.
     Redraw,
     /// Help is opened or left.
@@ -92,7 +92,7 @@ fn event_of(act: Act, turn: usize) -> InputEvent {
 
 impl Act {
     /// The act that a word stands for: a name, or a name, `=` and a value.
-    pub fn parse(word: &str) -> Option<Act> {
+    pub(crate) fn parse(word: &str) -> Option<Act> {
         match word.split_once('=') {
             Some((name, value)) => parse_valued(name, value),
             None => parse_named(word),
@@ -100,7 +100,7 @@ impl Act {
     }
 
     /// The act in this turn, counted from 0, as an input to a session.
-    pub fn input(self, turn: usize) -> Input {
+    pub(crate) fn input(self, turn: usize) -> Input {
         match self {
             Act::Redraw => Input::Command(Command::Io(IoCommand::RedrawDisplay)),
             Act::Numbers => Input::Command(Command::SetLineNumbers(LineNumbers::Enabled)),

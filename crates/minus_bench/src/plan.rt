@@ -5,7 +5,7 @@ use std::alloc::Global;
 
 /// How the text comes to the session.
 #[derive(Clone, Copy)]
-pub enum Coming {
+pub(crate) enum Coming {
     /// It is pushed before the acts, which are counted.
     Shown,
     /// It is pushed in its parts, which is counted.
@@ -18,15 +18,15 @@ pub enum Coming {
 
 /// What is done, and what of it is counted.
 #[derive(Drop)]
-pub struct Plan {
+pub(crate) struct Plan {
     /// How the text comes.
-    pub coming: Coming,
+    pub(crate) coming: Coming,
     /// How many of the acts that are counted are done, one after another and from the first again.
-    pub turns: usize,
+    pub(crate) turns: usize,
     /// The acts before what is counted.
-    pub before: Vec<Act>,
+    pub(crate) before: Vec<Act>,
     /// The acts that are counted.
-    pub counted: Vec<Act>,
+    pub(crate) counted: Vec<Act>,
 }
 
 fn parse_coming(word: &str) -> Option<Coming> {
@@ -59,7 +59,7 @@ fn split_words(words: &[String]) -> (&[String], &[String]) {
 }
 
 /// What the program's words say, its name among them.
-pub fn parse_plan(alloc: Global, words: &[String]) -> Result<Plan> {
+pub(crate) fn parse_plan(alloc: Global, words: &[String]) -> Result<Plan> {
     let [_, coming, turns, acts @ ..] = words else {
         bail!("usage: minus_bench TEXT TURNS [ACT..] [-- ACT..]");
     };

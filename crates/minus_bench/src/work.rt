@@ -94,7 +94,7 @@ fn print_end(rt: &HostRuntime, state: &PagerState) -> io::Result<()> {
 }
 
 /// Does a work over a text, and prints its end.
-pub fn do_work(rt: &HostRuntime, plan: &Plan, text: &str) -> Result<()> {
+pub(crate) fn do_work(rt: &HostRuntime, plan: &Plan, text: &str) -> Result<()> {
     let alloc = rt.alloc();
     let before = inputs_before(alloc, plan, text)?;
     let counted = inputs_counted(alloc, plan, text)?;

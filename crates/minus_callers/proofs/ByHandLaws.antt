@@ -18,7 +18,7 @@ use Rattle.minus.specs.EvHandler.{HandlesAs, IsIoUndone, IsRequestTo, io_left, a
 use Rattle.minus.specs.Handing.{Handing, kept_after, classifier_after, condition_after}
 use Rattle.minus.specs.Queued.{queued}
 use Rattle.minus.specs.Reads.{as_command, io_of, io_wanted, kept_of}
-use Rattle.minus.specs.Table.{effect, handed}
+use Rattle.minus.specs.Table.{effect_of, handed}
 use Rattle.minus.proofs.ByHandLaws.{by_hand_lem}
 use Rattle.minus_callers.specs.ByHand.{left_by, left_by_all, IsIoFault, IsWorkedOff}
 
@@ -57,14 +57,14 @@ hands_nothing Q K (DrawAppendedText unfinished rows style) = refl
 hands_nothing Q K (SetUpperMark mark) = refl
 hands_nothing Q K FetchSearchQuery = refl
 
-goes_on : (Q K : Type 0) (c : Control) (io : IoCommand) → (effect {Q = Q} {K = K} c (io_wanted io)).is_exit ≡ false
+goes_on : (Q K : Type 0) (c : Control) (io : IoCommand) → (effect_of {Q = Q} {K = K} c (io_wanted io)).is_exit ≡ false
 goes_on Q K c RedrawPrompt = refl
 goes_on Q K c RedrawDisplay = refl
 goes_on Q K c (DrawAppendedText unfinished rows style) = refl
 goes_on Q K c (SetUpperMark mark) = refl
 goes_on Q K c FetchSearchQuery = refl
 
-copies_nothing : (Q K : Type 0) (c : Control) (io : IoCommand) → (effect {Q = Q} {K = K} c (io_wanted io)).copies ≡ None
+copies_nothing : (Q K : Type 0) (c : Control) (io : IoCommand) → (effect_of {Q = Q} {K = K} c (io_wanted io)).copies ≡ None
 copies_nothing Q K c RedrawPrompt = refl
 copies_nothing Q K c RedrawDisplay = refl
 copies_nothing Q K c (DrawAppendedText unfinished rows style) = refl

@@ -12,7 +12,7 @@ use Rattle.minus.specs.declared.parts.PartsOf.{PartsOf}
 use Rattle.minus.specs.EvHandler.{IsRequestTo, CannotHandle, io_left}
 use Rattle.minus.specs.Handing.{kept_after, classifier_after, condition_after}
 use Rattle.minus.specs.Reads.{io_of, kept_of}
-use Rattle.minus.specs.Table.{Wanted, effect, handed, changed_by}
+use Rattle.minus.specs.Table.{Wanted, effect_of, handed, changed_by}
 
 -- the control that a command leaves which waited: what it asks for is done, if it asks for a drawing
 abbrev pub left_by : (Q K : Type 0) → Control → Option IoCommand → Control
@@ -30,12 +30,12 @@ pub record IsWorkedOff {P H E Q K : Type 0} (says : Classifies K) (old : PartsOf
     (handled : Handled) : Type 0 where
   pub wanted : Wanted Q K
   pub asked : IsRequestTo says old command wanted
-  pub control : control_of new.state ≡ changed_by (effect (control_of old.state) wanted)
+  pub control : control_of new.state ≡ changed_by (effect_of (control_of old.state) wanted)
   pub kept : kept_of new ≡ kept_after (kept_of old) (handed wanted)
   pub classifier : new.classifier ≡ classifier_after old.classifier (handed wanted)
   pub condition : new.condition ≡ condition_after old.condition (handed wanted)
-  pub exited : handled.exited ≡ (effect (control_of old.state) wanted).is_exit
-  pub copied : option_map string_bytes handled.copied ≡ (effect (control_of old.state) wanted).copies
+  pub exited : handled.exited ≡ (effect_of (control_of old.state) wanted).is_exit
+  pub copied : option_map string_bytes handled.copied ≡ (effect_of (control_of old.state) wanted).copies
 
 -- why what waits is not done: out of memory, or the sink refused a drawing
 abbrev pub IsIoFault : Refusal → Type 0

@@ -103,14 +103,14 @@ fn leads_up(state: &PagerState, asked: InputEvent) -> bool
     ensures { IsFormed state.now → result ≡ leads_up (control_of state.now) asked }
 {
     let mark = match asked {
-        InputEvent::UpdateUpperMark(mark) => mark,
-        InputEvent::NextMatch => state.to_next_match(1).mark,
-        InputEvent::PrevMatch => state.to_prev_match(1).mark,
-        InputEvent::MoveToNextMatch(jump) => state.to_next_match(jump).mark,
-        InputEvent::MoveToPrevMatch(jump) => state.to_prev_match(jump).mark,
-        _ => state.upper_mark,
+        InputEvent::UpdateUpperMark(mark) => Some(mark),
+        InputEvent::NextMatch => state.next_match_row(1),
+        InputEvent::PrevMatch => state.prev_match_row(1),
+        InputEvent::MoveToNextMatch(jump) => state.next_match_row(jump),
+        InputEvent::MoveToPrevMatch(jump) => state.prev_match_row(jump),
+        _ => None,
     };
-    mark < state.upper_mark
+    mark.unwrap_or(state.upper_mark) < state.upper_mark
 }
 
 // How many bytes of the text stand below the first row of the page.

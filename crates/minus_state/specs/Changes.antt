@@ -127,10 +127,6 @@ pub record IsPlaced (s : PagerState) (change : Change) (t : PagerState) : Type 0
   pub help : aside_of t.saved ≡ aside_after change (aside_of s.saved)
   pub search : search_of t ≡ search_after change.search (search_of s)
 
--- where an append that leaves a document leaves the mark: at the last page, where the page goes on with what is appended
-abbrev pub mark_after : PagerState → Document → ℕ
-mark_after s d = if s.follow then top_of (length (rows_of d)) s.rows else s.upper_mark
-
 -- what the prompt row of a state is formed of, and what it is formed of after a change
 abbrev pub shown_prompt : PagerState → PromptRow
 shown_prompt s = shown_in s.cols (settings_of s) s.search_mark (length s.screen.found)

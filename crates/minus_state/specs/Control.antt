@@ -115,9 +115,9 @@ clamp c = record c { mark = min c.mark (top c) }
 abbrev pub IsClamped : Control → Type 0
 IsClamped c = c.mark ≤ top c
 
--- the page goes on with what is appended from now on, or no longer, and goes to the last page
-abbrev pub following : Control → Bool → Control
-following c follow = record c { mark = top c; settings = record c.settings { follow = follow } }
+-- the page goes on with what is appended from now on, or no longer
+abbrev pub with_follow : Control → Bool → Control
+with_follow c follow = record c { settings = record c.settings { follow = follow } }
 
 -- a message stands in the prompt's place
 abbrev pub with_message : Control → List ℕ → Control

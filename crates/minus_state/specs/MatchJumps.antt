@@ -24,13 +24,9 @@ row_above mark (Some row) = if nat_lt row mark then Some row else None
 abbrev pub prev_match_row : Control → ℕ → Option ℕ
 prev_match_row c jump = row_above c.mark (slice_get (matches_of c) (prev_match c jump))
 
--- a match is told of, and the mark moves to a row, if there is one
-abbrev pub told_at : Control → ℕ → Option ℕ → Control
-told_at c search_mark row = record c { search_mark = search_mark; mark = unwrap_or row c.mark }
+-- the prompt row tells of that match
+abbrev pub telling_next : Control → ℕ → Control
+telling_next c jump = record c { search_mark = next_match c jump }
 
--- what a jump on leaves before the mark is clamped, and what a jump back does
-abbrev pub to_next_match : Control → ℕ → Control
-to_next_match c jump = told_at c (next_match c jump) (next_match_row c jump)
-
-abbrev pub to_prev_match : Control → ℕ → Control
-to_prev_match c jump = told_at c (prev_match c jump) (prev_match_row c jump)
+abbrev pub telling_prev : Control → ℕ → Control
+telling_prev c jump = record c { search_mark = prev_match c jump }

@@ -14,22 +14,23 @@ abbrev pub row_text : ShownRow → List ℕ
 row_text (Own row) = row.now
 row_text (Formed row) = string_bytes row
 
--- this is shown of the row with a number, if there is one: of a line that is its one row, where nothing is selected; of any row, where
--- nothing is selected; of any row
+-- the row with a number, if there is one, is shown so, where each line is one row and nothing in it is selected
 abbrev pub IsCroppedRow : ShownRows → ℕ → Option (List ℕ) → Type 0
 IsCroppedRow shown i row =
     (term : Option Re) → IsFoundAt term (viewed shown.view) i → row ≡ cropped_row term (viewed shown.view).document shown.left_mark i
 
+-- the row with a number, if there is one, is shown so, where nothing in it is selected
 abbrev pub IsUnmarkedRow : ShownRows → ℕ → Option (List ℕ) → Type 0
 IsUnmarkedRow shown i row =
     (term : Option Re) → IsFoundAt term (viewed shown.view) i → row ≡ unmarked_row term (viewed shown.view).document shown.left_mark i
 
+-- the row with a number, if there is one, is shown so
 abbrev pub IsShownRow : ShownRows → ℕ → Option (List ℕ) → Type 0
 IsShownRow shown i row =
     (term : Option Re) → IsFoundAt term (viewed shown.view) i
     → row ≡ shown_row term (viewed shown.view).document shown.left_mark (ends_in_order shown.ends) i
 
--- this is shown of the rows from one on up to another
+-- the rows from one on, and before another, are shown so
 abbrev pub AreShownRows : ShownRows → (start end : ℕ) → List (List ℕ) → Type 0
 AreShownRows shown start end rows =
     (term : Option Re) → IsFoundBetween term (viewed shown.view) start end

@@ -15,23 +15,25 @@ abbrev pub some_row_ops : Option (List ℕ) → List Op
 some_row_ops None = []
 some_row_ops (Some row) = row_ops row
 
--- what is shown of the row with a number, if there is one, is added to bytes: as it is stored; of a line that is its one row, where nothing
--- is selected; of any row, where nothing is selected; of any row
+-- the row with a number, if there is one, is added to bytes as it is stored
 abbrev pub WritesStored : ShownRows → ℕ → (old new : List ℕ) → Type 0
 WritesStored shown i old new =
     (term : Option Re) → IsFoundAt term (viewed shown.view) i
     → new ≡ old ++ written_all (some_row_ops (slice_get (stored_rows_for term (viewed shown.view).document) i))
 
+-- the row with a number, if there is one, is added as it is shown where each line is one row and nothing in it is selected
 abbrev pub WritesCropped : ShownRows → ℕ → (old new : List ℕ) → Type 0
 WritesCropped shown i old new =
     (term : Option Re) → IsFoundAt term (viewed shown.view) i
     → new ≡ old ++ written_all (some_row_ops (cropped_row term (viewed shown.view).document shown.left_mark i))
 
+-- the row with a number, if there is one, is added as it is shown where nothing in it is selected
 abbrev pub WritesUnmarked : ShownRows → ℕ → (old new : List ℕ) → Type 0
 WritesUnmarked shown i old new =
     (term : Option Re) → IsFoundAt term (viewed shown.view) i
     → new ≡ old ++ written_all (some_row_ops (unmarked_row term (viewed shown.view).document shown.left_mark i))
 
+-- the row with a number, if there is one, is added as it is shown
 abbrev pub WritesShown : ShownRows → ℕ → (old new : List ℕ) → Type 0
 WritesShown shown i old new =
     (term : Option Re) → IsFoundAt term (viewed shown.view) i

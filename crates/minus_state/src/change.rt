@@ -219,21 +219,18 @@ impl Change {
     ghost use Rattle.minus_text.specs.Document.{rows_of};
     ghost use Rattle.minus_state.specs.Changes.{IsPlaced};
     ghost use Rattle.minus_term.specs.Marks.{top_of};
-    ghost use Rattle.minus_state.specs.Control.{shows_end};
     ghost use Rattle.minus_state.specs.NextTexts.{next_document, Belongs};
     ghost use Rattle.minus_state.specs.States.{control_of};
 
-    /// Whether the page that there will be shows the end of its text, which has more rows than the terminal.
-    pub fn shows_end(&self, screen: &Screen) -> bool
+    /// The greatest mark that there will be: the row, counted from 0, at which the last page of the text is full.
+    pub fn top(&self, screen: &Screen) -> usize
         requires { Belongs screen.now.document self.now.text }
-        ensures { result ≡ shows_end (length (rows_of (next_document screen.now.document self.now.text)))
-            self.now.rows self.now.mark }
+        ensures { result ≡ top_of (length (rows_of (next_document screen.now.document self.now.text))) self.now.rows }
     {
-        let count = self.text.view(screen).len();
-        self.mark == top_of(count, self.rows) && count > self.rows
+        top_of(self.text.view(screen).len(), self.rows)
     }
 
-    /// Clamps the mark: it is at most the one at which the last page of the text that there will be is full.
+    /// Clamps the mark: it is at most the greatest one (`top`).
     pub fn clamp(&mut self, screen: &Screen)
         requires { Belongs screen.now.document self.old.text }
         ensures { self.new ≡ record self.old {
@@ -241,8 +238,7 @@ impl Change {
               self.old.rows);
         } }
     {
-        let top = top_of(self.text.view(screen).len(), self.rows);
-        self.mark = self.mark.min(top);
+        self.mark = self.mark.min(self.top(screen));
     }
 
     // Puts what was formed in its place in a state. An `Err` leaves the control, the screen and the direction that the

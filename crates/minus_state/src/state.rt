@@ -280,7 +280,8 @@ impl PagerState {
             ≡ next_document self.old.screen.document (NextText.Found pattern findings)) }
         ensures found { OnOk result (FindsNext (term_of self.old) self.old.screen (NextText.Found pattern findings)
             self.new.screen) }
-        ensures term { OnOk result (term_of self.new ≡ next_term (term_of self.old) (NextText.Found pattern findings)) }
+        ensures term { OnOk result (term_of self.new
+            ≡ next_term (term_of self.old) (NextText.Found pattern findings)) }
         ensures aside { OnOk result (aside_of self.new.saved
             ≡ aside_with (NextText.Found pattern findings) (aside_of self.old.saved)) }
         ensures beside { OnOk result (KeepsBeside self.old self.new) }

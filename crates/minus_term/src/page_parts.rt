@@ -120,7 +120,8 @@ pub fn write_up_start(out: &mut Vec<u8>, k: u16) -> Result<(), AllocError>
 ///
 /// [`AllocError`] where there is no memory for the bytes: a beginning of them was added.
 pub fn write_closing_start(out: &mut Vec<u8>, rows: u16) -> Result<(), AllocError>
-    ensures { OnOk result (out.new.items ≡ out.old.items ++ written_all (GoTo 0 rows ∷ ClearRow ∷ HideCursor ∷ [])) }
+    ensures { OnOk result (out.new.items
+        ≡ out.old.items ++ written_all (GoTo 0 rows ∷ ClearRow ∷ HideCursor ∷ [])) }
 {
     push_at_row(out, rows, b"\x1b[2K\x1b[?25l")?;
     Ok(())

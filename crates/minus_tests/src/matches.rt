@@ -34,12 +34,24 @@ fn begun(alloc: Global, case: &Jump<'_>) -> Option<PagerState> {
     is_set.then_some(state)
 }
 
+// A change with its mark at a row, if there is one.
+fn at_row(mut change: Change, row: Option<usize>) -> Change {
+    if let Some(row) = row {
+        change.mark = row;
+    }
+    change
+}
+
 // What a jump leaves in a state, if a key asks for one.
 fn asked(alloc: Global, state: &PagerState, key: &str) -> Option<Change> {
     let keys = DefaultKeys::new(alloc).ok()?;
     match keys.classify_input(press(key), state) {
-        Some(InputEvent::MoveToNextMatch(jump)) => Some(state.to_next_match(jump)),
-        Some(InputEvent::MoveToPrevMatch(jump)) => Some(state.to_prev_match(jump)),
+        Some(InputEvent::MoveToNextMatch(jump)) => {
+            Some(at_row(state.telling_next(jump), state.next_match_row(jump)))
+        }
+        Some(InputEvent::MoveToPrevMatch(jump)) => {
+            Some(at_row(state.telling_prev(jump), state.prev_match_row(jump)))
+        }
         _ => None,
     }
 }

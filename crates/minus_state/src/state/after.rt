@@ -66,7 +66,8 @@ impl PagerState {
     /// The prompt row after a change; empty where it is hidden. Fails for want of memory alone.
     pub fn prompt_row_after(&self, alloc: Global, change: &Change) -> Result<String, AllocError>
         ensures row { IfOk result (λ row. string_bytes row ≡ prompt_row_after self.now change.now) }
-        ensures formed { IfOk result (λ row. WhereLed self.now change.now (λ new. string_bytes row ≡ prompt_row new)) }
+        ensures formed { IfOk result (λ row. WhereLed self.now change.now
+            (λ new. string_bytes row ≡ prompt_row new)) }
     {
         let row = self.prompt_after(change);
         let text = format_prompt(alloc, &row)?;

@@ -21,12 +21,12 @@ fn append_redraw(keeps_rows: bool) -> Redraw
 }
 
 impl PagerState {
-    ghost use Rattle.std.specs.Prelude.{◌≡◌, ◌+◌, ◌-◌, ◌^◌, ◌<◌, ◌==◌, ◌++◌, None, nat_le, min, encode_utf8, string_bytes, if◌then◌else◌, IfOk, IfErr, OnOk};
+    ghost use Rattle.std.specs.Prelude.{◌≡◌, ◌+◌, ◌-◌, ◌^◌, ◌<◌, ◌==◌, ◌++◌, None, nat_le, min, length, encode_utf8, string_bytes, if◌then◌else◌, IfOk, IfErr, OnOk};
     ghost use Rattle.minus_term.specs.Refusals.{refusal_of};
     ghost use Rattle.minus_term.specs.Marks.{top_of};
-    ghost use Rattle.minus_state.specs.Control.{top, moved_to, following, with_prefix, reformed, anew_at};
+    ghost use Rattle.minus_state.specs.Control.{top, text_rows, shows_end, moved_to, with_follow, with_prefix, reformed, anew_at};
     ghost use Rattle.minus_state.specs.Redraws.{append_redraw, shift_redraw};
-    ghost use Rattle.minus_state.specs.Appending.{appended};
+    ghost use Rattle.minus_state.specs.Appending.{lengthened};
     ghost use Rattle.minus_state.specs.Shifting.{width, may_shift, left_after};
     ghost use Rattle.minus_state.specs.States.{control_of, term_of, IsFormed};
     ghost use Rattle.minus_text.specs.Document.{margin_in};
@@ -35,7 +35,7 @@ impl PagerState {
     ghost use Rattle.minus_text.specs.Views.{viewed};
     ghost use Rattle.minus_state.specs.View.{prefix_in};
     ghost use Rattle.minus_state.specs.NextTexts.{next_document, Belongs};
-    ghost use Rattle.minus_state.specs.Changes.{Leads, IsUnresized, as_is, mark_after};
+    ghost use Rattle.minus_state.specs.Changes.{Leads, IsUnresized, as_is};
     ghost use Rattle.minus_state.specs.Sizes.{IsSize};
 
     // The state as it is, at a mark.
@@ -71,22 +71,12 @@ impl PagerState {
         self.at_mark(self.upper_mark, redraw)
     }
 
-    /// The state at another mark, a row counted from 0. The mark is taken as it is, past the last page too: `moved_to`
-    /// clamps it.
-    pub fn moved(&self, mark: usize) -> Change
-        ensures is { result ≡ record (as_is self.now Redraw.Moved) { mark = mark } }
-        ensures next { Leads self.now result (record (control_of self.now) { mark = mark }) }
+    /// The state that goes on with what is appended from now on, or no longer. Its mark stays.
+    pub fn with_follow(&self, follow: bool) -> Change
+        ensures next { Leads self.now result (with_follow (control_of self.now) follow) }
         ensures redraw { result.redraw ≡ Redraw.Moved }
     {
-        self.at_mark(mark, Redraw::Moved)
-    }
-
-    /// The state at the greatest mark (`top`), where the page goes on with what is appended from now on, or no longer.
-    pub fn following(&self, follow: bool) -> Change
-        ensures next { Leads self.now result (following (control_of self.now) follow) }
-        ensures redraw { result.redraw ≡ Redraw.Moved }
-    {
-        let mut change = self.moved(self.top());
+        let mut change = self.redrawn(Redraw::Moved);
         change.follow = follow;
         change
     }
@@ -100,13 +90,20 @@ impl PagerState {
         top_of(self.screen.formatted_lines_count(), self.rows)
     }
 
+    /// Whether the page shows the end of the text, which has more rows than the terminal.
+    pub fn shows_end(&self) -> bool
+        ensures { IsFormed self.now → result ≡ shows_end (length (text_rows (control_of self.now))) self.now.rows
+            self.now.upper_mark }
+    {
+        self.upper_mark == self.top() && self.screen.formatted_lines_count() > self.rows
+    }
+
     /// The state with its mark moved to a row, counted from 0, or to the greatest mark (`top`) where that is less.
-    /// `moved` clamps nothing.
     pub fn moved_to(&self, mark: usize) -> Change
         ensures next { Leads self.now result (moved_to (control_of self.now) mark) }
         ensures redraw { result.redraw ≡ Redraw.Moved }
     {
-        self.moved(mark.min(self.top()))
+        self.at_mark(mark.min(self.top()), Redraw::Moved)
     }
 
     // A copy of the text on show.
@@ -267,17 +264,6 @@ impl PagerState {
         change
     }
 
-    // Where an append leaves the mark: at the last page, where the page goes on with what is appended.
-    fn mark_after(&self, text: &NextText) -> usize
-        requires { Belongs self.now.screen.document text.now }
-        ensures { result ≡ mark_after self.now (next_document self.now.screen.document text.now) }
-    {
-        if self.follow {
-            return top_of(text.view(&self.screen).len(), self.rows);
-        }
-        self.upper_mark
-    }
-
     // Whether the rows that stay are as they were: the numbers of lines take no more columns then.
     fn keeps_rows(&self, next: &NextText) -> bool
         requires { Belongs self.now.screen.document next.now }
@@ -301,10 +287,10 @@ impl PagerState {
         search_mark_anew(view, self.upper_mark)
     }
 
-    // The state with a text added to its text.
+    // The state with a text added to its text. Its mark stays.
     pub(crate) fn appended(&self, alloc: Global, text: String) -> Result<Change, MinusError>
         ensures next { IfOk result (λ c. Leads self.now c
-            (appended (control_of self.now) (string_bytes text))) }
+            (lengthened (control_of self.now) (string_bytes text))) }
         ensures redraw { IfOk result (λ c. IsFormed self.now →
             c.redraw ≡ append_redraw (control_of self.now) (string_bytes text)) }
         ensures memory { IfErr result (λ e. e ≡ MinusError.Memory) }
@@ -317,7 +303,6 @@ impl PagerState {
         let next = NextText::Pushed(text, formed);
         let keeps_rows = self.keeps_rows(&next);
         let mut change = self.redrawn(append_redraw(keeps_rows));
-        change.mark = self.mark_after(&next);
         change.search_mark = self.search_mark_behind(next.view(&self.screen), keeps_rows);
         change.text = next;
         Ok(change)

@@ -87,7 +87,7 @@ impl PagerState {
     ghost use Rattle.minus_state.specs.Help.{help_open, put_aside, opened, closed, shown_help, left_help, restored, turned, with_text};
     ghost use Rattle.minus_state.specs.Aside.{aside_in};
     ghost use Rattle.minus_state.specs.States.{control_of, IsFormed};
-    ghost use Rattle.minus_state.specs.Appending.{added};
+    ghost use Rattle.minus_state.specs.Appending.{with_more};
     ghost use Rattle.minus_state.specs.Redraws.{whole_where, added_redraw};
 
     /// Whether help is open.
@@ -228,15 +228,15 @@ impl PagerState {
         self.with_text(alloc, text)
     }
 
-    /// The state with a text added to its text, and the mark at the last page where the text is followed; while help
-    /// is open, with the text added to the one put aside, for which `place` takes memory.
+    /// The state with a text added to its text; while help is open, to the one put aside, for which `place` takes
+    /// memory. Its mark stays.
     ///
     /// # Errors
     ///
     /// [`MinusError::Memory`] where there is no memory for it.
     pub fn added(&self, alloc: Global, text: String) -> Result<Change, MinusError>
         ensures next { IfOk result (λ c. Leads self.now c
-            (added (control_of self.now) (string_bytes text))) }
+            (with_more (control_of self.now) (string_bytes text))) }
         ensures redraw { IfOk result (λ c. IsFormed self.now →
             c.redraw ≡ added_redraw (control_of self.now) (string_bytes text)) }
         ensures memory { IfErr result (λ e. e ≡ MinusError.Memory) }

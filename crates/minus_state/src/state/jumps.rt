@@ -18,16 +18,16 @@ fn row_above(mark: usize, row: Option<usize>) -> Option<usize>
 impl PagerState {
     ghost use Rattle.std.specs.Prelude.{◌≡◌};
     ghost use Rattle.minus_state.specs.Changes.{Leads};
-    ghost use Rattle.minus_state.specs.MatchJumps.{told_at, next_match, prev_match, to_next_match, to_prev_match};
-    ghost use Rattle.minus_state.specs.MatchJumps.{next_match_row, prev_match_row};
+    ghost use Rattle.minus_state.specs.MatchJumps.{next_match, prev_match, next_match_row, prev_match_row};
+    ghost use Rattle.minus_state.specs.MatchJumps.{telling_next, telling_prev};
     ghost use Rattle.minus_state.specs.States.{control_of, IsFormed};
 
-    // The state with its prompt row telling of the match at a place, and its mark at a row, if there is one.
-    fn told_at(&self, search_mark: usize, row: Option<usize>) -> Change
-        ensures next { Leads self.now result (told_at (control_of self.now) search_mark row) }
+    // The state with its prompt row telling of the match at a place.
+    fn telling(&self, search_mark: usize) -> Change
+        ensures next { Leads self.now result (record (control_of self.now) { search_mark = search_mark }) }
         ensures redraw { result.redraw ≡ Redraw.Moved }
     {
-        let mut change = self.moved(row.unwrap_or(self.upper_mark));
+        let mut change = self.redrawn(Redraw::Moved);
         change.search_mark = search_mark;
         change
     }
@@ -66,29 +66,24 @@ impl PagerState {
         row_above(self.upper_mark, self.matches().row(self.prev_match(jump)))
     }
 
-    /// The state after a jump on by this number of matches from the mark, past the last match on at the first: the
-    /// prompt row tells of the match that the jump goes to, and the mark, a row counted from 0, is that match's row.
-    /// The mark may stand past the last page: `clamp` of the change ends that. A jump by 0 stays at a match that is
-    /// right at the mark. Where no row matches, nothing changes. It takes no memory, and halves the rows that match.
-    pub fn to_next_match(&self, jump: usize) -> Change
-        ensures next { Leads self.now result (to_next_match (control_of self.now) jump) }
+    /// The state with its prompt row telling of the match that a jump on by this number of matches goes to, counted
+    /// from the mark, past the last match on at the first. A jump by 0 goes to a match that is right at the mark. Where
+    /// no row matches, nothing changes. The mark stays: [`PagerState::next_match_row`] is where it goes. It takes no
+    /// memory, and halves the rows that match.
+    pub fn telling_next(&self, jump: usize) -> Change
+        ensures next { Leads self.now result (telling_next (control_of self.now) jump) }
         ensures redraw { result.redraw ≡ Redraw.Moved }
     {
-        let place = self.next_match(jump);
-        let row = self.matches().row(place);
-        self.told_at(place, row)
+        self.telling(self.next_match(jump))
     }
 
-    /// The state after a jump back by this number of matches from the one that the prompt row tells of, not before the
-    /// first: the prompt row tells of the match that the jump goes to, and the mark, a row counted from 0, is that
-    /// match's row where that stands above the mark, and else stays. Where no row matches, nothing changes. It takes no
-    /// memory.
-    pub fn to_prev_match(&self, jump: usize) -> Change
-        ensures next { Leads self.now result (to_prev_match (control_of self.now) jump) }
+    /// The state with its prompt row telling of the match that a jump back by this number of matches goes to, counted
+    /// from the one that it tells of, not before the first. Where no row matches, nothing changes. The mark stays:
+    /// [`PagerState::prev_match_row`] is where it goes. It takes no memory.
+    pub fn telling_prev(&self, jump: usize) -> Change
+        ensures next { Leads self.now result (telling_prev (control_of self.now) jump) }
         ensures redraw { result.redraw ≡ Redraw.Moved }
     {
-        let place = self.prev_match(jump);
-        let row = row_above(self.upper_mark, self.matches().row(place));
-        self.told_at(place, row)
+        self.telling(self.prev_match(jump))
     }
 }

@@ -137,8 +137,8 @@ impl PagerState {
         event: &Event,
     ) -> Result<Change, MinusError>
         requires { takes_memory (edit_of event.now) ≡ true }
-        ensures next { IfOk result (λ c. MayLead C.judges (option_map (λ q. q.now) condition.entry) self.now event.now c
-            (Some (seen_search search.now))) }
+        ensures next { IfOk result (λ c. MayLead C.judges (option_map (λ q. q.now) condition.entry) self.now event.now
+            c (Some (seen_search search.now))) }
         ensures redraw { IfOk result (λ c. c.redraw ≡ keyed_redraw (seen_search search.now) (edit_of event.now)) }
         ensures refused { IfErr result (λ e. IsUnkeyed (refusal_of e) (seen_search search.now) (edit_of event.now)) }
     {
@@ -174,8 +174,8 @@ impl PagerState {
         event: &Event,
     ) -> Result<Change, MinusError>
         requires { (control_of self.now).search ≡ Some (seen_search search.now) }
-        ensures next { IfOk result (λ c. MayLead C.judges (option_map (λ q. q.now) condition.entry) self.now event.now c
-            (Some (seen_search search.now))) }
+        ensures next { IfOk result (λ c. MayLead C.judges (option_map (λ q. q.now) condition.entry) self.now event.now
+            c (Some (seen_search search.now))) }
         ensures redraw { IfOk result (λ c. c.redraw ≡ keyed_redraw (seen_search search.now) (edit_of event.now)) }
         ensures refused { IfErr result (λ e. IsUnkeyed (refusal_of e) (seen_search search.now) (edit_of event.now)) }
     {
@@ -206,8 +206,8 @@ impl PagerState {
         condition: Option<&C>,
         event: &Event,
     ) -> Result<Change, MinusError>
-        ensures next { IfOk result (λ c. MayLead C.judges (option_map (λ q. q.now) condition.entry) self.now event.now c
-            (control_of self.now).search) }
+        ensures next { IfOk result (λ c. MayLead C.judges (option_map (λ q. q.now) condition.entry) self.now event.now
+            c (control_of self.now).search) }
         ensures redraw { IfOk result (λ c. c.redraw ≡ redraw_at (control_of self.now).search (edit_of event.now)) }
         ensures refused { IfErr result (λ e.
             IsUnkeyedAt (refusal_of e) (control_of self.now).search (edit_of event.now)) }

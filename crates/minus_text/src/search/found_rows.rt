@@ -184,7 +184,8 @@ fn is_last_above(found: &[FoundRow], row: usize, count: usize) -> bool
 // Whether the row behind so many of these, if there is one, stands not above a row.
 fn is_next_not_above(found: &[FoundRow], row: usize, count: usize) -> bool
     requires { count ≤ length found.now }
-    ensures { result ≡ true → (d : FoundRow) → count < length found.now → row ≤ (slice_index_or found.now count d).row }
+    ensures { result ≡ true → (d : FoundRow) → count < length found.now →
+        row ≤ (slice_index_or found.now count d).row }
 {
     if count == found.len() {
         return true;

@@ -37,7 +37,8 @@ fn begin_walk(text: &str) -> Walk<'_>
 fn walk_to(from: Walk<'_>, place: usize) -> Walk<'_>
     requires bytes { from.at + length (bytes_left from.rest) < 2 ^ 64 }
     requires columns { from.columns + 2 * length (bytes_left from.rest) < 2 ^ 64 }
-    ensures counts { (us : List (List ℕ)) (p : ℕ) → p ≤ place → Counts from.entry us p → Counts result us place }
+    ensures counts { (us : List (List ℕ)) (p : ℕ) → p ≤ place → Counts from.entry us p →
+        Counts result us place }
     ensures columns { (us : List (List ℕ)) (p : ℕ) → p ≤ place → Counts from.entry us p →
         columns_before place us ≡ result.columns }
     ensures bytes { result.at + length (bytes_left result.rest)

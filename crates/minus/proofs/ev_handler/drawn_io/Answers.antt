@@ -7,27 +7,25 @@ use Rattle.minus_state.specs.States.{control_of}
 use Rattle.minus_state.specs.declared.change.Redraw.{Redraw}
 use Rattle.minus.specs.declared.step_drawing.Drawing.{Drawing}
 use Rattle.minus.specs.Drawings.{ops_of, IsDrawable}
-use Rattle.minus.specs.EvHandler.{io_left}
 use Rattle.minus.specs.Reads.{io_wanted}
-use Rattle.minus.specs.Table.{Wanted, effect, changed_by, drawing_by, drawing_of}
+use Rattle.minus.specs.Table.{Wanted, effect_of, changed_by, drawing_by, drawing_of}
 use Rattle.minus.proofs.EventLaws.{io_drawable}
 use Rattle.minus.proofs.ev_handler.drawn_io.Goals as goal
 
 pub returns-clause-leads : goal.returns-clause-leads
 returns-clause-leads g c =
     let old : Control = control_of c.args.state.now in
-    let leads = subst (λ (w : Wanted _ _). IsChange old c.in_ok-outcome.outcome.change (changed_by (effect old w))) c.of_io-request.ensures c.in_ok-outcome.ensures.ok.leads in
-    subst (λ x. IsChange old x (io_left g.row.P-Condition.Denot g.row.P-Classifier.Denot old c.args.command)) (sym c.into_parts-change.ensures.change) leads
+    subst (λ (w : Wanted _ _). IsChange old c.in_ok-outcome.outcome.change (changed_by (effect_of old w))) c.of_io-request.ensures c.in_ok-outcome.ensures.ok.leads
 
 pub returns-clause-bytes : goal.returns-clause-bytes
 returns-clause-bytes g c =
     let old : Control = control_of c.args.state.now in
     let wanted : Wanted g.row.P-Condition.Denot g.row.P-Classifier.Denot = io_wanted c.args.command in
-    let new : Control = changed_by (effect old wanted) in
+    let new : Control = changed_by (effect_of old wanted) in
     let change = c.in_ok-outcome.outcome.change in
     let outcome = c.in_ok-outcome.ensures.ok in
-    let leads = subst (λ (w : Wanted _ _). IsChange old change (changed_by (effect old w))) c.of_io-request.ensures outcome.leads in
-    let redraw : change.redraw ≡ (effect old wanted).redraw = outcome.redraw ∙ ap (λ (w : Wanted _ _). (effect old w).redraw) c.of_io-request.ensures in
-    let drawing : c.of-drawing.result ≡ drawing_of old wanted = c.of-drawing.ensures ∙ ap (λ (r : Redraw). drawing_by r old change.mark) redraw ∙ ap (λ (n : ℕ). drawing_by (effect old wanted).redraw old n) leads.mark_is in
+    let leads = subst (λ (w : Wanted _ _). IsChange old change (changed_by (effect_of old w))) c.of_io-request.ensures outcome.leads in
+    let redraw : change.redraw ≡ (effect_of old wanted).redraw = outcome.redraw ∙ ap (λ (w : Wanted _ _). (effect_of old w).redraw) c.of_io-request.ensures in
+    let drawing : c.of-drawing.result ≡ drawing_of old wanted = c.of-drawing.ensures ∙ ap (λ (r : Redraw). drawing_by r old change.mark) redraw ∙ ap (λ (n : ℕ). drawing_by (effect_of old wanted).redraw old n) leads.mark_is in
     let drawable = subst (λ (d : Drawing). IsDrawable d old new) (sym drawing) (io_drawable g.row.P-Condition.Denot g.row.P-Classifier.Denot old new c.args.command) in
     c.in_ok-bytes.ensures.bytes new leads drawable ∙ ap (λ (d : Drawing). written_all (ops_of d new)) drawing

@@ -1,10 +1,10 @@
 -- The appends at the front in one go, or the command alone.
 use Rattle.std.proofs.Common.{◌∷◌, map, string_bytes, sym, ap, subst, ◌∙◌}
-use Rattle.minus_state.specs.Control.{Control, clamp}
+use Rattle.minus_state.specs.Control.{Control}
 use Rattle.minus_state.specs.States.{control_of}
 use Rattle.minus.specs.Reads.{wanted_of}
 use Rattle.minus.specs.Starts.{taken_all, CanTakeAll}
-use Rattle.minus.specs.Table.{Effect}
+use Rattle.minus.specs.Unmoved.{unmoved_by}
 use Rattle.minus.proofs.JoinedLaws.{joined_leads, joined_can}
 use Rattle.minus.proofs.joined.next_taken.Goals as goal
 
@@ -23,5 +23,5 @@ returns-in_ok-text-in-Some-clause-can g c = λ ids can.
 pub returns-in_ok-copied-in_default-clause-next : goal.returns-in_ok-copied-in_default-clause-next
 returns-in_ok-copied-in_default-clause-next g c =
     let old : Control = control_of c.args.state.now in
-    let same = ap (λ (e : Effect). let r : Control = record (clamp e.changed) { search = old.search } in r) (c.in_ok-copied-in_default.ensures.effect old) in
+    let same = ap (unmoved_by old) (c.in_ok-copied-in_default.ensures.effect old) in
     ap (λ k. taken_all k (map wanted_of c.args.behind.now)) same

@@ -1,48 +1,61 @@
--- The change is clamped last, and then the prefix goes, or stays.
-use Rattle.std.proofs.Common.{◌≡◌, Bool, true, length, refl, sym, ap, subst, ◌∙◌}
+-- The mark is moved and clamped last, and then the prefix goes, or stays.
+use Rattle.std.proofs.Common.{◌≡◌, ℕ, Bool, true, refl, sym, ap, subst, ◌∙◌}
+use Rattle.std.specs.Option.{unwrap_or}
 use Rattle.minus_state.specs.Changes.{IsChange}
-use Rattle.minus_state.specs.Control.{Control, clamp, cleared, shows_end}
+use Rattle.minus_state.specs.Control.{Control, clamp, cleared}
 use Rattle.minus_state.specs.States.{control_of}
+use Rattle.minus_state.specs.declared.change.Change.{Change}
 use Rattle.minus.specs.Reads.{wanted_by}
-use Rattle.minus.specs.Table.{effect, moved_by, end_hook}
-use Rattle.minus_state.specs.NextTexts.{next_document}
-use Rattle.minus_text.specs.Document.{rows_of}
-use Rattle.minus.proofs.OutcomeLaws.{clamped_change, cleared_settings, hook_formed, finished}
+use Rattle.minus.specs.Shapes.{Effect}
+use Rattle.minus.specs.Table.{effect_of, moved, changed_by}
+use Rattle.minus.proofs.OutcomeLaws.{moved_leads, cleared_settings}
 use Rattle.minus.proofs.outcome.outcome_of.Goals as goal
 
 pub returns-then-not-clears_prefix-clause-ok : goal.returns-then-not-clears_prefix-clause-ok
 returns-then-not-clears_prefix-clause-ok g c =
-    let old : Control = control_of c.args.state.now in
+    let s = c.args.state.now in
+    let old : Control = control_of s in
+    let e : Effect = effect_of old (wanted_by c.args.request) in
     let formed = c.in_ok-outcome.ensures in
-    let w = wanted_by c.args.request in
-    let left : Control = clamp (moved_by (effect old w)) in
-    let clamped = clamped_change c.args.state.now c.in_ok-outcome.outcome.change c.clamp.new.self (moved_by (effect old (wanted_by c.args.request))) c.requires.formed (formed.leads c.requires.formed) c.clamp.ensures in
-    let hook = c.end_hook-outcome.ensures ∙ ap (λ (b : Bool). end_hook b (shows_end (length (rows_of (next_document c.args.state.now.screen.document c.clamp.new.self.text))) c.clamp.new.self.rows c.clamp.new.self.mark)) (c.moves-moves.ensures c.requires.formed) ∙ hook_formed c.args.state.now c.clamp.new.self w c.requires.formed clamped in
-    let stays = subst (λ (b : Bool). IsChange old c.clamp.new.self (cleared b left)) (sym c.if-not-clears_prefix.true) clamped in
-    finished old c.args.clears_prefix (wanted_by c.args.request) c.in_ok-outcome.outcome _ c.requires.typed formed.possible (formed.redraw c.requires.formed) (formed.copied c.requires.formed) formed.exits (rw c.clamp.ensures refl) refl refl hook stays
+    let mark = c.unwrap_or-outcome.ensures ∙ ap (λ to. unwrap_or to c.in_ok-outcome.outcome.change.mark) formed.moves_to ∙ ap (unwrap_or e.moves_to) formed.leads.mark_is in
+    let leads = moved_leads s c.in_ok-outcome.outcome.change c.unwrap_or-outcome.result _ c.clamp.new.self e.changed (moved e.changed e.moves_to) c.requires formed.leads (ap (λ (n : ℕ). let r : Control = record e.changed { mark = n } in r) mark) c.clamp.ensures in
+    record {
+      possible = formed.possible;
+      leads = subst (λ (b : Bool). IsChange old c.clamp.new.self (cleared b (changed_by e))) (sym c.if-not-clears_prefix.true) leads;
+      redraw = ap (λ (x : Change). x.redraw) c.clamp.ensures ∙ formed.redraw;
+      moves_to = formed.moves_to;
+      copied = formed.copied;
+      exits = formed.exits;
+    }
 
 pub returns-clause-ok : goal.returns-clause-ok
 returns-clause-ok g c =
-    let old : Control = control_of c.args.state.now in
+    let s = c.args.state.now in
+    let old : Control = control_of s in
+    let e : Effect = effect_of old (wanted_by c.args.request) in
     let formed = c.in_ok-outcome.ensures in
-    let w = wanted_by c.args.request in
-    let left : Control = clamp (moved_by (effect old w)) in
-    let clamped = clamped_change c.args.state.now c.in_ok-outcome.outcome.change c.clamp.new.self (moved_by (effect old (wanted_by c.args.request))) c.requires.formed (formed.leads c.requires.formed) c.clamp.ensures in
-    let hook = c.end_hook-outcome.ensures ∙ ap (λ (b : Bool). end_hook b (shows_end (length (rows_of (next_document c.args.state.now.screen.document c.clamp.new.self.text))) c.clamp.new.self.rows c.clamp.new.self.mark)) (c.moves-moves.ensures c.requires.formed) ∙ hook_formed c.args.state.now c.clamp.new.self w c.requires.formed clamped in
+    let mark = c.unwrap_or-outcome.ensures ∙ ap (λ to. unwrap_or to c.in_ok-outcome.outcome.change.mark) formed.moves_to ∙ ap (unwrap_or e.moves_to) formed.leads.mark_is in
+    let leads = moved_leads s c.in_ok-outcome.outcome.change c.unwrap_or-outcome.result _ c.clamp.new.self e.changed (moved e.changed e.moves_to) c.requires formed.leads (ap (λ (n : ℕ). let r : Control = record e.changed { mark = n } in r) mark) c.clamp.ensures in
     let on : c.args.clears_prefix ≡ true = c.if-not-clears_prefix.false in
-    finished old c.args.clears_prefix (wanted_by c.args.request) c.in_ok-outcome.outcome _ c.requires.typed formed.possible (formed.redraw c.requires.formed) (formed.copied c.requires.formed) formed.exits (rw c.clamp.ensures refl) refl refl hook
-    (rw on (record {
-      belongs = clamped.belongs;
-      document = clamped.document;
-      mark_is = clamped.mark_is;
-      cols_are = clamped.cols_are;
-      rows_are = clamped.rows_are;
-      left_is = clamped.left_is;
-      ends_are = clamped.ends_are;
-      term_is = clamped.term_is;
-      search_mark_is = clamped.search_mark_is;
-      settings_are = cleared_settings old.settings c.clamp.new.self left.settings c.new.result c.new.ensures.bytes clamped.settings_are;
-      help_is = clamped.help_is;
-      mode_is = clamped.mode_is;
-      search_is = clamped.search_is;
-    }))
+    record {
+      possible = formed.possible;
+      leads = rw on (record {
+        belongs = leads.belongs;
+        document = leads.document;
+        mark_is = leads.mark_is;
+        cols_are = leads.cols_are;
+        rows_are = leads.rows_are;
+        left_is = leads.left_is;
+        ends_are = leads.ends_are;
+        term_is = leads.term_is;
+        search_mark_is = leads.search_mark_is;
+        settings_are = cleared_settings old.settings c.clamp.new.self (changed_by e).settings c.new.result c.new.ensures.bytes leads.settings_are;
+        help_is = leads.help_is;
+        mode_is = leads.mode_is;
+        search_is = leads.search_is;
+      });
+      redraw = ap (λ (x : Change). x.redraw) c.clamp.ensures ∙ formed.redraw;
+      moves_to = formed.moves_to;
+      copied = formed.copied;
+      exits = formed.exits;
+    }

@@ -15,10 +15,10 @@ pub invariant_of-self-2 : goal.invariant_of-self-2
 invariant_of-self-2 g c =
     let old : Control = control_of c.args.self.now.parts.state in
     let drawn = c.draw.new.self in
-    let given : Change = c.into_parts-change.result.0 in
+    let given : Change = c.into_change-change.result in
     let (new, leads, clamped) = c.requires.leads in
     let state : drawn.parts.state ≡ c.args.self.now.parts.state = ap (λ (s : Core _ _ _ _ _ _). s.parts.state) c.draw.ensures.rest in
-    let parts : IsChange old given new = subst (λ (x : Change). IsChange old x new) (sym c.into_parts-change.ensures.change) leads in
+    let parts : IsChange old given new = subst (λ (x : Change). IsChange old x new) (sym c.into_change-change.ensures) leads in
     let same : IsChange (control_of drawn.parts.state) given new = subst (λ (s : PagerState). IsChange (control_of s) given new) (sym state) parts in
     let is : control_of c.place.new.self ≡ new = c.in_ok-place.ensures.control new drawn.formed same in
     let row = c.in_ok-row.row in

@@ -38,7 +38,7 @@ returns-clause-taken g c =
     let new : Control = keyed old.control o (edit_of e) found in
     let is = subst (λ (x : Change). IsChange old.control x new) (sym c.of-outcome.ensures.change) (leads c.args.self.now.formed) in
     let redraw = ap (λ (x : Change). x.redraw) c.of-outcome.ensures.change ∙ c.in_ok-change.ensures.redraw ∙ ap (λ s. redraw_at s (edit_of e)) searching in
-    (_, keyed_by says old e o found c.of-outcome.result searching c.requires.fed c.args.self.now.parts.state c.args.self.now.formed refl judged c.args.self.now.parts.state.sized.some_rows is redraw c.of-outcome.ensures.copied c.of-outcome.ensures.hook)
+    (_, keyed_by says old e o found c.of-outcome.result searching c.requires.fed c.args.self.now.parts.state c.args.self.now.formed refl judged c.args.self.now.parts.state.sized.some_rows is redraw c.of-outcome.ensures.copied c.of-outcome.ensures.moves_to)
 
 pub returns-in_err-change-clause-refused : goal.returns-in_err-change-clause-refused
 returns-in_err-change-clause-refused g c =

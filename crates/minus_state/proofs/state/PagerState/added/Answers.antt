@@ -1,13 +1,11 @@
 -- While help is open, what is put aside goes on; else the text on show does.
-use Rattle.std.proofs.Common.{Bool, ℕ, List, string_bytes, if◌then◌else◌, subst, ap, rules, ◌∙◌}
+use Rattle.std.proofs.Common.{Bool, string_bytes, if◌then◌else◌, ap, rules, sym, ◌∙◌}
 use Rattle.std.proofs.lemmas.Result.{IfOk-weaker}
 use Rattle.minus_state.specs.declared.change.Redraw.TheVariants.{Stays}
-use Rattle.minus_state.specs.Appending.{appended}
-use Rattle.minus_state.specs.Changes.{IsChange}
-use Rattle.minus_state.specs.Control.{Control}
-use Rattle.minus_state.specs.Help.{more_aside}
 use Rattle.minus_state.specs.Redraws.{append_redraw}
 use Rattle.minus_state.specs.States.{control_of}
+use Rattle.minus_state.proofs.ChangeLaws.{leads_to}
+use Rattle.minus_state.proofs.HelpTextLaws.{text_added}
 use Rattle.minus_state.proofs.state.PagerState.added.Goals as goal
 
 pub returns-then-help_open-clause-next : goal.returns-then-help_open-clause-next
@@ -15,9 +13,8 @@ returns-then-help_open-clause-next c = search rules
 
 pub returns-clause-next : goal.returns-clause-next
 returns-clause-next c =
-    let old : Control = control_of c.args.self.now in
-    let bytes : List ℕ = string_bytes c.args.text in
-    IfOk-weaker c.appended.result _ _ (λ x h f. subst (λ (b : Bool). IsChange old x (if b then record old { help = more_aside bytes old.help } else appended old bytes)) c.if-help_open.ensures (h f)) c.appended.ensures.next
+    let same = text_added (control_of c.args.self.now) (string_bytes c.args.text) (sym c.help_open.ensures ∙ c.if-help_open.false) in
+    IfOk-weaker c.appended.result _ _ (λ x h. leads_to c.args.self.now x _ _ same h) c.appended.ensures.next
 
 pub returns-clause-redraw : goal.returns-clause-redraw
 returns-clause-redraw c =

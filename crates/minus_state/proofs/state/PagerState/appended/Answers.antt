@@ -1,4 +1,4 @@
--- The control's document is pushed, and the marks follow.
+-- The control's document is pushed, and the search mark follows.
 use Rattle.std.proofs.Common.{◌≡◌, ℕ, List, Bool, Option, ◌-◌, ◌==◌, ◌++◌, length, string_bytes, if◌then◌else◌, refl, sym, subst, ap, ap₂, ◌∙◌}
 use Rattle.regex.specs.Patterns.{Re}
 use Rattle.minus_text.specs.declared.line_numbers.LineNumbers.{LineNumbers}
@@ -43,7 +43,7 @@ returns-clause-next c = λ f.
     record {
       belongs = subst (λ (x : Searched). IsNext k.term x text) f.screen next;
       document = document;
-      mark_is = c.mark_after.ensures ∙ ap (λ (d : Document). if state.follow then length (rows_of d) - (state.rows - 1) else state.upper_mark) here;
+      mark_is = ap (λ (x : Change). x.mark) base;
       cols_are = ap (λ (x : Change). x.cols) base;
       rows_are = ap (λ (x : Change). x.rows) base;
       left_is = ap (λ (x : Change). x.left) base;

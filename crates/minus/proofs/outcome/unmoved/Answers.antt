@@ -1,0 +1,25 @@
+-- The search prompt stays as it is, and the mark is clamped.
+use Rattle.std.proofs.Common.{◌≡◌, ap, ◌∙◌}
+use Rattle.minus_state.specs.Control.{Control}
+use Rattle.minus_state.specs.States.{control_of}
+use Rattle.minus_state.specs.declared.change.Change.{Change}
+use Rattle.minus.specs.Reads.{wanted_by}
+use Rattle.minus.specs.Shapes.{Effect}
+use Rattle.minus.specs.Table.{effect_of}
+use Rattle.minus.proofs.OutcomeLaws.{clamped_change, unsearched}
+use Rattle.minus.proofs.outcome.unmoved.Goals as goal
+
+pub returns-clause-ok : goal.returns-clause-ok
+returns-clause-ok g c =
+    let s = c.args.state.now in
+    let old : Control = control_of s in
+    let e : Effect = effect_of old (wanted_by c.args.request) in
+    let formed = c.in_ok-outcome.ensures in
+    record {
+      leads = clamped_change s _ c.clamp.new.self _ c.requires (unsearched old c.in_ok-outcome.outcome.change e.changed _ formed.leads) c.clamp.ensures;
+      redraw = ap (λ (x : Change). x.redraw) c.clamp.ensures ∙ formed.redraw;
+      row_only = formed.row_only;
+      moves_to = formed.moves_to;
+      exits = formed.exits;
+      copies = formed.copied;
+    }
