@@ -1,7 +1,7 @@
 -- Commands that are handled by hand.
 use Rattle.std.proofs.Common.{◌≡◌, ℕ, List, ◌++◌, map, true, false, Option, None, Some, is_some, sym, ap, ◌∙◌}
 use Rattle.std.proofs.lemmas.List.{append_assoc, map-append}
-use Rattle.minus_term.specs.Refusals.{Refusal, for_memory, for_newline, for_size}
+use Rattle.minus_term.specs.Refusals.{Refusal, for_hook_id, for_free_hook_id}
 use Rattle.minus_state.specs.Classifying.{Classifies}
 use Rattle.minus_state.specs.Control.{Control}
 use Rattle.minus_state.specs.Prompting.{opening_redraw}
@@ -18,10 +18,13 @@ use Rattle.minus.specs.declared.outcome.Outcome.{Outcome}
 use Rattle.minus.specs.EvHandler.{HandlesAs, IsQueued, IsDone, IsRequestTo, CannotHandle}
 use Rattle.minus.specs.Outcomes.{IsUnformed}
 use Rattle.minus.specs.Queued.{listed, queued, drawing_command, move_command}
-use Rattle.minus.specs.Reads.{as_command, io_wanted}
+use Rattle.minus.specs.Reads.{as_command, io_wanted, kept_of}
 use Rattle.minus.specs.Shapes.{Effect}
 use Rattle.minus.specs.Unmoved.{IsUnmoved}
-use Rattle.minus.specs.Table.{Wanted, moves_mark, fetches_query, effect_of, changed_by, drawing_by, drawing_of}
+use Rattle.minus.specs.Table.{Wanted, moves_mark, fetches_query, effect_of, changed_by, drawing_by, drawing_of, IsFault}
+use Rattle.minus.specs.Works.{IsFaultBeside}
+use Rattle.minus_state.specs.declared.hooks.HookId.{HookId}
+use Rattle.minus.proofs.StartLaws.{memory_or}
 use Rattle.minus.proofs.KeyedLaws.{moved_drawable}
 
 -- a command that asks for a drawing waits
@@ -60,9 +63,13 @@ both_wait {P = P} {H = H} {E = E} {Q = Q} {K = K} c w outcome drawing movement w
     let both : listed drawing ++ listed movement ≡ queued c w = ap (λ d. listed d ++ listed movement) draws ∙ ap (λ m. listed (drawing_command e.redraw e.row_only) ++ listed m) (movement_is ∙ ap move_command is.moves_to) in
     behind ∙ ap (λ l. waiting ++ l) (sym (map-append as_command (listed drawing) (listed movement)) ∙ ap commands both)
 
+-- a fault is one beside any ids of hooks
+fault_beside : {Q K : Type 0} (ids : List HookId) (refusal : Refusal) (w : Wanted Q K) → IsFault refusal w → IsFaultBeside ids refusal w
+fault_beside ids (for_hook_id hook id) w fault = absurd fault
+fault_beside ids for_free_hook_id w fault = absurd fault
+fault_beside ids refusal w fault = fault
+
 -- why a request was not formed is why its command is not handled
 pub cannot_form : {P H E Q K : Type 0} (refusal : Refusal) (says : Classifies K) (parts : PartsOf P H E Q K) (command : CommandOf P H E Q K) (w : Wanted Q K) → IsRequestTo says parts command w → IsUnformed refusal w → CannotHandle refusal says parts command
-cannot_form for_memory says parts command w request h = tt
-cannot_form for_newline says parts command w request h = (w, request, h)
-cannot_form (for_size cols rows) says parts command w request h = (w, request, h)
-cannot_form refusal says parts command w request h = absurd h
+cannot_form {Q = Q} {K = K} refusal says parts command w request h =
+    memory_or {A = λ (r : Refusal). IsFault r w} {B = λ (r : Refusal). (v : Wanted Q K) × IsRequestTo says parts command v × IsFaultBeside (kept_of parts).ids r v} refusal (λ r fault. (w, request, fault_beside (kept_of parts).ids r w fault)) h

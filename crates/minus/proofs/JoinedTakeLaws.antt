@@ -8,25 +8,27 @@ use Rattle.std.specs.Prelude.{string_bytes}
 use Rattle.std.specs.Option.{option_map}
 use Rattle.minus_term.specs.Counts.{SinkSeen, Stays, Rises}
 use Rattle.minus_term.specs.Operations.{Op}
-use Rattle.minus_term.specs.Refusals.{Refusal, for_memory, for_newline, for_hook_id, for_free_hook_id, for_size, for_query, at_cleanup, at_drawing, refusal_of}
+use Rattle.minus_term.specs.Refusals.{Refusal, for_hook_id, for_free_hook_id, for_size, refusal_of}
 use Rattle.minus_term.specs.declared.error.MinusError.{MinusError}
 use Rattle.minus_state.specs.Control.{Control}
 use Rattle.minus_state.specs.OpenSearches.{OpenSearch}
 use Rattle.minus.specs.declared.status.Status.TheVariants as status
 use Rattle.minus.specs.declared.session.Core.{Core}
-use Rattle.minus.specs.declared.taken.Taken.{Taken}
+use Rattle.minus.specs.declared.done.Done.{Done}
 use Rattle.minus.specs.Core.{seen_of}
-use Rattle.minus.specs.SessionSteps.{IsTakenOf, IsUntakenOf, IsTakenWithOf, IsUntakenWithOf}
+use Rattle.minus.specs.SessionSteps.{ending_of, IsTakenOf, IsUntakenOf, IsTakenWithOf, IsUntakenWithOf}
 use Rattle.minus.specs.Asked.{Asks, clears_prefix, Wants}
 use Rattle.minus.specs.Drawn.{IsDrawing}
 use Rattle.minus.specs.Handing.{Exit}
 use Rattle.minus.specs.Joined.{appended_to, append_told, appending, MayGoWith}
-use Rattle.minus.specs.Reads.{Told, an_event}
+use Rattle.minus.specs.Reads.{Told}
 use Rattle.minus.specs.Says.{Says}
 use Rattle.minus.specs.Seen.{Seen}
-use Rattle.minus.specs.Steps.{Took, TookWith, Fails, FailsWith}
+use Rattle.minus.specs.Classes.{Class, class_of, memory, unfit, cleanup, drawing}
+use Rattle.minus.specs.Steps.{Ending, goes_on, has_exited, Took, TookWith, Fails, FailsIn, FailsWith, FailsWithIn, IsUnfitFor}
 use Rattle.minus.specs.Table.{Wanted, appends_data, hands_over, resizes, effect_of}
-use Rattle.minus.specs.Works.{Work, Takes, worked, waited, edits, work_of, after, leaving, IsUnfit, IsFaultIn, Worked, first, IsQuiet}
+use Rattle.minus.specs.Works.{Work, Takes, worked, waited, edits, work_of, after, leaving, IsFaultIn, Worked, first, IsQuiet}
+use Rattle.minus.proofs.LoopLaws.{unfit_closed}
 use Rattle.minus.proofs.JoinedWorksLaws.{append_work, append_works, appends_worked, drawn_joined, quiet_joined}
 
 module _ {Q K : Type 0} where
@@ -69,11 +71,11 @@ module _ {Q K : Type 0} where
   gone_as m mid new told joined count g same is = is ∙ ap (leaving mid) (ap (drop count) same ∙ dropped m told joined count g)
 
   -- taken
-  pub took_with : (says : Says Q K) (exit : Option Exit) (m mid new : Seen Q K) (told : Told Q K) (joined : List ℕ) (count : ℕ) (copied a b : Option (List ℕ)) (g : MayGoWith m.control told m.waiting joined count) → new ≡ leaving mid (drop count mid.waiting) → Took says exit m (append_told joined) copied mid a b → TookWith says exit m told copied new a b
-  took_with says (Some exit) m mid new told joined count copied a b g is h =
+  pub took_with : (says : Says Q K) (ending : Ending) (m mid new : Seen Q K) (told : Told Q K) (joined : List ℕ) (count : ℕ) (a b : Option (List ℕ)) (g : MayGoWith m.control told m.waiting joined count) → new ≡ leaving mid (drop count mid.waiting) → Took says ending m (append_told joined) mid a b → TookWith says ending m told new a b
+  took_with says (has_exited exit) m mid new told joined count a b g is h =
       let asked : h.0.wanted ≡ appends_data joined = h.0.asked in
       absurd (let both : false ≡ true = ap (λ (w : Wanted Q K). (effect_of m.control w).is_exit) (sym asked) ∙ h.0.exits in cc)
-  took_with says None m mid new told joined count copied a b g is (work, t, d) =
+  took_with says (goes_on copied) m mid new told joined count a b g is (work, t, d) =
       let (work_is, none, mid_is) = as_one says m mid (append_told joined) joined work copied g.may.closed refl t in
       let gone = gone_as m mid new told joined count g (ap (λ (x : Seen Q K). x.waiting) mid_is) is in
       let new_is = gone ∙ left_as m mid told joined count g mid_is in
@@ -85,23 +87,26 @@ module _ {Q K : Type 0} where
       )
 
   -- an append can be done
-  append_possible : (says : Says Q K) (refusal : Refusal) (m : Seen Q K) (joined : List ℕ) → m.control.search ≡ None → IsUnfit says m (append_told joined) refusal → IsFaultIn m refusal (appends_data joined)
-  append_possible says refusal m joined closed (wanted, wants, fault) =
+  never_unfit : (refusal : Refusal) (m : Seen Q K) (joined : List ℕ) → IsFaultIn m refusal (appends_data joined) → ⊥
+  never_unfit (for_size cols rows) m joined fault = let both : appends_data joined ≡ resizes cols rows = fault.0 in cc
+  never_unfit (for_hook_id hook id) m joined fault = let both = fault.1.0 in cc
+  never_unfit for_free_hook_id m joined fault = let both : appends_data joined ≡ hands_over fault.1.0 = fault.1.1 in cc
+  never_unfit refusal m joined fault = fault
+
+  append_possible : (says : Says Q K) (refusal : Refusal) (m : Seen Q K) (joined : List ℕ) → m.control.search ≡ None → IsUnfitFor says m (append_told joined) refusal → ⊥
+  append_possible says refusal m joined closed h =
+      let (wanted, wants, fault) = unfit_closed says refusal m (append_told joined) closed h in
       let asks : wanted ≡ appends_data joined = subst (λ (s : Option OpenSearch). Wants says m s (append_told joined) wanted) closed wants in
-      subst (IsFaultIn m refusal) asks fault
+      never_unfit refusal m joined (subst (IsFaultIn m refusal) asks fault)
 
   -- not taken: a session that runs on has left those behind it, and one that has failed has let them go
-  pub fails_with : (says : Says Q K) (refusal : Refusal) (m mid new : Seen Q K) (told : Told Q K) (joined : List ℕ) (count : ℕ) (a b : Option (List ℕ)) (g : MayGoWith m.control told m.waiting joined count) → m.status ≡ status.Running → (mid.status ≡ status.Running → new ≡ mid) → ((mid.status ≡ status.Running → ⊥) → new ≡ leaving mid (drop count mid.waiting)) → Fails says refusal m (append_told joined) mid a b → FailsWith says refusal m told new a b
-  fails_with says for_memory m mid new told joined count a b g runs kept gone h = (kept (ap (λ (x : Seen Q K). x.status) h.0 ∙ runs) ∙ h.0, h.1)
-  fails_with says for_newline m mid new told joined count a b g runs kept gone h = absurd (append_possible says for_newline m joined g.may.closed h.0)
-  fails_with says (for_size cols rows) m mid new told joined count a b g runs kept gone h = absurd (let fault = append_possible says (for_size cols rows) m joined g.may.closed h.0 in let both : appends_data joined ≡ resizes cols rows = fault.0 in cc)
-  fails_with says (for_hook_id hook id) m mid new told joined count a b g runs kept gone h = absurd (let fault = append_possible says (for_hook_id hook id) m joined g.may.closed h.0 in let both = fault.1.0 in cc)
-  fails_with says for_free_hook_id m mid new told joined count a b g runs kept gone h = absurd (let fault = append_possible says for_free_hook_id m joined g.may.closed h.0 in let both : appends_data joined ≡ hands_over fault.1.0 = fault.1.1 in cc)
-  fails_with says for_query m mid new told joined count a b g runs kept gone h = absurd (let both : append_told joined ≡ an_event h.0.event = h.0.key in cc)
-  fails_with says (at_cleanup cause) m mid new told joined count a b g runs kept gone (exit, x, broken, fails) =
+  fails_with_in : (class : Class) (says : Says Q K) (refusal : Refusal) (m mid new : Seen Q K) (told : Told Q K) (joined : List ℕ) (count : ℕ) (a b : Option (List ℕ)) (g : MayGoWith m.control told m.waiting joined count) → m.status ≡ status.Running → (mid.status ≡ status.Running → new ≡ mid) → ((mid.status ≡ status.Running → ⊥) → new ≡ leaving mid (drop count mid.waiting)) → FailsIn class says refusal m (append_told joined) mid a b → FailsWithIn class says refusal m told new a b
+  fails_with_in memory says refusal m mid new told joined count a b g runs kept gone h = (kept (ap (λ (x : Seen Q K). x.status) h.0 ∙ runs) ∙ h.0, h.1)
+  fails_with_in unfit says refusal m mid new told joined count a b g runs kept gone h = absurd (append_possible says refusal m joined g.may.closed h.0)
+  fails_with_in (cleanup cause) says refusal m mid new told joined count a b g runs kept gone (exit, x, broken, fails) =
       let asked : x.wanted ≡ appends_data joined = x.asked in
       absurd (let both : false ≡ true = ap (λ (w : Wanted Q K). (effect_of m.control w).is_exit) (sym asked) ∙ x.exits in cc)
-  fails_with says at_drawing m mid new told joined count a b g runs kept gone (work, copied, last, t, broken, fails) =
+  fails_with_in drawing says refusal m mid new told joined count a b g runs kept gone (work, copied, last, t, broken, fails) =
       let (work_is, none, last_is) = as_one says m last (append_told joined) joined work copied g.may.closed refl t in
       let works = append_works m.control (g.text ∷ g.texts) in
       let left : Seen Q K = record last { waiting = g.behind } in
@@ -118,7 +123,10 @@ module _ {Q K : Type 0} where
       quiet_all work is q =
           subst (λ (w : Work). IsQuiet m.control (w ∷ [])) (sym (is ∙ ap (append_work m.control) g.joined_is))
           (quiet_joined m.control g.text g.texts g.may (λ none. subst (λ (t : List ℕ). length (lines (m.control.text ++ t)) < 2 ^ 64) g.joined_is (g.fits none)) q)
-  fails_with says refusal m mid new told joined count a b g runs kept gone h = absurd h
+  fails_with_in class says refusal m mid new told joined count a b g runs kept gone h = absurd h
+
+  pub fails_with : (says : Says Q K) (refusal : Refusal) (m mid new : Seen Q K) (told : Told Q K) (joined : List ℕ) (count : ℕ) (a b : Option (List ℕ)) (g : MayGoWith m.control told m.waiting joined count) → m.status ≡ status.Running → (mid.status ≡ status.Running → new ≡ mid) → ((mid.status ≡ status.Running → ⊥) → new ≡ leaving mid (drop count mid.waiting)) → Fails says refusal m (append_told joined) mid a b → FailsWith says refusal m told new a b
+  fails_with says refusal m mid new told joined count a b g runs kept gone h = fails_with_in (class_of refusal) says refusal m mid new told joined count a b g runs kept gone h
 
   -- more may wait behind them
   pub goes_longer : (c : Control) (told : Told Q K) (some more : List (Told Q K)) (joined : List ℕ) (count : ℕ) → MayGoWith c told some joined count → MayGoWith c told (some ++ more) joined count
@@ -135,23 +143,25 @@ module _ {Q K : Type 0} where
   }
 
 -- one that is taken alone
-pub took_alone : {Q K : Type 0} (says : Says Q K) (exit : Option Exit) (old : Seen Q K) (told : Told Q K) (copied : Option (List ℕ)) (new : Seen Q K) (a b : Option (List ℕ)) → Took says exit old told copied new a b → TookWith says exit old told copied new a b
-took_alone says None old told copied new a b (work, t, d) = (work ∷ [], first t, d)
-took_alone says (Some exit) old told copied new a b h = h
+pub took_alone : {Q K : Type 0} (says : Says Q K) (ending : Ending) (old : Seen Q K) (told : Told Q K) (new : Seen Q K) (a b : Option (List ℕ)) → Took says ending old told new a b → TookWith says ending old told new a b
+took_alone says (goes_on copied) old told new a b (work, t, d) = (work ∷ [], first t, d)
+took_alone says (has_exited exit) old told new a b h = h
+
+alone_in : {Q K : Type 0} (class : Class) (says : Says Q K) (refusal : Refusal) (old : Seen Q K) (told : Told Q K) (new : Seen Q K) (a b : Option (List ℕ)) → FailsIn class says refusal old told new a b → FailsWithIn class says refusal old told new a b
+alone_in drawing says refusal old told new a b (work, copied, last, t, broken, fails) = (work ∷ [], copied, last, first t, broken, fails)
+alone_in class says refusal old told new a b h = h
 
 pub fails_alone : {Q K : Type 0} (says : Says Q K) (refusal : Refusal) (old : Seen Q K) (told : Told Q K) (new : Seen Q K) (a b : Option (List ℕ)) → Fails says refusal old told new a b → FailsWith says refusal old told new a b
-fails_alone says at_drawing old told new a b (work, copied, last, t, broken, fails) = (work ∷ [], copied, last, first t, broken, fails)
-fails_alone says refusal old told new a b h = h
+fails_alone says refusal old told new a b h = alone_in (class_of refusal) says refusal old told new a b h
 
 -- ---- sessions
 
-pub taken_joined : {S P H E Q K : Type 0} (sink : S → SinkSeen) (says : Says Q K) (old mid new : Core S P H E Q K) (told : Told Q K) (joined : List ℕ) (count : ℕ) (of : Taken) → MayGoWith (seen_of old).control told (seen_of old).waiting joined count → seen_of new ≡ leaving (seen_of mid) (drop count (seen_of mid).waiting) → new.sink ≡ mid.sink → IsTakenOf sink says old (append_told joined) mid of
+pub taken_joined : {S P H E Q K : Type 0} (sink : S → SinkSeen) (says : Says Q K) (old mid new : Core S P H E Q K) (told : Told Q K) (joined : List ℕ) (count : ℕ) (of : Done) → MayGoWith (seen_of old).control told (seen_of old).waiting joined count → seen_of new ≡ leaving (seen_of mid) (drop count (seen_of mid).waiting) → new.sink ≡ mid.sink → IsTakenOf sink says old (append_told joined) mid of
     → IsTakenWithOf sink says old told new of
 taken_joined sink says old mid new told joined count of g gone same h =
-    let copied = option_map string_bytes of.copied in
-    let took = took_with says of.exit (seen_of old) (seen_of mid) (seen_of new) told joined count copied (sink old.sink).bytes (sink mid.sink).bytes g gone h.took in
+    let took = took_with says (ending_of of) (seen_of old) (seen_of mid) (seen_of new) told joined count (sink old.sink).bytes (sink mid.sink).bytes g gone h.took in
     record {
-      took = subst (λ (b : Option (List ℕ)). TookWith says of.exit (seen_of old) told copied (seen_of new) (sink old.sink).bytes b) (sym (ap (λ x. (sink x).bytes) same)) took;
+      took = subst (λ (b : Option (List ℕ)). TookWith says (ending_of of) (seen_of old) told (seen_of new) (sink old.sink).bytes b) (sym (ap (λ x. (sink x).bytes) same)) took;
       stays = subst (λ (n : Option ℕ). Stays (sink old.sink).refusals n) (sym (ap (λ x. (sink x).refusals) same)) h.stays;
     }
 

@@ -8,7 +8,7 @@ use Rattle.std.proofs.lemmas.Result.{err_from_is_err_and}
 use Rattle.std.specs.Result.{IsErr, IsErrAnd}
 use Rattle.minus_term.specs.Counts.{AppendsFront, Stays, Rises}
 use Rattle.minus_term.specs.Operations.{Op}
-use Rattle.minus_term.specs.Refusals.{Refusal, for_memory, for_newline, for_hook_id, for_free_hook_id, for_size, for_query, after_failure, after_exit, at_cleanup, at_drawing, refusal_of}
+use Rattle.minus_term.specs.Refusals.{Refusal, for_memory, for_query, at_cleanup, at_drawing, refusal_of}
 use Rattle.minus_term.specs.declared.error.MinusError.{MinusError}
 use Rattle.minus_term.specs.declared.error.MinusError.TheVariants.{Memory, Failed, Ended}
 use Rattle.minus_term.specs.Written.{written_all}
@@ -24,7 +24,8 @@ use Rattle.minus.specs.Asked.{taken}
 use Rattle.minus.specs.Drawn.{IsDrawing, Drawn, BrokenOff}
 use Rattle.minus.specs.Reads.{Told}
 use Rattle.minus.specs.Seen.{Seen}
-use Rattle.minus.specs.Steps.{Took, TookWith, Fails, FailsWith, IsStep, IsUntouched, Refuses, IsSinkFault, is_passed}
+use Rattle.minus.specs.Classes.{Class, class_of, is_unfit, memory, unfit, over, cleanup, drawing}
+use Rattle.minus.specs.Steps.{Ending, goes_on, has_exited, Took, TookWith, Fails, FailsIn, FailsWith, FailsWithIn, IsStep, IsUntouched, IsUnfitFor, Refuses, RefusesIn, IsSinkFault, is_passed}
 use Rattle.minus.specs.Handing.{Exit}
 use Rattle.minus.specs.Works.{Work, IsUnfit, Worked, first, more, passed, at_once, later, IsNext, IsAtRest, leaving, last_copied, passed_in}
 use Rattle.minus.proofs.DrawnLaws.{nothing_drawn}
@@ -68,11 +69,11 @@ drawing_more {Q = Q} {K = K} says old told s new next rest works vs refused copi
 -- ---- the loop
 
 -- the first input
-pub begun : {Q K : Type 0} (says : Says Q K) (old new : Seen Q K) (told : Told Q K) (text a b : Option (List ℕ)) → Took says None old told text new a b → SoFar says old told a b new [] text
+pub begun : {Q K : Type 0} (says : Says Q K) (old new : Seen Q K) (told : Told Q K) (text a b : Option (List ℕ)) → Took says (goes_on text) old told new a b → SoFar says old told a b new [] text
 begun says old new told text a b t = (t.0 ∷ [], first t.1, t.2)
 
 -- one more of those that wait, and it may be some behind it
-pub one_more : {Q K : Type 0} (says : Says Q K) (old : Seen Q K) (told : Told Q K) (s new : Seen Q K) (next : Told Q K) (rest : List (Told Q K)) (refused : List Refusal) (copied text a b c : Option (List ℕ)) → SoFar says old told a b s refused copied → IsNext s next rest → TookWith says None (leaving s rest) next text new b c
+pub one_more : {Q K : Type 0} (says : Says Q K) (old : Seen Q K) (told : Told Q K) (s new : Seen Q K) (next : Told Q K) (rest : List (Told Q K)) (refused : List Refusal) (copied text a b c : Option (List ℕ)) → SoFar says old told a b s refused copied → IsNext s next rest → TookWith says (goes_on text) (leaving s rest) next new b c
     → SoFar says old told a c new refused (last_copied copied text)
 one_more says old told s new next rest refused copied text a b c (works, h, d) n (vs, t, e) = (
   works ++ vs,
@@ -88,24 +89,22 @@ one_more says old told s new next rest refused copied text a b c (works, h, d) n
 drawn_to : {Q K : Type 0} (a b c : Option (List ℕ)) (old : Control) (works : List Work) (s new : Seen Q K) (rest : List (Told Q K)) → IsUntouched (leaving s rest) new b c → Drawn a b old works s.control → Drawn a c old works new.control
 drawn_to a b c old works s new rest k d = subst (λ (x : Option (List ℕ)). Drawn a x old works new.control) (sym k.1) (subst (λ (x : Control). Drawn a b old works x) (sym (ap (λ (x : Seen _ _). x.control) k.0)) d)
 
--- what is passed over could not be done, and has changed nothing
-pub passed_unfit : {Q K : Type 0} (says : Says Q K) (refusal : Refusal) (s : Seen Q K) (told : Told Q K) (new : Seen Q K) (a b : Option (List ℕ)) → FailsWith says refusal s told new a b → is_passed refusal ≡ true → IsUnfit says s told refusal × IsUntouched s new a b
-passed_unfit says for_newline s told new a b f p = f
-passed_unfit says (for_size cols rows) s told new a b f p = f
-passed_unfit says for_memory s told new a b f p = absurd (cc)
-passed_unfit says (at_cleanup cause) s told new a b f p = absurd (cc)
-passed_unfit says at_drawing s told new a b f p = absurd (cc)
-passed_unfit says (for_hook_id hook id) s told new a b f p = f
-passed_unfit says for_free_hook_id s told new a b f p = f
-passed_unfit says for_query s told new a b f p = absurd (cc)
-passed_unfit says refusal s told new a b f p = absurd f
+-- what is passed over could not be done, and has changed nothing: with no search prompt open no key is typed to a query
+pub unfit_closed : {Q K : Type 0} (says : Says Q K) (refusal : Refusal) (s : Seen Q K) (told : Told Q K) → s.control.search ≡ None → IsUnfitFor says s told refusal → IsUnfit says s told refusal
+unfit_closed says for_query s told closed f = absurd (let both : None ≡ Some f.search = sym closed ∙ f.opened in cc)
+unfit_closed says refusal s told closed f = f
+
+passed_unfit : {Q K : Type 0} (class : Class) (says : Says Q K) (refusal : Refusal) (s : Seen Q K) (told : Told Q K) (new : Seen Q K) (a b : Option (List ℕ)) → FailsWithIn class says refusal s told new a b → is_unfit class ≡ true → IsUnfitFor says s told refusal × IsUntouched s new a b
+passed_unfit unfit says refusal s told new a b f p = f
+passed_unfit class says refusal s told new a b f p = absurd (cc)
 
 -- one that is passed over
 pub passed_over : {Q K : Type 0} (says : Says Q K) (old : Seen Q K) (told : Told Q K) (s new : Seen Q K) (next : Told Q K) (rest : List (Told Q K)) (refused : List Refusal) (refusal : Refusal) (copied a b c : Option (List ℕ)) → SoFar says old told a b s refused copied → IsNext s next rest → FailsWith says refusal (leaving s rest) next new b c
     → is_passed refusal ≡ true → SoFar says old told a c new (refused ++ refusal ∷ []) copied
 passed_over says old told s new next rest refused refusal copied a b c (works, h, d) n f p =
-    let (unfit, same) = passed_unfit says refusal (leaving s rest) next new b c f p in
-    (works, subst (λ (x : Seen _ _). Worked says old told works (refused ++ refusal ∷ []) copied x) (sym same.0) (passed refusal h n unfit), drawn_to a b c old.control works s new rest same d)
+    let (cannot, same) = passed_unfit (class_of refusal) says refusal (leaving s rest) next new b c f p in
+    let fault = unfit_closed says refusal (leaving s rest) next n.0 cannot in
+    (works, subst (λ (x : Seen _ _). Worked says old told works (refused ++ refusal ∷ []) copied x) (sym same.0) (passed refusal h n fault), drawn_to a b c old.control works s new rest same d)
 
 -- ---- how a step ends
 
@@ -129,8 +128,8 @@ step_rests says old s told answer refused copied a b running (works, h, d) rests
 }
 
 -- with an exit
-pub step_exits : {Q K : Type 0} (says : Says Q K) (old new : Seen Q K) (told : Told Q K) (exit : Exit) (answer : Answer) (text a b : Option (List ℕ)) → old.status ≡ status.Running → Took says (Some exit) old told text new a b → IsAnswer (Some exit) None [] answer → IsStep says old told new answer a b
-step_exits says old new told exit answer text a b running (x, none, is, h) answers = record {
+pub step_exits : {Q K : Type 0} (says : Says Q K) (old new : Seen Q K) (told : Told Q K) (exit : Exit) (answer : Answer) (a b : Option (List ℕ)) → old.status ≡ status.Running → Took says (has_exited exit) old told new a b → IsAnswer (Some exit) None [] answer → IsStep says old told new answer a b
+step_exits says old new told exit answer a b running (x, is, h) answers = record {
   works = [];
   refused = [];
   copied = None;
@@ -145,9 +144,9 @@ step_exits says old new told exit answer text a b running (x, none, is, h) answe
 }
 
 -- with an exit among those that wait
-pub step_exits_later : {Q K : Type 0} (says : Says Q K) (old s new : Seen Q K) (told next : Told Q K) (rest : List (Told Q K)) (exit : Exit) (answer : Answer) (refused : List Refusal) (copied text a b c : Option (List ℕ)) → old.status ≡ status.Running → SoFar says old told a b s refused copied → IsNext s next rest → Took says (Some exit) (leaving s rest) next text new b c
+pub step_exits_later : {Q K : Type 0} (says : Says Q K) (old s new : Seen Q K) (told next : Told Q K) (rest : List (Told Q K)) (exit : Exit) (answer : Answer) (refused : List Refusal) (copied a b c : Option (List ℕ)) → old.status ≡ status.Running → SoFar says old told a b s refused copied → IsNext s next rest → Took says (has_exited exit) (leaving s rest) next new b c
     → IsAnswer (Some exit) copied refused answer → IsStep says old told new answer a c
-step_exits_later says old s new told next rest exit answer refused copied text a b c running (works, h, d) n (x, none, is, e) answers = record {
+step_exits_later says old s new told next rest exit answer refused copied a b c running (works, h, d) n (x, is, e) answers = record {
   works = works;
   refused = refused;
   copied = copied;
@@ -188,21 +187,20 @@ broken_more says old told s new next rest refused copied text a b c works vs h d
 )
 
 -- by the input that it is told
+refused_at_once_in : {Q K : Type 0} (class : Class) (says : Says Q K) (refusal : Refusal) (old : Seen Q K) (told : Told Q K) (new : Seen Q K) (a b : Option (List ℕ)) → old.status ≡ status.Running → FailsIn class says refusal old told new a b → RefusesIn class says refusal old told new a b
+refused_at_once_in memory says refusal old told new a b running h = (running, inl h)
+refused_at_once_in unfit says refusal old told new a b running h = (running, h.0, h.1)
+refused_at_once_in (cleanup cause) says refusal old told new a b running (exit, x, broken, fails) = (running, record { works = []; refused = []; copied = None; last = old; next = told; exit = exit; drawn = a; comes = at_once; exits = x; draws = nothing_drawn a old.control; broken = broken; failed = fails })
+refused_at_once_in drawing says refusal old told new a b running (work, text, last, t, broken, fails) = (running, record { works = work ∷ []; refused = []; copied = text; last = last; worked = first t; broken = broken; failed = fails })
+refused_at_once_in class says refusal old told new a b running h = absurd h
+
 pub refused_at_once : {Q K : Type 0} (says : Says Q K) (refusal : Refusal) (old : Seen Q K) (told : Told Q K) (new : Seen Q K) (a b : Option (List ℕ)) → old.status ≡ status.Running → Fails says refusal old told new a b → Refuses says refusal old told new a b
-refused_at_once says for_memory old told new a b running h = (running, inl h)
-refused_at_once says for_newline old told new a b running h = (running, h.0, h.1)
-refused_at_once says (for_size cols rows) old told new a b running h = (running, h.0, h.1)
-refused_at_once says (at_cleanup cause) old told new a b running (exit, x, broken, fails) = (running, record { works = []; refused = []; copied = None; last = old; next = told; exit = exit; drawn = a; comes = at_once; exits = x; draws = nothing_drawn a old.control; broken = broken; failed = fails })
-refused_at_once says at_drawing old told new a b running (work, text, last, t, broken, fails) = (running, record { works = work ∷ []; refused = []; copied = text; last = last; worked = first t; broken = broken; failed = fails })
-refused_at_once says (for_hook_id hook id) old told new a b running h = (running, h.0, h.1)
-refused_at_once says for_free_hook_id old told new a b running h = (running, h.0, h.1)
-refused_at_once says for_query old told new a b running h = (running, h.0, h.1)
-refused_at_once says refusal old told new a b running h = absurd h
+refused_at_once says refusal old told new a b running h = refused_at_once_in (class_of refusal) says refusal old told new a b running h
 
 -- by one of those that wait, so that the session fails
-pub refused_later : {Q K : Type 0} (says : Says Q K) (refusal : Refusal) (old : Seen Q K) (told : Told Q K) (s mid new : Seen Q K) (next : Told Q K) (rest : List (Told Q K)) (refused : List Refusal) (copied a b c : Option (List ℕ)) → old.status ≡ status.Running → SoFar says old told a b s refused copied → IsNext s next rest → FailsWith says refusal (leaving s rest) next mid b c
-    → is_passed refusal ≡ false → new ≡ record mid { status = status.Failed } → Refuses says refusal old told new a c
-refused_later says for_memory old told s mid new next rest refused copied a b c running (works, h, d) n f p is = (
+refused_later : {Q K : Type 0} (class : Class) (says : Says Q K) (refusal : Refusal) (old : Seen Q K) (told : Told Q K) (s mid new : Seen Q K) (next : Told Q K) (rest : List (Told Q K)) (refused : List Refusal) (copied a b c : Option (List ℕ)) → old.status ≡ status.Running → SoFar says old told a b s refused copied → IsNext s next rest → FailsWithIn class says refusal (leaving s rest) next mid b c
+    → is_unfit class ≡ false → new ≡ record mid { status = status.Failed } → RefusesIn class says refusal old told new a c
+refused_later memory says refusal old told s mid new next rest refused copied a b c running (works, h, d) n f p is = (
   running,
   inr (record {
     works = works;
@@ -217,11 +215,11 @@ refused_later says for_memory old told s mid new next rest refused copied a b c 
     failed = fails_after (leaving s rest) mid new f.0 is;
   }),
 )
-refused_later says (at_cleanup cause) old told s mid new next rest refused copied a b c running (works, h, d) n (exit, x, broken, fails) p is = (
+refused_later (cleanup cause) says refusal old told s mid new next rest refused copied a b c running (works, h, d) n (exit, x, broken, fails) p is = (
   running,
   record { works = works; refused = refused; copied = copied; last = leaving s rest; next = next; exit = exit; drawn = b; comes = later h n; exits = x; draws = d; broken = broken; failed = fails_again (taken (leaving s rest) next x.wanted) mid new fails is },
 )
-refused_later says at_drawing old told s mid new next rest refused copied a b c running (works, h, d) n (vs, text, last, t, broken, fails) p is = (
+refused_later drawing says refusal old told s mid new next rest refused copied a b c running (works, h, d) n (vs, text, last, t, broken, fails) p is = (
   running,
   record {
     works = works ++ vs;
@@ -233,22 +231,18 @@ refused_later says at_drawing old told s mid new next rest refused copied a b c 
     failed = fails_again last mid new fails is;
   },
 )
-refused_later says for_newline old told s mid new next rest refused copied a b c running so n f p is = absurd (cc)
-refused_later says (for_size cols rows) old told s mid new next rest refused copied a b c running so n f p is = absurd (cc)
-refused_later says (for_hook_id hook id) old told s mid new next rest refused copied a b c running so n f p is = absurd (cc)
-refused_later says for_free_hook_id old told s mid new next rest refused copied a b c running so n f p is = absurd (cc)
-refused_later says for_query old told s mid new next rest refused copied a b c running so n f p is = absurd (let both : None ≡ Some f.0.search = sym n.0 ∙ f.0.opened in cc)
-refused_later says refusal old told s mid new next rest refused copied a b c running so n f p is = absurd f
+refused_later unfit says refusal old told s mid new next rest refused copied a b c running so n f p is = absurd (cc)
+refused_later class says refusal old told s mid new next rest refused copied a b c running so n f p is = absurd f
 
 -- by want of memory to keep the refusal of one that is passed over: as where it was wanted at that one
 late_memory : {Q K : Type 0} (says : Says Q K) (refusal : Refusal) (old : Seen Q K) (told : Told Q K) (s mid new : Seen Q K) (next : Told Q K) (rest : List (Told Q K)) (refused : List Refusal) (copied a b c : Option (List ℕ)) → old.status ≡ status.Running → SoFar says old told a b s refused copied → IsNext s next rest → FailsWith says refusal (leaving s rest) next mid b c
     → is_passed refusal ≡ true → new ≡ record mid { status = status.Failed } → Refuses says for_memory old told new a c
-late_memory says refusal old told s mid new next rest refused copied a b c running so n f p is = refused_later says for_memory old told s mid new next rest refused copied a b c running so n (passed_unfit says refusal (leaving s rest) next mid b c f p).1 refl is
+late_memory says refusal old told s mid new next rest refused copied a b c running so n f p is = refused_later memory says for_memory old told s mid new next rest refused copied a b c running so n (passed_unfit (class_of refusal) says refusal (leaving s rest) next mid b c f p).1 refl is
 
 -- ---- what a call ensures of a session that an equal one stands for
 
-pub took_as : {Q K : Type 0} (says : Says Q K) (exit : Option Exit) (m : Seen Q K) (told : Told Q K) (text : Option (List ℕ)) (new s : Seen Q K) (b c d : Option (List ℕ)) → m ≡ s → b ≡ d → TookWith says exit m told text new b c → TookWith says exit s told text new d c
-took_as says exit m told text new s b c d e f h = subst (λ (x : Seen _ _). TookWith says exit x told text new d c) e (subst (λ (x : Option (List ℕ)). TookWith says exit m told text new x c) f h)
+pub took_as : {Q K : Type 0} (says : Says Q K) (ending : Ending) (m : Seen Q K) (told : Told Q K) (new s : Seen Q K) (b c d : Option (List ℕ)) → m ≡ s → b ≡ d → TookWith says ending m told new b c → TookWith says ending s told new d c
+took_as says ending m told new s b c d e f h = subst (λ (x : Seen _ _). TookWith says ending x told new d c) e (subst (λ (x : Option (List ℕ)). TookWith says ending m told new x c) f h)
 
 pub fails_as : {Q K : Type 0} (says : Says Q K) (refusal : Refusal) (m : Seen Q K) (told : Told Q K) (new s : Seen Q K) (b c d : Option (List ℕ)) → m ≡ s → b ≡ d → FailsWith says refusal m told new b c → FailsWith says refusal s told new d c
 fails_as says refusal m told new s b c d x f h = subst (λ (y : Seen _ _). FailsWith says refusal y told new d c) x (subst (λ (y : Option (List ℕ)). FailsWith says refusal m told new y c) f h)
@@ -259,7 +253,7 @@ pub refused_so : {Q K : Type 0} (says : Says Q K) (old : Seen Q K) (told : Told 
 refused_so says old told s m mid new next refused copied a b d c e of out running so n seen same f is bytes why =
     let fails : FailsWith says of (leaving s m.waiting) next mid b c = fails_as says of m next mid (leaving s m.waiting) d c b seen same f in
     subst (λ (x : Option (List ℕ)). Refuses says out old told new a x) (sym bytes) (elim why [
-      | inl h ↦ subst (λ (x : Refusal). Refuses says x old told new a c) (sym h.0) (refused_later says of old told s mid new next m.waiting refused copied a b c running so n fails h.1 is)
+      | inl h ↦ subst (λ (x : Refusal). Refuses says x old told new a c) (sym h.0) (refused_later (class_of of) says of old told s mid new next m.waiting refused copied a b c running so n fails h.1 is)
       | inr h ↦ subst (λ (x : Refusal). Refuses says x old told new a c) (sym h.0) (late_memory says of old told s mid new next m.waiting refused copied a b c running so n fails h.1 is)
     ])
 
@@ -283,15 +277,19 @@ pub has_changed : {Q K X : Type 0} (old mid new : Seen Q K) → old.status ≡ s
 has_changed old mid new running failed same = absurd (let both : status.Failed ≡ status.Running = sym (ap (λ (x : Seen _ _). x.status) failed) ∙ ap (λ (x : Seen _ _). x.status) same ∙ running in cc)
 
 -- no input is refused for what came before the step
+abbrev pub IsOfStepIn : Class → Type 0
+IsOfStepIn (over stands) = ⊥
+IsOfStepIn class = Unit {0}
+
 abbrev pub IsOfStep : Refusal → Type 0
-IsOfStep after_failure = ⊥
-IsOfStep after_exit = ⊥
-IsOfStep refusal = Unit {0}
+IsOfStep refusal = IsOfStepIn (class_of refusal)
+
+refused_in : {Q K : Type 0} (class : Class) (says : Says Q K) (refusal : Refusal) (s : Seen Q K) (told : Told Q K) (new : Seen Q K) (a b : Option (List ℕ)) → FailsWithIn class says refusal s told new a b → IsOfStepIn class
+refused_in (over stands) says refusal s told new a b f = f
+refused_in class says refusal s told new a b f = tt
 
 pub refused_by : {Q K : Type 0} (says : Says Q K) (refusal : Refusal) (s : Seen Q K) (told : Told Q K) (new : Seen Q K) (a b : Option (List ℕ)) → FailsWith says refusal s told new a b → IsOfStep refusal
-refused_by says after_failure s told new a b f = f
-refused_by says after_exit s told new a b f = f
-refused_by says refusal s told new a b f = tt
+refused_by says refusal s told new a b f = refused_in (class_of refusal) says refusal s told new a b f
 
 -- so the step is refused for neither
 pub failed_never : (e of : MinusError) (now : Status) → now ≡ status.Running → IsOfStep (refusal_of of) → ((e ≡ of) × (is_passed (refusal_of of) ≡ false)) ⊎ ((e ≡ Memory) × (is_passed (refusal_of of) ≡ true)) → (e ≡ Failed) ↔ (now ≡ status.Failed)

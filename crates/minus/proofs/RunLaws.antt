@@ -3,7 +3,7 @@ use Rattle.std.proofs.Common.{◌≡◌, ℕ, ◌+◌, true, false, List, [], �
 use Rattle.std.specs.List.{last_or}
 use Rattle.std.proofs.lemmas.List.{append-nil, reverse-append, length_push, map_push}
 use Rattle.minus_term.specs.declared.error.MinusError.{MinusError}
-use Rattle.minus_term.specs.Refusals.{Refusal, refusal_of, for_memory, for_newline, for_hook_id, for_free_hook_id, for_size, for_query, after_failure, after_exit, at_cleanup, at_drawing}
+use Rattle.minus_term.specs.Refusals.{Refusal, refusal_of}
 use Rattle.minus.specs.declared.answer.Answer.{Answer}
 use Rattle.minus.specs.declared.status.Status.TheVariants as status
 use Rattle.minus.specs.Answers.{ends_run}
@@ -13,7 +13,8 @@ use Rattle.minus.specs.Reads.{Told}
 use Rattle.minus.specs.Works.{passed_in}
 use Rattle.minus.specs.Drawn.{Leaves}
 use Rattle.minus.specs.Seen.{Seen}
-use Rattle.minus.specs.Steps.{IsStep, Steps, none, more, IsUntouched, Refuses}
+use Rattle.minus.specs.Classes.{Class, class_of, memory, unfit, over, cleanup, drawing, never}
+use Rattle.minus.specs.Steps.{IsStep, Steps, none, more, IsUntouched, Refuses, RefusesIn}
 use Rattle.minus.specs.Runs.{StopsSo, StopsAfter, IsRun}
 
 passed_as : {Q K : Type 0} {says : Says Q K} {a b : Seen Q K} {ts : List (Told Q K)} {answers : List Answer} {x y : Option (List ℕ)} (ps qs : List Control) → ps ≡ qs → Steps says a ts ps answers b x y → Steps says a ts qs answers b x y
@@ -74,18 +75,16 @@ untouched : {Q K : Type 0} (a b : Option (List ℕ)) (reached new : Seen Q K) (p
 untouched a b reached new passed h k r = let (stays, same) = h in let on = stays_running reached new stays r in rw (same, stays) (k on)
 
 -- what a refused step leaves of the page
+left_in : {Q K : Type 0} (class : Class) (says : Says Q K) (refusal : Refusal) (a b : Option (List ℕ)) (reached new : Seen Q K) (told : Told Q K) (passed : List Control) → RefusesIn class says refusal reached told new a b → (reached.status ≡ status.Running → Leaves a passed reached.control) → new.status ≡ status.Running → Leaves b passed new.control
+left_in memory says refusal a b reached new told passed h k r = elim h.1 [ inl same ↦ untouched a b reached new passed same k r | inr late ↦ not_failed (record late.last { waiting = late.rest }) new late.failed r ]
+left_in unfit says refusal a b reached new told passed h k r = untouched a b reached new passed h.2 k r
+left_in (over stands) says refusal a b reached new told passed h k r = untouched a b reached new passed h.1 k r
+left_in (cleanup cause) says refusal a b reached new told passed h k r = let both : status.Failed ≡ status.Running = sym (ap (λ (x : Seen _ _). x.status) h.1.failed) ∙ r in cc
+left_in drawing says refusal a b reached new told passed h k r = let both : status.Failed ≡ status.Running = sym (ap (λ (x : Seen _ _). x.status) h.1.failed) ∙ r in cc
+left_in never says refusal a b reached new told passed h k r = absurd h
+
 leaves_refused : {Q K : Type 0} (says : Says Q K) (refusal : Refusal) (a b : Option (List ℕ)) (reached new : Seen Q K) (told : Told Q K) (passed : List Control) → Refuses says refusal reached told new a b → (reached.status ≡ status.Running → Leaves a passed reached.control) → new.status ≡ status.Running → Leaves b passed new.control
-leaves_refused says for_memory a b reached new told passed h k r = elim h.1 [ inl same ↦ untouched a b reached new passed same k r | inr late ↦ not_failed (record late.last { waiting = late.rest }) new late.failed r ]
-leaves_refused says for_newline a b reached new told passed h k r = untouched a b reached new passed h.2 k r
-leaves_refused says (for_size c d) a b reached new told passed h k r = untouched a b reached new passed h.2 k r
-leaves_refused says after_failure a b reached new told passed h k r = untouched a b reached new passed h.1 k r
-leaves_refused says after_exit a b reached new told passed h k r = untouched a b reached new passed h.1 k r
-leaves_refused says (at_cleanup cause) a b reached new told passed h k r = let both : status.Failed ≡ status.Running = sym (ap (λ (x : Seen _ _). x.status) h.1.failed) ∙ r in cc
-leaves_refused says at_drawing a b reached new told passed h k r = let both : status.Failed ≡ status.Running = sym (ap (λ (x : Seen _ _). x.status) h.1.failed) ∙ r in cc
-leaves_refused says (for_hook_id hook id) a b reached new told passed h k r = untouched a b reached new passed h.2 k r
-leaves_refused says for_free_hook_id a b reached new told passed h k r = untouched a b reached new passed h.2 k r
-leaves_refused says for_query a b reached new told passed h k r = untouched a b reached new passed h.2 k r
-leaves_refused says refusal a b reached new told passed h k r = absurd h
+leaves_refused says refusal a b reached new told passed h k r = left_in (class_of refusal) says refusal a b reached new told passed h k r
 
 -- ---- a run so far
 

@@ -7,7 +7,7 @@ use Rattle.minus_term.specs.declared.error.CleanupError.{CleanupError}
 use Rattle.minus_term.specs.declared.error.MinusError.{MinusError}
 use Rattle.minus_term.specs.Counts.{SinkSeen, AppendsFront, Stays, Rises}
 use Rattle.minus_term.specs.Terminal.{setup_bytes, cleanup_bytes}
-use Rattle.minus_term.specs.Refusals.{Refusal, for_memory, for_newline, for_hook_id, for_free_hook_id, for_size, for_mode, at_setup, at_drawing, for_pattern, refusal_of}
+use Rattle.minus_term.specs.Refusals.{Refusal, for_memory, for_newline, for_size, at_setup, at_drawing, for_pattern, refusal_of}
 use Rattle.minus_term.specs.Written.{written_all}
 use Rattle.minus_term.proofs.WrittenLaws.{written_all-nil}
 use Rattle.minus_state.specs.Control.{Control, IsClamped}
@@ -21,11 +21,12 @@ use Rattle.minus.specs.SessionStarts.{IsStart, IsFirstStart, IsRefusedStart}
 use Rattle.minus.specs.declared.session.Core.{Core}
 use Rattle.minus_state.specs.declared.hooks.HookId.{HookId}
 use Rattle.minus.specs.Handing.{ids_after, IsFreeFor}
+use Rattle.minus.specs.Classes.{MemoryOr}
 use Rattle.minus.specs.Outcomes.{IsUnformed}
 use Rattle.minus.specs.Shapes.{moves}
 use Rattle.minus.specs.Table.{Wanted, sets_prompt, sends_message, handed, HasNewline, IsPossible}
-use Rattle.minus.specs.Starts.{first_control, CanStart, CanBegin, CannotStart, IsUnregistered, IsUnchecked, IsUntaken, IsFormRefused, IsStartFault, IsStartRefused, IsEarly, IsShowRefused, CleansUp, DrawsOff, DrawingBreaksOff, ShowBreaksOff, StartBreaksOff, BeginsAndMoves, StartLeavesItsPage, first_mark, first_move, move_ops}
-use Rattle.minus.specs.Works.{Work}
+use Rattle.minus.specs.Starts.{first_control, CanStart, CanBegin, CannotStart, IsUnregistered, IsUnchecked, IsUntaken, IsFirstFault, IsFormRefused, IsStartFault, IsStartRefused, IsEarly, IsShowRefused, CleansUp, DrawsOff, DrawingBreaksOff, ShowBreaksOff, StartBreaksOff, BeginsAndMoves, StartLeavesItsPage, first_mark, first_move, move_ops}
+use Rattle.minus.specs.Works.{Work, IsFaultBeside}
 use Rattle.minus.proofs.CommandLaws.{shape_draws}
 use Rattle.minus.proofs.LeavesLaws.{head_there, tail_there, leaves_more}
 use Rattle.minus.specs.Drawings.{whole_page}
@@ -81,17 +82,22 @@ pub Stays-refl : (a : Option ℕ) → Stays a a
 Stays-refl None = tt
 Stays-refl (Some n) = refl
 
+-- why it is so for want of memory, or for this, it is for want of memory, or for that
+pub memory_or : {A B : Refusal → Type 0} (refusal : Refusal) → ((r : Refusal) → A r → B r) → MemoryOr A refusal → MemoryOr B refusal
+memory_or for_memory so h = tt
+memory_or refusal so h = so refusal h
+
+-- what is no fault of any command is none of the first
+no_first : {Q K : Type 0} (refusal : Refusal) (ids : List HookId) (ws : List (Wanted Q K)) → ((ids : List HookId) (w : Wanted Q K) → IsFaultBeside ids refusal w → ⊥) → IsFirstFault refusal ids ws → ⊥
+no_first refusal ids [] none h = h
+no_first refusal ids (w ∷ ws) none h = elim h [ inl fault ↦ none ids w fault | inr later ↦ no_first refusal (ids_after ids (handed w)) ws none later.2 ]
+
 -- when what a start needs is not formed, the start is refused early, and nothing was written
 form_refused : {Q K : Type 0} (refusal : Refusal) (mode : RunMode) (cols rows : ℕ) (waiting : List (Wanted Q K)) (terminal : Bool) (bytes : Option (List ℕ)) (count : Option ℕ) (first : Control) → IsFormRefused refusal mode cols rows waiting →
     IsStartRefused refusal mode cols rows waiting terminal × IsEarly refusal × StartBreaksOff refusal bytes bytes count count first × (IsStartFault refusal → ⊥)
-form_refused for_mode mode cols rows waiting terminal bytes count first h = (h, tt, refl, λ fault. fault)
-form_refused (for_size x y) mode cols rows waiting terminal bytes count first h = (h, tt, refl, λ fault. fault)
-form_refused for_memory mode cols rows waiting terminal bytes count first h = (h, tt, refl, λ fault. fault)
-form_refused for_newline mode cols rows waiting terminal bytes count first h = (h, tt, refl, λ fault. fault)
-form_refused (for_hook_id hook id) mode cols rows waiting terminal bytes count first h = (h, tt, refl, λ fault. fault)
-form_refused for_free_hook_id mode cols rows waiting terminal bytes count first h = (h, tt, refl, λ fault. fault)
-form_refused for_pattern mode cols rows waiting terminal bytes count first h = (h, tt, refl, λ fault. fault)
-form_refused refusal mode cols rows waiting terminal bytes count first h = absurd h.1
+form_refused (at_setup cause) mode cols rows waiting terminal bytes count first h = elim h [ inl cannot ↦ absurd cannot | inr later ↦ absurd (no_first (at_setup cause) [] waiting (λ ids w f. f) later.1) ]
+form_refused at_drawing mode cols rows waiting terminal bytes count first h = elim h [ inl cannot ↦ absurd cannot | inr later ↦ absurd (no_first at_drawing [] waiting (λ ids w f. f) later.1) ]
+form_refused refusal mode cols rows waiting terminal bytes count first h = (h, tt, refl, λ fault. fault)
 
 pub form_is_early : {Q K : Type 0} (refusal : Refusal) (cols rows : ℕ) (waiting : List (Wanted Q K)) → IsFormRefused refusal Static cols rows waiting → IsEarly refusal
 form_is_early refusal cols rows waiting h = (form_refused refusal Static cols rows waiting true None None (first_control cols rows waiting) h).1
@@ -122,24 +128,18 @@ refused_with {S = S} {P = P} {H = H} {E = E} {Q = Q} {K = K} seen pager mode col
 
 -- one that cannot be begun, or for which no register of the default bindings is formed
 pub cannot_start : {Q K : Type 0} (refusal : Refusal) (mode : RunMode) (cols rows : ℕ) (waiting : List (Wanted Q K)) → CannotStart refusal mode cols rows → IsFormRefused refusal mode cols rows waiting
-cannot_start for_mode mode cols rows waiting h = h
-cannot_start (for_size x y) mode cols rows waiting h = inl h
-cannot_start refusal mode cols rows waiting h = absurd h
+cannot_start for_pattern mode cols rows waiting h = absurd h
+cannot_start refusal mode cols rows waiting h = inl h
 
 pub unregistered : {Q K : Type 0} (refusal : Refusal) (mode : RunMode) (cols rows : ℕ) (waiting : List (Wanted Q K)) → IsUnregistered refusal mode cols rows → IsFormRefused refusal mode cols rows waiting
-unregistered for_memory mode cols rows waiting h = (h, tt)
-unregistered for_mode mode cols rows waiting h = h
-unregistered (for_size x y) mode cols rows waiting h = inl h
-unregistered refusal mode cols rows waiting h = absurd h
+unregistered for_memory mode cols rows waiting h = inr (h, tt)
+unregistered for_pattern mode cols rows waiting h = absurd h
+unregistered refusal mode cols rows waiting h = inl h
 
 -- one whose commands cannot be taken over
 pub untaken : {Q K : Type 0} (refusal : Refusal) (mode : RunMode) (cols rows : ℕ) (waiting : List (Wanted Q K)) → CanStart mode cols rows → IsUntaken refusal [] waiting → IsFormRefused refusal mode cols rows waiting
-untaken for_memory mode cols rows waiting can h = (can, h)
-untaken for_newline mode cols rows waiting can h = (can, h)
-untaken (for_size x y) mode cols rows waiting can h = inr (can, h)
-untaken (for_hook_id hook id) mode cols rows waiting can h = (can, h)
-untaken for_free_hook_id mode cols rows waiting can h = (can, h)
-untaken refusal mode cols rows waiting can h = absurd h
+untaken for_pattern mode cols rows waiting can h = absurd (no_first for_pattern [] waiting (λ ids w f. f) h)
+untaken refusal mode cols rows waiting can h = inr (can, h)
 
 -- a start with a classifier of the session's own at first
 pub first_start : {S P H E Q K F : Type 0} (IsFirst : K → Type 0) (seen : S → SinkSeen) (pager : PagerOf P H E Q K) (mode : RunMode) (cols rows : ℕ) (sink : S) (classifier : K) (r : Result (Core S P H E Q K) F) → IsFirst classifier →
@@ -149,7 +149,7 @@ first_start IsFirst seen pager mode cols rows sink classifier (Err e) first star
 
 -- where no first state is formed, though its commands can be taken over
 pub unformed_refused : {Q K : Type 0} (refusal : Refusal) (mode : RunMode) (cols rows : ℕ) (waiting : List (Wanted Q K)) → CanBegin mode cols rows waiting → IsUnformedState refusal cols rows → IsFormRefused refusal mode cols rows waiting
-unformed_refused for_memory mode cols rows waiting can h = (can.can, tt)
+unformed_refused for_memory mode cols rows waiting can h = inr (can.can, tt)
 unformed_refused for_pattern mode cols rows waiting can h = can
 unformed_refused (for_size x y) mode cols rows waiting can h = inl (can.can.runs, h.0, h.1, h.2)
 unformed_refused refusal mode cols rows waiting can h = absurd h
@@ -159,20 +159,11 @@ unformed_refused refusal mode cols rows waiting can h = absurd h
 -- one that cannot be taken over is the first of those that begin with it
 pub untaken_here : {Q K : Type 0} (refusal : Refusal) (ids : List HookId) (w : Wanted Q K) (ws : List (Wanted Q K)) → IsUnchecked refusal ids w → IsUntaken refusal ids (w ∷ ws)
 untaken_here for_memory ids w ws h = tt
-untaken_here for_newline ids w ws h = inl h
-untaken_here (for_size x y) ids w ws h = inl h
-untaken_here (for_hook_id hook id) ids w ws h = inl h
-untaken_here for_free_hook_id ids w ws h = inl h
-untaken_here refusal ids w ws h = absurd h
+untaken_here refusal ids w ws h = inl h
 
 -- or of those that it follows, where it is taken over
 pub untaken_later : {Q K : Type 0} (refusal : Refusal) (ids : List HookId) (w : Wanted Q K) (ws : List (Wanted Q K)) → IsPossible w → IsFreeFor ids (handed w) → IsUntaken refusal (ids_after ids (handed w)) ws → IsUntaken refusal ids (w ∷ ws)
-untaken_later for_memory ids w ws possible free h = tt
-untaken_later for_newline ids w ws possible free h = inr (possible, free, h)
-untaken_later (for_size x y) ids w ws possible free h = inr (possible, free, h)
-untaken_later (for_hook_id hook id) ids w ws possible free h = inr (possible, free, h)
-untaken_later for_free_hook_id ids w ws possible free h = inr (possible, free, h)
-untaken_later refusal ids w ws possible free h = absurd h
+untaken_later refusal ids w ws possible free h = memory_or {A = λ (r : Refusal). IsFirstFault r (ids_after ids (handed w)) ws} {B = λ (r : Refusal). IsFirstFault r ids (w ∷ ws)} refusal (λ r fault. inr (possible, free, fault)) h
 
 -- a page that was drawn whole on a sink, or a beginning of it
 pub redrawn : (a b : Option (List ℕ)) (bytes : List ℕ) (c : Control) → c.search ≡ None → 1 ≤ c.rows → bytes ≡ written_all (whole_page c) → Appends a b bytes → Redraws a b c

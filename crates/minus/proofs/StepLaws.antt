@@ -40,7 +40,7 @@ use Rattle.minus.specs.Works.{Work, work_of, undrawn, key_work, after, Takes, wo
 use Rattle.minus.specs.Core.{seen_of}
 use Rattle.minus.specs.SessionSteps.{IsUntakenOf}
 use Rattle.minus.specs.declared.session.Core.{Core}
-use Rattle.minus.specs.Steps.{Took, Fails, IsSinkFault}
+use Rattle.minus.specs.Steps.{goes_on, has_exited, Took, Fails, IsSinkFault}
 use Rattle.minus.proofs.DrawnLaws.{undrawn_drawn}
 use Rattle.minus.proofs.TableLaws.{clamp_still, exit_still}
 use Rattle.minus.proofs.CommandLaws.{work_draws, work_drawable}
@@ -129,12 +129,12 @@ some_left old new work some is = subst (λ (x : Seen _ _). 1 ≤ x.control.rows)
 
 -- an input that is drawn
 pub drawn_take : {Q K : Type 0} (says : Says Q K) (old new : Seen Q K) (told : Told Q K) (outcome : Outcome) (work : Work) (copied a b c : Option (List ℕ)) (bytes : List ℕ) → IsTakenBy says old told outcome work → 1 ≤ new.control.rows → new ≡ left_by old work → bytes ≡ bytes_by old outcome work → b ≡ a → Appends b c bytes
-    → copied ≡ option_map string_bytes outcome.copied → Took says None old told copied new a c
+    → copied ≡ option_map string_bytes outcome.copied → Took says (goes_on copied) old told new a c
 drawn_take {Q = Q} {K = K} says old new told outcome work copied a b c bytes t some is ops s h copies =
     let list : List Op = ops_of_step work.drawing old.control work.left in
     let appends : Appends a c (written_all list) = subst (λ (x : List ℕ). Appends a c x) (bytes_are says old told outcome work bytes t ops) (subst (λ (x : Option (List ℕ)). Appends x c bytes) s h) in
-    let took : Took says None old told (option_map string_bytes outcome.copied) (left_by old work) a c = (work, t.takes, (list, appends, t.draws (some_left old new work some is))) in
-    subst (λ (x : Seen Q K). Took says None old told copied x a c) (sym is) (subst (λ (x : Option (List ℕ)). Took says None old told x (left_by old work) a c) (sym copies) took)
+    let took : Took says (goes_on (option_map string_bytes outcome.copied)) old told (left_by old work) a c = (work, t.takes, (list, appends, t.draws (some_left old new work some is))) in
+    subst (λ (x : Seen Q K). Took says (goes_on copied) old told x a c) (sym is) (subst (λ (x : Option (List ℕ)). Took says (goes_on x) old told (left_by old work) a c) (sym copies) took)
 
 -- its drawing was refused
 pub broken_take : {Q K : Type 0} (says : Says Q K) (old mid new : Seen Q K) (told : Told Q K) (outcome : Outcome) (work : Work) (a b c : Option (List ℕ)) (bytes : List ℕ) → IsTakenBy says old told outcome work → 1 ≤ mid.control.rows → 0 < length bytes → mid ≡ left_by old work → new ≡ record mid { status = status.Failed } → bytes ≡ bytes_by old outcome work → b ≡ a
@@ -167,7 +167,7 @@ prefix_stays (an_event event) handing = refl
 
 -- it is kept
 pub handed_take : {Q K : Type 0} (says : Says Q K) (old new : Seen Q K) (told : Told Q K) (handing : Handing Q K) (a : Option (List ℕ)) → old.control.search ≡ None → IsClamped old.control → Asks says old told (hands_over handing) → IsFree old.kept.ids handing
-    → new ≡ record old { classifier = classifier_with old.classifier handing; condition = condition_with old.condition handing; kept = kept_with old.kept handing } → Took says None old told None new a a
+    → new ≡ record old { classifier = classifier_with old.classifier handing; condition = condition_with old.condition handing; kept = kept_with old.kept handing } → Took says (goes_on None) old told new a a
 handed_take {Q = Q} {K = K} says old new told handing a closed clamped asks free is =
     let c : Control = old.control in
     let w : Wanted Q K = hands_over handing in
@@ -215,9 +215,9 @@ unkeyed_take sink says old event o e searching h =
     record { fails = fails; rises = λ fault. absurd (no_fault fault); untouched = λ well. refl }
 
 -- an exit
-pub exit_take : {Q K : Type 0} (says : Says Q K) (old new : Seen Q K) (told : Told Q K) (w : Wanted Q K) (x : Exit) (copied a b : Option (List ℕ)) → old.control.search ≡ None → Asks says old told w → (effect_of old.control w).is_exit ≡ true → x ≡ old.kept.exit → copied ≡ None → new ≡ record (taken old told w) { waiting = []; status = status.Ended } → Appends a b cleanup_bytes
-    → Took says (Some x) old told copied new a b
-exit_take says old new told w x copied a b closed asks exits by none ends h = (record { wanted = w; closed = closed; asked = asks; exits = exits; by = by }, none, ends, h)
+pub exit_take : {Q K : Type 0} (says : Says Q K) (old new : Seen Q K) (told : Told Q K) (w : Wanted Q K) (x : Exit) (a b : Option (List ℕ)) → old.control.search ≡ None → Asks says old told w → (effect_of old.control w).is_exit ≡ true → x ≡ old.kept.exit → new ≡ record (taken old told w) { waiting = []; status = status.Ended } → Appends a b cleanup_bytes
+    → Took says (has_exited x) old told new a b
+exit_take says old new told w x a b closed asks exits by ends h = (record { wanted = w; closed = closed; asked = asks; exits = exits; by = by }, ends, h)
 
 -- its cleanup was refused
 pub exit_broken : {Q K : Type 0} (says : Says Q K) (old new : Seen Q K) (told : Told Q K) (w : Wanted Q K) (cause : CleanupError) (a b : Option (List ℕ)) → old.control.search ≡ None → Asks says old told w → (effect_of old.control w).is_exit ≡ true → new ≡ record (taken old told w) { status = status.Failed } → CleanupBreaksOff cause a b

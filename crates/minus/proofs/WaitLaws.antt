@@ -6,15 +6,14 @@ use Rattle.minus_term.specs.Refusals.{Refusal, refusal_of, for_newline, for_size
 use Rattle.minus_term.specs.declared.error.MinusError.{MinusError}
 use Rattle.minus.specs.Says.{Says}
 use Rattle.minus.specs.declared.session.Core.{Core}
-use Rattle.minus.specs.declared.taken.Taken.{Taken}
+use Rattle.minus.specs.declared.done.Done.{Done}
 use Rattle.minus.specs.Asked.{Wants, checked_as}
 use Rattle.minus.specs.Core.{seen_of}
 use Rattle.minus.specs.Reads.{Told}
 use Rattle.minus_state.specs.OpenSearches.{OpenSearch}
 use Rattle.minus.specs.Seen.{Seen}
-use Rattle.minus.specs.SessionSteps.{IsTakenOf, IsUntakenOf, IsKept, IsUnkept, IsNotKept}
-use Rattle.minus.specs.Steps.{Took, Fails, IsSinkFault}
-use Rattle.minus.specs.Handing.{Exit}
+use Rattle.minus.specs.SessionSteps.{ending_of, IsTakenOf, IsUntakenOf, IsKept, IsUnkept, IsNotKept}
+use Rattle.minus.specs.Steps.{goes_on, Took, Fails, IsSinkFault}
 use Rattle.minus.specs.Table.{Wanted, IsFault}
 use Rattle.minus.specs.Works.{undrawn, waited}
 use Rattle.minus.proofs.DrawnLaws.{undrawn_drawn}
@@ -22,19 +21,18 @@ use Rattle.minus.proofs.LoopLaws.{some_of}
 use Rattle.minus.proofs.StartLaws.{Stays-refl}
 
 -- an input that waits was taken
-pub kept_take : {S P H E Q K : Type 0} (sink : S → SinkSeen) (says : Says Q K) (old new : Core S P H E Q K) (told : Told Q K) (of : Taken) → is_some ((seen_of old).control.search) ≡ true → is_some (checked_as told) ≡ true → IsKept old told new of → IsTakenOf sink says old told new of
+pub kept_take : {S P H E Q K : Type 0} (sink : S → SinkSeen) (says : Says Q K) (old new : Core S P H E Q K) (told : Told Q K) (of : Done) → is_some ((seen_of old).control.search) ≡ true → is_some (checked_as told) ≡ true → IsKept old told new of → IsTakenOf sink says old told new of
 kept_take sink says old new told of searching waits h =
     let s : Seen _ _ = seen_of old in
     let (o, open_search) = some_of s.control.search searching in
     let (w, checked) = some_of (checked_as told) waits in
     let a : Option (List ℕ) = (sink old.sink).bytes in
     let next : Seen _ _ = record s { waiting = s.waiting ++ told ∷ [] } in
-    let drawn : Took says None s told None next a a = (undrawn s.control, waited o w open_search checked (h.possible w checked), undrawn_drawn a s.control) in
-    let exits : Took says of.exit s told None next a a = subst (λ (x : Option Exit). Took says x s told None next a a) (sym h.exit) drawn in
-    let copies : Took says of.exit s told (option_map string_bytes of.copied) next a a = subst (λ (x : Option (String Global)). Took says of.exit s told (option_map string_bytes x) next a a) (sym h.copied) exits in
-    let left : Took says of.exit s told (option_map string_bytes of.copied) (seen_of new) a a = subst (λ (x : Seen _ _). Took says of.exit s told (option_map string_bytes of.copied) x a a) (sym h.seen) copies in
+    let drawn : Took says (goes_on None) s told next a a = (undrawn s.control, waited o w open_search checked (h.possible w checked), undrawn_drawn a s.control) in
+    let ends : Took says (ending_of of) s told next a a = subst (λ (x : Done). Took says (ending_of x) s told next a a) (sym h.goes_on) drawn in
+    let left : Took says (ending_of of) s told (seen_of new) a a = subst (λ (x : Seen _ _). Took says (ending_of of) s told x a a) (sym h.seen) ends in
     record {
-      took = subst (λ (x : _). Took says of.exit s told (option_map string_bytes of.copied) (seen_of new) a (sink x).bytes) (sym h.sink) left;
+      took = subst (λ (x : _). Took says (ending_of of) s told (seen_of new) a (sink x).bytes) (sym h.sink) left;
       stays = subst (λ (x : _). Stays (sink old.sink).refusals (sink x).refusals) (sym h.sink) (Stays-refl (sink old.sink).refusals);
     }
 

@@ -14,6 +14,7 @@ use Rattle.minus.specs.declared.commands.IoCommand.{IoCommand}
 use Rattle.minus.specs.declared.ev_handler.Handled.{Handled}
 use Rattle.minus.specs.declared.parts.PartsOf.{PartsOf}
 use Rattle.minus.specs.Asked.{IsRequest}
+use Rattle.minus.specs.Classes.{MemoryOr}
 use Rattle.minus.specs.Drawings.{ops_of}
 use Rattle.minus.specs.Handing.{kept_after, classifier_after, condition_after, IsFreeFor}
 use Rattle.minus.specs.Queued.{queued}
@@ -71,8 +72,8 @@ pub record IsUnhandled {P H E Q K : Type 0} (old : PartsOf P H E Q K) (waiting :
 
 -- why a command is not handled: out of memory, or for what cannot be done
 abbrev pub CannotHandle : {P H E Q K : Type 0} → Refusal → Classifies K → PartsOf P H E Q K → CommandOf P H E Q K → Type 0
-CannotHandle for_memory says parts command = Unit {0}
-CannotHandle {Q = Q} {K = K} refusal says parts command = (w : Wanted Q K) × IsRequestTo says parts command w × IsFaultBeside (kept_of parts).ids refusal w
+CannotHandle {Q = Q} {K = K} refusal says parts command =
+    MemoryOr (λ (r : Refusal). (w : Wanted Q K) × IsRequestTo says parts command w × IsFaultBeside (kept_of parts).ids r w) refusal
 
 -- the control that a command which asks for a drawing leaves, and what is drawn then
 abbrev pub io_left : (Q K : Type 0) → Control → IoCommand → Control

@@ -2,6 +2,7 @@
 pub mod Previews
 pub mod Says
 pub mod Seen
+pub mod Classes
 pub mod Shapes
 pub mod Table
 pub mod Asked

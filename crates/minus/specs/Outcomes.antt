@@ -1,13 +1,14 @@
 -- What comes of a request.
 use Rattle.std.specs.Prelude.{◌≡◌, ℕ, ◌≤◌, List, [], ◌∷◌, Bool, true, is_some, Option, string_bytes}
 use Rattle.std.specs.Option.{option_map, unwrap_or}
-use Rattle.minus_term.specs.Refusals.{Refusal, for_memory}
+use Rattle.minus_term.specs.Refusals.{Refusal}
 use Rattle.minus_state.specs.declared.change.Change.{Change}
 use Rattle.minus_state.specs.Changes.{IsChange}
 use Rattle.minus_state.specs.Control.{Control, IsClamped}
 use Rattle.minus.specs.declared.outcome.Outcome.{Outcome}
 use Rattle.minus.specs.Says.{Says}
 use Rattle.minus.specs.Asked.{taken}
+use Rattle.minus.specs.Classes.{MemoryOr}
 use Rattle.minus.specs.Drawings.{ops_of_step, IsDrawable}
 use Rattle.minus.specs.Drawn.{IsDrawing}
 use Rattle.minus.specs.Reads.{Told}
@@ -44,5 +45,4 @@ pub record ExitsWith {Q K : Type 0} (seen : Seen Q K) (told : Told Q K) (w : Wan
 
 -- why a request was not formed: out of memory, or for what cannot be done
 abbrev pub IsUnformed : {Q K : Type 0} → Refusal → Wanted Q K → Type 0
-IsUnformed for_memory w = Unit {0}
-IsUnformed refusal w = IsFault refusal w
+IsUnformed refusal w = MemoryOr (λ (r : Refusal). IsFault r w) refusal

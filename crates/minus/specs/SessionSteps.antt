@@ -11,13 +11,14 @@ use Rattle.minus.specs.declared.commands.InputOf.{InputOf}
 use Rattle.minus.specs.declared.run.Progress.{Progress}
 use Rattle.minus.specs.declared.run.RanOf.{RanOf}
 use Rattle.minus.specs.declared.session.Core.{Core}
-use Rattle.minus.specs.declared.taken.Taken.{Taken}
+use Rattle.minus.specs.declared.done.Done.{Done}
+use Rattle.minus.specs.declared.done.Done.TheVariants.{On, Exit}
 use Rattle.minus.specs.Asked.{Asks, clears_prefix, checked_as}
 use Rattle.minus.specs.Core.{seen_of}
 use Rattle.minus.specs.Reads.{Told, told_of}
 use Rattle.minus.specs.Runs.{IsRun, StopsAtSink}
 use Rattle.minus.specs.Table.{Wanted, IsPossible, IsFault}
-use Rattle.minus.specs.Steps.{IsStep, Refuses, is_passed, IsSinkFault, Took, Fails, TookWith, FailsWith}
+use Rattle.minus.specs.Steps.{Ending, goes_on, has_exited, IsStep, Refuses, is_passed, IsSinkFault, Took, Fails, TookWith, FailsWith}
 
 -- a step that ends well: the sink refused nothing
 pub record IsStepOf {S P H E Q K : Type 0} (sink : S → SinkSeen) (says : Says Q K) (old : Core S P H E Q K) (told : Told Q K) (new : Core S P H E Q K)
@@ -30,10 +31,15 @@ pub record IsAsked {S P H E Q K : Type 0} (says : Says Q K) (core : Core S P H E
   pub asks : Asks says (seen_of core) told wanted
   pub prefix : clears_prefix told wanted ≡ clears
 
+-- how an input ended that was taken
+abbrev pub ending_of : Done → Ending
+ending_of (On text) = goes_on (option_map string_bytes text)
+ending_of (Exit strategy code) = has_exited (strategy, code)
+
 -- one input was taken, and the sink refused nothing
 pub record IsTakenOf {S P H E Q K : Type 0} (sink : S → SinkSeen) (says : Says Q K) (old : Core S P H E Q K) (told : Told Q K) (new : Core S P H E Q K)
-    (of : Taken) : Type 0 where
-  pub took : Took says of.exit (seen_of old) told (option_map string_bytes of.copied) (seen_of new) (sink old.sink).bytes (sink new.sink).bytes
+    (of : Done) : Type 0 where
+  pub took : Took says (ending_of of) (seen_of old) told (seen_of new) (sink old.sink).bytes (sink new.sink).bytes
   pub stays : Stays (sink old.sink).refusals (sink new.sink).refusals
 
 -- one input was not taken: the sink refused where that is said, and was left alone where it is not
@@ -45,8 +51,8 @@ pub record IsUntakenOf {S P H E Q K : Type 0} (sink : S → SinkSeen) (says : Sa
 
 -- an input that waited was taken, and with it, it may be, some of those behind it, and the sink refused nothing
 pub record IsTakenWithOf {S P H E Q K : Type 0} (sink : S → SinkSeen) (says : Says Q K) (old : Core S P H E Q K) (told : Told Q K) (new : Core S P H E Q K)
-    (of : Taken) : Type 0 where
-  pub took : TookWith says of.exit (seen_of old) told (option_map string_bytes of.copied) (seen_of new) (sink old.sink).bytes (sink new.sink).bytes
+    (of : Done) : Type 0 where
+  pub took : TookWith says (ending_of of) (seen_of old) told (seen_of new) (sink old.sink).bytes (sink new.sink).bytes
   pub stays : Stays (sink old.sink).refusals (sink new.sink).refusals
 
 -- it was not taken: the sink refused where that is said, and was left alone where it is not
@@ -57,12 +63,11 @@ pub record IsUntakenWithOf {S P H E Q K : Type 0} (sink : S → SinkSeen) (says 
   pub untouched : (IsSinkFault (refusal_of e) → ⊥) → new.sink ≡ old.sink
 
 -- an input waits, and nothing else has changed
-pub record IsKept {S P H E Q K : Type 0} (old : Core S P H E Q K) (told : Told Q K) (new : Core S P H E Q K) (of : Taken) : Type 0 where
+pub record IsKept {S P H E Q K : Type 0} (old : Core S P H E Q K) (told : Told Q K) (new : Core S P H E Q K) (of : Done) : Type 0 where
   pub possible : (wanted : Wanted Q K) → checked_as told ≡ Some wanted → IsPossible wanted
   pub seen : seen_of new ≡ record (seen_of old) { waiting = (seen_of old).waiting ++ told ∷ [] }
   pub sink : new.sink ≡ old.sink
-  pub exit : of.exit ≡ None
-  pub copied : of.copied ≡ None
+  pub goes_on : of ≡ On None
 
 -- why an input does not wait: for want of memory, or for what cannot be done
 abbrev pub IsUnkept : {Q K : Type 0} → Refusal → Told Q K → Type 0

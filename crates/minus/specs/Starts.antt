@@ -1,7 +1,7 @@
 -- The start of a session.
 use Rattle.std.specs.Prelude.{◌≡◌, ℕ, List, [], ◌∷◌, Bool, true, false, Option, None, Some, if◌then◌else◌, ◌⊎◌}
 use Rattle.std.specs.Io.KnownBytes.{Appends}
-use Rattle.minus_term.specs.Refusals.{Refusal, for_memory, for_newline, for_hook_id, for_free_hook_id, for_size, for_mode, for_pattern, at_setup, at_drawing}
+use Rattle.minus_term.specs.Refusals.{Refusal, for_memory, for_size, for_mode, for_pattern, at_setup, at_drawing}
 use Rattle.minus_term.specs.declared.error.SetupError.{SetupError}
 use Rattle.minus_term.specs.declared.error.SetupError.TheVariants.{InvalidTerminal}
 use Rattle.minus_term.specs.Operations.{Op}
@@ -15,6 +15,7 @@ use Rattle.minus_state.specs.Sizes.{IsSize}
 use Rattle.minus_state.specs.States.{at_start}
 use Rattle.minus_state.specs.Control.{Control, top}
 use Rattle.minus_state.specs.declared.hooks.HookId.{HookId}
+use Rattle.minus.specs.Classes.{MemoryOr}
 use Rattle.minus.specs.Drawings.{ops_of_step}
 use Rattle.minus.specs.Drawn.{Begins, Drawn, BrokenOff, Leaves, IsWholeDrawing}
 use Rattle.minus.specs.Seen.{Seen}
@@ -64,12 +65,7 @@ IsUnchecked refusal ids w = IsFaultBeside ids refusal w
 
 -- why they are not taken over: out of memory, or for the first fault, which is a newline, a size, or an id of a hook
 abbrev pub IsUntaken : {Q K : Type 0} → Refusal → List HookId → List (Wanted Q K) → Type 0
-IsUntaken for_memory ids waiting = Unit {0}
-IsUntaken for_newline ids waiting = IsFirstFault for_newline ids waiting
-IsUntaken (for_size c r) ids waiting = IsFirstFault (for_size c r) ids waiting
-IsUntaken (for_hook_id hook id) ids waiting = IsFirstFault (for_hook_id hook id) ids waiting
-IsUntaken for_free_hook_id ids waiting = IsFirstFault for_free_hook_id ids waiting
-IsUntaken refusal ids waiting = ⊥
+IsUntaken refusal ids waiting = MemoryOr (λ (r : Refusal). IsFirstFault r ids waiting) refusal
 
 -- the mark once the first page is drawn: the last page's where the text is followed
 abbrev pub first_mark : Control → ℕ
@@ -115,14 +111,11 @@ pub record CanBegin {Q K : Type 0} (mode : RunMode) (cols rows : ℕ) (waiting :
   pub can : CanStart mode cols rows
   pub takes : CanTakeAll [] waiting
 
--- when what a start needs is not formed: for its mode first, then for its size, then for the first command that cannot be taken over,
--- then since a fixed pattern was not built; out of memory once the mode and the size are those of a start
+-- when what a start needs is not formed: for its mode first, then for its size; once these are those of a start, out of memory, or for
+-- the first command that cannot be taken over, and then since a fixed pattern was not built
 abbrev pub IsFormRefused : {Q K : Type 0} → Refusal → RunMode → ℕ → ℕ → List (Wanted Q K) → Type 0
-IsFormRefused for_mode mode cols rows waiting = mode ≡ Uninitialized
-IsFormRefused (for_size c r) mode cols rows waiting =
-    CannotStart (for_size c r) mode cols rows ⊎ (CanStart mode cols rows × IsUntaken (for_size c r) [] waiting)
 IsFormRefused for_pattern mode cols rows waiting = CanBegin mode cols rows waiting
-IsFormRefused refusal mode cols rows waiting = CanStart mode cols rows × IsUntaken refusal [] waiting
+IsFormRefused refusal mode cols rows waiting = CannotStart refusal mode cols rows ⊎ (CanStart mode cols rows × IsUntaken refusal [] waiting)
 
 -- a start that ends well: on a terminal, where the session runs and has drawn its first page
 pub record IsStarted {Q K : Type 0} (seen : Seen Q K) (classifier : K) (waiting : List (Wanted Q K)) (mode : RunMode) (cols rows : ℕ) (terminal : Bool)

@@ -1,8 +1,7 @@
 -- Steps, and what a refusal leaves.
-use Rattle.std.specs.Prelude.{◌≡◌, ℕ, List, [], ◌∷◌, ◌++◌, Bool, true, false, Option, None, Some, ◌⊎◌}
+use Rattle.std.specs.Prelude.{◌≡◌, ℕ, List, [], ◌∷◌, ◌++◌, Bool, Option, None, Some, ◌⊎◌}
 use Rattle.std.specs.Io.KnownBytes.{Appends}
-use Rattle.minus_term.specs.Refusals.{Refusal, for_memory, for_newline, for_hook_id, for_free_hook_id, for_size, for_query, after_failure, after_exit}
-use Rattle.minus_term.specs.Refusals.{at_cleanup, at_drawing}
+use Rattle.minus_term.specs.Refusals.{Refusal, for_query, at_cleanup, at_drawing}
 use Rattle.minus_term.specs.Terminal.{cleanup_bytes, CleanupBreaksOff}
 use Rattle.minus_term.specs.declared.error.CleanupError.{CleanupError}
 use Rattle.minus_state.specs.declared.state.RunMode.{RunMode}
@@ -14,6 +13,7 @@ use Rattle.minus.specs.declared.status.Status.{Status}
 use Rattle.minus.specs.declared.status.Status.TheVariants as status
 use Rattle.minus.specs.Answers.{IsAnswer}
 use Rattle.minus.specs.Asked.{taken}
+use Rattle.minus.specs.Classes.{Class, class_of, is_unfit, memory, unfit, over, cleanup, drawing, never}
 use Rattle.minus.specs.Drawn.{Drawn, BrokenOff, Leaves}
 use Rattle.minus.specs.Reads.{Told}
 use Rattle.minus.specs.Seen.{Seen}
@@ -107,26 +107,27 @@ pub record IsLate {Q K : Type 0} (says : Says Q K) (old : Seen Q K) (told : Told
 abbrev pub IsUntouched : {Q K : Type 0} → Seen Q K → Seen Q K → Option (List ℕ) → Option (List ℕ) → Type 0
 IsUntouched old new old_bytes new_bytes = (new ≡ old) × (new_bytes ≡ old_bytes)
 
+-- what was asked for cannot be done: the request, or, of a key, the typing of a character to a full query
+abbrev pub IsUnfitFor : {Q K : Type 0} → Says Q K → Seen Q K → Told Q K → Refusal → Type 0
+IsUnfitFor says s told for_query = IsOverfull s told
+IsUnfitFor says s told refusal = IsUnfit says s told refusal
+
 -- when a step is refused, and what it leaves: all as it was, where memory ran out for the input that it is told, what was asked for
 -- cannot be done, or the session had exited or failed before; where the sink refused, or memory ran out for an input that waited, a
 -- session that has failed
-abbrev pub Refuses : {Q K : Type 0} → Says Q K → Refusal → Seen Q K → Told Q K → Seen Q K → Option (List ℕ) → Option (List ℕ) → Type 0
-Refuses says for_memory old told new old_bytes new_bytes =
+abbrev pub RefusesIn : {Q K : Type 0} → Class → Says Q K → Refusal → Seen Q K → Told Q K → Seen Q K → Option (List ℕ) → Option (List ℕ) → Type 0
+RefusesIn memory says refusal old told new old_bytes new_bytes =
     (old.status ≡ status.Running) × (IsUntouched old new old_bytes new_bytes ⊎ IsLate says old told new old_bytes new_bytes)
-Refuses says for_newline old told new old_bytes new_bytes =
-    (old.status ≡ status.Running) × IsUnfit says old told for_newline × IsUntouched old new old_bytes new_bytes
-Refuses says (for_size cols rows) old told new old_bytes new_bytes =
-    (old.status ≡ status.Running) × IsUnfit says old told (for_size cols rows) × IsUntouched old new old_bytes new_bytes
-Refuses says (for_hook_id hook id) old told new old_bytes new_bytes =
-    (old.status ≡ status.Running) × IsUnfit says old told (for_hook_id hook id) × IsUntouched old new old_bytes new_bytes
-Refuses says for_free_hook_id old told new old_bytes new_bytes =
-    (old.status ≡ status.Running) × IsUnfit says old told for_free_hook_id × IsUntouched old new old_bytes new_bytes
-Refuses says for_query old told new old_bytes new_bytes = (old.status ≡ status.Running) × IsOverfull old told × IsUntouched old new old_bytes new_bytes
-Refuses says after_failure old told new old_bytes new_bytes = (old.status ≡ status.Failed) × IsUntouched old new old_bytes new_bytes
-Refuses says after_exit old told new old_bytes new_bytes = (old.status ≡ status.Ended) × IsUntouched old new old_bytes new_bytes
-Refuses says (at_cleanup cause) old told new old_bytes new_bytes = (old.status ≡ status.Running) × IsBrokenExit says cause old told new old_bytes new_bytes
-Refuses says at_drawing old told new old_bytes new_bytes = (old.status ≡ status.Running) × IsBrokenStep says old told new old_bytes new_bytes
-Refuses says refusal old told new old_bytes new_bytes = ⊥
+RefusesIn unfit says refusal old told new old_bytes new_bytes =
+    (old.status ≡ status.Running) × IsUnfitFor says old told refusal × IsUntouched old new old_bytes new_bytes
+RefusesIn (over stands) says refusal old told new old_bytes new_bytes = (old.status ≡ stands) × IsUntouched old new old_bytes new_bytes
+RefusesIn (cleanup cause) says refusal old told new old_bytes new_bytes =
+    (old.status ≡ status.Running) × IsBrokenExit says cause old told new old_bytes new_bytes
+RefusesIn drawing says refusal old told new old_bytes new_bytes = (old.status ≡ status.Running) × IsBrokenStep says old told new old_bytes new_bytes
+RefusesIn never says refusal old told new old_bytes new_bytes = ⊥
+
+abbrev pub Refuses : {Q K : Type 0} → Says Q K → Refusal → Seen Q K → Told Q K → Seen Q K → Option (List ℕ) → Option (List ℕ) → Type 0
+Refuses says refusal old told new old_bytes new_bytes = RefusesIn (class_of refusal) says refusal old told new old_bytes new_bytes
 
 -- the sink refused a write or a flush, or took nothing
 abbrev pub IsSinkFault : Refusal → Type 0
@@ -134,50 +135,54 @@ IsSinkFault (at_cleanup cause) = Unit {0}
 IsSinkFault at_drawing = Unit {0}
 IsSinkFault refusal = ⊥
 
--- what an input that waited is passed over for, while the step goes on
+-- what an input that waited is passed over for, while the step goes on: what it asks for cannot be done
 abbrev pub is_passed : Refusal → Bool
-is_passed for_newline = true
-is_passed (for_size cols rows) = true
-is_passed (for_hook_id hook id) = true
-is_passed for_free_hook_id = true
-is_passed refusal = false
+is_passed refusal = is_unfit (class_of refusal)
+
+-- how an input ends that was taken: the session goes on, with the text that it copied, if it copied one; or it has exited so
+pub data Ending : Type 0 where
+  goes_on : Option (List ℕ) → Ending
+  has_exited : Exit → Ending
 
 -- one input was taken: its work was drawn; or it exits
-abbrev pub Took : {Q K : Type 0} → Says Q K → Option Exit → Seen Q K → Told Q K → Option (List ℕ) → Seen Q K → Option (List ℕ) → Option (List ℕ) → Type 0
-Took says None old told copied new old_bytes new_bytes =
+abbrev pub Took : {Q K : Type 0} → Says Q K → Ending → Seen Q K → Told Q K → Seen Q K → Option (List ℕ) → Option (List ℕ) → Type 0
+Took says (goes_on copied) old told new old_bytes new_bytes =
     (work : Work) × Takes says old told work copied new × Drawn old_bytes new_bytes old.control (work ∷ []) new.control
-Took says (Some exit) old told copied new old_bytes new_bytes =
-    (exits : Exits says old told exit) × (copied ≡ None) × (new ≡ record (taken old told exits.wanted) { waiting = []; status = status.Ended })
+Took says (has_exited exit) old told new old_bytes new_bytes =
+    (exits : Exits says old told exit) × (new ≡ record (taken old told exits.wanted) { waiting = []; status = status.Ended })
     × Appends old_bytes new_bytes cleanup_bytes
 
 -- one input was not taken: nothing has changed, or the sink refused its drawing or its cleanup
-abbrev pub Fails : {Q K : Type 0} → Says Q K → Refusal → Seen Q K → Told Q K → Seen Q K → Option (List ℕ) → Option (List ℕ) → Type 0
-Fails says for_memory old told new old_bytes new_bytes = IsUntouched old new old_bytes new_bytes
-Fails says for_newline old told new old_bytes new_bytes = IsUnfit says old told for_newline × IsUntouched old new old_bytes new_bytes
-Fails says (for_size cols rows) old told new old_bytes new_bytes = IsUnfit says old told (for_size cols rows) × IsUntouched old new old_bytes new_bytes
-Fails says (for_hook_id hook id) old told new old_bytes new_bytes = IsUnfit says old told (for_hook_id hook id) × IsUntouched old new old_bytes new_bytes
-Fails says for_free_hook_id old told new old_bytes new_bytes = IsUnfit says old told for_free_hook_id × IsUntouched old new old_bytes new_bytes
-Fails says for_query old told new old_bytes new_bytes = IsOverfull old told × IsUntouched old new old_bytes new_bytes
-Fails says (at_cleanup cause) old told new old_bytes new_bytes =
+abbrev pub FailsIn : {Q K : Type 0} → Class → Says Q K → Refusal → Seen Q K → Told Q K → Seen Q K → Option (List ℕ) → Option (List ℕ) → Type 0
+FailsIn memory says refusal old told new old_bytes new_bytes = IsUntouched old new old_bytes new_bytes
+FailsIn unfit says refusal old told new old_bytes new_bytes = IsUnfitFor says old told refusal × IsUntouched old new old_bytes new_bytes
+FailsIn (cleanup cause) says refusal old told new old_bytes new_bytes =
     (exit : Exit) × (exits : Exits says old told exit) × CleanupBreaksOff cause old_bytes new_bytes
     × (new ≡ record (taken old told exits.wanted) { status = status.Failed })
-Fails says at_drawing old told new old_bytes new_bytes =
+FailsIn drawing says refusal old told new old_bytes new_bytes =
     (work : Work) × (copied : Option (List ℕ)) × (last : Seen _ _) × Takes says old told work copied last
     × BrokenOff old_bytes new_bytes old.control (work ∷ []) last.control × (new ≡ record last { status = status.Failed })
-Fails says refusal old told new old_bytes new_bytes = ⊥
+FailsIn (over stands) says refusal old told new old_bytes new_bytes = ⊥
+FailsIn never says refusal old told new old_bytes new_bytes = ⊥
+
+abbrev pub Fails : {Q K : Type 0} → Says Q K → Refusal → Seen Q K → Told Q K → Seen Q K → Option (List ℕ) → Option (List ℕ) → Type 0
+Fails says refusal old told new old_bytes new_bytes = FailsIn (class_of refusal) says refusal old told new old_bytes new_bytes
 
 -- an input that waited was taken, and with it, it may be, some of those behind it: their works were drawn; or it exits
-abbrev pub TookWith : {Q K : Type 0} → Says Q K → Option Exit → Seen Q K → Told Q K → Option (List ℕ) → Seen Q K → Option (List ℕ) → Option (List ℕ) → Type 0
-TookWith says None old told copied new old_bytes new_bytes =
+abbrev pub TookWith : {Q K : Type 0} → Says Q K → Ending → Seen Q K → Told Q K → Seen Q K → Option (List ℕ) → Option (List ℕ) → Type 0
+TookWith says (goes_on copied) old told new old_bytes new_bytes =
     (works : List Work) × Worked says old told works [] copied new × Drawn old_bytes new_bytes old.control works new.control
-TookWith says (Some exit) old told copied new old_bytes new_bytes = Took says (Some exit) old told copied new old_bytes new_bytes
+TookWith says (has_exited exit) old told new old_bytes new_bytes = Took says (has_exited exit) old told new old_bytes new_bytes
 
 -- it was not taken: nothing has changed, or the sink refused its cleanup, or the drawing of it and of some of those behind it
-abbrev pub FailsWith : {Q K : Type 0} → Says Q K → Refusal → Seen Q K → Told Q K → Seen Q K → Option (List ℕ) → Option (List ℕ) → Type 0
-FailsWith says at_drawing old told new old_bytes new_bytes =
+abbrev pub FailsWithIn : {Q K : Type 0} → Class → Says Q K → Refusal → Seen Q K → Told Q K → Seen Q K → Option (List ℕ) → Option (List ℕ) → Type 0
+FailsWithIn drawing says refusal old told new old_bytes new_bytes =
     (works : List Work) × (copied : Option (List ℕ)) × (last : Seen _ _) × Worked says old told works [] copied last
     × BrokenOff old_bytes new_bytes old.control works last.control × (new ≡ record last { status = status.Failed })
-FailsWith says refusal old told new old_bytes new_bytes = Fails says refusal old told new old_bytes new_bytes
+FailsWithIn class says refusal old told new old_bytes new_bytes = FailsIn class says refusal old told new old_bytes new_bytes
+
+abbrev pub FailsWith : {Q K : Type 0} → Says Q K → Refusal → Seen Q K → Told Q K → Seen Q K → Option (List ℕ) → Option (List ℕ) → Type 0
+FailsWith says refusal old told new old_bytes new_bytes = FailsWithIn (class_of refusal) says refusal old told new old_bytes new_bytes
 
 -- what is still to be cleaned up: nothing after an exit
 abbrev pub cleanup_after : Status → List ℕ

@@ -7,6 +7,7 @@
 mod answer;
 mod command_queue;
 mod commands;
+mod done;
 pub mod error;
 mod ev_handler;
 mod exchange;
@@ -34,7 +35,6 @@ pub mod state;
 mod static_pager;
 mod status;
 mod step_drawing;
-mod taken;
 mod waiting;
 mod written_rows;
 

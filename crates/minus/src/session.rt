@@ -8,6 +8,7 @@ ghost use Rattle.minus.specs.declared.status.Status.TheVariants as stands;
 
 use crate::answer::Answer;
 use crate::commands::{CommandOf, InputOf};
+use crate::done::Done;
 use crate::handed::Handed;
 use crate::hooks::Hook;
 use crate::input::{InputClassifier, InputEvent};
@@ -19,7 +20,6 @@ use crate::request::Request;
 use crate::state::{PagerState, RunMode};
 use crate::status::Status;
 use crate::step_drawing::{Drawing, push_step};
-use crate::taken::Taken;
 use crate::waiting::{fed_event, last_of};
 use minus_state::change::{Change, Redraw};
 use minus_term::{CleanupError, Event, MinusError, OutputSink, cleanup, draw_bytes};
@@ -289,7 +289,7 @@ impl<S: OutputSink + Drop, P: Calls> Core<S, P> {
 
     // Applies what comes of an input that does not exit, writes what was drawn, and then calls the callbacks of the end,
     // if the mark was moved and the page shows it. A refusal of the sink fails the session.
-    fn change(&mut self, outcome: Outcome) -> Result<Taken, MinusError>
+    fn change(&mut self, outcome: Outcome) -> Result<Done, MinusError>
         requires running { self.old.status ≡ stands.Running }
         requires leads { LeadsClamped (control_of self.old.parts.state) outcome.change }
         ensures taken { IfOk result (λ t.
@@ -303,11 +303,11 @@ impl<S: OutputSink + Drop, P: Calls> Core<S, P> {
         self.write_drawing()?;
         let hook = end_hook(is_move, &self.parts.state);
         self.call_hook(hook);
-        Ok(Taken { exit: None, copied })
+        Ok(Done::On(copied))
     }
 
     // Keeps what is handed over.
-    fn take_handed(&mut self, handed: Handed<P>) -> Result<Taken, MinusError>
+    fn take_handed(&mut self, handed: Handed<P>) -> Result<Done, MinusError>
         requires running { self.old.status ≡ stands.Running }
         requires closed { (control_of self.old.parts.state).search ≡ None }
         ensures taken { IfOk result (λ t. IsHandingTaken S.seen (says_of P.Condition.judges P.Classifier.says)
@@ -317,15 +317,12 @@ impl<S: OutputSink + Drop, P: Calls> Core<S, P> {
         ensures waiting { self.new.waiting ≡ self.old.waiting }
     {
         self.parts.keep(handed)?;
-        Ok(Taken {
-            exit: None,
-            copied: None,
-        })
+        Ok(Done::On(None))
     }
 
     // Calls what is called at an exit, cleans the terminal up, and ends the session; the typed prefix goes first, or
     // stays, and nothing waits any more. A refusal fails the session.
-    fn exit(&mut self, prefix: Option<String>) -> Result<Taken, MinusError>
+    fn exit(&mut self, prefix: Option<String>) -> Result<Done, MinusError>
         requires running { self.old.status ≡ stands.Running }
         requires closed { (control_of self.old.parts.state).search ≡ None }
         ensures taken { IfOk result (λ t. IsExitTaken S.seen (says_of P.Condition.judges P.Classifier.says)
@@ -342,15 +339,13 @@ impl<S: OutputSink + Drop, P: Calls> Core<S, P> {
         self.status = Status::Ended;
         self.let_none_wait();
         self.call_hook(Some(Hook::PostPagerExit));
-        Ok(Taken {
-            exit: Some(self.parts.exit()),
-            copied: None,
-        })
+        let (strategy, code) = self.parts.exit();
+        Ok(Done::Exit(strategy, code))
     }
 
     // Works a request off: keeps what is handed over, or forms what comes of it, and applies that, or exits. The typed
     // prefix goes first, or stays.
-    fn execute(&mut self, request: Request<P>, clears_prefix: bool) -> Result<Taken, MinusError>
+    fn execute(&mut self, request: Request<P>, clears_prefix: bool) -> Result<Done, MinusError>
         requires running { self.old.status ≡ stands.Running }
         requires closed { (control_of self.old.parts.state).search ≡ None }
         ensures taken { IfOk result (λ t. IsTakenAs S.seen (says_of P.Condition.judges P.Classifier.says)
@@ -370,7 +365,7 @@ impl<S: OutputSink + Drop, P: Calls> Core<S, P> {
     }
 
     // Works an input off, with no search prompt open.
-    fn work_off(&mut self, input: InputOf<P>) -> Result<Taken, MinusError>
+    fn work_off(&mut self, input: InputOf<P>) -> Result<Done, MinusError>
         requires running { self.old.status ≡ stands.Running }
         requires closed { (control_of self.old.parts.state).search ≡ None }
         ensures taken { IfOk result (λ t.
@@ -401,7 +396,7 @@ impl<S: OutputSink + Drop, P: Calls> Core<S, P> {
     }
 
     // Edits the query of the open search prompt by an event, or closes the prompt, and draws what has changed.
-    fn edit(&mut self, event: Event) -> Result<Taken, MinusError>
+    fn edit(&mut self, event: Event) -> Result<Done, MinusError>
         requires running { self.old.status ≡ stands.Running }
         requires searching { is_some (control_of self.old.parts.state).search ≡ true }
         requires fed { checked_as {Q = P.Condition} {K = P.Classifier} (an_event event) ≡ None }
@@ -415,7 +410,7 @@ impl<S: OutputSink + Drop, P: Calls> Core<S, P> {
     }
 
     // Takes an input while the search prompt is open: its editor has it, or it waits.
-    fn take_searching(&mut self, input: InputOf<P>) -> Result<Taken, MinusError>
+    fn take_searching(&mut self, input: InputOf<P>) -> Result<Done, MinusError>
         requires running { self.old.status ≡ stands.Running }
         requires searching { is_some (control_of self.old.parts.state).search ≡ true }
         ensures taken { IfOk result (λ t.
@@ -431,7 +426,7 @@ impl<S: OutputSink + Drop, P: Calls> Core<S, P> {
 
     // Works appends off in one go, the first of which was taken from those that wait: for want of memory the others
     // wait still.
-    fn take_joined(&mut self, joined: JoinedAppends) -> Result<Taken, MinusError>
+    fn take_joined(&mut self, joined: JoinedAppends) -> Result<Done, MinusError>
         requires running { self.old.status ≡ stands.Running }
         requires closed { (control_of self.old.parts.state).search ≡ None }
         ensures taken { IfOk result (λ t.
@@ -458,7 +453,7 @@ impl<S: OutputSink + Drop, P: Calls> Core<S, P> {
 
     // Takes the next of those that waited, with no search prompt open: the appends behind it go with it, where they may
     // be worked off in one go.
-    fn take_next(&mut self, input: InputOf<P>) -> Result<Taken, MinusError>
+    fn take_next(&mut self, input: InputOf<P>) -> Result<Done, MinusError>
         requires running { self.old.status ≡ stands.Running }
         requires closed { (control_of self.old.parts.state).search ≡ None }
         ensures taken { IfOk result (λ t.
@@ -474,7 +469,7 @@ impl<S: OutputSink + Drop, P: Calls> Core<S, P> {
     }
 
     // Takes one input: with no search prompt open it is worked off.
-    fn take(&mut self, input: InputOf<P>) -> Result<Taken, MinusError>
+    fn take(&mut self, input: InputOf<P>) -> Result<Done, MinusError>
         requires running { self.old.status ≡ stands.Running }
         ensures taken { IfOk result (λ t.
             IsTakenOf S.seen (says_of P.Condition.judges P.Classifier.says) self.old (told_of input) self.new t) }
@@ -525,17 +520,17 @@ impl<S: OutputSink + Drop, P: Calls> Core<S, P> {
         }
         let first = self.take(input)?;
         let mut refused = Vec::new(self.alloc);
-        if first.exit.is_some() {
-            return Ok(Answer::of_step(first.exit, None, refused));
-        }
-        let mut copied = first.copied;
+        let mut copied = match first {
+            Done::On(text) => text,
+            Done::Exit(strategy, code) => {
+                return Ok(Answer::of_step(Some((strategy, code)), None, refused));
+            }
+        };
         while let Some(next) = self.next_waiting() {
             match self.take_next(next) {
-                Ok(taken) => {
-                    if taken.exit.is_some() {
-                        return Ok(Answer::of_step(taken.exit, copied, refused));
-                    }
-                    copied = last_of(copied, taken.copied);
+                Ok(Done::On(text)) => copied = last_of(copied, text),
+                Ok(Done::Exit(strategy, code)) => {
+                    return Ok(Answer::of_step(Some((strategy, code)), copied, refused));
                 }
                 Err(refusal) => self.pass_over(&mut refused, refusal)?,
             }

@@ -7,17 +7,18 @@ ghost use Rattle.minus_term.specs.Refusals.{refusal_of};
 ghost use Rattle.minus.specs.Asked.{checked_as};
 ghost use Rattle.minus.specs.Reads.{an_event, told_of, wanted_of};
 ghost use Rattle.minus.specs.declared.status.Status.TheVariants as stands;
+ghost use Rattle.minus.specs.Steps.{is_passed};
 ghost use Rattle.minus.specs.Table.{Wanted, IsPossible, IsFault};
 ghost use Rattle.minus.specs.Works.{last_copied};
 
 use crate::commands::{CommandOf, InputOf};
+use crate::done::Done;
 use crate::init::check_size;
 use crate::input::InputEvent;
 use crate::joined::{JoinedAppends, joined_behind};
 use crate::parts::Parts;
 use crate::session::Core;
 use crate::status::Status;
-use crate::taken::Taken;
 use minus_state::has_newline;
 use minus_term::{Event, MinusError};
 use std::collections::VecDeque;
@@ -84,6 +85,19 @@ pub(crate) fn fed_event<P: Parts>(input: &InputOf<P>) -> Option<Event>
     }
 }
 
+// Whether an input that waited is passed over for a refusal: what it asks for cannot be done.
+fn is_passed(refusal: &MinusError) -> bool
+    ensures { result ≡ is_passed (refusal_of refusal.now) }
+{
+    match refusal {
+        MinusError::NewlineInPrompt | MinusError::BadSize(..) => true,
+        MinusError::HookIdTaken(..) | MinusError::NoFreeHookId => true,
+        MinusError::BadDescription(..) | MinusError::Bound(..) => true,
+        MinusError::QueryFull | MinusError::BadMode | MinusError::SearchExpError(..) => true,
+        _ => false,
+    }
+}
+
 // Lets so many of the first in a queue go.
 fn let_first_go<T: Drop>(queue: &mut VecDeque<T>, count: usize)
     ensures items { queue.new.items ≡ drop count queue.old.items }
@@ -115,7 +129,7 @@ impl<S, P: Parts> Core<S, P> {
     }
 
     // Lets an input wait for the search prompt to close.
-    pub(crate) fn wait(&mut self, input: InputOf<P>) -> Result<Taken, MinusError>
+    pub(crate) fn wait(&mut self, input: InputOf<P>) -> Result<Done, MinusError>
         requires waits { is_some (checked_as (told_of input)) ≡ true }
         ensures kept { IfOk result (λ t. IsKept self.old (told_of input) self.new t) }
         ensures refused { IfErr result (λ e. IsNotKept self.old (told_of input) self.new e) }
@@ -124,10 +138,7 @@ impl<S, P: Parts> Core<S, P> {
         if self.waiting.push_back(input).is_err() {
             return Err(MinusError::Memory);
         }
-        Ok(Taken {
-            exit: None,
-            copied: None,
-        })
+        Ok(Done::On(None))
     }
 
     // Lets no input wait any more.
@@ -188,21 +199,14 @@ impl<S, P: Parts> Core<S, P> {
         ensures sink { self.new.sink ≡ self.old.sink }
         ensures cause { IfErr result (λ e. IsNotPassed e refusal) }
     {
-        match refusal {
-            MinusError::NewlineInPrompt
-            | MinusError::BadSize(..)
-            | MinusError::HookIdTaken(..)
-            | MinusError::NoFreeHookId => {
-                if refused.push(refusal).is_err() {
-                    self.status = Status::Failed;
-                    return Err(MinusError::Memory);
-                }
-                Ok(())
-            }
-            other => {
-                self.status = Status::Failed;
-                Err(other)
-            }
+        if !is_passed(&refusal) {
+            self.status = Status::Failed;
+            return Err(refusal);
         }
+        if refused.push(refusal).is_err() {
+            self.status = Status::Failed;
+            return Err(MinusError::Memory);
+        }
+        Ok(())
     }
 }

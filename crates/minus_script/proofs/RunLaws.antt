@@ -11,7 +11,7 @@ use Rattle.minus_state.specs.Control.{Control}
 use Rattle.minus_state.specs.declared.search.condition.NeverShows.{NeverShows}
 use Rattle.minus_script.specs.declared.keys.DefaultKeys.{DefaultKeys}
 use Rattle.minus.specs.declared.answer.Answer.{Answer}
-use Rattle.minus_state.specs.declared.state.RunMode.TheVariants.{Dynamic}
+use Rattle.minus_state.specs.declared.state.RunMode.TheVariants.{Dynamic, Uninitialized}
 use Rattle.minus.specs.declared.status.Status.{Status}
 use Rattle.minus.specs.declared.status.Status.TheVariants as status
 use Rattle.minus.specs.Answers.{IsAnswer, ends_run}
@@ -236,7 +236,7 @@ step_refused NewlineInPrompt cols rows told rest t answers reached new a b taken
 step_refused (BadSize c r) cols rows told rest t answers reached new a b taken runs h =
     let (wanted, asked, fault) = h.1 in
     inr (record { answers = answers; reached = reached; bytes = a; refused = t; rest = rest; taken = taken; asked = subst (λ (w : Wanted NeverShows DefaultKeys). Wants script_says reached reached.control.search t w) fault.0 asked; bad = fault.1 })
-step_refused BadMode cols rows told rest t answers reached new a b taken runs h = absurd h
+step_refused BadMode cols rows told rest t answers reached new a b taken runs h = absurd h.1.2
 step_refused Failed cols rows told rest t answers reached new a b taken runs h = absurd (let both : status.Running ≡ status.Failed = sym runs ∙ h.0 in cc)
 step_refused Ended cols rows told rest t answers reached new a b taken runs h = absurd (let both : status.Running ≡ status.Ended = sym runs ∙ h.0 in cc)
 step_refused (Setup cause) cols rows told rest t answers reached new a b taken runs h = absurd h
@@ -247,11 +247,11 @@ step_refused (Cursor cause) cols rows told rest t answers reached new a b taken 
 step_refused (FmtWriteError cause) cols rows told rest t answers reached new a b taken runs h = absurd h
 step_refused (HookIdTaken hook id) cols rows told rest t answers reached new a b taken runs h = record { answers = answers; reached = reached; bytes = a; refused = t; rest = rest; taken = taken; unfit = h.1 }
 step_refused NoFreeHookId cols rows told rest t answers reached new a b taken runs h = record { answers = answers; reached = reached; bytes = a; refused = t; rest = rest; taken = taken; unfit = h.1 }
-step_refused (BadDescription place cause) cols rows told rest t answers reached new a b taken runs h = absurd h
-step_refused (Bound place) cols rows told rest t answers reached new a b taken runs h = absurd h
+step_refused (BadDescription place cause) cols rows told rest t answers reached new a b taken runs h = absurd h.1.2
+step_refused (Bound place) cols rows told rest t answers reached new a b taken runs h = absurd h.1.2
 step_refused QueryFull cols rows told rest t answers reached new a b taken runs h = record { answers = answers; reached = reached; bytes = a; refused = t; rest = rest; taken = taken; full = h.1 }
 step_refused Conversion cols rows told rest t answers reached new a b taken runs h = absurd h
-step_refused (SearchExpError cause) cols rows told rest t answers reached new a b taken runs h = absurd h
+step_refused (SearchExpError cause) cols rows told rest t answers reached new a b taken runs h = absurd h.1.2
 
 -- a refusal stopped the run
 pub run_refused : (keys : DefaultKeys) (cols rows : ℕ) (first new : Seen NeverShows DefaultKeys) (told : List (Told NeverShows DefaultKeys)) (a b : Option (List ℕ)) (e : MinusError) (fault : ScriptFault) → IsStarted first keys [] Dynamic cols rows true (Some []) a → IsStoppedBy (refusal_of e) first new told a b →
@@ -262,22 +262,12 @@ run_refused keys cols rows first new told a b e fault s h f =
 -- a start is refused of a pager in which nothing waits
 none_refused : (refusal : Refusal) (cols rows : ℕ) (terminal : Bool) (told : List (Told NeverShows DefaultKeys)) → terminal ≡ true → IsStartRefused {Q = NeverShows} {K = DefaultKeys} refusal Dynamic cols rows [] terminal → IsRefusal refusal cols rows told
 none_refused for_memory cols rows terminal told t h = tt
-none_refused (for_size c r) cols rows terminal told t (inl h) = inl (h.1, h.2, h.3)
-none_refused (for_size c r) cols rows terminal told t (inr h) = absurd h.1
-none_refused for_mode cols rows terminal told t h = absurd cc
+none_refused (for_size c r) cols rows terminal told t h = elim h [ inl size ↦ inl (size.1, size.2, size.3) | inr fault ↦ absurd fault.1 ]
+none_refused for_mode cols rows terminal told t h = elim h [ inl mode ↦ absurd (let both : Dynamic ≡ Uninitialized = mode in cc) | inr fault ↦ absurd fault.1 ]
 none_refused (at_setup cause) cols rows terminal told t h = subst (λ (x : Bool). IsSetupRefused cause x) t h.1
 none_refused at_drawing cols rows terminal told t h = tt
 none_refused for_pattern cols rows terminal told t h = h.can.size
-none_refused for_newline cols rows terminal told t h = absurd h.1
-none_refused after_failure cols rows terminal told t h = absurd h.1
-none_refused after_exit cols rows terminal told t h = absurd h.1
-none_refused (at_cleanup cause) cols rows terminal told t h = absurd h.1
-none_refused (for_hook_id hook id) cols rows terminal told t h = absurd h.1
-none_refused for_free_hook_id cols rows terminal told t h = absurd h.1
-none_refused (for_description place cause) cols rows terminal told t h = absurd h.1
-none_refused (for_binding place) cols rows terminal told t h = absurd h.1
-none_refused for_query cols rows terminal told t h = absurd h.1
-none_refused of_no_call cols rows terminal told t h = absurd h.1
+none_refused refusal cols rows terminal told t h = elim h [ inl cannot ↦ absurd cannot | inr fault ↦ absurd fault.1 ]
 
 pub start_refused : (refusal : Refusal) (cols rows : ℕ) (terminal : Bool) (told : List (Told NeverShows DefaultKeys)) (waiting : List (Wanted NeverShows DefaultKeys)) → waiting ≡ [] → terminal ≡ true → IsStartRefused refusal Dynamic cols rows waiting terminal → IsRefusal refusal cols rows told
 start_refused refusal cols rows terminal told waiting e t h = none_refused refusal cols rows terminal told t (subst (λ (ws : List (Wanted NeverShows DefaultKeys)). IsStartRefused refusal Dynamic cols rows ws terminal) e h)

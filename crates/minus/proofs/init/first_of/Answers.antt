@@ -1,10 +1,13 @@
 -- The page is drawn in full, by a change that changes nothing.
 use Rattle.std.proofs.Common.{[], is_some, map, ap, subst, ◌∙◌, rules}
+use Rattle.minus_term.specs.Refusals.{refusal_of}
 use Rattle.minus_state.proofs.ChangeLaws.{unchanged}
+use Rattle.minus_state.proofs.RefusalLaws.{passed_on}
 use Rattle.minus_state.specs.Control.{Control}
 use Rattle.minus_state.specs.States.{control_of}
 use Rattle.minus.specs.Reads.{wanted_of}
-use Rattle.minus.specs.Starts.{CanTakeAll}
+use Rattle.minus.specs.Starts.{CanTakeAll, IsUntaken, IsFormRefused}
+use Rattle.minus.proofs.StartLaws.{untaken}
 use Rattle.minus.proofs.TableLaws.{first_search, first_is_clamped}
 use Rattle.minus.proofs.init.first_of.Goals as goal
 
@@ -41,3 +44,10 @@ pub returns-in_err-reserve-clause-refused : goal.returns-in_err-reserve-clause-r
 returns-in_err-reserve-clause-refused g c =
     let can = c.in_ok-check_start.ensures.can in
     search (rules, can)
+
+pub returns-in_err-check_waiting-clause-refused : goal.returns-in_err-check_waiting-clause-refused
+returns-in_err-check_waiting-clause-refused g c =
+    let e = c.in_err-check_waiting.field-0.0 in
+    let refused = subst (λ queue. IsUntaken (refusal_of e) [] (map wanted_of queue)) c.deref.ensures.value c.in_err-check_waiting.ensures.refused in
+    passed_on c.from_residual-in_err-check_waiting.result (λ x. IsFormRefused (refusal_of x) c.args.mode c.args.cols c.args.rows (map wanted_of c.args.pager.now.queue.items)) e c.from_residual-in_err-check_waiting.ensures
+    (untaken (refusal_of e) c.args.mode c.args.cols c.args.rows (map wanted_of c.args.pager.now.queue.items) c.in_ok-check_start.ensures.can refused)

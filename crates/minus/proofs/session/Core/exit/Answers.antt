@@ -25,7 +25,7 @@ returns-clause-taken g c told w asks x =
     let seen = c.call_hook.ensures.seen ∙ c.let_none_wait.ensures.seen in
     let sink = c.call_hook.ensures.sink ∙ c.let_none_wait.ensures.sink in
     record {
-      took = exit_take _ old _ told w c.exit.result _ _ _ c.requires.closed asks x.exits (c.exit.ensures ∙ ap (λ (s : Seen _ _). s.kept.exit) seen ∙ ap (λ (k : Kept). k.exit) left.kept) refl
+      took = exit_take _ old _ told w c.exit-strategy.result _ _ c.requires.closed asks x.exits (c.exit-strategy.ensures ∙ ap (λ (s : Seen _ _). s.kept.exit) seen ∙ ap (λ (k : Kept). k.exit) left.kept)
           (seen ∙ seen_alike _ _ control left.classifier left.condition left.kept refl refl refl)
           (let written = c.in_default.ensures.ok in rw sink written);
       stays = rw sink c.in_default.ensures.stays;

@@ -13,8 +13,9 @@ use Rattle.minus.specs.declared.session.Core.{Core}
 use Rattle.minus.specs.Core.{seen_of}
 use Rattle.minus.specs.Reads.{told_of}
 use Rattle.minus.specs.Seen.{Seen}
-use Rattle.minus.specs.SessionSteps.{IsRefusedStepOf}
-use Rattle.minus.specs.Steps.{Took, TookWith, is_passed}
+use Rattle.minus.specs.SessionSteps.{IsTakenOf, IsTakenWithOf, IsRefusedStepOf}
+use Rattle.minus.specs.Steps.{goes_on, has_exited, is_passed}
+use Rattle.minus.specs.declared.done.Done.{Done}
 use Rattle.minus.specs.Handing.{Exit}
 use Rattle.minus.specs.Works.{leaving}
 use Rattle.minus.proofs.StartLaws.{Stays-refl}
@@ -40,29 +41,26 @@ returns-in_err-first-clause-refused g c =
       untouched = λ well same. h.untouched well;
     })
 
-pub returns-then-is_some-clause-step : goal.returns-then-is_some-clause-step
-returns-then-is_some-clause-step g c =
+pub returns-in-Exit-clause-step : goal.returns-in-Exit-clause-step
+returns-in-Exit-clause-step g c =
     let says = says_of g.P.Condition.ConditionCall.judges g.P.Classifier.InputClassifier.says in
-    let some : is_some c.in_ok-first.first.exit ≡ true = search rules in
-    let x = some_of c.in_ok-first.first.exit some in
     let old : Seen _ _ = seen_of c.args.self.now in
     let new : Seen _ _ = seen_of c.take.new.self in
-    let t = subst (λ (e : Option Exit). Took says e old (told_of c.args.input) (option_map string_bytes c.in_ok-first.first.copied) new (g.S.OutputSink.seen c.args.self.now.sink).bytes (g.S.OutputSink.seen c.take.new.self.sink).bytes) x.1 c.in_ok-first.ensures.taken.took in
+    let taken = subst (λ (d : Done). IsTakenOf g.S.OutputSink.seen says c.args.self.now (told_of c.args.input) c.take.new.self d) c.in-Exit.is c.in_ok-first.ensures.taken in
     let answers = c.of_step.ensures in
     record {
-      step = step_exits says old new (told_of c.args.input) x.0 _ _ _ _ c.in-Running.is t (rw (x.1, ap (map refusal_of) c.new-refused.ensures.items) at answers);
-      stays = c.in_ok-first.ensures.taken.stays;
+      step = step_exits says old new (told_of c.args.input) (c.in-Exit.strategy, c.in-Exit.code) _ _ _ c.in-Running.is taken.took (rw (ap (map refusal_of) c.new-refused.ensures.items) at answers);
+      stays = taken.stays;
     }
 
 pub loop-next-init : goal.loop-next-init
 loop-next-init g c =
     let says = says_of g.P.Condition.ConditionCall.judges g.P.Classifier.InputClassifier.says in
-    let no : is_some c.in_ok-first.first.exit ≡ false = search rules in
     let old : Seen _ _ = seen_of c.args.self.now in
     let new : Seen _ _ = seen_of c.take.new.self in
-    let t = subst (λ (e : Option Exit). Took says e old (told_of c.args.input) (option_map string_bytes c.in_ok-first.first.copied) new (g.S.OutputSink.seen c.args.self.now.sink).bytes (g.S.OutputSink.seen c.take.new.self.sink).bytes) (none_of c.in_ok-first.first.exit no) c.in_ok-first.ensures.taken.took in (
-      c.in_ok-first.ensures.taken.stays,
-      subst (λ (r : List Refusal). SoFar says old (told_of c.args.input) (g.S.OutputSink.seen c.args.self.now.sink).bytes (g.S.OutputSink.seen c.take.new.self.sink).bytes new r (option_map string_bytes c.in_ok-first.first.copied)) (sym (ap (map refusal_of) c.new-refused.ensures.items)) (begun says old new (told_of c.args.input) _ _ _ t),
+    let taken = subst (λ (d : Done). IsTakenOf g.S.OutputSink.seen says c.args.self.now (told_of c.args.input) c.take.new.self d) c.in-On.is c.in_ok-first.ensures.taken in (
+      taken.stays,
+      subst (λ (r : List Refusal). SoFar says old (told_of c.args.input) (g.S.OutputSink.seen c.args.self.now.sink).bytes (g.S.OutputSink.seen c.take.new.self.sink).bytes new r (option_map string_bytes c.in-On.text)) (sym (ap (map refusal_of) c.new-refused.ensures.items)) (begun says old new (told_of c.args.input) _ _ _ taken.took),
     )
 
 pub take_next-requires : goal.take_next-requires
@@ -71,29 +69,21 @@ take_next-requires g c = record {
   closed = ap (λ (x : Seen _ _). x.control.search) c.in-Some.ensures.seen ∙ c.in-Some.ensures.next.0;
 }
 
-pub returns-then-is_some-2-clause-step : goal.returns-then-is_some-2-clause-step
-returns-then-is_some-2-clause-step g c =
+pub returns-in-Ok-Exit-clause-step : goal.returns-in-Ok-Exit-clause-step
+returns-in-Ok-Exit-clause-step g c =
     let says = says_of g.P.Condition.ConditionCall.judges g.P.Classifier.InputClassifier.says in
-    let some : is_some c.in-Ok.taken.exit ≡ true = search rules in
-    let x = some_of c.in-Ok.taken.exit some in
     let old : Seen _ _ = seen_of c.args.self.now in
     let s : Seen _ _ = seen_of c.loop-next.self in
     let m : Seen _ _ = seen_of c.next_waiting.new.self in
     let new : Seen _ _ = seen_of c.take_next.new.self in
-    let t = subst (λ (e : Option Exit). TookWith says e m (told_of c.in-Some.next) (option_map string_bytes c.in-Ok.taken.copied) new (g.S.OutputSink.seen c.next_waiting.new.self.sink).bytes (g.S.OutputSink.seen c.take_next.new.self.sink).bytes) x.1 c.in-Ok.ensures.taken.took in
-    let answers = c.of_step-then-is_some-2.ensures in
-    let stays = (let h = c.in-Ok.ensures.taken.stays in rw (ap (λ x. (g.S.OutputSink.seen x).refusals) c.in-Some.ensures.sink) at h) in
+    let x : Exit = (c.in-Ok-Exit.strategy, c.in-Ok-Exit.code) in
+    let taken = subst (λ (d : Done). IsTakenWithOf g.S.OutputSink.seen says c.next_waiting.new.self (told_of c.in-Some.next) c.take_next.new.self d) c.in-Ok-Exit.field-0-is c.in-Ok-Exit.ensures.taken in
+    let stays = (let h = taken.stays in rw (ap (λ x. (g.S.OutputSink.seen x).refusals) c.in-Some.ensures.sink) at h) in
     record {
-      step = step_exits_later says old s new (told_of c.args.input) (told_of c.in-Some.next) m.waiting x.0 _ (map refusal_of c.loop-next.refused.items) (option_map string_bytes c.loop-next.copied) _ _ _ _ c.in-Running.is c.loop-next.invariant.1 c.in-Some.ensures.next
-          (took_as says (Some x.0) m (told_of c.in-Some.next) _ new (leaving s m.waiting) _ _ _ c.in-Some.ensures.seen (ap (λ x. (g.S.OutputSink.seen x).bytes) c.in-Some.ensures.sink) t) (rw x.1 at answers);
+      step = step_exits_later says old s new (told_of c.args.input) (told_of c.in-Some.next) m.waiting x _ (map refusal_of c.loop-next.refused.items) (option_map string_bytes c.loop-next.copied) _ _ _ c.in-Running.is c.loop-next.invariant.1 c.in-Some.ensures.next
+          (took_as says (has_exited x) m (told_of c.in-Some.next) new (leaving s m.waiting) _ _ _ c.in-Some.ensures.seen (ap (λ x. (g.S.OutputSink.seen x).bytes) c.in-Some.ensures.sink) taken.took) c.of_step-in-Ok-Exit.ensures;
       stays = Stays-trans _ _ _ c.loop-next.invariant.0 stays;
     }
-
-pub loop-next-smaller-in-Ok : goal.loop-next-smaller-in-Ok
-loop-next-smaller-in-Ok g c =
-    let fewer = c.take_next.ensures.fewer in
-    let less = c.in-Some.ensures.less in
-    omega (arith, fewer, less)
 
 pub loop-next-smaller : goal.loop-next-smaller
 loop-next-smaller g c =
@@ -102,18 +92,18 @@ loop-next-smaller g c =
     let same = ap (λ (s : Core _ _ _ _ _ _). deque_len s.waiting) c.in_ok-pass_over-in-Err.ensures.unchanged in
     omega (arith, fewer, less, same)
 
-pub loop-next-preserved-in-Ok : goal.loop-next-preserved-in-Ok
-loop-next-preserved-in-Ok g c =
+pub loop-next-preserved-in-Ok-On : goal.loop-next-preserved-in-Ok-On
+loop-next-preserved-in-Ok-On g c =
     let says = says_of g.P.Condition.ConditionCall.judges g.P.Classifier.InputClassifier.says in
-    let no : is_some c.in-Ok.taken.exit ≡ false = search rules in
     let old : Seen _ _ = seen_of c.args.self.now in
     let s : Seen _ _ = seen_of c.loop-next.self in
     let m : Seen _ _ = seen_of c.next_waiting.new.self in
     let new : Seen _ _ = seen_of c.take_next.new.self in
-    let t = subst (λ (e : Option Exit). TookWith says e m (told_of c.in-Some.next) (option_map string_bytes c.in-Ok.taken.copied) new (g.S.OutputSink.seen c.next_waiting.new.self.sink).bytes (g.S.OutputSink.seen c.take_next.new.self.sink).bytes) (none_of c.in-Ok.taken.exit no) c.in-Ok.ensures.taken.took in
-    let stays = (let h = c.in-Ok.ensures.taken.stays in rw (ap (λ x. (g.S.OutputSink.seen x).refusals) c.in-Some.ensures.sink) at h) in
-    let so = one_more says old (told_of c.args.input) s new (told_of c.in-Some.next) m.waiting (map refusal_of c.loop-next.refused.items) (option_map string_bytes c.loop-next.copied) (option_map string_bytes c.in-Ok.taken.copied) _ _ _ c.loop-next.invariant.1 c.in-Some.ensures.next
-    (took_as says None m (told_of c.in-Some.next) _ new (leaving s m.waiting) _ _ _ c.in-Some.ensures.seen (ap (λ x. (g.S.OutputSink.seen x).bytes) c.in-Some.ensures.sink) t) in
+    let taken = subst (λ (d : Done). IsTakenWithOf g.S.OutputSink.seen says c.next_waiting.new.self (told_of c.in-Some.next) c.take_next.new.self d) c.in-Ok-On.field-0-is c.in-Ok-On.ensures.taken in
+    let text = option_map string_bytes c.in-Ok-On.text in
+    let stays = (let h = taken.stays in rw (ap (λ x. (g.S.OutputSink.seen x).refusals) c.in-Some.ensures.sink) at h) in
+    let so = one_more says old (told_of c.args.input) s new (told_of c.in-Some.next) m.waiting (map refusal_of c.loop-next.refused.items) (option_map string_bytes c.loop-next.copied) text _ _ _ c.loop-next.invariant.1 c.in-Some.ensures.next
+    (took_as says (goes_on text) m (told_of c.in-Some.next) new (leaving s m.waiting) _ _ _ c.in-Some.ensures.seen (ap (λ x. (g.S.OutputSink.seen x).bytes) c.in-Some.ensures.sink) taken.took) in
     (Stays-trans _ _ _ c.loop-next.invariant.0 stays, subst (λ (x : Option (List ℕ)). SoFar says old (told_of c.args.input) (g.S.OutputSink.seen c.args.self.now.sink).bytes (g.S.OutputSink.seen c.take_next.new.self.sink).bytes new (map refusal_of c.loop-next.refused.items) x) (sym c.last_of-copied.ensures) so)
 
 pub returns-clause-step : goal.returns-clause-step

@@ -17,8 +17,7 @@ returns-clause-kept g c =
       possible = search rules;
       seen = ap (λ (x : List (Told _ _)). let r : Seen _ _ = record old { waiting = x } in r) is;
       sink = refl;
-      exit = refl;
-      copied = refl;
+      goes_on = refl;
     }
 
 pub returns-in_err-check-clause-refused : goal.returns-in_err-check-clause-refused
