@@ -4,8 +4,6 @@ use Rattle.std.specs.List.{concat}
 use Rattle.std.specs.Str.Lines.{lines}
 use Rattle.std.proofs.Math.Seq.{drop-append_seam}
 use Rattle.std.proofs.lemmas.List.{length-map}
-use Rattle.std.specs.Prelude.{string_bytes}
-use Rattle.std.specs.Option.{option_map}
 use Rattle.minus_term.specs.Counts.{SinkSeen, Stays, Rises}
 use Rattle.minus_term.specs.Operations.{Op}
 use Rattle.minus_term.specs.Refusals.{Refusal, for_hook_id, for_free_hook_id, for_size, refusal_of}
@@ -19,7 +17,6 @@ use Rattle.minus.specs.Core.{seen_of}
 use Rattle.minus.specs.SessionSteps.{ending_of, IsTakenOf, IsUntakenOf, IsTakenWithOf, IsUntakenWithOf}
 use Rattle.minus.specs.Asked.{Asks, clears_prefix, Wants}
 use Rattle.minus.specs.Drawn.{IsDrawing}
-use Rattle.minus.specs.Handing.{Exit}
 use Rattle.minus.specs.Joined.{appended_to, append_told, appending, MayGoWith}
 use Rattle.minus.specs.Reads.{Told}
 use Rattle.minus.specs.Says.{Says}

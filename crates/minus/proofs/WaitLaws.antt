@@ -1,6 +1,5 @@
 -- Inputs that wait, or could not.
-use Rattle.std.proofs.Common.{◌≡◌, ℕ, true, List, ◌∷◌, ◌++◌, [], Option, None, Some, is_some, string_bytes, String, Global, refl, sym, subst, inl, inr}
-use Rattle.std.specs.Option.{option_map}
+use Rattle.std.proofs.Common.{◌≡◌, ℕ, true, List, ◌∷◌, ◌++◌, [], Option, None, Some, is_some, refl, sym, subst, inl, inr}
 use Rattle.minus_term.specs.Counts.{SinkSeen, Stays}
 use Rattle.minus_term.specs.Refusals.{Refusal, refusal_of, for_newline, for_size}
 use Rattle.minus_term.specs.declared.error.MinusError.{MinusError}

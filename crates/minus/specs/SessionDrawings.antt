@@ -1,6 +1,6 @@
 -- What a session has drawn into its buffer, and what it was changed to.
-use Rattle.std.specs.Prelude.{◌≡◌, List, ℕ, Option, string_bytes}
-use Rattle.std.specs.Option.{option_map, unwrap_or}
+use Rattle.std.specs.Prelude.{◌≡◌, List, ℕ, Option}
+use Rattle.std.specs.Option.{unwrap_or}
 use Rattle.minus_term.specs.Written.{written_all}
 use Rattle.minus.specs.declared.step_drawing.Drawing.{Drawing}
 use Rattle.minus.specs.declared.session.Core.{Core}

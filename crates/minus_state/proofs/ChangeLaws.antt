@@ -19,13 +19,13 @@ use Rattle.minus_state.specs.Control.{Control, Saved, Settings, document_of, fir
 use Rattle.minus_state.specs.ShownPrompt.{shown_in}
 use Rattle.minus_state.specs.Page.{shown_of, all_shown, shown}
 use Rattle.minus_state.specs.NextTexts.{next_document, next_found, next_term, aside_with, IsNext}
-use Rattle.minus_state.specs.Changes.{IsChange, IsFormedFor, IsPlaced, Leads, as_is, shown_by, aside_after, help_after, settings_after, prompt_after, shown_prompt}
+use Rattle.minus_state.specs.Changes.{IsChange, IsFormedFor, IsPlaced, Leads, as_is, shown_by, help_after, settings_after, prompt_after, shown_prompt}
 use Rattle.minus_state.specs.declared.change.Redraw.{Redraw}
 use Rattle.minus_state.specs.Aside.{aside_of}
 use Rattle.minus_state.specs.OpenSearches.{OpenSearch, search_after}
 use Rattle.minus_state.specs.declared.search.SearchMode.{SearchMode}
 use Rattle.minus_state.specs.Sizes.{IsSize}
-use Rattle.minus_state.specs.States.{control_of, settings_of, ends_of, term_of, search_of, IsFormed}
+use Rattle.minus_state.specs.States.{control_of, settings_of, term_of, search_of, IsFormed}
 
 same_control : (a b : Control) → a.text ≡ b.text → a.cols ≡ b.cols → a.rows ≡ b.rows → a.numbers ≡ b.numbers → a.wrapping ≡ b.wrapping → a.mark ≡ b.mark → a.left ≡ b.left → a.ends ≡ b.ends → a.term ≡ b.term → a.search_mark ≡ b.search_mark → a.settings ≡ b.settings → a.help ≡ b.help → a.mode ≡ b.mode → a.search ≡ b.search → a ≡ b
 same_control a b t c r n w m l e p q s h d o =

@@ -1,8 +1,7 @@
 -- What a command leaves, formed beside the state.
-use Rattle.std.specs.Prelude.{◌≡◌, ℕ, List, length, take, drop, Option, None, Some, string_bytes, if◌then◌else◌}
+use Rattle.std.specs.Prelude.{◌≡◌, ℕ, List, length, take, drop, Option, None, Some, string_bytes}
 use Rattle.std.specs.Option.{option_map, unwrap_or}
-use Rattle.minus_term.specs.Marks.{page_len, top_of}
-use Rattle.minus_text.specs.Document.{Document, rows_of}
+use Rattle.minus_term.specs.Marks.{page_len}
 use Rattle.minus_text.specs.Searched.{searched}
 use Rattle.minus_state.specs.declared.state.PagerState.{PagerState}
 use Rattle.minus_state.specs.declared.change.Change.{Change}

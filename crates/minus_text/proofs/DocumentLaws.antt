@@ -9,7 +9,7 @@ use Rattle.std.proofs.lemmas.List.Concat.{flat_map-append}
 use Rattle.minus_text.specs.declared.layout.Wrap.{Wrap}
 use Rattle.minus_text.specs.Layouts.{own_rows, relaid}
 use Rattle.minus_text.specs.Lines.{finished_lines, unfinished_line}
-use Rattle.minus_text.specs.Document.{Document, rows_of_lines, first_rows, open_rows, longest_of, wrap_in, rows_of, stored_rows, line_map, longest, pushed, pushed_all, PushesJoin, PiecesPushJoined, LineMapAscends}
+use Rattle.minus_text.specs.Document.{Document, rows_of_lines, first_rows, open_rows, longest_of, wrap_in, rows_of, stored_rows, line_map, longest, pushed, PushesJoin, PiecesPushJoined, LineMapAscends}
 use Rattle.minus_text.proofs.LayoutLaws.{own_rows-some}
 use Rattle.minus_text.proofs.LinesLaws.{lines-cut}
 

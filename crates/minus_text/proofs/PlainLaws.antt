@@ -1,31 +1,26 @@
 -- Laws on texts of printable ASCII: a byte is a character and takes a column.
-use Rattle.std.proofs.Common.{◌≡◌, ℕ, zero, suc, ◌+◌, ◌<◌, ◌≤◌, ◌&&◌, Bool, true, false, not, eqb, nat_le, List, [], ◌∷◌, ◌++◌, length, map, replicate, chars, arith, refl, sym, ap, ◌∙◌, append_assoc, inl, inr}
-use Rattle.std.specs.List.{concat, sum_by, flat_map, list_all}
-use Rattle.std.specs.Char.{is_ascii_alphanumeric}
+use Rattle.std.proofs.Common.{◌≡◌, ℕ, zero, suc, ◌+◌, ◌<◌, ◌≤◌, ◌&&◌, true, false, eqb, nat_le, List, [], ◌∷◌, ◌++◌, length, replicate, chars, arith, refl, sym, ap, ◌∙◌, append_assoc, inl, inr}
+use Rattle.std.specs.List.{concat, sum_by, list_all}
 use Rattle.std.specs.Str.{IsAscii, encode_utf8_all}
 use Rattle.std.proofs.lemmas.Bool.{cases_Bool, and_parts, le-leb, or_left, or_right, eqb-true, ne_eqb}
 use Rattle.std.proofs.lemmas.Bool.Decides.{nat_tests}
 use Rattle.std.proofs.lemmas.List.{append-nil, length-append, length-replicate}
 use Rattle.std.proofs.lemmas.List.Folds.{list_all-append}
 use Rattle.std.proofs.lemmas.List.Sums.{sum_by-cons}
-use Rattle.std.proofs.lemmas.Str.{chars-IsAscii, encodes-IsAscii, chars-nil}
+use Rattle.std.proofs.lemmas.Str.{chars-IsAscii, encodes-IsAscii}
 use Rattle.unicode_width.specs.Width.{char_width}
 use Rattle.minus_text.specs.Plain.{is_printable}
-use Rattle.minus_text.specs.Units.{char_columns, begins_sequence, units, unit_len, unit_columns, body_of, text_columns, columns}
+use Rattle.minus_text.specs.Units.{char_columns, begins_sequence, units, unit_columns, body_of, text_columns, columns}
 use Rattle.minus_text.specs.Runs.{AreRuns}
 use Rattle.minus_text.specs.TheRuns.{the_runs}
 use Rattle.minus_text.specs.Fronts.{is_wide, fits_front, front_rule}
 use Rattle.std.specs.List.{count_by}
-use Rattle.minus_text.specs.Pieces.{Piece, pieces, piece_text, fronts, parts, with_spaces, part_len_after, begins_alphanumeric}
+use Rattle.minus_text.specs.Pieces.{Piece, pieces, piece_text, fronts}
 use Rattle.minus_text.specs.RowRuns.{fits_row, run_columns}
 use Rattle.minus_text.specs.Rows.{the_rows, run_text, row_text, line_runs, line_places, places}
 use Rattle.minus_text.specs.declared.wrap.Span.{Span}
-use Rattle.minus_text.specs.declared.wrap.Measured.{Measured}
-use Rattle.minus_text.specs.Measures.{measure}
-use Rattle.minus_text.proofs.CutsLaws.{cuts-nil}
 use Rattle.minus_text.proofs.UnitsLaws.{units_join}
 use Rattle.minus_text.proofs.PiecesLaws.{pieces_join_lem}
-use Rattle.minus_text.proofs.WordsLaws.{word_last}
 use Rattle.minus_text.proofs.RowsLaws.{empty_places}
 
 -- ---- characters and units

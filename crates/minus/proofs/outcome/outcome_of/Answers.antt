@@ -1,8 +1,8 @@
 -- The mark is moved and clamped last, and then the prefix goes, or stays.
-use Rattle.std.proofs.Common.{◌≡◌, ℕ, Bool, true, refl, sym, ap, subst, ◌∙◌}
+use Rattle.std.proofs.Common.{◌≡◌, ℕ, Bool, true, sym, ap, subst, ◌∙◌}
 use Rattle.std.specs.Option.{unwrap_or}
 use Rattle.minus_state.specs.Changes.{IsChange}
-use Rattle.minus_state.specs.Control.{Control, clamp, cleared}
+use Rattle.minus_state.specs.Control.{Control, cleared}
 use Rattle.minus_state.specs.States.{control_of}
 use Rattle.minus_state.specs.declared.change.Change.{Change}
 use Rattle.minus.specs.Reads.{wanted_by}

@@ -1,5 +1,5 @@
 -- The search prompt stays as it is, and the mark is clamped.
-use Rattle.std.proofs.Common.{◌≡◌, ap, ◌∙◌}
+use Rattle.std.proofs.Common.{ap, ◌∙◌}
 use Rattle.minus_state.specs.Control.{Control}
 use Rattle.minus_state.specs.States.{control_of}
 use Rattle.minus_state.specs.declared.change.Change.{Change}

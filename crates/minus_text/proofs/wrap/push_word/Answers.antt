@@ -1,5 +1,5 @@
 -- A word without hyphens is one part; else one more part of the word, and the last one with the spaces.
-use Rattle.std.proofs.Common.{◌≤◌, chars, length, arith, rules, sym, ◌∙◌}
+use Rattle.std.proofs.Common.{chars, rules, sym, ◌∙◌}
 use Rattle.minus_text.proofs.MeasuredLaws.{unhyphened_word}
 use Rattle.minus_text.proofs.WordsLaws.{word_more, word_last}
 use Rattle.minus_text.proofs.wrap.push_word.Goals as goal

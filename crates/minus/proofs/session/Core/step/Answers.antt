@@ -1,5 +1,5 @@
 -- What was worked off so far, at each end of the step.
-use Rattle.std.proofs.Common.{rules, ◌≡◌, ◌++◌, ◌∷◌, [], ℕ, List, Option, map, Some, None, is_some, true, false, option_map, string_bytes, sym, ap, subst, ◌∙◌, arith, inl, inr, ◌⊎◌, ◌↔◌, Err}
+use Rattle.std.proofs.Common.{rules, ◌≡◌, ◌++◌, ◌∷◌, [], ℕ, List, Option, map, true, false, option_map, string_bytes, sym, ap, subst, ◌∙◌, arith, inl, inr, ◌⊎◌, ◌↔◌, Err}
 use Rattle.std.proofs.lemmas.List.{map-append}
 use Rattle.minus_term.specs.Counts.{Stays}
 use Rattle.minus_term.specs.Refusals.{Refusal, refusal_of, for_memory}
@@ -19,7 +19,7 @@ use Rattle.minus.specs.declared.done.Done.{Done}
 use Rattle.minus.specs.Handing.{Exit}
 use Rattle.minus.specs.Works.{leaving}
 use Rattle.minus.proofs.StartLaws.{Stays-refl}
-use Rattle.minus.proofs.LoopLaws.{SoFar, begun, one_more, passed_over, step_rests, step_exits, step_exits_later, refused_at_once, took_as, fails_as, refused_so, passed_no_fault, late_rises, late_stays, has_changed, runs_on, refused_by, failed_never, ended_never, err_only, passed_whole, some_of, none_of}
+use Rattle.minus.proofs.LoopLaws.{SoFar, begun, one_more, passed_over, step_rests, step_exits, step_exits_later, refused_at_once, took_as, fails_as, refused_so, passed_no_fault, late_rises, late_stays, has_changed, runs_on, refused_by, failed_never, ended_never, err_only, passed_whole}
 use Rattle.minus.proofs.session.Core.step.Goals as goal
 
 pub returns-in-Ended-clause-refused : goal.returns-in-Ended-clause-refused

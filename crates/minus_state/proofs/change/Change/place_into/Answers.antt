@@ -1,10 +1,10 @@
 -- The values are put in their places, one after another.
-use Rattle.std.proofs.Common.{◌≡◌, Option, ap, ◌∙◌, refl}
+use Rattle.std.proofs.Common.{ap, ◌∙◌, refl}
 use Rattle.minus_text.specs.Document.{Document}
 use Rattle.minus_text.specs.declared.layout.Layout.{Layout}
 use Rattle.minus_state.specs.Changes.{settings_after, help_after}
-use Rattle.minus_state.specs.Control.{Settings, Saved}
-use Rattle.minus_state.specs.OpenSearches.{OpenSearch, search_after}
+use Rattle.minus_state.specs.Control.{Settings}
+use Rattle.minus_state.specs.OpenSearches.{search_after}
 use Rattle.minus_state.specs.declared.change.Change.{Change}
 use Rattle.minus_state.specs.declared.state.PagerState.{PagerState}
 use Rattle.minus_state.proofs.ChangeLaws.{same_settings}

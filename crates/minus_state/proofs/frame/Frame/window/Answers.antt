@@ -1,6 +1,5 @@
 -- The columns that are left, from the left mark on.
-use Rattle.std.proofs.Common.{ap, ap₂, ◌∙◌}
-use Rattle.minus_text.specs.declared.crop.Window.{Window}
+use Rattle.std.proofs.Common.{ap, ap₂}
 use Rattle.minus_state.specs.declared.frame.Frame.{Frame}
 use Rattle.minus_state.proofs.frame.Frame.window.Goals as goal
 

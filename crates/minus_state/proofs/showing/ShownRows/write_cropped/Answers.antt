@@ -1,5 +1,5 @@
 -- The row between its ends, or none.
-use Rattle.std.proofs.Common.{ℕ, List, Option, Some, option_map, sym, ap, ◌∙◌}
+use Rattle.std.proofs.Common.{ℕ, List, Option, option_map, sym, ap, ◌∙◌}
 use Rattle.minus_term.proofs.PartLaws.{row_put}
 use Rattle.minus_text.specs.declared.matched_text.MatchedText.{MatchedText}
 use Rattle.minus_text.specs.MatchedTexts.{text_within}

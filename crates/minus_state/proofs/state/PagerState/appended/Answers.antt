@@ -1,5 +1,5 @@
 -- The control's document is pushed, and the search mark follows.
-use Rattle.std.proofs.Common.{◌≡◌, ℕ, List, Bool, Option, ◌-◌, ◌==◌, ◌++◌, length, string_bytes, if◌then◌else◌, refl, sym, subst, ap, ap₂, ◌∙◌}
+use Rattle.std.proofs.Common.{◌≡◌, ℕ, List, Bool, Option, ◌==◌, ◌++◌, string_bytes, if◌then◌else◌, refl, sym, subst, ap, ap₂, ◌∙◌}
 use Rattle.regex.specs.Patterns.{Re}
 use Rattle.minus_text.specs.declared.line_numbers.LineNumbers.{LineNumbers}
 use Rattle.minus_text.specs.Document.{Document, rows_of, margin_in, pushed}

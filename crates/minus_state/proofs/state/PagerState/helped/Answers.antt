@@ -1,11 +1,10 @@
 -- The text of help is formed anew, and what was on show is put aside.
-use Rattle.std.proofs.Common.{List, ℕ, Some, false, refl, ap, ◌∙◌}
+use Rattle.std.proofs.Common.{List, ℕ, Some, false, ap, ◌∙◌}
 use Rattle.minus_state.specs.Changes.{settings_after}
 use Rattle.minus_state.specs.Control.{Saved, Settings}
 use Rattle.minus_state.specs.Help.{help_prompt, switched}
 use Rattle.minus_state.specs.Aside.{aside_in}
 use Rattle.minus_state.specs.States.{control_of, settings_of}
-use Rattle.minus_state.specs.declared.state.help.Saved as code
 use Rattle.minus_state.proofs.ChangeLaws.{beside_anew}
 use Rattle.minus_state.proofs.state.PagerState.helped.Goals as goal
 

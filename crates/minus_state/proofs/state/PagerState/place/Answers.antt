@@ -1,6 +1,6 @@
 -- The state holds the control that the change leads to, and is formed.
-use Rattle.std.proofs.lemmas.Result.{on_ok_weaker, on_err_weaker}
-use Rattle.minus_state.proofs.ChangeLaws.{placed, formed_placed, formed_kept}
+use Rattle.std.proofs.lemmas.Result.{on_ok_weaker}
+use Rattle.minus_state.proofs.ChangeLaws.{placed, formed_placed}
 use Rattle.minus_state.proofs.state.PagerState.place.Goals as goal
 
 pub returns-clause-control : goal.returns-clause-control
