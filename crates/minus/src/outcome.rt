@@ -74,9 +74,13 @@ impl Outcome {
         ensures copied { result.copied ≡ None }
         ensures exits { result.exits ≡ false }
     {
-        let mut outcome = Outcome::of(change);
-        outcome.row_only = true;
-        outcome
+        Outcome {
+            change,
+            moves_to: None,
+            row_only: true,
+            copied: None,
+            exits: false,
+        }
     }
 
     // A change, and the row that the mark is moved to, if it is moved.
@@ -87,9 +91,13 @@ impl Outcome {
         ensures copied { result.copied ≡ None }
         ensures exits { result.exits ≡ false }
     {
-        let mut outcome = Outcome::of(change);
-        outcome.moves_to = to;
-        outcome
+        Outcome {
+            change,
+            moves_to: to,
+            row_only: false,
+            copied: None,
+            exits: false,
+        }
     }
 
     // The change alone.

@@ -1,5 +1,5 @@
 -- The text and the callback wait, and the start takes both over.
-use Rattle.std.proofs.Common.{◌≡◌, List, ◌∷◌, [], ◌++◌, map, ap, ◌∙◌}
+use Rattle.std.proofs.Common.{List, ◌∷◌, [], ◌++◌, map, ap, ◌∙◌}
 use Rattle.std.proofs.lemmas.List.{map-append}
 use Rattle.minus_term.specs.declared.hooks.Hook.TheVariants.{EofReached}
 use Rattle.minus.specs.Handing.{kept_at_first, a_callback}
