@@ -46,8 +46,27 @@ impl Drop for Outcome {
     }
 }
 
+// Where an append moves the mark to: the last page, where the page goes on with what is appended; nowhere while help is
+// open.
+fn followed(state: &PagerState, change: &Change) -> Option<usize>
+    requires { Belongs state.now.screen.document change.now.text }
+    ensures { result ≡ (if not (help_open (control_of state.now)) && state.now.follow
+        then Some (top_of (length (rows_of (next_document state.now.screen.document change.now.text))) change.now.rows)
+        else None) }
+{
+    if !state.help_open() && state.follow_output() {
+        return Some(change.top(&state.screen));
+    }
+    None
+}
+
 impl Outcome {
-    ghost use Rattle.std.specs.Prelude.{◌≡◌, None, true, false};
+    ghost use Rattle.std.specs.Prelude.{◌≡◌, ◌&&◌, not, length, Some, None, true, false, if◌then◌else◌};
+    ghost use Rattle.minus_term.specs.Marks.{top_of};
+    ghost use Rattle.minus_text.specs.Document.{rows_of};
+    ghost use Rattle.minus_state.specs.Help.{help_open};
+    ghost use Rattle.minus_state.specs.NextTexts.{next_document, Belongs};
+    ghost use Rattle.minus_state.specs.States.{control_of};
 
     // A change alone.
     pub(crate) fn of(change: Change) -> Outcome
@@ -100,6 +119,21 @@ impl Outcome {
         }
     }
 
+    // An append, and the row that it moves the mark to, if it moves it.
+    fn appending(state: &PagerState, change: Change) -> Outcome
+        requires { Belongs state.now.screen.document change.text }
+        ensures change { result.change ≡ change }
+        ensures moves_to { result.moves_to ≡ (if not (help_open (control_of state.now)) && state.now.follow
+            then Some (top_of (length (rows_of (next_document state.now.screen.document change.text))) change.rows)
+            else None) }
+        ensures row_only { result.row_only ≡ false }
+        ensures copied { result.copied ≡ None }
+        ensures exits { result.exits ≡ false }
+    {
+        let to = followed(state, &change);
+        Outcome::moving(change, to)
+    }
+
     // The change alone.
     pub(crate) fn into_change(self) -> Change
         ensures { result ≡ self.change }
@@ -122,20 +156,6 @@ pub(crate) fn end_hook(is_move: bool, state: &PagerState) -> Option<Hook>
 {
     if is_move && state.shows_end() {
         return Some(Hook::EofReached);
-    }
-    None
-}
-
-// Where an append moves the mark to: the last page, where the page goes on with what is appended; nowhere while help is
-// open.
-fn followed(state: &PagerState, change: &Change) -> Option<usize>
-    requires { Belongs state.now.screen.document change.now.text }
-    ensures { result ≡ (if not (help_open (control_of state.now)) && state.now.follow
-        then Some (top_of (length (rows_of (next_document state.now.screen.document change.now.text))) change.now.rows)
-        else None) }
-{
-    if !state.help_open() && state.follow_output() {
-        return Some(change.top(&state.screen));
     }
     None
 }
@@ -163,11 +183,7 @@ fn form_any<P: Parts>(
 {
     match request {
         Request::SetText(text) => Ok(Outcome::of(state.replaced(alloc, text)?)),
-        Request::AppendText(text) => {
-            let change = state.added(alloc, text)?;
-            let to = followed(state, &change);
-            Ok(Outcome::moving(change, to))
-        }
+        Request::AppendText(text) => Ok(Outcome::appending(state, state.added(alloc, text)?)),
         Request::MoveMark(mark) => Ok(Outcome::moving(state.redrawn(Redraw::Moved), Some(mark))),
         Request::Resize(cols, rows) => Ok(Outcome::of(state.resized(alloc, cols, rows)?)),
         Request::Exit => {
@@ -266,11 +282,7 @@ fn form_text<P: Parts>(
     ensures unformed { IfErr result (λ e. IsUnformed (refusal_of e) (wanted_by request)) }
 {
     match request {
-        Request::AppendText(text) => {
-            let change = state.added(alloc, text)?;
-            let to = followed(state, &change);
-            Ok(Outcome::moving(change, to))
-        }
+        Request::AppendText(text) => Ok(Outcome::appending(state, state.added(alloc, text)?)),
         request => form_page(state, alloc, request),
     }
 }
