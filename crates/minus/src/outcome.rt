@@ -1,12 +1,8 @@
 //! What comes of a request, formed beside the state: [`form`] is read beside the table of `specs/Table`, a line each.
-ghost use Rattle.std.specs.Prelude.{◌≡◌, ◌&&◌, is_some, not, Some, None, string_bytes, length, if◌then◌else◌, IfOk, IfErr, OnOk};
+ghost use Rattle.std.specs.Prelude.{◌≡◌, string_bytes, IfOk, IfErr, OnOk};
 ghost use Rattle.std.specs.Option.{option_map};
-ghost use Rattle.minus_term.specs.Marks.{top_of};
 ghost use Rattle.minus_term.specs.Refusals.{refusal_of};
-ghost use Rattle.minus_text.specs.Document.{rows_of};
 ghost use Rattle.minus_state.specs.Changes.{IsChange};
-ghost use Rattle.minus_state.specs.Help.{help_open};
-ghost use Rattle.minus_state.specs.NextTexts.{next_document, Belongs};
 ghost use Rattle.minus_state.specs.States.{control_of, IsFormed};
 ghost use Rattle.minus.specs.Outcomes.{IsOutcome, IsUnformed};
 ghost use Rattle.minus.specs.Reads.{wanted_by};
@@ -44,20 +40,6 @@ impl Drop for Outcome {
             exits: _,
         } = self;
     }
-}
-
-// Where an append moves the mark to: the last page, where the page goes on with what is appended; nowhere while help is
-// open.
-fn followed(state: &PagerState, change: &Change) -> Option<usize>
-    requires { Belongs state.now.screen.document change.now.text }
-    ensures { result ≡ (if not (help_open (control_of state.now)) && state.now.follow
-        then Some (top_of (length (rows_of (next_document state.now.screen.document change.now.text))) change.now.rows)
-        else None) }
-{
-    if !state.help_open() && state.follow_output() {
-        return Some(change.top(&state.screen));
-    }
-    None
 }
 
 impl Outcome {
@@ -119,7 +101,7 @@ impl Outcome {
         }
     }
 
-    // An append, and the row that it moves the mark to, if it moves it.
+    // An append, which moves the mark to the last page where the page goes on with it, but not while help is open.
     fn appending(state: &PagerState, change: Change) -> Outcome
         requires { Belongs state.now.screen.document change.text }
         ensures change { result.change ≡ change }
@@ -130,8 +112,11 @@ impl Outcome {
         ensures copied { result.copied ≡ None }
         ensures exits { result.exits ≡ false }
     {
-        let to = followed(state, &change);
-        Outcome::moving(change, to)
+        if state.help_open() || !state.follow_output() {
+            return Outcome::of(change);
+        }
+        let to = change.top(&state.screen);
+        Outcome::moving(change, Some(to))
     }
 
     // The change alone.
