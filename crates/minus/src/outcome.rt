@@ -112,11 +112,9 @@ impl Outcome {
         ensures copied { result.copied ≡ None }
         ensures exits { result.exits ≡ false }
     {
-        if state.help_open() || !state.follow_output() {
-            return Outcome::of(change);
-        }
-        let to = change.top(&state.screen);
-        Outcome::moving(change, Some(to))
+        let goes_on = !state.help_open() && state.follow_output();
+        let to = goes_on.then_some(change.top(&state.screen));
+        Outcome::moving(change, to)
     }
 
     // The change alone.
