@@ -1,10 +1,16 @@
 -- What comes of a request.
-use Rattle.std.specs.Prelude.{◌≡◌, ℕ, ◌≤◌, List, [], ◌∷◌, Bool, true, is_some, Option, string_bytes}
+use Rattle.std.specs.Prelude.{◌≡◌, ℕ, ◌≤◌, ◌&&◌, not, length, List, [], ◌∷◌, Bool, true, is_some, Option, Some, None, string_bytes, if◌then◌else◌}
 use Rattle.std.specs.Option.{option_map, unwrap_or}
+use Rattle.minus_term.specs.Marks.{top_of}
 use Rattle.minus_term.specs.Refusals.{Refusal}
+use Rattle.minus_text.specs.Document.{rows_of}
 use Rattle.minus_state.specs.declared.change.Change.{Change}
 use Rattle.minus_state.specs.Changes.{IsChange}
 use Rattle.minus_state.specs.Control.{Control, IsClamped}
+use Rattle.minus_state.specs.Help.{help_open}
+use Rattle.minus_state.specs.NextTexts.{next_document}
+use Rattle.minus_state.specs.States.{control_of}
+use Rattle.minus_state.specs.declared.state.PagerState.{PagerState}
 use Rattle.minus.specs.declared.outcome.Outcome.{Outcome}
 use Rattle.minus.specs.Says.{Says}
 use Rattle.minus.specs.Asked.{taken}
@@ -24,6 +30,11 @@ pub record IsOutcome {Q K : Type 0} (clears : Bool) (old : Control) (w : Wanted 
   pub moves_to : outcome.moves_to ≡ (effect_of old w).moves_to
   pub copied : option_map string_bytes outcome.copied ≡ (effect_of old w).copies
   pub exits : outcome.exits ≡ (effect_of old w).is_exit
+
+-- where an append that was formed for a state moves the mark to: the last page, where the page goes on with it; nowhere while help is open
+abbrev pub followed_by : PagerState → Change → Option ℕ
+followed_by s change =
+    if not (help_open (control_of s)) && s.follow then Some (top_of (length (rows_of (next_document s.screen.document change.text))) change.rows) else None
 
 -- the change leads to a control whose mark the clamp leaves
 abbrev pub LeadsClamped : Control → Change → Type 0

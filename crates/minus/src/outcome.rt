@@ -43,12 +43,9 @@ impl Drop for Outcome {
 }
 
 impl Outcome {
-    ghost use Rattle.std.specs.Prelude.{◌≡◌, ◌&&◌, not, length, Some, None, true, false, if◌then◌else◌};
-    ghost use Rattle.minus_term.specs.Marks.{top_of};
-    ghost use Rattle.minus_text.specs.Document.{rows_of};
-    ghost use Rattle.minus_state.specs.Help.{help_open};
-    ghost use Rattle.minus_state.specs.NextTexts.{next_document, Belongs};
-    ghost use Rattle.minus_state.specs.States.{control_of};
+    ghost use Rattle.std.specs.Prelude.{◌≡◌, None, true, false};
+    ghost use Rattle.minus_state.specs.NextTexts.{Belongs};
+    ghost use Rattle.minus.specs.Outcomes.{followed_by};
 
     // A change alone.
     pub(crate) fn of(change: Change) -> Outcome
@@ -105,9 +102,7 @@ impl Outcome {
     fn appending(state: &PagerState, change: Change) -> Outcome
         requires { Belongs state.now.screen.document change.text }
         ensures change { result.change ≡ change }
-        ensures moves_to { result.moves_to ≡ (if not (help_open (control_of state.now)) && state.now.follow
-            then Some (top_of (length (rows_of (next_document state.now.screen.document change.text))) change.rows)
-            else None) }
+        ensures moves_to { result.moves_to ≡ followed_by state.now change }
         ensures row_only { result.row_only ≡ false }
         ensures copied { result.copied ≡ None }
         ensures exits { result.exits ≡ false }
