@@ -41,7 +41,7 @@ module _ {S P H E Q K : Type 0} (sink : S → SinkSeen) (says : Says Q K) (old :
   IsExitUntaken prefix new e = (told : Told Q K) (w : Wanted Q K) → Asks says (seen_of old) told w → ExitsWith (seen_of old) told w prefix
       → IsUntakenOf sink says old told new e
 
-  -- a request was worked off, and the typed prefix has gone first, or stays: the input that asks for it was taken; or it was not
+  -- a request was worked off, and the typed prefix has gone, or stays: the input that asks for it was taken; or it was not
   abbrev pub IsTakenAs : (w : Wanted Q K) (clears : Bool) (new : Core S P H E Q K) → Done → Type 0
   IsTakenAs w clears new of = (told : Told Q K) → IsAsked says old told w clears → IsTakenOf sink says old told new of
 

@@ -287,8 +287,8 @@ impl<S: OutputSink + Drop, P: Calls> Core<S, P> {
         }
     }
 
-    // Applies what comes of an input that does not exit, writes what was drawn, and then calls the callbacks of the end,
-    // if the mark was moved and the page shows it. A refusal of the sink fails the session.
+    // Applies what comes of an input that does not exit, writes what was drawn, and then calls the callbacks of the
+    // end, if the mark was moved and the page shows it. A refusal of the sink fails the session.
     fn change(&mut self, outcome: Outcome) -> Result<Done, MinusError>
         requires running { self.old.status ≡ stands.Running }
         requires leads { LeadsClamped (control_of self.old.parts.state) outcome.change }
@@ -320,8 +320,8 @@ impl<S: OutputSink + Drop, P: Calls> Core<S, P> {
         Ok(Done::On(None))
     }
 
-    // Calls what is called at an exit, cleans the terminal up, and ends the session; the typed prefix goes first, or
-    // stays, and nothing waits any more. A refusal fails the session.
+    // Calls what is called at an exit, cleans the terminal up, and ends the session; the typed prefix goes, or stays,
+    // and nothing waits any more. A refusal fails the session.
     fn exit(&mut self, prefix: Option<String>) -> Result<Done, MinusError>
         requires running { self.old.status ≡ stands.Running }
         requires closed { (control_of self.old.parts.state).search ≡ None }
@@ -344,7 +344,7 @@ impl<S: OutputSink + Drop, P: Calls> Core<S, P> {
     }
 
     // Works a request off: keeps what is handed over, or forms what comes of it, and applies that, or exits. The typed
-    // prefix goes first, or stays.
+    // prefix goes, or stays.
     fn execute(&mut self, request: Request<P>, clears_prefix: bool) -> Result<Done, MinusError>
         requires running { self.old.status ≡ stands.Running }
         requires closed { (control_of self.old.parts.state).search ≡ None }
@@ -484,8 +484,8 @@ impl<S: OutputSink + Drop, P: Calls> Core<S, P> {
         self.work_off(input)
     }
 
-    /// Works an input off, and draws what has changed. An event that types nothing lets the typed prefix go first; a
-    /// command leaves it. A prompt row that is another one than before is drawn after what the command asks for.
+    /// Works an input off, and draws what has changed. An event that types nothing lets the typed prefix go; a command
+    /// leaves it. A prompt row that is another one than before is drawn after what the command asks for.
     ///
     /// While the search prompt is open each other event is a key of it: it edits the query or moves its cursor, and the
     /// page shows where the query leads, or it closes the prompt, with the query taken or not. A command, or a new
