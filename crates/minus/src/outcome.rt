@@ -149,10 +149,12 @@ fn form_any<P: Parts>(
     requires { IsFormed state.now }
     ensures leads { IfOk result (λ o. IsChange (control_of state.now) o.change
         (effect_of (control_of state.now) (wanted_by request)).changed) }
-    ensures moves_to { IfOk result (λ o. o.moves_to ≡ (effect_of (control_of state.now) (wanted_by request)).moves_to) }
+    ensures moves_to { IfOk result (λ o. o.moves_to
+        ≡ (effect_of (control_of state.now) (wanted_by request)).moves_to) }
     ensures redraw { IfOk result (λ o. o.change.redraw
         ≡ (effect_of (control_of state.now) (wanted_by request)).redraw) }
-    ensures row_only { IfOk result (λ o. o.row_only ≡ (effect_of (control_of state.now) (wanted_by request)).row_only) }
+    ensures row_only { IfOk result (λ o. o.row_only
+        ≡ (effect_of (control_of state.now) (wanted_by request)).row_only) }
     ensures copied { IfOk result (λ o. option_map string_bytes o.copied
         ≡ (effect_of (control_of state.now) (wanted_by request)).copies) }
     ensures exits { IfOk result (λ o. o.exits ≡ (effect_of (control_of state.now) (wanted_by request)).is_exit) }
@@ -223,10 +225,12 @@ fn form_page<P: Parts>(
     requires { IsFormed state.now }
     ensures leads { IfOk result (λ o. IsChange (control_of state.now) o.change
         (effect_of (control_of state.now) (wanted_by request)).changed) }
-    ensures moves_to { IfOk result (λ o. o.moves_to ≡ (effect_of (control_of state.now) (wanted_by request)).moves_to) }
+    ensures moves_to { IfOk result (λ o. o.moves_to
+        ≡ (effect_of (control_of state.now) (wanted_by request)).moves_to) }
     ensures redraw { IfOk result (λ o. o.change.redraw
         ≡ (effect_of (control_of state.now) (wanted_by request)).redraw) }
-    ensures row_only { IfOk result (λ o. o.row_only ≡ (effect_of (control_of state.now) (wanted_by request)).row_only) }
+    ensures row_only { IfOk result (λ o. o.row_only
+        ≡ (effect_of (control_of state.now) (wanted_by request)).row_only) }
     ensures copied { IfOk result (λ o. option_map string_bytes o.copied
         ≡ (effect_of (control_of state.now) (wanted_by request)).copies) }
     ensures exits { IfOk result (λ o. o.exits ≡ (effect_of (control_of state.now) (wanted_by request)).is_exit) }
@@ -249,10 +253,12 @@ fn form_text<P: Parts>(
     requires { IsFormed state.now }
     ensures leads { IfOk result (λ o. IsChange (control_of state.now) o.change
         (effect_of (control_of state.now) (wanted_by request)).changed) }
-    ensures moves_to { IfOk result (λ o. o.moves_to ≡ (effect_of (control_of state.now) (wanted_by request)).moves_to) }
+    ensures moves_to { IfOk result (λ o. o.moves_to
+        ≡ (effect_of (control_of state.now) (wanted_by request)).moves_to) }
     ensures redraw { IfOk result (λ o. o.change.redraw
         ≡ (effect_of (control_of state.now) (wanted_by request)).redraw) }
-    ensures row_only { IfOk result (λ o. o.row_only ≡ (effect_of (control_of state.now) (wanted_by request)).row_only) }
+    ensures row_only { IfOk result (λ o. o.row_only
+        ≡ (effect_of (control_of state.now) (wanted_by request)).row_only) }
     ensures copied { IfOk result (λ o. option_map string_bytes o.copied
         ≡ (effect_of (control_of state.now) (wanted_by request)).copies) }
     ensures exits { IfOk result (λ o. o.exits ≡ (effect_of (control_of state.now) (wanted_by request)).is_exit) }
@@ -275,10 +281,12 @@ fn form<P: Parts>(
     requires { IsFormed state.now }
     ensures leads { IfOk result (λ o. IsChange (control_of state.now) o.change
         (effect_of (control_of state.now) (wanted_by request)).changed) }
-    ensures moves_to { IfOk result (λ o. o.moves_to ≡ (effect_of (control_of state.now) (wanted_by request)).moves_to) }
+    ensures moves_to { IfOk result (λ o. o.moves_to
+        ≡ (effect_of (control_of state.now) (wanted_by request)).moves_to) }
     ensures redraw { IfOk result (λ o. o.change.redraw
         ≡ (effect_of (control_of state.now) (wanted_by request)).redraw) }
-    ensures row_only { IfOk result (λ o. o.row_only ≡ (effect_of (control_of state.now) (wanted_by request)).row_only) }
+    ensures row_only { IfOk result (λ o. o.row_only
+        ≡ (effect_of (control_of state.now) (wanted_by request)).row_only) }
     ensures copied { IfOk result (λ o. option_map string_bytes o.copied
         ≡ (effect_of (control_of state.now) (wanted_by request)).copies) }
     ensures exits { IfOk result (λ o. o.exits ≡ (effect_of (control_of state.now) (wanted_by request)).is_exit) }
