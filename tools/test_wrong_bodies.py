@@ -1,5 +1,5 @@
 #!/usr/bin/env python3
-"""Tests of wrong_bodies.py: how a body's function is found, how rounds are made, how a check's lines are judged, what is kept, which crates are tried when, and what the words of a call name."""
+"""Tests of wrong_bodies.py: how a body's function is found, how rounds are made, how a check's lines are judged, who is tried again without its written answers, what is kept, which crates are tried when, and what the words of a call name."""
 import contextlib
 import io
 import os
@@ -9,7 +9,7 @@ import unittest
 from types import SimpleNamespace
 
 sys.path.insert(0, os.path.dirname(os.path.abspath(__file__)))
-from wrong_bodies import Body, Place, bodies_of, functions_of, given_by, in_turn, judge, next_round, paths_of, place_of, read_body, texts_of, told_by, try_all, untried, verdicts_of, with_twins, without_bodies, without_proofs
+from wrong_bodies import Body, Place, bodies_of, functions_of, given_by, in_turn, judge, next_round, part_told, paths_of, place_of, read_body, texts_of, told_by, try_all, untried, verdicts_of, with_twins, without_answers, without_bodies, without_proofs
 
 SOURCE = """const LIMIT: usize = 3;
 
@@ -86,6 +86,20 @@ class Places(unittest.TestCase):
         text = "impl<S: Drop, P> From<Start<S, P>> for Fault {\n    fn from(start: Start<S, P>) -> Fault {\n        9\n    }\n}\n"
         self.assertEqual(place_of(text, text.index("9"), "m"), Place("m", "Fault", "From", "Start", "from"))
 
+    def test_a_reference_is_a_word_of_an_impls_name(self):
+        def place_in(head, name):
+            text = f"{head} {{\n    fn {name}() -> usize {{\n        9\n    }}\n}}\n"
+            return place_of(text, text.index("9"), "m")
+
+        lent, held = place_in("impl From<&Event> for Key", "from"), place_in("impl From<Event> for Key", "from")
+        self.assertEqual([it.is_of("krate::m::KeyFromRefEvent::from") for it in (lent, held)], [True, False])
+        self.assertEqual([it.is_of("krate::m::KeyFromEvent::from") for it in (lent, held)], [False, True])
+        self.assertEqual(place_in("impl<'a> From<&'a State> for Opts<'a>", "from"), Place("m", "Opts", "From", "RefState", "from"))
+        self.assertEqual(place_in("impl Sink for &'static mut [u8]", "put"), Place("m", "RefMutSliceU8", "Sink", "", "put"))
+        self.assertEqual(place_in("impl Sink for Vec<u8>", "put"), Place("m", "VecU8", "Sink", "", "put"))
+        shared = place_in("impl<T> Sink for &T", "put")
+        self.assertTrue(shared.is_of("krate::m::RefSink::put") and not shared.is_of("krate::m::RefMutSink::put"))
+
     def test_a_check_is_asked_for_what_bodies_turn(self):
         bodies = [Body(mark, [], {place(mark)}) for mark in ("else", "5", "Fault::Six")]
         self.assertEqual(paths_of(bodies, []), ["CursorSink::put", "FaultFromFmtError::from", "m::free"])
@@ -145,6 +159,33 @@ class Rounds(unittest.TestCase):
         self.assertEqual([it.label for it in tried_as], ["a.edit", "b.edit", "c.edit"])
         self.assertEqual(tried_as[1].files, {"proofs/m/f__2/Answers.antt": "use Rattle.k.proofs.m.f__2.Goals as goal\n"})
 
+    def test_a_search_stands_for_an_answer_that_does_not_fit(self):
+        text = "use k.Goals as goal\n\npub a : goal.a\na c = refl\n\n-- why\npub b : goal.b\nunfolding f\nb c =\n    let h = 1 in\n    refl"
+        file = "proofs/m/f/Answers.antt"
+        with tempfile.TemporaryDirectory() as folder:
+            os.makedirs(f"{folder}/proofs/m/f")
+            with open(f"{folder}/{file}", "w", encoding="utf-8") as out:
+                out.write(text)
+
+            def left(body, *names):
+                return without_answers(body, {"m/f": {("Answers.antt", *it) for it in names}}, folder)
+
+            first = left(body("x", "f"), ("b", True), ("a", False))
+            self.assertEqual(first.files, {file: "use Rattle.std.proofs.Common.{rules}\nuse k.Goals as goal\n\n-- why\npub b : goal.b\nunfolding f\nb c = search rules"})
+            # (a search that is refused for its form goes too, and of an import the whole file)
+            self.assertEqual(left(first, ("b", True)).files, {file: "use Rattle.std.proofs.Common.{rules}\nuse k.Goals as goal"})
+            self.assertEqual(left(first, ("", True)).files, {file: ""})
+            self.assertEqual(left(first, ("", True)).gone, ["a", "b", "Answers.antt"])
+
+    def test_an_impl_of_a_trait_stands_where_it_is_written(self):
+        with tempfile.TemporaryDirectory() as folder:
+            os.mkdir(f"{folder}/src")
+            impls = "impl One {\n    fn own(&self) {}\n}\n\nimpl From<&u8> for One {\n    fn from(n: &u8) -> One {}\n}\n"
+            for name, text in (("a", "pub struct One;\n"), ("b", impls)):
+                with open(f"{folder}/src/{name}.rt", "w", encoding="utf-8") as out:
+                    out.write(text)
+            self.assertEqual({*functions_of(folder, []).values()}, {"a::One::own", "b::OneFromRefU8::from"})
+
     def test_who_is_not_turned_has_an_empty_proof(self):
         with tempfile.TemporaryDirectory() as folder:
             os.mkdir(f"{folder}/src")
@@ -188,17 +229,39 @@ class Verdicts(unittest.TestCase):
 
     def test_a_goal_of_its_own(self):
         self.assertTrue(self.judged("fn k::m::f: no proof: `search` did not prove `returns`; it calls `k::m::g`, which is not proved\n")[0])
-        self.assertTrue(self.judged("./proofs/m/f/Answers.antt:3:5: error: `returns`: the two types differ\nfn k::m::f: not proved\n")[0])
+        self.assertTrue(self.judged("./proofs/m/f/Answers.antt:3:5: error: `returns`: `search`: no proof of `x` was found\nfn k::m::f: not proved\n")[0])
+        self.assertTrue(self.judged("./proofs/m/f/Invariants.antt:3:5: error: `at`: the two types differ\nfn k::m::f: not proved\n")[0])
 
     def test_a_body_that_is_proved(self):
-        self.assertEqual(self.judged("fn k::m::f: proved\n"), (False, "NOT REFUSED: it is proved"))
+        self.assertEqual(self.judged("fn k::m::f: proved\n"), (False, "NOT REFUSED: it is proved", {}))
 
     def test_a_body_that_no_line_names(self):
         self.assertFalse(self.judged("fn k::m::g: not proved\n")[0])
 
     def test_an_answer_that_names_what_is_gone(self):
-        said = "proofs/m/f/Answers.antt:3:5: error: `returns`: record `R`\n  has no field `push`\nfn k::m::f: not proved\n"
-        self.assertFalse(self.judged(said)[0])
+        said = "proofs/m/f/Invariants.antt:3:5: error: `at`: record `R`\n  has no field `push`\nfn k::m::f: not proved\n"
+        self.assertIs(self.judged(said)[0], False)
+
+    def test_an_answer_that_does_not_fit(self):
+        line = "./proofs/m/f/Answers.antt:{}: error: {}\n"
+        for reason in ("`returns`: the two types differ", "`returns`: record `R`\n  has no field `push`", "`returns`: a part's `search`: no proof"):
+            said = line.format("3:5", reason) + "fn k::m::f: not proved\n"
+            self.assertEqual(self.judged(said)[::2], (None, {"m/f": {("Answers.antt", "returns", True)}}))
+        said = line.format("3:5", "`returns`: `goal.returns`: module `Goals` has no `returns` that") + "fn k::m::f: not proved\n"
+        self.assertEqual(self.judged(said)[2], {"m/f": {("Answers.antt", "returns", False)}})
+        said = line.format("1:5", "module `Goals` has no `then`") + "fn k::m::f: not proved\n"
+        self.assertEqual(self.judged(said)[2], {"m/f": {("Answers.antt", "", True)}})
+
+    def test_answers_that_are_not_read_say_nothing(self):
+        reason = "rattle does not read `Answers.antt` of `k::m::f`, since the borrow checker does not cover it yet (a call of `k::m::g`)"
+        said = f"./proofs/m/f/Answers.antt: error: {reason}\nfn k::m::f: no proof: the borrow checker does not cover this function yet\n"
+        self.assertEqual(self.judged(said, False)[::2], (False, {}))
+
+    def test_a_search_may_be_a_part_of_an_answer(self):
+        answers = ["pub a : goal.a\na c = search rules", "pub b : goal.b\nb c =\n    let h = search rules in\n    search rules", "pub d : goal.d\nd c = f (search rules)"]
+        text, said = "\n\n".join(answers), "./proofs/m/f/Answers.antt:{}: error: `x`: `search`: no proof"
+        told = [part_told(said.format(at), lambda _: text).partition("`x`: ")[2] for at in ("2:7", "6:13", "7:5", "10:10")]
+        self.assertEqual([it.startswith("a part's") for it in told], [False, True, False, True])
 
     def test_a_function_that_waits_for_another(self):
         said = "fn k::m::f: no proof: it calls `k::m::g`, which is not proved\n"
@@ -221,6 +284,16 @@ class Tries(unittest.TestCase):
         beside = {"unproved": "fn k::m::f: no proof: it calls `k::m::g`, which is not proved", "proved": "fn k::m::f: proved"}
         told = [*try_all([body("a", "f")], lambda _: beside["proved"] + "\nlogic=proved", lambda _: beside["unproved"] + "\nlogic=not-proved")]
         self.assertEqual([it[1:] for it in told], [(False, "NOT REFUSED: it is proved")])
+
+    def test_who_does_not_fit_its_answers_is_judged_without_them(self):
+        unfit = "./proofs/m/f/Answers.antt:3:5: error: `returns`: the two types differ\nfn k::m::f: not proved\nlogic=not-proved"
+        own, proved = "fn k::m::f: no proof: `search` did not prove `returns`\nlogic=not-proved", "fn k::m::f: proved\nlogic=proved"
+
+        def told(second):
+            without = lambda it, _: Body(it.label, it.changes, it.places, gone=["returns"])
+            return [it[:2] for it in try_all([body("a", "f")], *[lambda bodies: second if bodies[0].gone else unfit] * 2, without=without)]
+
+        self.assertEqual([(it.gone, is_refused) for it, is_refused in told(own) + told(proved)], [(["returns"], True), (["returns"], False)])
 
     def test_of_two_that_wait_for_each_other_one_is_tried_alone(self):
         waits = {"a": "fn k::m::f: no proof: it calls `k::m::g`, which is not proved", "b": "fn k::m::g: no proof: it calls `k::m::f`, which is not proved"}

@@ -10,16 +10,18 @@ usage, at the top of the repository:
 
 A FILE.edit is a path, or the name of a file in crates/NAME/wrong-bodies/ or crates/NAME/must-fail/.
 
-A wrong body has the lines of a must-fail edit: `file: src/F.rt`, and pairs of `old: TEXT` and `new: TEXT`, where each old
-text stands once in its file. The bodies of a crate go into rounds in which each function is turned at most once, and one check
-of the turned functions tries a round; where several bodies turn one function, the others turn twins of it, which stand beside
-it under names of their own, with its contract and its proof. A body passes where each function that it turns is refused
-for goals of its own: not only since it calls a function that is refused, and not since a proof file names what the body
-took away. A proof rests on the contracts of what its function calls and not on their bodies, so the functions that a round
-does not turn are left without a body and a proof. A body that is not refused beside those is tried again with all other
-functions as they stand and proved, where its goals wait for a function that another body turned in a later round, and at
-last alone. A body outside a function with a path of its own (a constant, a trait's default) is tried alone, and something in
-its module must be refused for itself.
+A wrong body has the lines of a must-fail edit: `file: src/F.rt`, and pairs of `old: TEXT` and `new: TEXT`, where each old text
+stands once in its file. The bodies of a crate go into rounds in which each function is turned at most once, and one check of
+the turned functions tries a round; where several bodies turn one function, the others turn twins of it, which stand beside it
+under names of their own, with its contract and its proof. A body passes where each function that it turns is refused for goals
+of its own, and not only since it calls a function that is refused. Where it is refused only since written answers don't fit
+(by their type, or since they name a step that is gone), it is tried again with `search rules` in place of these: what is
+proved then fails, and what a search gives up on is refused, as where it stands there from the first. `without NAMES:` tells of such
+a try. An invariant that names a step that is gone fails the body. A proof rests on the contracts of what its
+function calls and not on their bodies, so the functions that a round does not turn are left without a body and a proof. A body
+that is not refused beside those is tried again with all other functions as they stand and proved, where its goals wait for a
+function that another body turned in a later round, and at last alone. A body outside a function with a path of its own (a
+constant, a trait's default) is tried alone, and something in its module must be refused for itself.
 
 All this happens on a copy of the repository, over the work that `rt check` kept in out/, where there is some. The crate as
 it stands must be proved there first. With --proved that is taken from the caller, in a repository where nothing is kept: the
@@ -50,6 +52,8 @@ from dataclasses import dataclass, field, replace
 FUNCTION = re.compile(r"^( {4})?(?:pub(?:\([^)]*\))? )?(?:const |unsafe )*fn (\w+)", re.M)
 SOURCES = ["src", "specs", "proofs"]
 TAKEN_AWAY = re.compile(r"has no `|has no field|is not in scope|was not admitted")
+NAMED = re.compile(r"(?:`([^`]+)`: )?")
+SEARCHED = re.compile(r"(^pub (\S+) : .*^\2 [^=]*=).*", re.M | re.S)
 
 
 @dataclass(frozen=True)
@@ -70,7 +74,8 @@ class Place:
         if not self.of_type:
             return "::".join(above) == self.module
         # (an impl of a trait stands under both names; their arguments follow where they are needed to tell impls apart)
-        pattern = rf"{self.of_type}\w*{self.of_trait}({self.argument})?" if self.of_trait else self.of_type
+        of_type = "Ref(?!Mut)" if self.of_type == "Ref" else self.of_type
+        pattern = rf"{of_type}\w*{self.of_trait}({self.argument})?" if self.of_trait else of_type
         return bool(above and re.fullmatch(pattern, above[-1]))
 
     def path(self, proofs):
@@ -90,7 +95,8 @@ class Body:
     changes: list = field(default_factory=list)  # path, start, end, text
     places: set = field(default_factory=set)
     fault: str = ""
-    files: dict = field(default_factory=dict)  # the proof of a twin: path, text
+    files: dict = field(default_factory=dict)  # the proof of a twin, and what is left of answers: path, text (None: no such file)
+    gone: list = field(default_factory=list)  # the written answers without which it is judged
     kept_as: str = ""  # the name under which it is kept that it was refused
 
     def stands_alone(self):
@@ -100,6 +106,13 @@ class Body:
         """Returns whether both can be tried in one round."""
         apart = all(a[0] != b[0] or a[2] <= b[1] or b[2] <= a[1] for a in self.changes for b in other.changes)
         return apart and not self.places & other.places
+
+
+def words_of(text, own):
+    """Returns the words of a type as the check joins them, without lifetimes and an impl's own parameters."""
+    for sign, word in ((r"'\w+", ""), (r"&\s*mut\b", " RefMut "), ("&", " Ref "), (r"\[", " Slice ")):
+        text = re.sub(sign, word, text)
+    return "".join(it[0].upper() + it[1:] for it in re.findall(r"\w+", text) if it not in own)
 
 
 def head_of(line):
@@ -116,10 +129,10 @@ def head_of(line):
     own = re.findall(r"[<,]\s*(\w+)", generics)
     *of_trait, of_type = re.split(r"\bfor\b", re.split(r"\bwhere\b|\{", text)[0])
     last = lambda path: path.partition("<")[0].split("::")[-1].strip("& \n")
-    words = [it for it in re.findall(r"\w+", "".join(of_trait).partition("<")[2]) if it not in own]
-    argument = "".join(it[0].upper() + it[1:] for it in words)
-    lent = of_type.strip().startswith("&mut ")
-    return "RefMut" if lent else last(of_type), last("".join(of_trait)), argument
+    lent = re.match(r"\s*&\s*(?:'\w+\s*)?(mut\b)?", of_type)
+    name, within = ("RefMut" if lent[1] else "Ref", of_type[lent.end() :]) if lent else (last(of_type), of_type.partition("<")[2])
+    of_trait = "".join(of_trait)
+    return name + (of_trait and words_of(within, own)), last(of_trait), words_of(of_trait.partition("<")[2], own)
 
 
 def place_of(text, at, module):
@@ -150,9 +163,9 @@ def functions_of(folder, proofs):
             modules |= {it[1]: module for it in re.finditer(r"^(?:pub(?:\([^)]*\))? )?(?:struct|enum) (\w+)", text, re.M)}
     paths = {it: it.path(proofs) for it in places if it.name}
     for it in paths:
-        # (an impl that has no files of proofs is guessed to stand where its type does)
+        # (an impl of a trait stands where it is written, and any other where its type does)
         if it.of_type and paths[it].count("::") == 1:
-            paths[it] = f"{modules.get(it.of_type, it.module)}::{paths[it]}".removeprefix("::")
+            paths[it] = f"{it.module if it.of_trait else modules.get(it.of_type, it.module)}::{paths[it]}".removeprefix("::")
     return paths
 
 
@@ -179,7 +192,8 @@ def twin_of(body, number, folder, functions):
     twin = re.sub(rf"\bfn {place.name}\b", f"fn {name}", twin, count=1)
     files, own = {}, f"proofs.{proof.replace('/', '.')}."
     for it in os.listdir(f"{folder}/proofs/{proof}") if os.path.isdir(f"{folder}/proofs/{proof}") else []:
-        files[f"proofs/{proof}__{number}/{it}"] = read(f"{folder}/proofs/{proof}/{it}").replace(own, f"{own[:-1]}__{number}.")
+        of_own = body.files.get(f"proofs/{proof}/{it}", read(f"{folder}/proofs/{proof}/{it}"))
+        files |= {f"proofs/{proof}__{number}/{it}": of_own.replace(own, f"{own[:-1]}__{number}.")} if of_own is not None else {}
     return Body(body.label, [(path, end, end, f"\n\n{twin}")], {replace(place, name=name)}, files=files)
 
 
@@ -246,39 +260,87 @@ def texts_of(bodies, folder):
 
 
 def verdicts_of(said):
-    """Returns what a check says of each function: '' where it is proved, 'own' and why where it is refused for itself, else 'callee' or 'taken' and why."""
+    """Returns what a check says of each function: '' where it is proved, 'own' and why where it is refused for itself, 'answer', why and
+    which where that is only since written answers don't fit (each a file, a name in it, and whether its goal is there), else 'callee'
+    or 'taken' and why."""
     found = {}
     for path, what in re.findall(r"^(?:fn|impl|trait|struct) (\S+): (.*)$", said, re.M):
         place = re.escape("/".join(path.split("::")[1:]))
         # (the reason may stand in an error's second line)
-        errors = re.findall(rf"^(?:\./)?proofs/{place}/\S+: error: (.*(?:\n  .*)?)", said, re.M)
-        told = [it for it in errors if not TAKEN_AWAY.search(it)]
+        errors = re.findall(rf"^(?:\./)?proofs/{place}/(\S+?):\S* error: (?!.*rattle does not read)(.*(?:\n  .*)?)", said, re.M)
+        told = [it for _, it in errors if not TAKEN_AWAY.search(it)]
+        named = {(file, NAMED.match(it)[1] or ""): it for file, it in errors if file in ("Answers.antt", "Proof.antt")}
+        unfit = {(file, name, f"has no `{name}`" not in it) for (file, name), it in named.items()}
         if what.startswith("proved"):
             found[path] = "", ""
-        elif "`search` did not prove" in what or "expected a measure" in what or told:
-            found[path] = "own", what if "`search` did not prove" in what else (told or [what])[0]
+        elif "`search` did not prove" in what or "expected a measure" in what:
+            found[path] = "own", what
+        elif any(it.partition(": ")[2].startswith("`search`: ") for it in told) or told and not unfit:
+            found[path] = "own", told[0]
+        elif unfit and all(file != "Invariants.antt" for file, _ in errors):
+            found[path] = "answer", (told or [it for _, it in errors])[0], unfit
         elif "which is not proved" in what or "which are not proved" in what:
             found[path] = "callee", what
         else:
-            found[path] = "taken", (errors or [what])[0]
+            found[path] = "taken", (errors or [("", what)])[0][1]
     return found
 
 
+def part_told(said, read_of):
+    """Returns what a check said, where a search that is a part of a written answer is told as such: as another answer might do without it."""
+
+    def told(it):
+        text = read_of(it[1]).split("\n")
+        line, at = text[int(it[2]) - 1], int(it[3]) - 1
+        before = line[:at].strip() or text[int(it[2]) - 2].rstrip()
+        behind = "\n".join([line[at:], *text[int(it[2]) :]]).partition("\n\n")[0]
+        is_whole = re.search(r"(=|\bin)$", before.rstrip()) and not re.search(r"\bin$", behind, re.M)
+        return it[0] if is_whole else it[0].replace("`search`:", "a part's `search`:")
+
+    return re.sub(r"^(?:\./)?(proofs/\S+/Answers\.antt):(\d+):(\d+): error: `[^`]+`: `search`: ", told, said, flags=re.M)
+
+
 def judge(body, verdicts, is_alone):
-    """Returns whether the body is refused for itself (None: it has to be tried again), and why."""
-    own = []
+    """Returns whether the body is refused for itself (None: it has to be tried again), why, and which written answers don't fit it,
+    where it is refused for these alone: for each folder of proofs their files and names."""
+    own, unfit = [], {}
     for place in body.places:
         mine = {it: verdict for it, verdict in verdicts.items() if not place.name or place.is_of(it)}
-        own = [why for kind, why in mine.values() if kind == "own"]
-        if own:
+        told = [it for it in mine.values() if it[0] == "own"] or [it for it in mine.values() if it[0] == "answer"]
+        if told:
+            own.append(told[0][1])
+            # (a twin has the answers of its function)
+            folders = {re.sub(r"__\d+$", "", "/".join(it.split("::")[1:])): verdict for it, verdict in mine.items()}
+            unfit |= {it: verdict[2] for it, verdict in folders.items() if told[0][0] == verdict[0] == "answer"}
             continue
         if not mine:
-            return False, "no line of the check names what it turns"
-        if any(kind == "callee" for kind, _ in mine.values()) and not is_alone:
-            return None, ""
-        whys = [f"it is refused only since {why}" for kind, why in mine.values() if kind]
-        return False, (whys or ["NOT REFUSED: it is proved"])[0]
-    return True, own[0]
+            return False, "no line of the check names what it turns", {}
+        if any(kind == "callee" for kind, *_ in mine.values()) and not is_alone:
+            return None, "", {}
+        whys = [f"it is refused only since {why}" for kind, why, *_ in mine.values() if kind]
+        return False, (whys or ["NOT REFUSED: it is proved"])[0], {}
+    return None if unfit else True, own[0], unfit
+
+
+def without_answers(body, unfit, folder):
+    """Returns a body that is judged without these written answers: a search stands for each whose goal is still there. A name of none, as of
+    an import, stands for the whole file."""
+    files, gone = dict(body.files), list(body.gone)
+    for at, names in unfit.items():
+        for file in {file for file, *_ in names}:
+            path, is_there = f"proofs/{at}/{file}", {name: is_there for of, name, is_there in names if of == file}
+            text = files.get(path) or read(f"{folder}/{path}")
+            items = re.split(r"\n\n(?=\S)", text)
+            found = {name: it for it in items for name in is_there if re.search(rf"^pub {re.escape(name)} : goal\.", it, re.M)}
+            is_part = file == "Answers.antt" and len(found) == len(is_there)
+            searched = {it: SEARCHED.sub(r"\1 search rules", it) for name, it in found.items() if is_there[name]}
+            searched = {it: new for it, new in searched.items() if it != new}
+            left = [searched.get(it, it) for it in items if it in searched or it not in found.values()]
+            head = "use Rattle.std.proofs.Common.{rules}\n" if searched and not re.search(r"^use .*\brules\b", text, re.M) else ""
+            # (an empty Answers.antt is as none, but an empty Proof.antt is a proof)
+            files[path] = head + "\n\n".join(left) if is_part else "" if file == "Answers.antt" else None
+            gone += sorted(is_there) if is_part else [file]
+    return replace(body, files=files, gone=gone)
 
 
 def left_out(functions, bodies):
@@ -309,42 +371,48 @@ def without_bodies(functions, bodies, folder):
 
 
 def tried(bodies, check):
-    """Tries bodies by one check, and yields each with whether it is refused (None: it has to be tried again), and why."""
+    """Tries bodies by one check, and yields each with whether it is refused (None: it has to be tried again), why, and which written
+    answers don't fit it."""
     said = check(bodies)
     if re.search(r"^(logic=(not-)?proved|only=\d+ proved=)", said, re.M):
         verdicts = verdicts_of(said)
         yield from ((body, *judge(body, verdicts, len(bodies) == 1)) for body in bodies)
     elif len(bodies) == 1:
         errors = re.findall(r"^.*error.*$", said, re.M) or said.strip().split("\n")
-        yield bodies[0], False, f"it did not reach the prover: {errors[0]}"
+        yield bodies[0], False, f"it did not reach the prover: {errors[0]}", {}
     else:
         half = len(bodies) // 2
         yield from tried(bodies[:half], check)
         yield from tried(bodies[half:], check)
 
 
-def try_all(bodies, check, check_beside_unproved, twins=list):
-    """Tries bodies round by round, and yields each with whether it is refused, and why."""
+def try_all(bodies, check, check_beside_unproved, twins=list, without=None):
+    """Tries bodies round by round, and yields each with whether it is refused, and why. Who is refused only since written answers don't
+    fit it is tried again without these."""
     yield from ((it, False, it.fault) for it in bodies if it.fault)
     waiting = [it for it in bodies if it.stands_alone() and not it.fault]
-    named = [it for it in bodies if not it.stands_alone() and not it.fault]
-    of_label = {it.label: it for it in named}
-    untried = twins(named)
+    untried = [it for it in bodies if not it.stands_alone() and not it.fault]
     while untried:
-        taken = next_round(untried)
-        untried = [it for it in untried if it not in taken]
-        for body, is_refused, why in tried(taken, check_beside_unproved):
+        # (second tries share a round with what is left of the first ones)
+        of_label, taken = {it.label: it for it in untried}, next_round(twins(untried))
+        untried = [it for it in untried if it.label not in {of.label for of in taken}]
+        for it, is_refused, why, unfit in tried(taken, check_beside_unproved):
+            body = of_label[it.label]
             if is_refused:
-                yield of_label[body.label], is_refused, why
+                yield body, is_refused, why
+            elif unfit:
+                untried.append(without(body, unfit))
             else:
-                waiting.append(of_label[body.label])
+                waiting.append(body)
     while waiting:
         found = [*tried(next_round(waiting), check)]
-        if all(is_refused is None for _, is_refused, _ in found):
+        if all(is_refused is None and not unfit for _, is_refused, _, unfit in found):
             # (each waits for another of them, as where their functions call one another: one that is tried alone is decided)
             found = [*tried(waiting[:1], check)]
-        for body, is_refused, why in found:
-            if is_refused is not None:
+        for body, is_refused, why, unfit in found:
+            if unfit:
+                waiting[waiting.index(body)] = without(body, unfit)
+            elif is_refused is not None:
                 waiting.remove(body)
                 yield body, is_refused, why
 
@@ -428,28 +496,42 @@ def try_crate(rt, kept, crate, bodies, is_proved):
     proofs, failed = proofs_of(crate), []
     functions = functions_of(crate.folder, proofs)
 
+    def checked(texts, flags, work):
+        absent = {f"{crate.folder}/{it}": read(f"{crate.folder}/{it}") for it, text in texts.items() if text is None}
+        for it in absent:
+            os.remove(it)
+        said = rt.checked(crate, {it: text for it, text in texts.items() if text is not None}, flags, work).stdout
+        for it, text in absent.items():
+            with open(it, "w", encoding="utf-8") as out:
+                out.write(text)
+        return said
+
     def check(bodies, proofs_beside=None, others=()):
-        texts = {**texts_of([*bodies, *others], crate.folder), **(proofs_beside or {})}
+        files = {path: text for it in bodies for path, text in it.files.items()}
+        texts = {**texts_of([*bodies, *others], crate.folder), **(proofs_beside or {}), **files}
         work, jobs = f"{crate.folder}/out/incremental", ["--jobs", "1"]
         only = [f"--only={it}" for it in paths_of(bodies, proofs)]
-        for it in proofs_beside or {}:
+        for it in texts:
             os.makedirs(os.path.dirname(f"{crate.folder}/{it}"), exist_ok=True)
-        said = rt.checked(crate, texts, [*jobs, *only], work).stdout
+        said = checked(texts, [*jobs, *only], work)
         # (an impl's name may need arguments that only a whole check tells)
         is_unnamed = re.search(r"has no function|several functions are named", said) and not re.search(r"^only=", said, re.M)
-        return rt.checked(crate, texts, jobs, work).stdout if is_unnamed else said
+        said = checked(texts, jobs, work) if is_unnamed else said
+        return part_told(said, lambda it: texts[it] if it in texts else read(f"{crate.folder}/{it}"))
 
     def check_beside_unproved(bodies):
-        of_twins = {path: text for body in bodies for path, text in body.files.items()}
         others = without_bodies(functions, bodies, crate.folder)
-        return check(bodies, {**without_proofs(functions, bodies), **of_twins}, [others])
+        return check(bodies, without_proofs(functions, bodies), [others])
 
     def twins(bodies):
         return with_twins(bodies, crate.folder, functions)
 
-    for body, is_refused, why in try_all(bodies, check, check_beside_unproved, twins):
-        why = " ".join(why.split())[:160]
-        print(f"{crate.name}/{body.label}: {'refused: ' if is_refused else 'FAILED: '}{why}", flush=True)
+    def without(body, unfit):
+        return without_answers(body, unfit, crate.folder)
+
+    for body, is_refused, why in try_all(bodies, check, check_beside_unproved, twins, without):
+        why = (f"without {', '.join(body.gone)}: " if body.gone else "") + " ".join(why.split())[:160]
+        print(f"{crate.name}/{body.label}: {'refused' if is_refused else 'FAILED'}: {why}", flush=True)
         if not is_refused:
             failed.append(f"{crate.name}/{body.label}: FAILED: {why}")
         elif body.kept_as:

@@ -1,5 +1,5 @@
 -- A page to which a text was appended.
-use Rattle.std.proofs.Common.{◌≡◌, ℕ, zero, suc, ◌+◌, ◌-◌, ◌<◌, ◌≤◌, min, max, leb, true, List, [], ◌∷◌, ◌++◌, length, take, drop, refl, sym, ap, subst, ◌∙◌, arith, inl, inr}
+use Rattle.std.proofs.Common.{false, ◌≡◌, ℕ, zero, suc, ◌+◌, ◌-◌, ◌<◌, ◌≤◌, min, max, leb, true, List, [], ◌∷◌, ◌++◌, length, take, drop, refl, sym, ap, subst, ◌∙◌, arith, inl, inr}
 use Rattle.std.proofs.lemmas.Bool.{cases_Bool, leb-true, leb-false}
 use Rattle.std.proofs.lemmas.List.{length-take, length-drop, take-take, drop-take}
 use Rattle.minus_term.specs.Append.{append_ops, rows_anew}
@@ -7,6 +7,8 @@ use Rattle.minus_term.specs.FullRedraw.{page_of}
 use Rattle.minus_term.specs.Operations.{Op, GoTo, ClearRow, Put}
 use Rattle.minus_term.specs.PlayedScreen.{PlayedScreen, ShownPage, Shows, play_all, screen_of}
 use Rattle.minus_term.specs.Puts.{puts}
+use Rattle.minus_term.proofs.CursorLaws.{cursor_shown-append, cursor_stays-append}
+use Rattle.minus_term.specs.CursorShown.{cursor_shown}
 use Rattle.minus_term.proofs.AppendLaws.{append_near, append_shows_lem, IsClean-changed}
 use Rattle.minus_term.proofs.PlayLaws.{play_all-append, draws_from, length-play_all}
 use Rattle.minus_term.proofs.ScrollLaws.{one_put}
@@ -19,7 +21,7 @@ use Rattle.minus_state.specs.Control.{Control, Settings, document_of, text_rows,
 use Rattle.minus.specs.Drawings.{append_from, ops_of_step, changed_prompt}
 use Rattle.minus_state.specs.Page.{all_shown, shown}
 use Rattle.minus_state.specs.ShownPrompt.{prompt_row}
-use Rattle.minus.proofs.DrawnLaws.{shown_fits, page_size, next_prompt_shows, next_prompt_puts, next_prompt_clean, prompt_there, plain, IsPlainDrawing}
+use Rattle.minus.proofs.DrawnLaws.{shown_fits, page_size, next_prompt_shows, next_prompt_puts, next_prompt_clean, prompt_there, plain, IsPlainDrawing, next_prompt_cursor}
 
 -- rows that agree up to one agree up to where it stands on the page
 agree_shown : {X : Type 0} (xs ys : List X) (k m n f : ℕ) → take k xs ≡ take k ys → f ≤ k - m → f ≤ n → take f (take n (drop m xs)) ≡ take f (take n (drop m ys))
@@ -78,6 +80,7 @@ append_draws c text search_mark s keeps some =
     subst (λ (ops : List Op). IsPlainDrawing (ops ++ prompt) drawing c new) near record {
       shows = subst (λ (s : PlayedScreen). Shows s (plain new)) (sym (play_all-append rows prompt screen)) all;
       clean = IsClean-append pages rows prompt (IsClean-changed pages c.rows first (length (shown c)) (shown new) (prompt_row new) (1, omega arith, refl)) (next_prompt_clean pages c.rows (prompt_row c) (prompt_row new) (prompt_there c new));
+      cursor = cursor_shown-append rows prompt false ∙ ap (cursor_shown prompt) (cursor_stays-append first (length (shown c)) (shown new) false) ∙ next_prompt_cursor c.rows (prompt_row c) (prompt_row new) false;
       few = omega (arith, few, none, count, length-drop first (shown new));
       asked = λ e. absurd (let drawn : Append (first_changed c) (length (text_rows c)) ≡ Prompt = e in cc);
       none = λ q same. absurd (let drawn : Append (first_changed c) (length (text_rows c)) ≡ Nothing = q in cc);

@@ -1,139 +1,110 @@
 -- The drawings of some works after those of others are the drawings of them all.
-use Rattle.std.proofs.Common.{◌≡◌, ℕ, ◌+◌, ◌≤◌, ◌||◌, Bool, true, false, List, [], ◌∷◌, ◌++◌, length, map, Option, None, Some, refl, sym, ap, subst, ◌∙◌, arith, append_assoc, inl, inr}
+use Rattle.std.proofs.Common.{◌≡◌, ℕ, ◌+◌, ◌≤◌, ◌||◌, Bool, true, false, List, [], ◌∷◌, ◌++◌, map, Option, None, refl, sym, ap, subst, ◌∙◌, arith, append_assoc, inl, inr}
 use Rattle.std.specs.List.{Contains}
 use Rattle.std.proofs.lemmas.Bool.{cases_Bool}
 use Rattle.std.proofs.lemmas.List.{append-nil, map-append, length-replicate}
 use Rattle.std.proofs.lemmas.List.Folds.{list_any-append}
 use Rattle.minus_term.specs.Operations.{Op}
 use Rattle.minus_term.specs.PlayedScreen.{PlayedScreen, Shows, play_all, screen_of, unknown_screen}
+use Rattle.minus_term.specs.CursorShown.{has_cursor}
 use Rattle.minus_term.specs.Puts.{puts}
-use Rattle.minus_term.proofs.JoinLaws.{puts_join, puts_below}
-use Rattle.minus_term.proofs.PlayLaws.{play_all-append, draws_from, shows_below, screen_of_below, unknown_below, length-play_all, play_is_monotone_lem}
+use Rattle.minus_term.specs.Marks.{page_len}
+use Rattle.minus_term.proofs.JoinLaws.{puts_join_any, puts_below}
+use Rattle.minus_term.proofs.PlayLaws.{play_all-append, draws_from, screen_of_below, unknown_below, length-play_all}
 use Rattle.minus_state.specs.Control.{Control}
 use Rattle.minus_state.specs.Page.{page}
 use Rattle.minus_state.specs.ShownPrompt.{prompt_row}
 use Rattle.minus.specs.Works.{Work, is_full, some_full, IsQuiet, passed_in, reached}
-use Rattle.minus.specs.declared.step_drawing.Drawing.TheVariants.{Nothing, Full, Scroll, Append, Prompt, Opening, Cursor, Edit, Closing}
-use Rattle.minus.proofs.LeavesLaws.{head_there, tail_there, pages_before, pages_after}
+use Rattle.minus.specs.declared.step_drawing.Drawing.TheVariants.{Full, Edit, Closing}
+use Rattle.minus.proofs.LeavesLaws.{head_there, tail_there, pages_before, pages_after, full_join, cursor_on}
 use Rattle.minus_term.specs.Written.{IsClean}
 use Rattle.minus_term.proofs.WrittenLaws.{IsClean-append, IsClean-more}
-use Rattle.minus.specs.Drawn.{screen_before, most_of, most_puts, then_most, IsWithin, DrawsPrompts, IsDrawing, DrawingsJoin}
+use Rattle.minus.specs.Drawn.{screen_before, most_of, most_puts, DrawsPrompts, IsDrawing, DrawingsJoin}
 use Rattle.minus.specs.Drawings.{whole_prompt}
 use Rattle.minus.specs.declared.step_drawing.Drawing.{Drawing}
 
-within_sum : (m n : ℕ) (o p : Option ℕ) → IsWithin m o → IsWithin n p → IsWithin (m + 1 + n) (then_most o p)
-within_sum m n None p h k = tt
-within_sum m n (Some a) None h k = tt
-within_sum m n (Some a) (Some b) h k = omega (arith, h, k)
-
--- a bound of works and a bound of those after them, in which the first may end with one more
-widened : (o p q : Option ℕ) → ((m n : ℕ) → IsWithin m o → IsWithin n p → IsWithin (m + 1 + n) q) → (r : Option ℕ) → (m n : ℕ) → IsWithin m (then_most r o) → IsWithin n p → IsWithin (m + 1 + n) (then_most r q)
-widened o p q more None m n h k = tt
-widened o p None more (Some r) m n h k = tt
-widened None p (Some b) more (Some r) m n h k = absurd (let far : b + 1 + 1 + n ≤ b = more (b + 1) n tt k in omega (arith, far))
-widened (Some a) p (Some b) more (Some r) m n h k = let all : a + 1 + n ≤ b = more a n (omega arith) k in omega (arith, h, all)
-
 -- bounds of works and of those after them
-pub bounds_join : (w : Work) (ws : List Work) (v : Work) (vs : List Work) (m n : ℕ) → IsWithin m (most_puts (w ∷ ws)) → IsWithin n (most_puts (v ∷ vs)) → IsWithin (m + 1 + n) (most_puts ((w ∷ ws) ++ v ∷ vs))
-bounds_join w [] v vs m n h k = within_sum m n (most_of w.drawing w.left) (most_puts (v ∷ vs)) h k
-bounds_join w (u ∷ ws) v vs m n h k =
-    widened (most_puts (u ∷ ws)) (most_puts (v ∷ vs)) (most_puts ((u ∷ ws) ++ v ∷ vs)) (λ i j a b. bounds_join u ws v vs i j a b) (most_of w.drawing w.left) m n h k
+bounds_join : (w : Work) (ws : List Work) (v : Work) (vs : List Work) (m n : ℕ) → m ≤ most_puts (w ∷ ws) → n ≤ most_puts (v ∷ vs) → m + 1 + n ≤ most_puts ((w ∷ ws) ++ v ∷ vs)
+bounds_join w [] v vs m n h k = omega (arith, h, k)
+bounds_join w (u ∷ ws) v vs m n h k = let rest = bounds_join u ws v vs (most_puts (u ∷ ws)) n (omega arith) k in omega (arith, h, rest)
 
--- partial drawings, one after the other: from the first page to the last, with no more texts than their bounds allow
-pub partial_join : (a b c : Control) (xs ys : List Op) → Shows (play_all xs (screen_of (page a))) (page b) → Shows (play_all ys (screen_of (page b))) (page c) → Shows (play_all (xs ++ ys) (screen_of (page a))) (page c)
-partial_join a b c xs ys h k = subst (λ (s : PlayedScreen). Shows s (page c)) (sym (play_all-append xs ys (screen_of (page a)))) (draws_from ys (page b) (page c) (play_all xs (screen_of (page a))) k h)
+-- what is drawn in full has room for a page of its size
+full_most : (d : Drawing) (new : Control) → is_full d ≡ true → most_of d new ≡ page_len new.rows
+full_most Full new e = refl
+full_most Edit new e = refl
+full_most Closing new e = refl
+full_most d new e = absurd (cc)
 
-pub partial_few : (a b : Control) (xs ys : List Op) → Shows (play_all xs (screen_of (page a))) (page b) → puts (xs ++ ys) (screen_of (page a)) ≤ puts xs (screen_of (page a)) + 1 + puts ys (screen_of (page b))
-partial_few a b xs ys h =
-    let joined = puts_join xs ys (screen_of (page a)) in
-    let known = puts_below ys (screen_of (page b)) (play_all xs (screen_of (page a))) (screen_of_below (page b) (play_all xs (screen_of (page a))) h) in
-    omega (arith, joined, known)
+abbrev pub AllRows : ℕ → List Work → Type 0
+AllRows rows [] = Unit {0}
+AllRows rows (w ∷ works) = (w.left.rows ≡ rows) × AllRows rows works
 
--- a drawing from the unknown screen is one from wherever the drawings before it led, on a screen of its size
-pub full_join : (c : Control) (xs ys : List Op) (s : PlayedScreen) → length s.texts ≡ c.rows → Shows (play_all ys (unknown_screen c.rows)) (page c) → Shows (play_all (xs ++ ys) s) (page c)
-full_join c xs ys s e h =
-    let after : PlayedScreen = play_all xs s in
-    let below = play_is_monotone_lem ys (unknown_screen c.rows) after (unknown_below c.rows after (length-play_all xs s ∙ e)) in
-    subst (λ (t : PlayedScreen). Shows t (page c)) (sym (play_all-append xs ys s)) (shows_below (page c) (play_all ys (unknown_screen c.rows)) (play_all ys after) below h)
-
--- without a bound where one is drawn in full
-pub no_bound : (works : List Work) → some_full works ≡ true → most_puts works ≡ None
-no_bound [] e = absurd (cc)
-no_bound (w ∷ []) e = alone w.drawing e
+pub page_fits : (rows : ℕ) (works : List Work) → some_full works ≡ true → AllRows rows works → page_len rows ≤ most_puts works
+page_fits rows [] e all = absurd (cc)
+page_fits rows (w ∷ []) e all =
+    let most = full_most w.drawing w.left (alone (is_full w.drawing) e) ∙ ap page_len all.0 in
+    omega (arith, most)
   where
-    alone : (d : Drawing) → (is_full d || false) ≡ true → most_of d w.left ≡ None
-    alone Nothing f = absurd (cc)
-    alone Full f = refl
-    alone (Scroll from to) f = absurd (cc)
-    alone (Append at count) f = absurd (cc)
-    alone Prompt f = absurd (cc)
-    alone Opening f = absurd (cc)
-    alone Cursor f = absurd (cc)
-    alone Edit f = refl
-    alone Closing f = refl
-no_bound (w ∷ v ∷ works) e = first (no_bound (v ∷ works)) w.drawing e
+    alone : (x : Bool) → (x || false) ≡ true → x ≡ true
+    alone true f = refl
+    alone false f = f
+page_fits rows (w ∷ v ∷ works) e all = elim (cases_Bool (is_full w.drawing)) [
+  | inl f ↦ (let most = full_most w.drawing w.left f ∙ ap page_len all.0 in omega (arith, most))
+  | inr f ↦ (let rest = page_fits rows (v ∷ works) (second f e) all.1 in omega (arith, rest))
+]
   where
-    first : (some_full (v ∷ works) ≡ true → most_puts (v ∷ works) ≡ None) → (d : Drawing) → (is_full d || some_full (v ∷ works)) ≡ true → then_most (most_of d w.left) (most_puts (v ∷ works)) ≡ None
-    first more Full f = refl
-    first more Edit f = refl
-    first more Closing f = refl
-    first more Nothing f = let none : most_puts (v ∷ works) ≡ None = more f in rw none refl
-    first more (Scroll from to) f = let none : most_puts (v ∷ works) ≡ None = more f in rw none refl
-    first more (Append at count) f = let none : most_puts (v ∷ works) ≡ None = more f in rw none refl
-    first more Prompt f = let none : most_puts (v ∷ works) ≡ None = more f in rw none refl
-    first more Opening f = let none : most_puts (v ∷ works) ≡ None = more f in rw none refl
-    first more Cursor f = let none : most_puts (v ∷ works) ≡ None = more f in rw none refl
+    second : {x y : Bool} → x ≡ false → (x || y) ≡ true → y ≡ true
+    second {x = true} f g = absurd (cc)
+    second {x = false} f g = g
 
--- the drawing of works, after which the drawing of others, is the drawing of them all, without one in full among them
-pub partial_drawings : (a b c : Control) (w v : Work) (ws vs : List Work) (xs ys : List Op) → some_full (w ∷ ws) ≡ false → some_full (v ∷ vs) ≡ false → IsDrawing xs a (w ∷ ws) b → IsDrawing ys b (v ∷ vs) c
-    → Shows (play_all (xs ++ ys) (screen_before a ((w ∷ ws) ++ v ∷ vs) c)) (page c) × IsWithin (puts (xs ++ ys) (screen_before a ((w ∷ ws) ++ v ∷ vs) c)) (most_puts ((w ∷ ws) ++ v ∷ vs))
-partial_drawings a b c w v ws vs xs ys fw fv h k =
-    let full : some_full ((w ∷ ws) ++ v ∷ vs) ≡ false = (let e : some_full ((w ∷ ws) ++ v ∷ vs) ≡ (some_full (w ∷ ws) || some_full (v ∷ vs)) = list_any-append (λ (x : Work). is_full x.drawing) (w ∷ ws) (v ∷ vs) in e ∙ both_false (some_full (w ∷ ws)) (some_full (v ∷ vs)) fw fv) in
-    let before : screen_before a ((w ∷ ws) ++ v ∷ vs) c ≡ screen_of (page a) = partial_screen a ((w ∷ ws) ++ v ∷ vs) c full in
-    let first : screen_before a (w ∷ ws) b ≡ screen_of (page a) = partial_screen a (w ∷ ws) b fw in
-    let second : screen_before b (v ∷ vs) c ≡ screen_of (page b) = partial_screen b (v ∷ vs) c fv in
-    let h_shows : Shows (play_all xs (screen_of (page a))) (page b) = subst (λ (s : PlayedScreen). Shows (play_all xs s) (page b)) first h.shows in
-    let k_shows : Shows (play_all ys (screen_of (page b))) (page c) = subst (λ (s : PlayedScreen). Shows (play_all ys s) (page c)) second k.shows in
-    let h_few : IsWithin (puts xs (screen_of (page a))) (most_puts (w ∷ ws)) = subst (λ (s : PlayedScreen). IsWithin (puts xs s) (most_puts (w ∷ ws))) first h.few in
-    let k_few : IsWithin (puts ys (screen_of (page b))) (most_puts (v ∷ vs)) = subst (λ (s : PlayedScreen). IsWithin (puts ys s) (most_puts (v ∷ vs))) second k.few in
-    let bound = bounds_join w ws v vs (puts xs (screen_of (page a))) (puts ys (screen_of (page b))) h_few k_few in
-    let few : IsWithin (puts (xs ++ ys) (screen_of (page a))) (most_puts ((w ∷ ws) ++ v ∷ vs)) = within_less (puts (xs ++ ys) (screen_of (page a))) (puts xs (screen_of (page a)) + 1 + puts ys (screen_of (page b))) (most_puts ((w ∷ ws) ++ v ∷ vs)) (partial_few a b xs ys h_shows) bound in (
-      subst (λ (s : PlayedScreen). Shows (play_all (xs ++ ys) s) (page c)) (sym before) (partial_join a b c xs ys h_shows k_shows),
-      subst (λ (s : PlayedScreen). IsWithin (puts (xs ++ ys) s) (most_puts ((w ∷ ws) ++ v ∷ vs))) (sym before) few,
-    )
+-- where the drawings of works and those of others lead together, and how many texts those of the others put there
+abbrev LeadsOn : Control → Control → Control → List Work → List Work → List Op → List Op → Type 0
+LeadsOn a b c ws vs xs ys =
+    Shows (play_all (xs ++ ys) (screen_before a (ws ++ vs) c)) (page c)
+    × (puts ys (play_all xs (screen_before a (ws ++ vs) c)) ≤ puts ys (screen_before b vs c))
+
+-- from a screen of which so much is known, drawings in part go on from the page that those before them show
+goes_on_from : (b c : Control) (xs ys : List Op) (s : PlayedScreen) → Shows (play_all xs s) (page b) → Shows (play_all ys (screen_of (page b))) (page c)
+    → Shows (play_all (xs ++ ys) s) (page c) × (puts ys (play_all xs s) ≤ puts ys (screen_of (page b)))
+goes_on_from b c xs ys s h k = (
+  subst (λ (t : PlayedScreen). Shows t (page c)) (sym (play_all-append xs ys s)) (draws_from ys (page b) (page c) (play_all xs s) k h),
+  puts_below ys (screen_of (page b)) (play_all xs s) (screen_of_below (page b) (play_all xs s) h),
+)
+
+-- without one in full among them
+partial_drawings : (a b c : Control) (ws vs : List Work) (xs ys : List Op) → some_full ws ≡ false → some_full vs ≡ false → IsDrawing xs a ws b → IsDrawing ys b vs c → LeadsOn a b c ws vs xs ys
+partial_drawings a b c ws vs xs ys fw fv h k =
+    let full : some_full (ws ++ vs) ≡ false = (let e : some_full (ws ++ vs) ≡ (some_full ws || some_full vs) = list_any-append (λ (x : Work). is_full x.drawing) ws vs in e ∙ both_false (some_full ws) (some_full vs) fw fv) in
+    let h_shows : Shows (play_all xs (screen_of (page a))) (page b) = (let i = h.shows in rw fw at i) in
+    let k_shows : Shows (play_all ys (screen_of (page b))) (page c) = (let i = k.shows in rw fv at i) in
+    rw (full, fv) (goes_on_from b c xs ys (screen_of (page a)) h_shows k_shows)
   where
     both_false : (x y : Bool) → x ≡ false → y ≡ false → (x || y) ≡ false
     both_false x y e f = rw (e, f) refl
 
-    partial_screen : (x : Control) (works : List Work) (y : Control) → some_full works ≡ false → screen_before x works y ≡ screen_of (page x)
-    partial_screen x works y e = rw e refl
-
-    within_less : (m n : ℕ) (o : Option ℕ) → m ≤ n → IsWithin n o → IsWithin m o
-    within_less m n None l i = tt
-    within_less m n (Some x) l i = omega (arith, l, i)
-
--- a drawing in full after any drawing is a drawing in full of them all, which has no bound
-pub full_drawings : (a b c : Control) (ws vs : List Work) (xs ys : List Op) → some_full vs ≡ true → IsDrawing ys b vs c
-    → Shows (play_all (xs ++ ys) (screen_before a (ws ++ vs) c)) (page c) × (most_puts (ws ++ vs) ≡ None)
+-- a drawing in full after any drawing
+full_drawings : (a b c : Control) (ws vs : List Work) (xs ys : List Op) → some_full vs ≡ true → IsDrawing ys b vs c → LeadsOn a b c ws vs xs ys
 full_drawings a b c ws vs xs ys e k =
     let full : some_full (ws ++ vs) ≡ true = (let f : some_full (ws ++ vs) ≡ (some_full ws || some_full vs) = list_any-append (λ (x : Work). is_full x.drawing) ws vs in f ∙ last_true (some_full ws) (some_full vs) e) in
     let shows : Shows (play_all ys (unknown_screen c.rows)) (page c) = (let h = k.shows in rw e at h) in
-    let joined = full_join c xs ys (unknown_screen c.rows) (length-replicate {A = Option (List ℕ)} c.rows None) shows in
-    (rw full joined, no_bound (ws ++ vs) full)
+    let size = length-replicate {A = Option (List ℕ)} c.rows None in
+    let joined = full_join c xs ys (unknown_screen c.rows) size shows in
+    let after : PlayedScreen = play_all xs (unknown_screen c.rows) in
+    let few = puts_below ys (unknown_screen c.rows) after (unknown_below c.rows after (length-play_all xs (unknown_screen c.rows) ∙ size)) in
+    rw (full, e) (joined, few)
   where
     last_true : (x y : Bool) → y ≡ true → (x || y) ≡ true
     last_true true y f = refl
     last_true false y f = f
 
 -- a drawing in part after one in full
-pub full_then_partial : (a b c : Control) (ws vs : List Work) (xs ys : List Op) → some_full ws ≡ true → some_full vs ≡ false → b.rows ≡ c.rows → IsDrawing xs a ws b → IsDrawing ys b vs c
-    → Shows (play_all (xs ++ ys) (screen_before a (ws ++ vs) c)) (page c) × (most_puts (ws ++ vs) ≡ None)
+full_then_partial : (a b c : Control) (ws vs : List Work) (xs ys : List Op) → some_full ws ≡ true → some_full vs ≡ false → b.rows ≡ c.rows → IsDrawing xs a ws b → IsDrawing ys b vs c → LeadsOn a b c ws vs xs ys
 full_then_partial a b c ws vs xs ys fw fv rows h k =
     let full : some_full (ws ++ vs) ≡ true = (let f : some_full (ws ++ vs) ≡ (some_full ws || some_full vs) = list_any-append (λ (x : Work). is_full x.drawing) ws vs in f ∙ first_true (some_full ws) (some_full vs) fw) in
     let h_shows : Shows (play_all xs (unknown_screen b.rows)) (page b) = (let i = h.shows in rw fw at i) in
     let k_shows : Shows (play_all ys (screen_of (page b))) (page c) = (let i = k.shows in rw fv at i) in
-    let joined : Shows (play_all (xs ++ ys) (unknown_screen b.rows)) (page c) = subst (λ (s : PlayedScreen). Shows s (page c)) (sym (play_all-append xs ys (unknown_screen b.rows))) (draws_from ys (page b) (page c) (play_all xs (unknown_screen b.rows)) k_shows h_shows) in
-    (rw full (subst (λ (n : ℕ). Shows (play_all (xs ++ ys) (unknown_screen n)) (page c)) rows joined), no_bound (ws ++ vs) full)
+    let from : Shows (play_all xs (unknown_screen c.rows)) (page b) = subst (λ (n : ℕ). Shows (play_all xs (unknown_screen n)) (page b)) rows h_shows in
+    rw (full, fv) (goes_on_from b c xs ys (unknown_screen c.rows) from k_shows)
   where
     first_true : (x y : Bool) → x ≡ true → (x || y) ≡ true
     first_true true y f = refl
@@ -171,8 +142,13 @@ pub some_join : (a b c : Control) (w v : Work) (ws vs : List Work) (xs ys : List
 some_join a b c w v ws vs xs ys rows is there h k =
     record {
       shows = by_full.0;
+      cursor = cursor_on xs ys b c (has_cursor (page a)) h.cursor k.cursor;
       clean = joined_clean;
-      few = by_full.1;
+      few =
+          (let both = bounds_join w ws v vs (puts xs (screen_before a (w ∷ ws) b)) (puts ys (screen_before b (v ∷ vs) c)) h.few k.few in
+          let joined = puts_join_any xs ys (screen_before a ((w ∷ ws) ++ v ∷ vs) c) (screen_before a (w ∷ ws) b) in
+          let second = by_full.1 in
+          omega (arith, both, joined, second));
       asked = prompts_join (xs ++ ys) (w ∷ ws) (v ∷ vs) (prompts_before xs ys (w ∷ ws) h.asked) (prompts_behind xs ys (v ∷ vs) k.asked);
       none = λ q. (
           let both = quiet_parts a (w ∷ ws) (v ∷ vs) q in
@@ -183,15 +159,12 @@ some_join a b c w v ws vs xs ys rows is there h k =
           );
     }
   where
-    no_limit : (n : ℕ) (o : Option ℕ) → o ≡ None → IsWithin n o
-    no_limit n o e = rw e tt
-
-    by_full : Shows (play_all (xs ++ ys) (screen_before a ((w ∷ ws) ++ v ∷ vs) c)) (page c) × IsWithin (puts (xs ++ ys) (screen_before a ((w ∷ ws) ++ v ∷ vs) c)) (most_puts ((w ∷ ws) ++ v ∷ vs))
+    by_full : LeadsOn a b c (w ∷ ws) (v ∷ vs) xs ys
     by_full = elim (cases_Bool (some_full (v ∷ vs))) [
-      | inl e ↦ (let p = full_drawings a b c (w ∷ ws) (v ∷ vs) xs ys e k in (p.0, no_limit (puts (xs ++ ys) (screen_before a ((w ∷ ws) ++ v ∷ vs) c)) (most_puts ((w ∷ ws) ++ v ∷ vs)) p.1))
+      | inl e ↦ full_drawings a b c (w ∷ ws) (v ∷ vs) xs ys e k
       | inr e ↦ elim (cases_Bool (some_full (w ∷ ws))) [
-        | inl f ↦ (let p = full_then_partial a b c (w ∷ ws) (v ∷ vs) xs ys f e (rows e) h k in (p.0, no_limit (puts (xs ++ ys) (screen_before a ((w ∷ ws) ++ v ∷ vs) c)) (most_puts ((w ∷ ws) ++ v ∷ vs)) p.1))
-        | inr f ↦ partial_drawings a b c w v ws vs xs ys f e h k
+        | inl f ↦ full_then_partial a b c (w ∷ ws) (v ∷ vs) xs ys f e (rows e) h k
+        | inr f ↦ partial_drawings a b c (w ∷ ws) (v ∷ vs) xs ys f e h k
       ]
     ]
 

@@ -1,5 +1,5 @@
 -- Neighbouring appends that are worked off in one go.
-use Rattle.std.proofs.Common.{◌≡◌, ℕ, zero, suc, ◌+◌, ◌-◌, ◌^◌, ◌<◌, ◌≤◌, ◌&&◌, ◌==◌, is_some, Bool, true, false, List, [], ◌∷◌, ◌++◌, length, map, Option, None, Some, refl, sym, ap, subst, ◌∙◌, arith, append_assoc, inl, inr, if◌then◌else◌}
+use Rattle.std.proofs.Common.{◌≡◌, ℕ, zero, suc, ◌-◌, ◌^◌, ◌<◌, ◌≤◌, ◌&&◌, ◌==◌, is_some, Bool, true, false, List, [], ◌∷◌, ◌++◌, length, map, Option, None, Some, refl, sym, ap, subst, ◌∙◌, arith, append_assoc, inl, inr, if◌then◌else◌}
 use Rattle.std.specs.List.{concat, Contains}
 use Rattle.std.specs.Str.Lines.{lines}
 use Rattle.std.proofs.lemmas.Bool.{cases_Bool, eq-eqb}
@@ -18,7 +18,7 @@ use Rattle.minus_state.specs.Redraws.{append_redraw, added_redraw}
 use Rattle.minus_state.specs.ShownPrompt.{prompt_row}
 use Rattle.minus.specs.declared.step_drawing.Drawing.{Drawing}
 use Rattle.minus.specs.declared.step_drawing.Drawing.TheVariants.{Nothing, Full, Append, Prompt}
-use Rattle.minus.specs.Drawn.{most_puts, then_most, IsWithin, DrawsPrompts, IsDrawing}
+use Rattle.minus.specs.Drawn.{most_puts, DrawsPrompts, IsDrawing}
 use Rattle.minus.specs.Joined.{appended_to, appended_all, append_told, appending, MayWorkJoined, WorkedAppendsJoin}
 use Rattle.minus.specs.Reads.{Told}
 use Rattle.minus.specs.Says.{Says}
@@ -26,7 +26,7 @@ use Rattle.minus.specs.Seen.{Seen}
 use Rattle.minus.specs.Shapes.{adds_text}
 use Rattle.minus.specs.Table.{appends_data, moved, drawing_by, end_hook, is_at_end}
 use Rattle.minus.specs.Works.{Work, reached, passed_in, some_full, IsQuiet, Takes, worked, Worked, first, more, IsNext, leaving}
-use Rattle.minus.proofs.JoinLaws.{quiet_reached, no_bound}
+use Rattle.minus.proofs.JoinLaws.{quiet_reached, AllRows, page_fits}
 use Rattle.minus.proofs.JoinedKindsLaws.{keeps_join}
 use Rattle.minus.proofs.JoinedLaws.{left_by, longer, on_show, twice, still, put_aside}
 use Rattle.minus.proofs.LeavesLaws.{tail_there}
@@ -73,7 +73,7 @@ record Coarser (c : Control) (w : Work) (works : List Work) : Type 0 where
   full : some_full works ≡ some_full (w ∷ [])
   reach : w.left ≡ reached c works
   some : 1 ≤ length works
-  most : (n : ℕ) → IsWithin n (most_puts (w ∷ [])) → IsWithin n (most_puts works)
+  most : most_puts (w ∷ []) ≤ most_puts works
   prompts : (ops : List Op) → DrawsPrompts ops works
   quiet : IsQuiet c works → IsQuiet c (w ∷ [])
 
@@ -89,7 +89,11 @@ drawn_as : (ops : List Op) (c new : Control) (w : Work) (works : List Work) → 
 drawn_as ops c new w works so h = record {
   shows = subst (λ (full : Bool). Shows (play_all ops (screen_when c new full)) (page new)) (sym so.full) h.shows;
   clean = IsClean-more (page c ∷ page w.left ∷ []) (map page (c ∷ passed_in works)) among ops h.clean;
-  few = so.most (puts ops (screen_when c new (some_full works))) (subst (λ (full : Bool). IsWithin (puts ops (screen_when c new full)) (most_puts (w ∷ []))) (sym so.full) h.few);
+  cursor = h.cursor;
+  few =
+      (let few : puts ops (screen_when c new (some_full works)) ≤ most_puts (w ∷ []) = subst (λ (full : Bool). puts ops (screen_when c new full) ≤ most_puts (w ∷ [])) (sym so.full) h.few in
+      let most = so.most in
+      omega (arith, few, most));
   asked = so.prompts ops;
   none = λ q. h.none (so.quiet q);
 }
@@ -115,21 +119,12 @@ none_prompts : (ops : List Op) (works : List Work) → AllNothing works → Draw
 none_prompts ops [] all = tt
 none_prompts ops (w ∷ works) all = (λ e. absurd (let drawn : Nothing ≡ Prompt = sym all.0 ∙ e in cc), none_prompts ops works all.1)
 
-within_next : (n : ℕ) (o : Option ℕ) → n ≤ 0 → IsWithin n (then_most (Some 0) o)
-within_next n None l = tt
-within_next n (Some m) l = omega (arith, l)
-
-none_most : (n : ℕ) (works : List Work) → n ≤ 0 → AllNothing works → IsWithin n (most_puts works)
-none_most n [] l all = l
-none_most n (w ∷ []) l all = (let drawn = all.0 in rw drawn l)
-none_most n (w ∷ v ∷ works) l all = (let drawn = all.0 in rw drawn (within_next n (most_puts (v ∷ works)) l))
-
 coarser_aside : (c : Control) (w : Work) (works : List Work) → w.drawing ≡ Nothing → w.left ≡ reached c works → 1 ≤ length works → AllNothing works → Coarser c w works
 coarser_aside c w works drawn reach some all = record {
   full = none_full works all ∙ sym (none_full (w ∷ []) (drawn, tt));
   reach = reach;
   some = some;
-  most = λ n within. none_most n works (rw drawn at within) all;
+  most = (rw drawn (omega arith));
   prompts = λ ops. none_prompts ops works all;
   quiet = λ q. (drawn, ap prompt_row reach ∙ quiet_reached c c works refl q, tt);
 }
@@ -167,40 +162,33 @@ appends_partial : (c : Control) (works : List Work) → AllAppends c works → s
 appends_partial c [] all = refl
 appends_partial c (w ∷ works) all = (let drawn = all.0 in let rest = appends_partial w.left works all.1 in rw (drawn, rest) refl)
 
-within_more : (n j k : ℕ) (o : Option ℕ) → n ≤ j + 1 + k → IsWithin k o → IsWithin n (then_most (Some j) o)
-within_more n j k None l h = tt
-within_more n j k (Some m) l h = omega (arith, l, h)
-
-within_less : (m n : ℕ) (o : Option ℕ) → m ≤ n → IsWithin n o → IsWithin m o
-within_less m n None l i = tt
-within_less m n (Some x) l i = omega (arith, l, i)
-
 -- the rows from the first that the first of them changes on are no more than their bounds together
-appends_most : (c : Control) (works : List Work) → 1 ≤ length works → AllAppends c works → IsWithin (length (text_rows (reached c works)) - first_changed c) (most_puts works)
+appends_most : (c : Control) (works : List Work) → 1 ≤ length works → AllAppends c works → length (text_rows (reached c works)) - first_changed c ≤ most_puts works
 appends_most c [] some all = absurd (omega (arith, some))
 appends_most c (w ∷ []) some all = (let drawn = all.0 in rw drawn (omega arith))
 appends_most c (w ∷ v ∷ works) some all =
     let new : Control = reached c (w ∷ v ∷ works) in
     let below : first_changed w.left ≤ length (text_rows w.left) = omega arith in
     let drawn = all.0 in
-    rw drawn (within_more (length (text_rows new) - first_changed c) (length (text_rows w.left) - first_changed c) (length (text_rows new) - first_changed w.left) (most_puts (v ∷ works)) (omega (arith, below)) (appends_most w.left (v ∷ works) (omega arith) all.1))
+    let rest = appends_most w.left (v ∷ works) (omega arith) all.1 in
+    rw drawn (omega (arith, below, rest))
 
 coarser_kept : (c : Control) (w : Work) (works : List Work) → w.drawing ≡ Append (first_changed c) (length (text_rows c)) → w.left ≡ reached c works → 1 ≤ length works → AllShown c works → AllAppends c works → Coarser c w works
 coarser_kept c w works drawn reach some shown all = record {
   full = appends_partial c works all ∙ sym (appends_partial c (w ∷ []) (drawn, tt));
   reach = reach;
   some = some;
-  most = λ n within. within_less n (length (text_rows (reached c works)) - first_changed c) (most_puts works) (subst (λ (x : Control). n ≤ length (text_rows x) - first_changed c) reach (rw drawn at within)) (appends_most c works some all);
+  most = (let all_most = subst (λ (x : Control). length (text_rows x) - first_changed c ≤ most_puts works) (sym reach) (appends_most c works some all) in rw drawn (omega (arith, all_most)));
   prompts = λ ops. shown_prompts ops c works shown;
   quiet = shown_loud c works w some shown;
 }
 
-coarser_full : (c : Control) (w : Work) (works : List Work) → w.drawing ≡ Full → w.left ≡ reached c works → 1 ≤ length works → AllShown c works → some_full works ≡ true → Coarser c w works
-coarser_full c w works drawn reach some shown full = record {
+coarser_full : (c : Control) (w : Work) (works : List Work) → w.drawing ≡ Full → w.left ≡ reached c works → 1 ≤ length works → AllShown c works → some_full works ≡ true → AllRows w.left.rows works → Coarser c w works
+coarser_full c w works drawn reach some shown full rows = record {
   full = full ∙ sym (one_full drawn);
   reach = reach;
   some = some;
-  most = λ n within. (let none = no_bound works full in rw none tt);
+  most = (let room = page_fits w.left.rows works full rows in rw drawn (omega (arith, room)));
   prompts = λ ops. shown_prompts ops c works shown;
   quiet = shown_loud c works w some shown;
 }
@@ -321,6 +309,13 @@ full_all c (text ∷ texts) e may fits keeps =
     any_more : (w : Work) (works : List Work) → w.drawing ≡ Append (first_changed c) (length (text_rows c)) → some_full works ≡ true → some_full (w ∷ works) ≡ true
     any_more w works drawn full = rw (drawn, full) refl
 
+-- the terminal has as many rows all the while
+append_rows : (c : Control) (texts : List (List ℕ)) (n : ℕ) → c.help ≡ None → MayWorkJoined c → c.rows ≡ n → AllRows n (append_works c texts)
+append_rows c [] n e may is = tt
+append_rows c (text ∷ texts) n e may is =
+    let kept = ap (λ (x : Control). x.rows) (left_longer c text e may) ∙ is in
+    (kept, append_rows (appended_to c text) texts n (ap (λ (x : Control). x.help) (left_longer c text e may) ∙ e) (still_may c text may) kept)
+
 -- in one go they lead where they lead one after another
 joined_reach : (c : Control) (texts : List (List ℕ)) → MayWorkJoined c → 0 < length texts → (append_work c (concat texts)).left ≡ reached c (append_works c texts)
 joined_reach c texts may some = sym (works_reach c texts ∙ worked_appends_join_lem c texts may some)
@@ -332,7 +327,7 @@ coarser c text texts may fits = by_help c.help refl
     by_help (Some saved) e = coarser_aside c (append_work c (concat (text ∷ texts))) (append_works c (text ∷ texts)) (aside_draws c (concat (text ∷ texts)) saved e) (joined_reach c (text ∷ texts) may (omega arith)) (omega arith) (aside_all c (text ∷ texts) saved e may)
     by_help None e = elim (cases_Bool (keeps_rows_with c (concat (text ∷ texts)))) [
       | inl t ↦ coarser_kept c (append_work c (concat (text ∷ texts))) (append_works c (text ∷ texts)) (shown_draws c (concat (text ∷ texts)) e may ∙ ap (shown_drawing c) t) (joined_reach c (text ∷ texts) may (omega arith)) (omega arith) (shown_all c (text ∷ texts) e may) (appends_all c (text ∷ texts) e may (fits e) t)
-      | inr f ↦ coarser_full c (append_work c (concat (text ∷ texts))) (append_works c (text ∷ texts)) (shown_draws c (concat (text ∷ texts)) e may ∙ ap (shown_drawing c) f) (joined_reach c (text ∷ texts) may (omega arith)) (omega arith) (shown_all c (text ∷ texts) e may) (full_all c (text ∷ texts) e may (fits e) f)
+      | inr f ↦ coarser_full c (append_work c (concat (text ∷ texts))) (append_works c (text ∷ texts)) (shown_draws c (concat (text ∷ texts)) e may ∙ ap (shown_drawing c) f) (joined_reach c (text ∷ texts) may (omega arith)) (omega arith) (shown_all c (text ∷ texts) e may) (full_all c (text ∷ texts) e may (fits e) f) (append_rows c (text ∷ texts) (append_work c (concat (text ∷ texts))).left.rows e may (sym (ap (λ (x : Control). x.rows) (left_longer c (concat (text ∷ texts)) e may))))
     ]
 
 pub drawn_joined : (ops : List Op) (c new : Control) (text : List ℕ) (texts : List (List ℕ)) → MayWorkJoined c → (c.help ≡ None → Fits c (text ∷ texts)) → IsDrawing ops c (append_work c (concat (text ∷ texts)) ∷ []) new → IsDrawing ops c (append_works c (text ∷ texts)) new

@@ -1,5 +1,5 @@
 -- What the keys of an open search prompt do is drawn so.
-use Rattle.std.proofs.Common.{◌≡◌, ℕ, zero, suc, ◌+◌, ◌-◌, ◌≤◌, ◌==◌, Bool, true, List, [], ◌∷◌, ◌++◌, length, take, drop, replicate, Option, None, Some, option_map, refl, sym, ap, subst, ◌∙◌, arith, inl, inr}
+use Rattle.std.proofs.Common.{◌≡◌, ℕ, zero, suc, ◌+◌, ◌-◌, ◌≤◌, ◌==◌, Bool, true, List, [], ◌∷◌, ◌++◌, length, take, drop, replicate, Option, None, Some, is_some, option_map, refl, sym, ap, subst, ◌∙◌, arith, inl, inr}
 use Rattle.std.specs.Prelude.{bytes_eq}
 use Rattle.std.proofs.lemmas.Bool.{cases_Bool, eqb-true}
 use Rattle.std.proofs.lemmas.Slice.Eq.{bytes_eq-Decides}
@@ -8,9 +8,12 @@ use Rattle.std.proofs.lemmas.List.Elements.{Contains-push}
 use Rattle.regex.specs.Patterns.{Re}
 use Rattle.minus_term.specs.Operations.{Op}
 use Rattle.minus_term.specs.PlayedScreen.{ShownPage, Shows, play_all, unknown_screen, screen_of}
+use Rattle.minus_term.specs.CursorShown.{cursor_shown, has_cursor}
 use Rattle.minus_term.specs.Puts.{puts}
 use Rattle.minus_term.specs.SearchPrompt.{opening_ops, cursor_ops, edit_ops, closing_ops, typed_page}
 use Rattle.minus_term.specs.Written.{IsClean}
+use Rattle.minus_term.proofs.CursorLaws.{cursor_stays-edit, cursor_hidden-closing}
+use Rattle.minus_term.proofs.PutsLaws.{edit_puts_lem, closing_puts_lem}
 use Rattle.minus_term.proofs.SearchPromptLaws.{opening_shows_lem, opening_puts_lem, cursor_shows_lem, edit_shows_lem, closing_shows_lem, IsClean-opening, IsClean-cursor, IsClean-edit, IsClean-closing}
 use Rattle.minus_state.specs.declared.search.SearchMode.{SearchMode}
 use Rattle.minus_state.specs.declared.search.keys.QueryEdit.{QueryEdit}
@@ -32,7 +35,7 @@ use Rattle.minus.specs.Drawings.{changed_prompt, cursor_under, ops_of_step}
 use Rattle.minus.specs.Keyed.{KeysAreDrawn}
 use Rattle.minus.specs.Table.{drawing_by}
 use Rattle.minus.specs.Works.{Work, key_work, undrawn}
-use Rattle.minus.proofs.DrawnLaws.{plain, page_plain, page_size, shown_fits, work_drawn, undrawn_draws}
+use Rattle.minus.proofs.DrawnLaws.{plain, page_plain, page_size, shown_fits, shown_most, work_drawn, undrawn_draws}
 use Rattle.minus.proofs.KeyedLaws.{entered_rows, entered_closed}
 use Rattle.minus.proofs.PageLaws.{searched_fits, shown_still}
 
@@ -48,20 +51,27 @@ closing_draws c new some e =
     let is : plain new ≡ page new = sym (page_plain new e) in
     record {
       shows = subst (λ (p : ShownPage). Shows (play_all ops (unknown_screen new.rows)) p) is (closing_shows_lem new.rows (shown new) (prompt_row new) (unknown_screen new.rows) (length-replicate {A = Option (List ℕ)} new.rows None) (shown_fits new some));
+      cursor = subst (λ (p : ShownPage). cursor_shown ops (has_cursor (page c)) ≡ has_cursor p) is (cursor_hidden-closing new.rows (shown new) (prompt_row new) (has_cursor (page c)));
       clean = subst (λ (p : ShownPage). IsClean (page c ∷ p ∷ []) ops) is (IsClean-closing (page c ∷ plain new ∷ []) new.rows (shown new) (prompt_row new) (1, omega arith, refl));
-      few = tt;
+      few = (let few = closing_puts_lem new.rows (shown new) (prompt_row new) (unknown_screen new.rows) (length-replicate {A = Option (List ℕ)} new.rows None) (shown_fits new some) in omega (arith, few, shown_most new));
       asked = (λ e. absurd (let drawn : Closing ≡ PromptRow = e in cc), tt);
       none = λ q. absurd (let drawn : Closing ≡ Nothing = q.0 in cc);
     }
 
-pub edit_draws : (c : Control) (o : OpenSearch) → 1 ≤ c.rows → (let new : Control = with_search c o in IsDrawing (edit_ops new.rows (shown (confirmed_by new o.preview)) (typed_in o.prompt) o.prompt.editor.cursor) c (work_drawn Edit new ∷ []) new)
-edit_draws c o some =
+-- the page has a cursor where a search prompt is open
+cursor_where : (c : Control) (search : Option OpenSearch) → c.search ≡ search → has_cursor (page c) ≡ is_some c.search
+cursor_where c None e = rw e refl
+cursor_where c (Some o) e = rw e refl
+
+pub edit_draws : (c : Control) (o : OpenSearch) → 1 ≤ c.rows → is_some c.search ≡ true → (let new : Control = with_search c o in IsDrawing (edit_ops new.rows (shown (confirmed_by new o.preview)) (typed_in o.prompt) o.prompt.editor.cursor) c (work_drawn Edit new ∷ []) new)
+edit_draws c o some open_before =
     let new : Control = with_search c o in
     let rows : List (List ℕ) = shown (confirmed_by new o.preview) in
     record {
       shows = edit_shows_lem new.rows rows (typed_in o.prompt) o.prompt.editor.cursor (unknown_screen new.rows) (length-replicate {A = Option (List ℕ)} new.rows None) (searched_fits new o.preview some);
+      cursor = cursor_stays-edit new.rows rows (typed_in o.prompt) o.prompt.editor.cursor (has_cursor (page c)) ∙ cursor_where c c.search refl ∙ open_before;
       clean = IsClean-edit (page c ∷ page new ∷ []) new.rows rows (typed_in o.prompt) o.prompt.editor.cursor (1, omega arith, refl);
-      few = tt;
+      few = (let few = edit_puts_lem new.rows rows (typed_in o.prompt) o.prompt.editor.cursor (unknown_screen new.rows) (length-replicate {A = Option (List ℕ)} new.rows None) (searched_fits new o.preview some) in let fits = searched_fits new o.preview some in omega (arith, few, fits));
       asked = (λ e. absurd (let drawn : Edit ≡ PromptRow = e in cc), tt);
       none = λ q. absurd (let drawn : Edit ≡ Nothing = q.0 in cc);
     }
@@ -83,6 +93,7 @@ opening_stays c mode s some e =
     record {
       shows = subst (λ (p : ShownPage). Shows (play_all ops (screen_of p)) (page new)) is (opening_shows_lem c.rows (shown c) (prompt_row c) mark (shown_fits c some));
       clean = IsClean-opening (page c ∷ page new ∷ []) c.rows mark (page new, (1, omega arith, refl), Contains-push (shown c ++ replicate (c.rows - 1 - length (shown c)) []) mark);
+      cursor = refl;
       few = subst (λ (p : ShownPage). puts ops (screen_of p) ≤ 0) is (omega (arith, none));
       asked = (λ e. absurd (let drawn : Opening ≡ PromptRow = e in cc), tt);
       none = λ q. absurd (let drawn : Opening ≡ Nothing = q.0 in cc);
@@ -103,6 +114,7 @@ cursor_draws c o cursor some e =
     let after : typed_page c.rows rows (typed_in o.prompt) cursor ≡ page new = ap (λ (xs : List (List ℕ)). typed_page c.rows xs (typed_in o.prompt) cursor) (sym (shown_still c (Some (cursor_at o cursor)) o.preview)) in
     record {
       shows = subst (λ (p : ShownPage). Shows (play_all (cursor_ops c.rows cursor) (screen_of p)) (page new)) before (subst (λ (p : ShownPage). Shows (play_all (cursor_ops c.rows cursor) (screen_of (page_under c (Some o)))) p) after (cursor_shows_lem c.rows rows (typed_in o.prompt) o.prompt.editor.cursor cursor (searched_fits c o.preview some)));
+      cursor = cursor_where c c.search refl ∙ ap is_some e;
       clean = IsClean-cursor (page c ∷ page new ∷ []) c.rows cursor;
       few = omega arith;
       asked = (λ e. absurd (let drawn : Cursor ≡ PromptRow = e in cc), tt);
@@ -178,7 +190,7 @@ key_draws_by c o edit found Moved is some e =
     ap (λ (x : Editor). with_search c (record o { prompt = record o.prompt { editor = x } })) (same_editor o.prompt.editor editor (moved_query o.prompt.editor edit is))
     ∙ sym (ap (λ (x : Option OpenSearch). let k : Control = record c { search = option_map (λ (p : OpenSearch). let n : OpenSearch = record p { prompt = fed o.prompt edit } in n) x } in k) e) in
     subst (λ (new : Control). IsDrawing (cursor_under new.rows new.search) c (work_drawn Cursor new ∷ []) new) at (cursor_draws c o editor.cursor some e)
-key_draws_by c o edit found Edited is some e = edit_draws c (record { prompt = fed o.prompt edit; edited = true; preview = previewed c found }) some
+key_draws_by c o edit found Edited is some e = edit_draws c (record { prompt = fed o.prompt edit; edited = true; preview = previewed c found }) some (ap is_some e)
 key_draws_by c o edit found Confirmed is some e =
     let new : Control = entered c o.edited found in
     closing_draws c new (subst (λ (n : ℕ). 1 ≤ n) (sym (entered_rows c o.edited found)) some) (entered_closed c o.edited found)

@@ -1,13 +1,15 @@
 -- What a step leaves of the page that the sink's bytes leave.
-use Rattle.std.proofs.Common.{◌≡◌, ℕ, zero, suc, get_or, ◌<◌, true, false, inl, inr, List, ◌∷◌, ◌++◌, length, map, Option, Some, None, refl, sym, ap, subst, ◌∙◌, arith, append_assoc}
+use Rattle.std.proofs.Common.{◌≡◌, ℕ, zero, suc, get_or, ◌<◌, Bool, true, false, inl, inr, List, ◌∷◌, ◌++◌, length, map, Option, Some, None, refl, sym, ap, subst, ◌∙◌, arith, append_assoc}
 use Rattle.std.specs.List.{Contains}
 use Rattle.std.proofs.lemmas.Bool.{cases_Bool}
 use Rattle.std.proofs.lemmas.List.Elements.{Contains-append_left, Contains-append_right}
-use Rattle.std.proofs.lemmas.List.{map-append, length-map, get_or-map}
+use Rattle.std.proofs.lemmas.List.{map-append, length-map, length-replicate, get_or-map}
 use Rattle.minus_term.specs.Operations.{Op}
 use Rattle.minus_term.specs.PlayedScreen.{ShownPage, PlayedScreen, Shows, play_all, screen_of, unknown_screen}
+use Rattle.minus_term.specs.CursorShown.{cursor_shown, has_cursor}
 use Rattle.minus_term.specs.Written.{written_all}
-use Rattle.minus_term.proofs.PlayLaws.{play_all-append, draws_from}
+use Rattle.minus_term.proofs.CursorLaws.{cursor_shown-append}
+use Rattle.minus_term.proofs.PlayLaws.{play_all-append, draws_from, shows_below, unknown_below, length-play_all, play_is_monotone_lem}
 use Rattle.minus_term.proofs.WrittenLaws.{written_all-append, IsClean-append, IsClean-more}
 use Rattle.minus_state.specs.Control.{Control}
 use Rattle.minus_state.specs.Page.{page}
@@ -37,6 +39,17 @@ pages_after before ps c p here h = rw (map-append page before ps) (after_first (
 pub pages_before : (before ps : List Control) (p : ShownPage) → Contains (map page before) p → Contains (map page (before ++ ps)) p
 pages_before before ps p h = rw (map-append page before ps) (Contains-append_left (map page before) (map page ps) p h)
 
+-- a drawing from the unknown screen is one from wherever the drawings before it led, on a screen of its size
+pub full_join : (c : Control) (xs ys : List Op) (s : PlayedScreen) → length s.texts ≡ c.rows → Shows (play_all ys (unknown_screen c.rows)) (page c) → Shows (play_all (xs ++ ys) s) (page c)
+full_join c xs ys s e h =
+    let after : PlayedScreen = play_all xs s in
+    let below = play_is_monotone_lem ys (unknown_screen c.rows) after (unknown_below c.rows after (length-play_all xs s ∙ e)) in
+    subst (λ (t : PlayedScreen). Shows t (page c)) (sym (play_all-append xs ys s)) (shows_below (page c) (play_all ys (unknown_screen c.rows)) (play_all ys after) below h)
+
+-- what shows the cursor after some operations, or hides it, does so after all
+pub cursor_on : (xs ys : List Op) (old new : Control) (on : Bool) → cursor_shown xs on ≡ has_cursor (page old) → cursor_shown ys (has_cursor (page old)) ≡ has_cursor (page new) → cursor_shown (xs ++ ys) on ≡ has_cursor (page new)
+cursor_on xs ys old new on h k = cursor_shown-append xs ys on ∙ ap (cursor_shown ys) h ∙ k
+
 -- a drawing that is partial goes on from what was drawn before
 goes_on : (x y : List ℕ) (old new : Control) (works : List Work) (before : List Control) → some_full works ≡ false → old.rows ≡ new.rows → Contains (old ∷ passed_in works) new → (d : Drawn (Some x) (Some y) old works new) → Leaves (Some x) before old → Leaves (Some y) (before ++ passed_in works) new
 goes_on x y old new works before partial rows reached d h =
@@ -55,23 +68,29 @@ goes_on x y old new works before partial rows reached d h =
       record {
         here = after_first before ps old new whole.here reached;
         shows = subst (λ (n : ℕ). Shows (play_all (ops ++ d.0) (unknown_screen n)) (page new)) rows shows;
+        cursor = cursor_on ops d.0 old new false whole.cursor d.2.cursor;
         clean = IsClean-append pages ops d.0 (IsClean-more (map page before) pages (λ p k. pages_before before ps p k) ops whole.clean) (IsClean-more (map page (old ∷ ps)) pages (λ p k. pages_after before ps old p whole.here k) d.0 d.2.clean);
       },
     )
 
--- a drawing from the unknown screen begins anew
+-- a drawing from the unknown screen shows its page whatever was drawn before
 begins_anew : (x y : List ℕ) (old new : Control) (works : List Work) (before : List Control) → some_full works ≡ true → Contains (old ∷ passed_in works) new → (d : Drawn (Some x) (Some y) old works new) → Leaves (Some x) before old → Leaves (Some y) (before ++ passed_in works) new
 begins_anew x y old new works before anew reached d h =
-    let ps : List Control = passed_in works in
+    let front : List ℕ = h.0 in
+    let ops : List Op = h.1 in
     let whole = h.3 in
-    let shown = d.2.shows in (
-      x,
-      d.0,
-      d.1,
+    let ps : List Control = passed_in works in
+    let pages : List ShownPage = map page (before ++ ps) in
+    let bytes : y ≡ front ++ written_all (ops ++ d.0) = d.1 ∙ ap (λ z. z ++ written_all d.0) h.2 ∙ append_assoc front (written_all ops) (written_all d.0) ∙ ap (λ z. front ++ z) (sym (written_all-append ops d.0)) in
+    let from_any : Shows (play_all d.0 (unknown_screen new.rows)) (page new) = (let shown = d.2.shows in rw anew at shown) in (
+      front,
+      ops ++ d.0,
+      bytes,
       record {
         here = after_first before ps old new whole.here reached;
-        shows = rw anew at shown;
-        clean = IsClean-more (map page (old ∷ ps)) (map page (before ++ ps)) (λ p k. pages_after before ps old p whole.here k) d.0 d.2.clean;
+        shows = full_join new ops d.0 (unknown_screen new.rows) (length-replicate {A = Option (List ℕ)} new.rows None) from_any;
+        cursor = cursor_on ops d.0 old new false whole.cursor d.2.cursor;
+        clean = IsClean-append pages ops d.0 (IsClean-more (map page before) pages (λ p k. pages_before before ps p k) ops whole.clean) (IsClean-more (map page (old ∷ ps)) pages (λ p k. pages_after before ps old p whole.here k) d.0 d.2.clean);
       },
     )
 

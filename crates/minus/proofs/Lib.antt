@@ -14,9 +14,11 @@ pub mod LeavesLaws
 pub mod JoinLaws
 pub mod WorksLaws
 pub mod LoopLaws
+pub mod CalledLaws
 pub mod WaitLaws
 pub mod StepLaws
 pub mod StartLaws
+pub mod PagerLaws
 pub mod JoinedKindsLaws
 mod JoinedLaws
 mod JoinedTakeLaws

@@ -31,11 +31,11 @@ use Rattle.minus.proofs.CommandLaws.{shape_draws}
 use Rattle.minus.proofs.LeavesLaws.{head_there, tail_there, leaves_more}
 use Rattle.minus.specs.Drawings.{whole_page}
 use Rattle.minus.specs.Drawn.{IsDrawing, Redraws, RedrawBreaksOff, ExchangeLeavesItsPage}
-use Rattle.minus.proofs.DrawnLaws.{whole_shows, first_drawn, page_leaves}
+use Rattle.minus.proofs.DrawnLaws.{page_draws, first_drawn, page_leaves}
 
 pub start_broken : (refusal : Refusal) (a b : Option (List ℕ)) (m n : Option ℕ) (bytes drawing : List ℕ) (terminal : Bool) (c : Control) → c.search ≡ None → 1 ≤ c.rows → bytes ≡ drawing → drawing ≡ written_all (whole_page c) → IsShowRefused refusal terminal → ShowBreaksOff refusal a b m n bytes → StartBreaksOff refusal a b m n c
 start_broken (at_setup cause) a b m n bytes drawing terminal c closed some e g r h = h
-start_broken at_drawing a b m n bytes drawing terminal c closed some e g r h = inl (whole_page c, subst (λ (x : List ℕ). DrawingBreaksOff a b m n x) (e ∙ g) h, whole_shows c closed some)
+start_broken at_drawing a b m n bytes drawing terminal c closed some e g r h = inl (whole_page c, subst (λ (x : List ℕ). DrawingBreaksOff a b m n x) (e ∙ g) h, page_draws c closed some)
 start_broken refusal a b m n bytes drawing terminal c closed some e g r h = absurd h
 
 -- what is refused at a terminal is refused of a start that can be, and not before the terminal was asked for anything
@@ -167,15 +167,15 @@ untaken_later refusal ids w ws possible free h = memory_or {A = λ (r : Refusal)
 
 -- a page that was drawn whole on a sink, or a beginning of it
 pub redrawn : (a b : Option (List ℕ)) (bytes : List ℕ) (c : Control) → c.search ≡ None → 1 ≤ c.rows → bytes ≡ written_all (whole_page c) → Appends a b bytes → Redraws a b c
-redrawn a b bytes c closed some e h = (whole_page c, subst (λ (x : List ℕ). Appends a b x) e h, whole_shows c closed some)
+redrawn a b bytes c closed some e h = (whole_page c, subst (λ (x : List ℕ). Appends a b x) e h, page_draws c closed some)
 
 pub redraw_broken : (a b : Option (List ℕ)) (bytes : List ℕ) (c : Control) → c.search ≡ None → 1 ≤ c.rows → bytes ≡ written_all (whole_page c) → AppendsFront a b bytes → RedrawBreaksOff a b c
-redraw_broken a b bytes c closed some e h = (whole_page c, subst (λ (x : List ℕ). AppendsFront a b x) e h, whole_shows c closed some)
+redraw_broken a b bytes c closed some e h = (whole_page c, subst (λ (x : List ℕ). AppendsFront a b x) e h, page_draws c closed some)
 
 -- it stands at the end of the sink's bytes
 pub redraw_leaves : ExchangeLeavesItsPage
 redraw_leaves bytes None c h = absurd h.1
-redraw_leaves bytes (Some new) c h = (bytes, h.0, h.1, h.2)
+redraw_leaves bytes (Some new) c h = (bytes, h.0, h.1, h.2.whole)
 
 -- ---- the first move
 

@@ -5,9 +5,11 @@ use Rattle.minus_term.specs.Operations.{Op}
 use Rattle.minus_term.specs.Written.{written_all}
 use Rattle.minus.specs.declared.step_drawing.Drawing.{Drawing}
 use Rattle.minus_state.specs.declared.change.Change.{Change}
+use Rattle.minus_state.specs.declared.state.PagerState.{PagerState}
 use Rattle.minus_state.specs.Changes.{IsChange}
 use Rattle.minus_state.specs.Control.{Control}
 use Rattle.minus_state.specs.ShownPrompt.{prompt_row}
+use Rattle.minus_state.specs.States.{control_of, IsFormed}
 use Rattle.minus.specs.Drawings.{ops_of, ops_of_step, page_by, EditsAlone, IsDrawable}
 
 -- the bytes of these operations are added
@@ -22,6 +24,13 @@ AddsSearchOps old change ops before after =
 -- the page is added there, with the rows that a pattern leads to, if there is one, and this last row
 abbrev pub AddsPage : (old : Control) → Change → Option Re → (last before after : List ℕ) → Type 0
 AddsPage old change pattern last before after = AddsSearchOps old change (λ new. page_by new pattern last) before after
+
+-- they are added where the state is formed
+abbrev pub AddsFormed : PagerState → List Op → (before after : List ℕ) → Type 0
+AddsFormed s ops before after = IsFormed s → after ≡ before ++ written_all ops
+
+abbrev pub AddsFormedPage : PagerState → Change → Option Re → (last before after : List ℕ) → Type 0
+AddsFormedPage s change pattern last before after = IsFormed s → AddsPage (control_of s) change pattern last before after
 
 -- they are added where the query was edited
 abbrev pub AddsEditOps : (old : Control) → Change → (Control → List Op) → (before after : List ℕ) → Type 0

@@ -5,6 +5,7 @@ use Rattle.std.specs.Io.KnownBytes.{Appends}
 use Rattle.minus_term.specs.Marks.{page_len}
 use Rattle.minus_term.specs.Operations.{Op}
 use Rattle.minus_term.specs.Counts.{AppendsFront}
+use Rattle.minus_term.specs.CursorShown.{cursor_shown, has_cursor}
 use Rattle.minus_term.specs.PlayedScreen.{PlayedScreen, Shows, play_all, screen_of, unknown_screen}
 use Rattle.minus_term.specs.Written.{written_all, IsClean}
 use Rattle.minus_term.specs.Puts.{puts}
@@ -22,34 +23,25 @@ use Rattle.minus.specs.declared.step_drawing.Drawing.TheVariants.{Nothing, Full,
 abbrev pub screen_before : Control → List Work → Control → PlayedScreen
 screen_before old works new = if some_full works then unknown_screen new.rows else screen_of (page old)
 
--- how many texts a drawing may put at most, where it leads to a control: a move by d rows as many as d, an append as many as there
--- are rows from the first that it may change on; without a bound, none
-abbrev pub most_of : Drawing → Control → Option ℕ
-most_of Nothing new = Some 0
-most_of Full new = None
-most_of (Scroll from to) new = Some (min (distance from to) (page_len new.rows))
-most_of (Append first old_count) new = Some (length (text_rows new) - first)
-most_of Prompt new = Some 0
-most_of Opening new = Some 0
-most_of Cursor new = Some 0
-most_of Edit new = None
-most_of Closing new = None
+-- how many texts a drawing may put at most, where it leads to a control: a whole page as many as it has rows of text, a move by d rows as
+-- many as d, an append as many as there are rows from the first that it may change on
+abbrev pub most_of : Drawing → Control → ℕ
+most_of Nothing new = 0
+most_of Full new = page_len new.rows
+most_of (Scroll from to) new = min (distance from to) (page_len new.rows)
+most_of (Append first old_count) new = length (text_rows new) - first
+most_of Prompt new = 0
+most_of Opening new = 0
+most_of Cursor new = 0
+most_of Edit new = page_len new.rows
+most_of Closing new = page_len new.rows
 
--- one drawing after another: the last text of the first, which is not counted where it is the last of all, is one more
-abbrev pub then_most : Option ℕ → Option ℕ → Option ℕ
-then_most (Some m) (Some n) = Some (m + 1 + n)
-then_most m n = None
-
--- how many texts the drawings of works may put at most
-abbrev pub most_puts : List Work → Option ℕ
-most_puts [] = Some 0
+-- how many texts the drawings of works may put at most, one after another: the last text of each but the last, which is not counted where
+-- it is the last of all, is one more
+abbrev pub most_puts : List Work → ℕ
+most_puts [] = 0
 most_puts (w ∷ []) = most_of w.drawing w.left
-most_puts (w ∷ v ∷ works) = then_most (most_of w.drawing w.left) (most_puts (v ∷ works))
-
--- so many are no more than a bound, if there is one
-abbrev pub IsWithin : ℕ → Option ℕ → Type 0
-IsWithin n None = Unit {0}
-IsWithin n (Some most) = n ≤ most
+most_puts (w ∷ v ∷ works) = most_of w.drawing w.left + 1 + most_puts (v ∷ works)
 
 -- a list of operations stands in another, as one piece
 abbrev pub HasPiece : List Op → List Op → Type 0
@@ -60,13 +52,14 @@ abbrev pub DrawsPrompts : List Op → List Work → Type 0
 DrawsPrompts ops [] = Unit {0}
 DrawsPrompts ops (w ∷ works) = (w.drawing ≡ Prompt → HasPiece ops (whole_prompt w.left)) × DrawsPrompts ops works
 
--- the operations are the drawings of works: they lead to the page of the new control, put rows of the pages of the controls
--- passed alone, as few as the works allow, draw each prompt row that is asked for, and are none where none is drawn and the
--- prompt row stays
+-- the operations are the drawings of works: they lead to the page of the new control, with the cursor shown where that has one and hidden
+-- where it has none, put rows of the pages of the controls passed alone, as few as the works allow, draw each prompt row that is asked
+-- for, and are none where none is drawn and the prompt row stays
 pub record IsDrawing (ops : List Op) (old : Control) (works : List Work) (new : Control) : Type 0 where
   pub shows : Shows (play_all ops (screen_before old works new)) (page new)
+  pub cursor : cursor_shown ops (has_cursor (page old)) ≡ has_cursor (page new)
   pub clean : IsClean (map page (old ∷ passed_in works)) ops
-  pub few : IsWithin (puts ops (screen_before old works new)) (most_puts works)
+  pub few : puts ops (screen_before old works new) ≤ most_puts works
   pub asked : DrawsPrompts ops works
   pub none : IsQuiet old works → ops ≡ []
 
@@ -89,29 +82,35 @@ abbrev pub BrokenOff : Option (List ℕ) → Option (List ℕ) → Control → L
 BrokenOff old_bytes new_bytes old works new =
     (ops : List Op) × AppendsFront old_bytes new_bytes (written_all ops) × IsDrawing ops old works new × (IsQuiet old works → ⊥)
 
--- the operations take every screen of the control's size to its page, and put rows of the pages of the controls passed
--- alone, of which it is one
+-- the operations take every screen of the control's size whose cursor is hidden, as the setup leaves it, to its page, with the cursor shown
+-- where that has one and hidden where it has none, and put rows of the pages of the controls passed alone, of which it is one
 pub record IsWholeDrawing (ops : List Op) (passed : List Control) (control : Control) : Type 0 where
   pub here : Contains passed control
   pub shows : Shows (play_all ops (unknown_screen control.rows)) (page control)
+  pub cursor : cursor_shown ops false ≡ has_cursor (page control)
   pub clean : IsClean (map page passed) ops
+
+-- such operations for one page, which put no more texts than it has rows of text
+pub record IsPageDrawing (ops : List Op) (control : Control) : Type 0 where
+  pub whole : IsWholeDrawing ops (control ∷ []) control
+  pub few : puts ops (unknown_screen control.rows) ≤ page_len control.rows
 
 -- the sink's bytes are known, and end with the written form of such a list
 abbrev pub Leaves : Option (List ℕ) → List Control → Control → Type 0
 Leaves None passed control = ⊥
 Leaves (Some bytes) passed control = (front : List ℕ) × (ops : List Op) × (bytes ≡ front ++ written_all ops) × IsWholeDrawing ops passed control
 
--- the sink grew by the bytes that set a terminal up, and the written form of such a list
+-- the sink grew by the bytes that set a terminal up, and the written form of a list for one page
 abbrev pub Begins : Option (List ℕ) → Option (List ℕ) → Control → Type 0
-Begins old_bytes new_bytes control = (ops : List Op) × Appends old_bytes new_bytes (setup_bytes ++ written_all ops) × IsWholeDrawing ops (control ∷ []) control
+Begins old_bytes new_bytes control = (ops : List Op) × Appends old_bytes new_bytes (setup_bytes ++ written_all ops) × IsPageDrawing ops control
 
 -- the sink grew by the written form of such a list for one page
 abbrev pub Redraws : Option (List ℕ) → Option (List ℕ) → Control → Type 0
-Redraws old_bytes new_bytes control = (ops : List Op) × Appends old_bytes new_bytes (written_all ops) × IsWholeDrawing ops (control ∷ []) control
+Redraws old_bytes new_bytes control = (ops : List Op) × Appends old_bytes new_bytes (written_all ops) × IsPageDrawing ops control
 
 -- by a beginning of it
 abbrev pub RedrawBreaksOff : Option (List ℕ) → Option (List ℕ) → Control → Type 0
-RedrawBreaksOff old_bytes new_bytes control = (ops : List Op) × AppendsFront old_bytes new_bytes (written_all ops) × IsWholeDrawing ops (control ∷ []) control
+RedrawBreaksOff old_bytes new_bytes control = (ops : List Op) × AppendsFront old_bytes new_bytes (written_all ops) × IsPageDrawing ops control
 
 -- a sink that was put in the place of another one, and told its bytes, is left with the page
 abbrev pub ExchangeLeavesItsPage : Type 0

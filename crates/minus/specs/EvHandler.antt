@@ -1,21 +1,23 @@
 -- Commands that a program handles by hand, one at a time.
-use Rattle.std.specs.Prelude.{◌≡◌, List, ◌∷◌, [], ◌++◌, map, false, Option, None, Some, string_bytes}
+use Rattle.std.specs.Prelude.{◌≡◌, List, ◌∷◌, [], ◌++◌, map, Bool, true, false, Option, None, Some, string_bytes}
 use Rattle.std.specs.Option.{option_map}
-use Rattle.std.specs.Io.KnownBytes.{Appends}
-use Rattle.minus_term.specs.Counts.{SinkSeen, AppendsFront, Stays, Rises}
+use Rattle.minus_term.specs.Counts.{SinkSeen, AppendsFront, Stays, Rises, RisesBy}
 use Rattle.minus_term.specs.Operations.{Op}
 use Rattle.minus_term.specs.Refusals.{Refusal, for_memory, at_drawing}
 use Rattle.minus_term.specs.Written.{written_all}
 use Rattle.minus_state.specs.Classifying.{Classifies}
+use Rattle.minus_state.specs.declared.change.Redraw.{Redraw}
 use Rattle.minus_state.specs.Control.{Control}
-use Rattle.minus_state.specs.States.{control_of}
+use Rattle.minus_state.specs.States.{control_of, IsFormed}
 use Rattle.minus.specs.declared.commands.CommandOf.{CommandOf}
 use Rattle.minus.specs.declared.commands.IoCommand.{IoCommand}
+use Rattle.minus.specs.declared.commands.IoCommand.TheVariants.{SetUpperMark}
 use Rattle.minus.specs.declared.ev_handler.Handled.{Handled}
 use Rattle.minus.specs.declared.parts.PartsOf.{PartsOf}
 use Rattle.minus.specs.Asked.{IsRequest}
 use Rattle.minus.specs.Classes.{MemoryOr}
 use Rattle.minus.specs.Drawings.{ops_of}
+use Rattle.minus.specs.DrawsFormed.{DrawsFormed}
 use Rattle.minus.specs.Handing.{kept_after, classifier_after, condition_after, IsFreeFor}
 use Rattle.minus.specs.Queued.{queued}
 use Rattle.minus.specs.Reads.{as_command, io_of, io_wanted, kept_of, wanted_of}
@@ -32,17 +34,17 @@ pub record IsQueued {P H E Q K : Type 0} (old : PartsOf P H E Q K) (waiting : Li
   pub copied : handled.copied ≡ None
 
 -- what a command asks for was done without its move, its drawing and the opening of a search prompt: these wait behind all others. An
--- exit is answered
+-- exit is answered. What that leaves of the control and the queue, and what is copied, is said of a state that is formed
 pub record IsDone {P H E Q K : Type 0} (old : PartsOf P H E Q K) (waiting : List (CommandOf P H E Q K)) (w : Wanted Q K) (new : PartsOf P H E Q K)
     (queue : List (CommandOf P H E Q K)) (handled : Handled) : Type 0 where
-  pub control : control_of new.state ≡ unmoved (control_of old.state) w
+  pub control : IsFormed old.state → control_of new.state ≡ unmoved (control_of old.state) w
   pub free : IsFreeFor (kept_of old).ids (handed w)
   pub kept : kept_of new ≡ kept_after (kept_of old) (handed w)
   pub classifier : new.classifier ≡ classifier_after old.classifier (handed w)
   pub condition : new.condition ≡ condition_after old.condition (handed w)
-  pub queue_is : queue ≡ waiting ++ map as_command (queued (control_of old.state) w)
+  pub queue_is : IsFormed old.state → queue ≡ waiting ++ map as_command (queued (control_of old.state) w)
   pub exited : handled.exited ≡ (effect_of (control_of old.state) w).is_exit
-  pub copied : option_map string_bytes handled.copied ≡ (effect_of (control_of old.state) w).copies
+  pub copied : IsFormed old.state → option_map string_bytes handled.copied ≡ (effect_of (control_of old.state) w).copies
 
 -- the request that comes of a command, with the classifier of these parts
 abbrev pub IsRequestTo : {P H E Q K : Type 0} → Classifies K → PartsOf P H E Q K → CommandOf P H E Q K → Wanted Q K → Type 0
@@ -75,9 +77,17 @@ abbrev pub CannotHandle : {P H E Q K : Type 0} → Refusal → Classifies K → 
 CannotHandle {Q = Q} {K = K} refusal says parts command =
     MemoryOr (λ (r : Refusal). (w : Wanted Q K) × IsRequestTo says parts command w × IsFaultBeside (kept_of parts).ids r w) refusal
 
--- the control that a command which asks for a drawing leaves, and what is drawn then
+-- the control that a command which asks for a drawing leaves, what it asks to be drawn, and what is drawn then
 abbrev pub io_left : (Q K : Type 0) → Control → IoCommand → Control
 io_left Q K c io = changed_by (effect_of {Q = Q} {K = K} c (io_wanted io))
+
+abbrev pub io_redraw : (Q K : Type 0) → Control → IoCommand → Redraw
+io_redraw Q K c io = (effect_of {Q = Q} {K = K} c (io_wanted io)).redraw
+
+-- whether it moves the mark
+abbrev pub is_io_move : IoCommand → Bool
+is_io_move (SetUpperMark mark) = true
+is_io_move io = false
 
 abbrev pub io_ops : (Q K : Type 0) → Control → IoCommand → List Op
 io_ops Q K c io = ops_of (drawing_of {Q = Q} {K = K} c (io_wanted io)) (io_left Q K c io)
@@ -91,19 +101,20 @@ all_io_left Q K c (io ∷ rest) = all_io_left Q K (io_left Q K c io) rest
 abbrev pub ByHandAsByTheTable : (Q K : Type 0) → Type 0
 ByHandAsByTheTable Q K = (c : Control) (w : Wanted Q K) → all_io_left Q K (unmoved c w) (queued c w) ≡ changed_by (effect_of c w)
 
--- what it asks for was done, and drawn on a sink
+-- what it asks for was done, and drawn on a sink: what that leaves, and the drawing, are said of a state that is formed
 pub record IsIoDone {S P H E Q K : Type 0} (sink : S → SinkSeen) (old : PartsOf P H E Q K) (before : S) (io : IoCommand) (new : PartsOf P H E Q K)
     (after : S) : Type 0 where
-  pub control : control_of new.state ≡ io_left Q K (control_of old.state) io
-  pub drawn : Appends (sink before).bytes (sink after).bytes (written_all (io_ops Q K (control_of old.state) io))
+  pub control : IsFormed old.state → control_of new.state ≡ io_left Q K (control_of old.state) io
+  pub drawn : DrawsFormed sink old.state before (io_ops Q K (control_of old.state) io) after
   pub stays : Stays (sink before).refusals (sink after).refusals
+  pub settled : RisesBy (sink before).settles (sink after).settles 1
 
 -- why it was not: out of memory, and nothing has changed; or the sink refused the drawing, of which a beginning was written, of what is
 -- done
 abbrev pub IsIoUndone : {S P H E Q K : Type 0} → Refusal → (S → SinkSeen) → PartsOf P H E Q K → S → IoCommand → PartsOf P H E Q K → S → Type 0
 IsIoUndone for_memory sink old before io new after = (control_of new.state ≡ control_of old.state) × (after ≡ before)
 IsIoUndone {Q = Q} {K = K} at_drawing sink old before io new after =
-    (control_of new.state ≡ io_left Q K (control_of old.state) io)
-    × AppendsFront (sink before).bytes (sink after).bytes (written_all (io_ops Q K (control_of old.state) io))
+    (IsFormed old.state → control_of new.state ≡ io_left Q K (control_of old.state) io)
+    × (IsFormed old.state → AppendsFront (sink before).bytes (sink after).bytes (written_all (io_ops Q K (control_of old.state) io)))
     × Rises (sink before).refusals (sink after).refusals
 IsIoUndone refusal sink old before io new after = ⊥

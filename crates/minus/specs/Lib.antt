@@ -23,6 +23,7 @@ pub mod Pager
 pub mod Room
 pub mod Queued
 pub mod Unmoved
+pub mod DrawsFormed
 pub mod EvHandler
 pub mod Starts
 pub mod Joined
@@ -33,3 +34,4 @@ pub mod TakenParts
 pub mod SessionStarts
 pub mod StaticPager
 pub mod WrittenRows
+pub mod Callbacks

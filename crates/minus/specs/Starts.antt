@@ -17,7 +17,7 @@ use Rattle.minus_state.specs.Control.{Control, top}
 use Rattle.minus_state.specs.declared.hooks.HookId.{HookId}
 use Rattle.minus.specs.Classes.{MemoryOr}
 use Rattle.minus.specs.Drawings.{ops_of_step}
-use Rattle.minus.specs.Drawn.{Begins, Drawn, BrokenOff, Leaves, IsWholeDrawing}
+use Rattle.minus.specs.Drawn.{Begins, Drawn, BrokenOff, Leaves, IsPageDrawing}
 use Rattle.minus.specs.Seen.{Seen}
 use Rattle.minus.specs.Handing.{Kept, kept_at_first, kept_after, ids_after, classifier_after, condition_after, IsFreeFor}
 use Rattle.minus.specs.Table.{Wanted, moves_mark, handed, IsPossible}
@@ -207,7 +207,7 @@ pub record MoveBreaksOff (old_bytes new_bytes : Option (List ℕ)) (old_count ne
 abbrev pub StartBreaksOff : Refusal → Option (List ℕ) → Option (List ℕ) → Option ℕ → Option ℕ → Control → Type 0
 StartBreaksOff (at_setup cause) old_bytes new_bytes old_count new_count first = SetupBreaksOff cause old_bytes new_bytes
 StartBreaksOff at_drawing old_bytes new_bytes old_count new_count first =
-    ((ops : List Op) × DrawingBreaksOff old_bytes new_bytes old_count new_count (written_all ops) × IsWholeDrawing ops (first ∷ []) first)
+    ((ops : List Op) × DrawingBreaksOff old_bytes new_bytes old_count new_count (written_all ops) × IsPageDrawing ops first)
     ⊎ MoveBreaksOff old_bytes new_bytes old_count new_count first
 StartBreaksOff refusal old_bytes new_bytes old_count new_count first = new_bytes ≡ old_bytes
 

@@ -2,21 +2,23 @@
 ghost use Rattle.std.specs.Prelude.{◌≡◌, OnOk, OnErr, IfOk, IfErr};
 ghost use Rattle.minus_term.specs.Refusals.{refusal_of};
 ghost use Rattle.minus_term.specs.Written.{written_all};
-ghost use Rattle.minus_state.specs.Changes.{IsChange};
+ghost use Rattle.minus_state.specs.Changes.{Leads};
 ghost use Rattle.minus_state.specs.Control.{clamp};
 ghost use Rattle.minus_state.specs.States.{control_of, IsFormed};
-ghost use Rattle.minus.specs.EvHandler.{Handles, IsUnhandled, CannotHandle, io_left, io_ops, IsIoDone, IsIoUndone};
+ghost use Rattle.minus_state.specs.declared.change.NextText.TheVariants.{Same};
+ghost use Rattle.minus.specs.Callbacks.{callbacks_of, with_command, CallsIo};
+ghost use Rattle.minus.specs.EvHandler.{Handles, IsUnhandled, CannotHandle, io_left, io_redraw, is_io_move, io_ops, IsIoDone, IsIoUndone};
 ghost use Rattle.minus.specs.Queued.{waiting_in, drawing_command, move_command};
 ghost use Rattle.minus.specs.Reads.{kept_of};
 
 use crate::command_queue::CommandQueueOf;
 use crate::commands::{CommandOf, IoCommand};
-use crate::outcome::{Outcome, end_hook, outcome_of, unmoved};
+use crate::outcome::{end_hook, unmoved};
 use crate::parts::{Calls, PartsOf};
 use crate::request::Request;
 use crate::state::PagerState;
 use crate::step_drawing::{Drawing, draw_page};
-use minus_state::change::Redraw;
+use minus_state::change::{Change, Redraw};
 use minus_term::{MinusError, OutputSink, draw_bytes};
 use std::alloc::Global;
 
@@ -64,9 +66,8 @@ fn move_command(to: Option<usize>) -> Option<IoCommand>
 
 // Clamps the mark.
 fn clamp_mark(state: &mut PagerState)
-    requires { IsFormed state.old }
-    ensures control { control_of state.new ≡ clamp (control_of state.old) }
-    ensures formed { IsFormed state.new }
+    ensures control { IsFormed state.old → control_of state.new ≡ clamp (control_of state.old) }
+    ensures formed { IsFormed state.old → IsFormed state.new }
 {
     state.upper_mark = state.upper_mark.min(state.top());
 }
@@ -86,12 +87,13 @@ pub fn handle_event<P: Calls>(
     parts: &mut PartsOf<P>,
     queue: &mut CommandQueueOf<P>,
 ) -> Result<Handled, MinusError>
-    requires formed { IsFormed parts.old.state }
     ensures handled { IfOk result (λ handled. Handles P.Classifier.says parts.old (waiting_in queue.old) command
         parts.new (waiting_in queue.new) handled) }
     ensures refused { IfErr result (λ e. CannotHandle (refusal_of e) P.Classifier.says parts.old command) }
     ensures unhandled { OnErr result (IsUnhandled parts.old (waiting_in queue.old) parts.new (waiting_in queue.new)) }
-    ensures formed { IsFormed parts.new.state }
+    ensures callbacks { OnOk result (callbacks_of parts.new ≡ with_command (callbacks_of parts.old) command) }
+    ensures uncalled { OnErr result (callbacks_of parts.new ≡ callbacks_of parts.old) }
+    ensures formed { IsFormed parts.old.state → IsFormed parts.new.state }
 {
     if command.io().is_some() {
         queue.push_back(command)?;
@@ -117,24 +119,67 @@ pub fn handle_event<P: Calls>(
     Ok(handled)
 }
 
-// What comes of a command that asks for a drawing, and the bytes of the drawing.
+// Whether a command moves the mark.
+fn is_move(command: IoCommand) -> bool
+    ensures { result ≡ is_io_move command }
+{
+    matches!(command, IoCommand::SetUpperMark(_))
+}
+
+// The state with its mark clamped, to be drawn so.
+fn clamped(state: &PagerState, redraw: Redraw) -> Change
+    ensures leads { Leads state.now result (clamp (control_of state.now)) }
+    ensures redraw { result.redraw ≡ redraw }
+    ensures text { result.text ≡ Same }
+{
+    let mut change = state.moved_to(state.upper_mark);
+    change.redraw = redraw;
+    change
+}
+
+// The change that a command leads a state to which asks for a drawing. Its text stays.
+fn io_change<P: Calls>(
+    alloc: Global,
+    state: &PagerState,
+    command: IoCommand,
+) -> Result<Change, MinusError>
+    ensures leads { IfOk result (λ c. Leads state.now c
+        (io_left P.Condition P.Classifier (control_of state.now) command)) }
+    ensures redraw { IfOk result (λ c. c.redraw
+        ≡ io_redraw P.Condition P.Classifier (control_of state.now) command) }
+    ensures text { IfOk result (λ c. c.text ≡ Same) }
+    ensures memory { IfErr result (λ e. e ≡ MinusError.Memory) }
+{
+    match command {
+        IoCommand::RedrawPrompt => Ok(clamped(state, Redraw::PromptRow)),
+        IoCommand::RedrawDisplay | IoCommand::DrawAppendedText(..) => {
+            Ok(clamped(state, Redraw::Whole))
+        }
+        IoCommand::SetUpperMark(mark) => Ok(state.moved_to(mark)),
+        IoCommand::FetchSearchQuery => {
+            let mut change = state.opened(alloc, state.search_state.search_mode)?;
+            change.clamp(&state.screen);
+            Ok(change)
+        }
+    }
+}
+
+// The change that a command leads to which asks for a drawing, and the bytes of the drawing.
 fn drawn_io<P: Calls>(
     alloc: Global,
     state: &PagerState,
     command: IoCommand,
-) -> Result<(Outcome, Vec<u8>), MinusError>
-    requires formed { IsFormed state.now }
-    ensures leads { IfOk result (λ d. IsChange (control_of state.now) d.0.change
+) -> Result<(Change, Vec<u8>), MinusError>
+    ensures leads { IfOk result (λ d. Leads state.now d.0
         (io_left P.Condition P.Classifier (control_of state.now) command)) }
-    ensures bytes { IfOk result (λ d. d.1.items
+    ensures bytes { IfOk result (λ d. IsFormed state.now → d.1.items
         ≡ written_all (io_ops P.Condition P.Classifier (control_of state.now) command)) }
     ensures memory { IfErr result (λ e. e ≡ MinusError.Memory) }
 {
-    let request: Request<P> = Request::of_io(command);
-    let outcome = outcome_of(state, alloc, request, false)?;
-    let drawing = Drawing::of(state, &outcome.change);
-    let (_, bytes) = draw_page(alloc, state, drawing, &outcome.change)?;
-    Ok((outcome, bytes))
+    let change = io_change::<P>(alloc, state, command)?;
+    let drawing = Drawing::of(state, &change);
+    let (_, bytes) = draw_page(alloc, state, drawing, &change)?;
+    Ok((change, bytes))
 }
 
 /// Does what a command asks for that asks for a drawing, by its line of the table of commands, and draws it. Then it
@@ -151,22 +196,23 @@ pub fn handle_io_command<W: OutputSink, P: Calls>(
     out: &mut W,
     parts: &mut PartsOf<P>,
 ) -> Result<(), MinusError>
-    requires formed { IsFormed parts.old.state }
     ensures done { OnOk result (IsIoDone W.seen parts.old out.old command parts.new out.new) }
     ensures undone { IfErr result (λ e. IsIoUndone (refusal_of e) W.seen parts.old out.old command parts.new out.new) }
-    ensures formed { IsFormed parts.new.state }
+    ensures formed { IsFormed parts.old.state → IsFormed parts.new.state }
     ensures kept { kept_of parts.new ≡ kept_of parts.old }
+    ensures called { OnOk result (IsFormed parts.old.state →
+        CallsIo (control_of parts.old.state) command parts.old parts.new) }
+    ensures uncalled { OnErr result (callbacks_of parts.new ≡ callbacks_of parts.old) }
     ensures classifier { parts.new.classifier ≡ parts.old.classifier }
     ensures condition { parts.new.condition ≡ parts.old.condition }
 {
-    let (outcome, bytes) = drawn_io::<P>(alloc, &parts.state, command)?;
-    let is_move = outcome.moves_to.is_some();
-    parts.state.place(alloc, outcome.into_change())?;
+    let is_move = is_move(command);
+    let (change, bytes) = drawn_io::<P>(alloc, &parts.state, command)?;
+    parts.state.place(alloc, change)?;
     if let Err(cause) = draw_bytes(out, &bytes) {
         return Err(MinusError::Draw(cause));
     }
-    if let Some(hook) = end_hook(is_move, &parts.state) {
-        parts.call(hook);
-    }
+    let hook = end_hook(is_move, &parts.state);
+    parts.call_due(hook);
     Ok(())
 }

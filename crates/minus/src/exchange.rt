@@ -40,6 +40,7 @@ impl<S: OutputSink + Drop, P: Parts> Core<S, P> {
     ghost use Rattle.minus_term.specs.Refusals.{refusal_of};
     ghost use Rattle.minus_term.specs.Written.{written_all};
     ghost use Rattle.minus_state.specs.Sizes.{IsSize};
+    ghost use Rattle.minus.specs.Callbacks.{callbacks_of};
     ghost use Rattle.minus.specs.Core.{seen_of};
     ghost use Rattle.minus.specs.Drawings.{whole_page};
     ghost use Rattle.minus.specs.Outcomes.{IsUnformed};
@@ -56,6 +57,7 @@ impl<S: OutputSink + Drop, P: Parts> Core<S, P> {
         ensures err { OnErr result (seen_of self.new ≡ seen_of self.old) }
         ensures refused { IfErr result (λ e.
             IsUnformed {Q = P.Condition} {K = P.Classifier} (refusal_of e) (resizes cols rows)) }
+        ensures callbacks { callbacks_of self.new.parts ≡ callbacks_of self.old.parts }
     {
         let resizes: Request<P> = Request::Resize(cols, rows);
         let outcome = outcome_of(&self.parts.state, self.alloc, resizes, false)?;
@@ -94,6 +96,7 @@ impl<S: OutputSink + Drop, P: Parts> Core<S, P> {
         ensures exchanged { IfOk result (λ back. IsExchange S.seen self.old sink cols rows self.new back) }
         ensures refused { IfErr result (λ e.
             RefusesExchange (refusal_of e.cause) S.seen self.old sink cols rows self.new e.sink) }
+        ensures callbacks { callbacks_of self.new.parts ≡ callbacks_of self.old.parts }
     {
         if let Err(cause) = self.check_exchange() {
             return Err(SinkError { sink, cause });

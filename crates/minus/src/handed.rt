@@ -23,6 +23,7 @@ pub(crate) enum Handed<P: Parts> {
 impl<P: Parts> PartsOf<P> {
     ghost use Rattle.std.specs.Prelude.{ℕ, ◌≡◌, ◌+◌, IsErrOf, OnOk, OnErr, IfErr, map, vec_len};
     ghost use Rattle.minus_term.specs.Refusals.{refusal_of};
+    ghost use Rattle.minus.specs.Callbacks.{callbacks_of, with_handed, with_command, with_commands};
     ghost use Rattle.minus.specs.Handing.{exit_by, kept_with, classifier_with, condition_with, IsFree, IsUnhanded};
     ghost use Rattle.minus.specs.Handing.{kept_after, classifier_after, condition_after, IsFreeFor};
     ghost use Rattle.minus.specs.Reads.{kept_of, handing_of, wanted_of};
@@ -63,6 +64,8 @@ impl<P: Parts> PartsOf<P> {
         ensures err { OnErr result (kept_of self.new ≡ kept_of self.old) }
         ensures same { OnErr result ((self.new.classifier ≡ self.old.classifier)
             × (self.new.condition ≡ self.old.condition)) }
+        ensures callbacks { OnOk result (callbacks_of self.new ≡ with_handed (callbacks_of self.old) handed) }
+        ensures uncalled { OnErr result (callbacks_of self.new ≡ callbacks_of self.old) }
         ensures refused { IfErr result (λ e. IsUnhanded (refusal_of e) (kept_of self.old).ids (handing_of handed)) }
         ensures room { OnOk result ((more : ℕ) → HasRoomFor self.old (more + 1) → HasRoomFor self.new more) }
         ensures enough { IsErrOf result MinusError.Memory → (more : ℕ) → HasRoomFor self.old (more + 1) → ⊥ }
@@ -70,7 +73,7 @@ impl<P: Parts> PartsOf<P> {
         match handed {
             Handed::Classifier(classifier) => self.classifier = classifier,
             Handed::Condition(condition) => self.condition = Some(condition),
-            Handed::ExitCallback(callback) => self.exit_callbacks.add(callback)?,
+            Handed::ExitCallback(callback) => self.exit_callbacks.push(callback)?,
             Handed::Callback(hook, id, callback) => {
                 return self.hooks.add_callback(hook, id, callback);
             }
@@ -89,6 +92,7 @@ impl<P: Parts> PartsOf<P> {
     // Makes room for this number of callbacks more, of each kind. All stays as it is, whether there is room or not.
     pub(crate) fn reserve(&mut self, callbacks: usize) -> Result<(), AllocError>
         ensures kept { kept_of self.new ≡ kept_of self.old }
+        ensures callbacks { callbacks_of self.new ≡ callbacks_of self.old }
         ensures rest { self.new ≡ record self.old {
           hooks = self.new.hooks;
           exit_callbacks = self.new.exit_callbacks;
@@ -105,6 +109,7 @@ impl<P: Parts> PartsOf<P> {
         requires room { HasRoomFor self.old 1 }
         requires free { IsFreeFor (kept_of self.old).ids (handed_by (wanted_of command)) }
         ensures kept { kept_of self.new ≡ kept_after (kept_of self.old) (handed_by (wanted_of command)) }
+        ensures callbacks { callbacks_of self.new ≡ with_command (callbacks_of self.old) command }
         ensures classifier { self.new.classifier
             ≡ classifier_after self.old.classifier (handed_by (wanted_of command)) }
         ensures condition { self.new.condition ≡ condition_after self.old.condition (handed_by (wanted_of command)) }
@@ -121,6 +126,7 @@ impl<P: Parts> PartsOf<P> {
         requires room { HasRoomFor self.old (vec_len commands) }
         requires can { CanTakeAll (kept_of self.old).ids (map wanted_of commands.items) }
         ensures kept { kept_of self.new ≡ kept_taken (kept_of self.old) (map wanted_of commands.items) }
+        ensures callbacks { callbacks_of self.new ≡ with_commands (callbacks_of self.old) commands.items }
         ensures classifier { self.new.classifier
             ≡ classifier_taken self.old.classifier (map wanted_of commands.items) }
         ensures condition { self.new.condition ≡ condition_taken self.old.condition (map wanted_of commands.items) }
@@ -133,16 +139,30 @@ impl<P: Parts> PartsOf<P> {
 }
 
 impl<P: Calls> PartsOf<P> {
-    ghost use Rattle.std.specs.Prelude.{◌≡◌};
+    ghost use Rattle.std.specs.Prelude.{◌≡◌, Some};
     ghost use Rattle.std.specs.Option.{unwrap_or};
+    ghost use Rattle.minus_state.specs.Hooks.{CallsAlone};
+    ghost use Rattle.minus.specs.Callbacks.{callbacks_of, CallsHook};
     ghost use Rattle.minus.specs.Reads.{kept_of};
 
-    // Calls the callbacks of a hook.
+    // Calls the callbacks of a hook, and no others.
     pub(crate) fn call(&mut self, hook: Hook)
         ensures kept { kept_of self.new ≡ kept_of self.old }
+        ensures called { CallsHook (Some hook) (callbacks_of self.old) (callbacks_of self.new) }
         ensures rest { self.new ≡ record self.old { hooks = self.new.hooks } }
     {
         self.hooks.run_hooks(hook, &self.state);
+    }
+
+    // Calls the callbacks of a hook, if one is due, and no others.
+    pub(crate) fn call_due(&mut self, hook: Option<Hook>)
+        ensures kept { kept_of self.new ≡ kept_of self.old }
+        ensures called { CallsHook hook (callbacks_of self.old) (callbacks_of self.new) }
+        ensures rest { self.new ≡ record self.old { hooks = self.new.hooks } }
+    {
+        if let Some(hook) = hook {
+            self.call(hook);
+        }
     }
 
     // Puts another typed prefix in its place, if it is another one, and calls what is called before an exit.
@@ -151,6 +171,7 @@ impl<P: Calls> PartsOf<P> {
           prefix_num = unwrap_or prefix self.old.state.prefix_num;
         } }
         ensures kept { kept_of self.new ≡ kept_of self.old }
+        ensures called { CallsAlone Hook.PrePagerExit (callbacks_of self.old).hooks (callbacks_of self.new).hooks }
         ensures classifier { self.new.classifier ≡ self.old.classifier }
         ensures condition { self.new.condition ≡ self.old.condition }
     {

@@ -1,7 +1,7 @@
 //! The start of a session.
-ghost use Rattle.std.specs.Prelude.{◌≡◌, ◌<◌, ◌++◌, [], true, false, None, is_some, length, map, vec_len, string_bytes, OnOk, OnErr, IfOk, IfErr};
+ghost use Rattle.std.specs.Prelude.{◌≡◌, ◌<◌, ◌==◌, ◌++◌, if◌then◌else◌, [], true, false, None, Some, is_some, length, map, vec_len, string_bytes, OnOk, OnErr, IfOk, IfErr};
 ghost use Rattle.std.specs.Io.KnownBytes.{Appends};
-ghost use Rattle.minus_term.specs.Counts.{Stays, Rises};
+ghost use Rattle.minus_term.specs.Counts.{Stays, Rises, RisesBy};
 ghost use Rattle.minus_term.specs.Refusals.{refusal_of, for_memory, at_drawing};
 ghost use Rattle.minus_term.specs.Terminal.{setup_bytes};
 ghost use Rattle.minus_term.specs.Written.{written_all};
@@ -14,6 +14,7 @@ ghost use Rattle.minus_state.specs.States.{IsFormed, control_of};
 ghost use Rattle.minus_input.specs.DefaultBindings.{default_register};
 ghost use Rattle.minus_input.specs.DefaultClassifier.{IsDefault};
 ghost use Rattle.minus_input.specs.EventTables.{register_of};
+ghost use Rattle.minus.specs.Callbacks.{callbacks_of, no_callbacks, with_commands, CallsHook, CallsStart};
 ghost use Rattle.minus.specs.Drawings.{whole_page};
 ghost use Rattle.minus.specs.Handing.{kept_at_first, ids_after, IsFreeFor};
 ghost use Rattle.minus.specs.Reads.{kept_of, wanted_of};
@@ -215,6 +216,7 @@ pub(crate) fn first_of<P: Parts>(
     ensures control { IfOk result (λ f. control_of f.parts.state
         ≡ first_control cols rows (map wanted_of pager.now.queue.items)) }
     ensures kept { IfOk result (λ f. kept_of f.parts ≡ kept_at_first) }
+    ensures callbacks { IfOk result (λ f. callbacks_of f.parts ≡ no_callbacks) }
     ensures classifier { IfOk result (λ f. f.parts.classifier ≡ classifier) }
     ensures condition { IfOk result (λ f. f.parts.condition ≡ None) }
     ensures room { IfOk result (λ f. HasRoomFor f.parts (vec_len pager.now.queue)) }
@@ -228,7 +230,7 @@ pub(crate) fn first_of<P: Parts>(
     let change = state.redrawn(Redraw::Whole);
     let (prompt_row, page) = draw_page(alloc, &state, Drawing::Full, &change)?;
     let (movement, mark) = draw_move(alloc, &state, &prompt_row)?;
-    let mut parts = PartsOf::new(alloc, state, classifier, None);
+    let mut parts = PartsOf::keeping(alloc, state, classifier, None);
     parts.reserve(pager.queue.len())?;
     Ok(First {
         parts,
@@ -243,6 +245,8 @@ pub(crate) fn first_of<P: Parts>(
 fn draw<S: OutputSink>(sink: &mut S, drawing: &[u8]) -> Result<(), MinusError>
     ensures ok { OnOk result (Appends (S.seen sink.old).bytes (S.seen sink.new).bytes drawing.now) }
     ensures stays { OnOk result (Stays (S.seen sink.old).refusals (S.seen sink.new).refusals) }
+    ensures settled { OnOk result (RisesBy (S.seen sink.old).settles (S.seen sink.new).settles
+        (if length drawing.now == 0 then 0 else 1)) }
     ensures cause { IfErr result (λ e. refusal_of e ≡ at_drawing) }
     ensures broken { OnErr result (DrawsOff (S.seen sink.old).bytes (S.seen sink.new).bytes
         (S.seen sink.old).refusals (S.seen sink.new).refusals drawing.now) }
@@ -285,6 +289,8 @@ pub(crate) fn prepare<P: Calls>(first: First<P>, queue: Vec<CommandOf<P>>) -> Fi
     ensures classifier { result.parts.classifier
         ≡ classifier_taken first.parts.classifier (map wanted_of queue.items) }
     ensures condition { result.parts.condition ≡ condition_taken first.parts.condition (map wanted_of queue.items) }
+    ensures called { CallsHook (Some Hook.PrePagerStart)
+        (with_commands (callbacks_of first.parts) queue.items) (callbacks_of result.parts) }
 {
     let First {
         mut parts,
@@ -312,6 +318,8 @@ pub(crate) fn open<S: OutputSink + Drop, P: Calls>(
     first: First<P>,
 ) -> Result<Core<S, P>, StartErrorOf<S, P>>
     ensures opened { IfOk result (λ s. IsOpened S.seen mode first.parts sink s) }
+    ensures called { IfOk result (λ s. CallsHook (Some Hook.PostPagerStart)
+        (callbacks_of first.parts) (callbacks_of s.parts)) }
     ensures refused { IfErr result (λ e. IsUnopened S.seen first.parts sink e) }
 {
     let First {
@@ -361,6 +369,9 @@ fn begin<S: OutputSink + Drop, P: Calls>(
     requires condition { first.parts.condition ≡ None }
     requires room { HasRoomFor first.parts (vec_len pager.queue) }
     requires can { CanTakeAll [] (map wanted_of pager.queue.items) }
+    requires callbacks { callbacks_of first.parts ≡ no_callbacks }
+    ensures called { IfOk result (λ s. CallsStart (with_commands no_callbacks pager.queue.items)
+        (callbacks_of s.parts)) }
     ensures started { IfOk result (λ s. IsBegun S.seen pager mode first.parts sink s) }
     ensures refused { IfErr result (λ e. IsUnbegun S.seen pager mode first.parts sink e) }
 {
@@ -394,6 +405,8 @@ pub fn init_core_with<S: OutputSink + Drop, P: Calls>(
     classifier: P::Classifier,
 ) -> Result<Core<S, P>, StartErrorOf<S, P>>
     ensures started { IfOk result (λ s. IsStart S.seen pager mode cols rows classifier sink s) }
+    ensures called { IfOk result (λ s. CallsStart (with_commands no_callbacks pager.queue.items)
+        (callbacks_of s.parts)) }
     ensures refused { IfErr result (λ e. IsRefusedStart S.seen pager mode cols rows sink e) }
 {
     match first_of(&pager, mode, cols, rows, classifier) {
@@ -456,6 +469,8 @@ pub fn init_core<
     rows: usize,
 ) -> Result<Core<S, Keyed<H, E, Q, C>>, StartErrorOf<S, Keyed<H, E, Q, C>>>
     ensures started { IfOk result (λ s. IsFirstStart IsDefault S.seen pager mode cols rows sink s) }
+    ensures called { IfOk result (λ s. CallsStart (with_commands no_callbacks pager.queue.items)
+        (callbacks_of s.parts)) }
     ensures refused { IfErr result (λ e. IsRefusedStart S.seen pager mode cols rows sink e) }
 {
     match first_register(pager.alloc, mode, cols, rows) {
@@ -482,6 +497,8 @@ pub fn dynamic_paging<
     rows: usize,
 ) -> Result<Core<S, Keyed<H, E, Q, C>>, StartErrorOf<S, Keyed<H, E, Q, C>>>
     ensures started { IfOk result (λ s. IsFirstStart IsDefault S.seen pager RunMode.Dynamic cols rows sink s) }
+    ensures called { IfOk result (λ s. CallsStart (with_commands no_callbacks pager.queue.items)
+        (callbacks_of s.parts)) }
     ensures refused { IfErr result (λ e. IsRefusedStart S.seen pager RunMode.Dynamic cols rows sink e) }
 {
     init_core(pager, RunMode::Dynamic, sink, cols, rows)

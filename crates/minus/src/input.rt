@@ -3,9 +3,7 @@ pub mod crossterm_event;
 
 pub use minus_input::bound::ActionOf;
 pub use minus_input::callback::{ActionCall, ActionCallback, KeptAction};
-pub use minus_input::classifier::{
-    Classifier, FixedSeed, HashedEventRegister, with_default_hasher,
-};
+pub use minus_input::classifier::{Classifier, FixedSeed, HashedEventRegister};
 pub use minus_input::default_action::DefaultAction;
 pub use minus_input::default_bindings::{
     defaults_have_one_answer, generate_default_bindings, j_scrolls_down, keys_do_as_listed,

@@ -2,7 +2,7 @@
 ghost use Rattle.std.specs.Prelude.{◌≡◌, string_bytes, IfOk, IfErr, OnOk};
 ghost use Rattle.std.specs.Option.{option_map};
 ghost use Rattle.minus_term.specs.Refusals.{refusal_of};
-ghost use Rattle.minus_state.specs.Changes.{IsChange};
+ghost use Rattle.minus_state.specs.Changes.{Leads};
 ghost use Rattle.minus_state.specs.States.{control_of, IsFormed};
 ghost use Rattle.minus.specs.Outcomes.{IsOutcome, IsUnformed};
 ghost use Rattle.minus.specs.Reads.{wanted_by};
@@ -100,9 +100,9 @@ impl Outcome {
 
     // An append, which moves the mark to the last page where the page goes on with it, but not while help is open.
     fn appending(state: &PagerState, change: Change) -> Outcome
-        requires { Belongs state.now.screen.document change.text }
         ensures change { result.change ≡ change }
-        ensures moves_to { result.moves_to ≡ followed_by state.now change }
+        ensures moves_to { Belongs state.now.screen.document change.text →
+            result.moves_to ≡ followed_by state.now change }
         ensures row_only { result.row_only ≡ false }
         ensures copied { result.copied ≡ None }
         ensures exits { result.exits ≡ false }
@@ -129,8 +129,7 @@ impl Outcome {
 
 // The hook whose callbacks are called where a state was changed by what moves the mark, or moves none, if one is.
 pub(crate) fn end_hook(is_move: bool, state: &PagerState) -> Option<Hook>
-    requires { IsFormed state.now }
-    ensures { result ≡ end_hook is_move (is_at_end (control_of state.now)) }
+    ensures { IsFormed state.now → result ≡ end_hook is_move (is_at_end (control_of state.now)) }
 {
     if is_move && state.shows_end() {
         return Some(Hook::EofReached);
@@ -146,16 +145,15 @@ fn form_any<P: Parts>(
     alloc: Global,
     request: Request<P>,
 ) -> Result<Outcome, MinusError>
-    requires { IsFormed state.now }
-    ensures leads { IfOk result (λ o. IsChange (control_of state.now) o.change
+    ensures leads { IfOk result (λ o. Leads state.now o.change
         (effect_of (control_of state.now) (wanted_by request)).changed) }
-    ensures moves_to { IfOk result (λ o. o.moves_to
+    ensures moves_to { IfOk result (λ o. IsFormed state.now → o.moves_to
         ≡ (effect_of (control_of state.now) (wanted_by request)).moves_to) }
-    ensures redraw { IfOk result (λ o. o.change.redraw
+    ensures redraw { IfOk result (λ o. IsFormed state.now → o.change.redraw
         ≡ (effect_of (control_of state.now) (wanted_by request)).redraw) }
     ensures row_only { IfOk result (λ o. o.row_only
         ≡ (effect_of (control_of state.now) (wanted_by request)).row_only) }
-    ensures copied { IfOk result (λ o. option_map string_bytes o.copied
+    ensures copied { IfOk result (λ o. IsFormed state.now → option_map string_bytes o.copied
         ≡ (effect_of (control_of state.now) (wanted_by request)).copies) }
     ensures exits { IfOk result (λ o. o.exits ≡ (effect_of (control_of state.now) (wanted_by request)).is_exit) }
     ensures possible { OnOk result (IsPossible (wanted_by request)) }
@@ -222,16 +220,15 @@ fn form_page<P: Parts>(
     alloc: Global,
     request: Request<P>,
 ) -> Result<Outcome, MinusError>
-    requires { IsFormed state.now }
-    ensures leads { IfOk result (λ o. IsChange (control_of state.now) o.change
+    ensures leads { IfOk result (λ o. Leads state.now o.change
         (effect_of (control_of state.now) (wanted_by request)).changed) }
-    ensures moves_to { IfOk result (λ o. o.moves_to
+    ensures moves_to { IfOk result (λ o. IsFormed state.now → o.moves_to
         ≡ (effect_of (control_of state.now) (wanted_by request)).moves_to) }
-    ensures redraw { IfOk result (λ o. o.change.redraw
+    ensures redraw { IfOk result (λ o. IsFormed state.now → o.change.redraw
         ≡ (effect_of (control_of state.now) (wanted_by request)).redraw) }
     ensures row_only { IfOk result (λ o. o.row_only
         ≡ (effect_of (control_of state.now) (wanted_by request)).row_only) }
-    ensures copied { IfOk result (λ o. option_map string_bytes o.copied
+    ensures copied { IfOk result (λ o. IsFormed state.now → option_map string_bytes o.copied
         ≡ (effect_of (control_of state.now) (wanted_by request)).copies) }
     ensures exits { IfOk result (λ o. o.exits ≡ (effect_of (control_of state.now) (wanted_by request)).is_exit) }
     ensures possible { OnOk result (IsPossible (wanted_by request)) }
@@ -250,16 +247,15 @@ fn form_text<P: Parts>(
     alloc: Global,
     request: Request<P>,
 ) -> Result<Outcome, MinusError>
-    requires { IsFormed state.now }
-    ensures leads { IfOk result (λ o. IsChange (control_of state.now) o.change
+    ensures leads { IfOk result (λ o. Leads state.now o.change
         (effect_of (control_of state.now) (wanted_by request)).changed) }
-    ensures moves_to { IfOk result (λ o. o.moves_to
+    ensures moves_to { IfOk result (λ o. IsFormed state.now → o.moves_to
         ≡ (effect_of (control_of state.now) (wanted_by request)).moves_to) }
-    ensures redraw { IfOk result (λ o. o.change.redraw
+    ensures redraw { IfOk result (λ o. IsFormed state.now → o.change.redraw
         ≡ (effect_of (control_of state.now) (wanted_by request)).redraw) }
     ensures row_only { IfOk result (λ o. o.row_only
         ≡ (effect_of (control_of state.now) (wanted_by request)).row_only) }
-    ensures copied { IfOk result (λ o. option_map string_bytes o.copied
+    ensures copied { IfOk result (λ o. IsFormed state.now → option_map string_bytes o.copied
         ≡ (effect_of (control_of state.now) (wanted_by request)).copies) }
     ensures exits { IfOk result (λ o. o.exits ≡ (effect_of (control_of state.now) (wanted_by request)).is_exit) }
     ensures possible { OnOk result (IsPossible (wanted_by request)) }
@@ -278,16 +274,15 @@ fn form<P: Parts>(
     alloc: Global,
     request: Request<P>,
 ) -> Result<Outcome, MinusError>
-    requires { IsFormed state.now }
-    ensures leads { IfOk result (λ o. IsChange (control_of state.now) o.change
+    ensures leads { IfOk result (λ o. Leads state.now o.change
         (effect_of (control_of state.now) (wanted_by request)).changed) }
-    ensures moves_to { IfOk result (λ o. o.moves_to
+    ensures moves_to { IfOk result (λ o. IsFormed state.now → o.moves_to
         ≡ (effect_of (control_of state.now) (wanted_by request)).moves_to) }
-    ensures redraw { IfOk result (λ o. o.change.redraw
+    ensures redraw { IfOk result (λ o. IsFormed state.now → o.change.redraw
         ≡ (effect_of (control_of state.now) (wanted_by request)).redraw) }
     ensures row_only { IfOk result (λ o. o.row_only
         ≡ (effect_of (control_of state.now) (wanted_by request)).row_only) }
-    ensures copied { IfOk result (λ o. option_map string_bytes o.copied
+    ensures copied { IfOk result (λ o. IsFormed state.now → option_map string_bytes o.copied
         ≡ (effect_of (control_of state.now) (wanted_by request)).copies) }
     ensures exits { IfOk result (λ o. o.exits ≡ (effect_of (control_of state.now) (wanted_by request)).is_exit) }
     ensures possible { OnOk result (IsPossible (wanted_by request)) }
@@ -328,8 +323,8 @@ pub(crate) fn unmoved<P: Parts>(
     alloc: Global,
     request: Request<P>,
 ) -> Result<Outcome, MinusError>
-    requires { IsFormed state.now }
-    ensures ok { IfOk result (IsUnmoved (control_of state.now) (wanted_by request)) }
+    ensures ok { IfOk result (λ o. IsFormed state.now → IsUnmoved (control_of state.now) (wanted_by request) o) }
+    ensures exits { IfOk result (λ o. o.exits ≡ (effect_of (control_of state.now) (wanted_by request)).is_exit) }
     ensures unformed { IfErr result (λ e. IsUnformed (refusal_of e) (wanted_by request)) }
 {
     let mut outcome = form(state, alloc, request)?;

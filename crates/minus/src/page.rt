@@ -8,6 +8,7 @@ use crate::state::PagerState;
 use minus_state::change::Change;
 use minus_state::confirmed_rows;
 use minus_state::showing::ShownRow;
+use minus_state::state::after::shown_after;
 use minus_term::{MinusError, page_len};
 use regex::Regex;
 use std::alloc::{AllocError, Global};
@@ -116,7 +117,7 @@ impl Page {
             ≡ (prompt_page state.now.rows (shown_by state.now change.now) prompt.now).cursor) }
         ensures memory { IfErr result (λ e. e ≡ MinusError.Memory) }
     {
-        let shown = state.shown_after(alloc, change, 0)?;
+        let shown = shown_after(state, alloc, change, 0)?;
         let last = prompt.displayed(alloc)?;
         let cursor = prompt.cursor() as u16;
         Ok(Page {
@@ -164,7 +165,7 @@ impl Page {
             ≡ (page_with (control_of state.now) (shown_by state.now change.now)).cursor) }
         ensures memory { IfErr result (λ e. e ≡ MinusError.Memory) }
     {
-        let shown = state.shown_after(alloc, change, 0)?;
+        let shown = shown_after(state, alloc, change, 0)?;
         Page::form(alloc, state, &shown)
     }
 }

@@ -8,12 +8,14 @@ ghost use Rattle.minus_term.specs.FullRedraw.{full_ops, prompt_ops};
 ghost use Rattle.minus_term.specs.Marks.{page_len};
 ghost use Rattle.minus_term.specs.Scroll.{down_ops, up_ops};
 ghost use Rattle.minus_term.specs.SearchPrompt.{closing_ops};
-ghost use Rattle.minus_state.specs.Changes.{IsFormedFor, shown_by};
+ghost use Rattle.minus_state.specs.AddsShown.{AddsShown};
+ghost use Rattle.minus_state.specs.NextTexts.{Belongs};
 ghost use Rattle.minus_state.specs.Showing.{row_text};
 
 use crate::state::PagerState;
 use minus_state::change::Change;
 use minus_state::showing::ShownRow;
+use minus_state::state::after::{write_after, write_between};
 use minus_term::{
     DrawOp, page_len, write_closing_start, write_down_start, write_ops, write_page_start,
     write_prompt_row, write_up_start,
@@ -44,12 +46,12 @@ pub(crate) fn push_page(
     change: &Change,
     prompt: &str,
 ) -> Result<(), AllocError>
-    requires { IsFormedFor state.now change.now }
-    ensures { OnOk result (out.new.items ≡ out.old.items ++ written_all
-        (full_ops change.now.rows (shown_by state.now change.now) prompt.now)) }
+    requires { Belongs state.now.screen.document change.now.text }
+    ensures { OnOk result (AddsShown state.now change.now
+        (λ shown. full_ops change.now.rows shown prompt.now) out.old.items out.new.items) }
 {
     write_page_start(out)?;
-    state.write_after(alloc, out, change, 0)?;
+    write_after(state, alloc, out, change, 0)?;
     write_prompt_row(out, change.rows as u16, prompt)?;
     Ok(())
 }
@@ -63,9 +65,9 @@ pub(crate) fn push_closing(
     change: &Change,
     prompt: &str,
 ) -> Result<(), AllocError>
-    requires { IsFormedFor state.now change.now }
-    ensures { OnOk result (out.new.items ≡ out.old.items ++ written_all
-        (closing_ops change.now.rows (shown_by state.now change.now) prompt.now)) }
+    requires { Belongs state.now.screen.document change.now.text }
+    ensures { OnOk result (AddsShown state.now change.now
+        (λ shown. closing_ops change.now.rows shown prompt.now) out.old.items out.new.items) }
 {
     write_closing_start(out, change.rows as u16)?;
     push_page(state, alloc, out, change, prompt)?;
@@ -82,14 +84,20 @@ pub(crate) fn push_scroll_down(
     k: u16,
     prompt: &str,
 ) -> Result<(), AllocError>
-    requires belongs { IsFormedFor state.now change.now }
+    requires belongs { Belongs state.now.screen.document change.now.text }
     requires within { k ≤ page_len change.now.rows }
-    ensures { OnOk result (out.new.items ≡ out.old.items ++ written_all
-        (down_ops change.now.rows k (shown_by state.now change.now) prompt.now)) }
+    ensures { OnOk result (AddsShown state.now change.now
+        (λ shown. down_ops change.now.rows k shown prompt.now) out.old.items out.new.items) }
 {
     let rows = change.rows as u16;
     write_down_start(out, rows, k)?;
-    state.write_after(alloc, out, change, page_len(change.rows) - k as usize)?;
+    write_after(
+        state,
+        alloc,
+        out,
+        change,
+        page_len(change.rows) - k as usize,
+    )?;
     write_prompt_row(out, rows, prompt)?;
     Ok(())
 }
@@ -104,12 +112,12 @@ pub(crate) fn push_scroll_up(
     k: u16,
     prompt: &str,
 ) -> Result<(), AllocError>
-    requires { IsFormedFor state.now change.now }
-    ensures { OnOk result (out.new.items ≡ out.old.items ++ written_all
-        (up_ops change.now.rows k (shown_by state.now change.now) prompt.now)) }
+    requires { Belongs state.now.screen.document change.now.text }
+    ensures { OnOk result (AddsShown state.now change.now
+        (λ shown. up_ops change.now.rows k shown prompt.now) out.old.items out.new.items) }
 {
     write_up_start(out, k)?;
-    state.write_between(alloc, out, change, 0, k as usize)?;
+    write_between(state, alloc, out, change, 0, k as usize)?;
     write_prompt_row(out, change.rows as u16, prompt)?;
     Ok(())
 }

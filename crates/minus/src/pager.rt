@@ -1,11 +1,9 @@
 //! A pager that is not yet on show.
-ghost use Rattle.std.specs.Prelude.{◌≡◌, ◌++◌, ◌∷◌, [], map, not, false, OnOk, OnErr, IfErr};
+ghost use Rattle.std.specs.Prelude.{◌≡◌, ◌++◌, ◌∷◌, [], not, false, OnOk, OnErr, IfErr};
 ghost use Rattle.minus_term.specs.Refusals.{refusal_of};
 ghost use Rattle.minus_state.specs.ShownPrompt.{has_newline};
-ghost use Rattle.minus.specs.Reads.{wanted_of};
-ghost use Rattle.minus.specs.Handing.{a_classifier, a_condition};
-ghost use Rattle.minus.specs.Pager.{IsUnsaid};
-ghost use Rattle.minus.specs.Table.{sets_data, appends_data, sets_prompt, sends_message, hands_over};
+ghost use Rattle.minus.specs.Pager.{IsUnsaid, WaitsBehind};
+ghost use Rattle.minus.specs.Table.{sets_data, appends_data, sets_prompt, sends_message};
 
 use crate::commands::CommandOf;
 use crate::hooks::Hook;
@@ -14,7 +12,8 @@ use crate::state::ExitStrategy;
 use crate::waiting::check_line;
 use minus_term::MinusError;
 use minus_text::LineNumbers;
-use std::alloc::{AllocError, Global};
+use std::alloc::Global;
+use std::convert::AsStr;
 use std::fmt;
 
 /// A pager that is not yet on show: what it is told waits for its start.
@@ -39,16 +38,21 @@ impl<P: Parts> PagerOf<P> {
         }
     }
 
+    /// The commands that wait for the start, in their order.
+    pub fn waiting(&self) -> &[CommandOf<P>]
+        ensures { result.now ≡ self.now.queue.items }
+    {
+        self.queue.as_slice()
+    }
+
     // Adds a command after those that wait.
     fn queue(&mut self, command: CommandOf<P>) -> Result<(), MinusError>
         ensures ok { OnOk result (self.new.queue.items ≡ self.old.queue.items ++ command ∷ []) }
         ensures err { OnErr result (self.new.queue.items ≡ self.old.queue.items) }
         ensures memory { IfErr result (λ e. e ≡ MinusError.Memory) }
     {
-        match self.queue.push(command) {
-            Ok(()) => Ok(()),
-            Err(failed) => Err(MinusError::from(AllocError::from(failed))),
-        }
+        self.queue.push(command)?;
+        Ok(())
     }
 
     /// Puts this text in the place of all text before it.
@@ -57,8 +61,7 @@ impl<P: Parts> PagerOf<P> {
     ///
     /// [`MinusError::Memory`] where there is no memory, and nothing has changed.
     pub fn set_text(&mut self, text: &str) -> Result<(), MinusError>
-        ensures ok { OnOk result (map wanted_of self.new.queue.items
-            ≡ map wanted_of self.old.queue.items ++ sets_data text.now ∷ []) }
+        ensures ok { OnOk result (WaitsBehind self.old.queue.items self.new.queue.items (sets_data text.now)) }
         ensures err { OnErr result (self.new.queue.items ≡ self.old.queue.items) }
         ensures memory { IfErr result (λ e. e ≡ MinusError.Memory) }
     {
@@ -72,8 +75,7 @@ impl<P: Parts> PagerOf<P> {
     ///
     /// [`MinusError::Memory`] where there is no memory, and nothing has changed.
     pub fn push_str(&mut self, text: &str) -> Result<(), MinusError>
-        ensures ok { OnOk result (map wanted_of self.new.queue.items
-            ≡ map wanted_of self.old.queue.items ++ appends_data text.now ∷ []) }
+        ensures ok { OnOk result (WaitsBehind self.old.queue.items self.new.queue.items (appends_data text.now)) }
         ensures err { OnErr result (self.new.queue.items ≡ self.old.queue.items) }
         ensures memory { IfErr result (λ e. e ≡ MinusError.Memory) }
     {
@@ -81,37 +83,37 @@ impl<P: Parts> PagerOf<P> {
         Ok(())
     }
 
-    /// Lets the prompt row say this.
+    /// Lets the prompt row say this, of which a copy is kept.
     ///
     /// # Errors
     ///
     /// [`MinusError::NewlineInPrompt`] where the text has a newline, and [`MinusError::Memory`] where there is no
     /// memory; nothing has changed.
-    pub fn set_prompt(&mut self, text: &str) -> Result<(), MinusError>
-        ensures ok { OnOk result (map wanted_of self.new.queue.items
-            ≡ map wanted_of self.old.queue.items ++ sets_prompt text.now ∷ []) }
-        ensures one_line { OnOk result (has_newline text.now ≡ false) }
+    pub fn set_prompt<T: AsStr + Drop>(&mut self, text: T) -> Result<(), MinusError>
+        ensures ok { OnOk result (WaitsBehind self.old.queue.items self.new.queue.items (sets_prompt (T.text text))) }
+        ensures one_line { OnOk result (has_newline (T.text text) ≡ false) }
         ensures err { OnErr result (self.new.queue.items ≡ self.old.queue.items) }
-        ensures refused { IfErr result (λ e. IsUnsaid (refusal_of e) text.now) }
+        ensures refused { IfErr result (λ e. IsUnsaid (refusal_of e) (T.text text)) }
     {
+        let text = text.as_str();
         check_line(text)?;
         self.queue(CommandOf::SetPrompt(String::from_str(self.alloc, text)?))?;
         Ok(())
     }
 
-    /// Lets the prompt row say this in the prompt's place, until the message goes.
+    /// Lets the prompt row say this in the prompt's place, until the message goes. A copy is kept.
     ///
     /// # Errors
     ///
     /// [`MinusError::NewlineInPrompt`] where the text has a newline, and [`MinusError::Memory`] where there is no
     /// memory; nothing has changed.
-    pub fn send_message(&mut self, text: &str) -> Result<(), MinusError>
-        ensures ok { OnOk result (map wanted_of self.new.queue.items
-            ≡ map wanted_of self.old.queue.items ++ sends_message text.now ∷ []) }
-        ensures one_line { OnOk result (has_newline text.now ≡ false) }
+    pub fn send_message<T: AsStr + Drop>(&mut self, text: T) -> Result<(), MinusError>
+        ensures ok { OnOk result (WaitsBehind self.old.queue.items self.new.queue.items (sends_message (T.text text))) }
+        ensures one_line { OnOk result (has_newline (T.text text) ≡ false) }
         ensures err { OnErr result (self.new.queue.items ≡ self.old.queue.items) }
-        ensures refused { IfErr result (λ e. IsUnsaid (refusal_of e) text.now) }
+        ensures refused { IfErr result (λ e. IsUnsaid (refusal_of e) (T.text text)) }
     {
+        let text = text.as_str();
         check_line(text)?;
         self.queue(CommandOf::SendMessage(String::from_str(self.alloc, text)?))?;
         Ok(())
@@ -260,8 +262,8 @@ impl<P: Parts> PagerOf<P> {
     ///
     /// [`MinusError::Memory`] where memory ran out, nothing has changed, and the classifier is dropped.
     pub fn set_input_classifier(&mut self, classifier: P::Classifier) -> Result<(), MinusError>
-        ensures ok { OnOk result (map wanted_of self.new.queue.items
-            ≡ map wanted_of self.old.queue.items ++ hands_over (a_classifier classifier) ∷ []) }
+        ensures ok { OnOk result (self.new.queue.items
+            ≡ self.old.queue.items ++ CommandOf.SetInputClassifier classifier ∷ []) }
         ensures err { OnErr result (self.new.queue.items ≡ self.old.queue.items) }
         ensures memory { IfErr result (λ e. e ≡ MinusError.Memory) }
     {
@@ -278,8 +280,8 @@ impl<P: Parts> PagerOf<P> {
         &mut self,
         condition: P::Condition,
     ) -> Result<(), MinusError>
-        ensures ok { OnOk result (map wanted_of self.new.queue.items
-            ≡ map wanted_of self.old.queue.items ++ hands_over (a_condition condition) ∷ []) }
+        ensures ok { OnOk result (self.new.queue.items
+            ≡ self.old.queue.items ++ CommandOf.IncrementalSearchCondition condition ∷ []) }
         ensures err { OnErr result (self.new.queue.items ≡ self.old.queue.items) }
         ensures memory { IfErr result (λ e. e ≡ MinusError.Memory) }
     {
@@ -289,13 +291,12 @@ impl<P: Parts> PagerOf<P> {
 }
 
 impl<P: Parts> fmt::Write for PagerOf<P> {
-    ghost use Rattle.std.specs.Prelude.{◌≡◌, ◌++◌, ◌∷◌, [], map, OnOk, OnErr};
-    ghost use Rattle.minus.specs.Reads.{wanted_of};
+    ghost use Rattle.std.specs.Prelude.{◌≡◌, OnOk, OnErr};
+    ghost use Rattle.minus.specs.Pager.{WaitsBehind};
     ghost use Rattle.minus.specs.Table.{appends_data};
 
     fn write_str(&mut self, text: &str) -> fmt::Result
-        ensures ok { OnOk result (map wanted_of self.new.queue.items
-            ≡ map wanted_of self.old.queue.items ++ appends_data text.now ∷ []) }
+        ensures ok { OnOk result (WaitsBehind self.old.queue.items self.new.queue.items (appends_data text.now)) }
         ensures err { OnErr result (self.new.queue.items ≡ self.old.queue.items) }
     {
         match self.push_str(text) {

@@ -2,12 +2,12 @@
 //!
 //! A function of your own on a session is written over the kinds: `<P: Calls>(session: &mut Core<S, P>)`.
 use crate::hooks::{ExitCall, ExitCallbacks, HookCall, HookList, KeptExit, KeptHook};
-use crate::input::{Classifier, InputClassifier, KeptAction};
+use crate::input::{ActionCall, Classifier, EventTable, InputClassifier, KeptAction};
 use crate::request::Request;
 use crate::search::{ConditionCall, KeptCondition};
 use crate::state::{ExitStrategy, PagerState};
 use minus_term::MinusError;
-use std::alloc::Global;
+use std::alloc::{AllocError, Global};
 use std::marker::PhantomData;
 
 /// The kinds of what a session keeps of its caller's.
@@ -94,12 +94,13 @@ impl<P: Parts> Drop for PartsOf<P> {
 
 impl<P: Parts> PartsOf<P> {
     ghost use Rattle.std.specs.Prelude.{◌≡◌};
+    ghost use Rattle.minus.specs.Callbacks.{callbacks_of, no_callbacks};
     ghost use Rattle.minus.specs.Handing.{kept_at_first};
     ghost use Rattle.minus.specs.Reads.{kept_of};
 
     /// Parts with a state, and a classifier and a condition that are kept, or no condition. No callback is kept, an
     /// exit ends the process with the code 0, and a text that fits the page is printed.
-    pub fn new(
+    pub fn keeping(
         alloc: Global,
         state: PagerState,
         classifier: P::Classifier,
@@ -109,6 +110,7 @@ impl<P: Parts> PartsOf<P> {
         ensures classifier { result.classifier ≡ classifier }
         ensures condition { result.condition ≡ condition }
         ensures kept { kept_of result ≡ kept_at_first }
+        ensures callbacks { callbacks_of result ≡ no_callbacks }
     {
         PartsOf {
             state,
@@ -123,10 +125,35 @@ impl<P: Parts> PartsOf<P> {
     }
 }
 
+impl<H: Drop, E: Drop, Q: Drop, C: Drop> PartsOf<Keyed<H, E, Q, C>> {
+    ghost use Rattle.std.specs.Prelude.{◌≡◌, None, IfOk};
+    ghost use Rattle.minus_input.specs.DefaultClassifier.{IsDefault};
+    ghost use Rattle.minus.specs.Callbacks.{callbacks_of, no_callbacks};
+    ghost use Rattle.minus.specs.Handing.{kept_at_first};
+    ghost use Rattle.minus.specs.Reads.{kept_of};
+
+    /// Parts with a state and a register of the default bindings, as a session has them that was handed nothing.
+    ///
+    /// # Errors
+    ///
+    /// [`AllocError`] where there is no memory for the register.
+    pub fn new(alloc: Global, state: PagerState) -> Result<PartsOf<Keyed<H, E, Q, C>>, AllocError>
+        ensures state { IfOk result (λ parts. parts.state ≡ state) }
+        ensures classifier { IfOk result (λ parts. IsDefault parts.classifier) }
+        ensures condition { IfOk result (λ parts. parts.condition ≡ None) }
+        ensures kept { IfOk result (λ parts. kept_of parts ≡ kept_at_first) }
+        ensures callbacks { IfOk result (λ parts. callbacks_of parts ≡ no_callbacks) }
+    {
+        let classifier = Classifier::Register(EventTable::default_bindings(alloc)?);
+        Ok(PartsOf::keeping(alloc, state, classifier, None))
+    }
+}
+
 impl<P: Calls> PartsOf<P> {
     ghost use Rattle.std.specs.Prelude.{◌≡◌, option_map, string_bytes, IfOk, IfErr, OnOk};
     ghost use Rattle.minus_state.specs.States.{control_of};
     ghost use Rattle.minus.specs.Asked.{IsRequest, IsHelpText};
+    ghost use Rattle.minus.specs.Callbacks.{KeepsAs};
     ghost use Rattle.minus.specs.Reads.{wanted_by};
 
     // The text that help is opened with, if there is one: the classifier's; while help is open, the classifier is not
@@ -151,6 +178,7 @@ impl<P: Calls> PartsOf<P> {
     ) -> Result<Request<P>, MinusError>
         ensures ok { IfOk result (λ r. IsRequest P.Classifier.says self.now.classifier
             (control_of self.now.state).help (wanted_by request) (wanted_by r)) }
+        ensures keeps { IfOk result (λ r. KeepsAs r request) }
         ensures memory { IfErr result (λ e. e ≡ MinusError.Memory) }
     {
         match request {
@@ -163,6 +191,7 @@ impl<P: Calls> PartsOf<P> {
     pub(crate) fn set_help(&self, alloc: Global, request: &mut Request<P>) -> Result<(), MinusError>
         ensures ok { OnOk result (IsRequest P.Classifier.says self.now.classifier
             (control_of self.now.state).help (wanted_by request.old) (wanted_by request.new)) }
+        ensures keeps { OnOk result (KeepsAs request.new request.old) }
         ensures memory { IfErr result (λ e. e ≡ MinusError.Memory) }
     {
         if let Request::ShowHelp(text) = request {

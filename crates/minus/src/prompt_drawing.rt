@@ -1,11 +1,10 @@
 //! The drawings of an open search prompt, in a buffer.
-ghost use Rattle.std.specs.Prelude.{◌≡◌, ◌++◌, option_map, OnOk};
+ghost use Rattle.std.specs.Prelude.{◌≡◌, option_map, OnOk};
 ghost use Rattle.regex.specs.Strings.{regex_pattern};
-ghost use Rattle.minus_term.specs.Written.{written_all};
-ghost use Rattle.minus_state.specs.Changes.{IsFormedFor};
+ghost use Rattle.minus_state.specs.NextTexts.{Belongs};
 ghost use Rattle.minus_state.specs.OpenSearches.{seen_search, search_after};
 ghost use Rattle.minus_state.specs.States.{control_of, IsFormed};
-ghost use Rattle.minus.specs.AddedBytes.{AddsOps, AddsPage, AddsEditOps};
+ghost use Rattle.minus.specs.AddedBytes.{AddsOps, AddsFormed, AddsFormedPage, AddsEditOps};
 ghost use Rattle.minus.specs.Drawings.{opening_under, cursor_under, edit_under, preview_ops};
 ghost use Rattle.minus.specs.Previews.{view_seen};
 
@@ -121,9 +120,8 @@ fn push_preview(
     pattern: &Regex,
     typed: &str,
 ) -> Result<(), AllocError>
-    requires { IsFormed state.now }
-    ensures { OnOk result (out.new.items ≡ out.old.items ++ written_all
-        (preview_ops rows (control_of state.now) (regex_pattern pattern.now) typed.now)) }
+    ensures { OnOk result (AddsFormed state.now
+        (preview_ops rows (control_of state.now) (regex_pattern pattern.now) typed.now) out.old.items out.new.items) }
 {
     let found = confirmed_rows(alloc, state, pattern)?;
     write_page(out, rows, &found, typed)
@@ -139,9 +137,8 @@ fn push_previewed(
     preview: Option<&Regex>,
     typed: &str,
 ) -> Result<(), AllocError>
-    requires formed { IsFormed state.now }
-    requires belongs { IsFormedFor state.now change.now }
-    ensures { OnOk result (AddsPage (control_of state.now) change.now
+    requires { Belongs state.now.screen.document change.now.text }
+    ensures { OnOk result (AddsFormedPage state.now change.now
         (option_map (λ r. regex_pattern r.now) preview.entry) typed.now out.old.items out.new.items) }
 {
     match preview {
@@ -160,9 +157,8 @@ pub(crate) fn push_edit(
     out: &mut Vec<u8>,
     change: &Change,
 ) -> Result<(), AllocError>
-    requires formed { IsFormed state.now }
-    requires belongs { IsFormedFor state.now change.now }
-    ensures { OnOk result (AddsEditOps (control_of state.now) change.now
+    requires { Belongs state.now.screen.document change.now.text }
+    ensures { OnOk result (IsFormed state.now → AddsEditOps (control_of state.now) change.now
         (λ new. edit_under new new.search) out.old.items out.new.items) }
 {
     let Some(view) = open_after(state, change) else {

@@ -42,12 +42,14 @@ pub(crate) enum Request<P: Parts> {
 impl<P: Parts> Request<P> {
     ghost use Rattle.std.specs.Prelude.{◌≡◌, IfOk};
     ghost use Rattle.minus_state.specs.Control.{Control};
+    ghost use Rattle.minus.specs.Callbacks.{KeepsNone, KeepsOf};
     ghost use Rattle.minus.specs.Reads.{event_wanted, io_wanted, wanted_of, wanted_by};
     ghost use Rattle.minus.specs.Table.{effect_of, IsPossible};
 
     // What an event asks for. Help has no text yet.
     pub(crate) fn of_event(event: InputEvent) -> Request<P>
-        ensures { wanted_by result ≡ event_wanted event }
+        ensures wanted { wanted_by result ≡ event_wanted event }
+        ensures keeps { KeepsNone result }
     {
         match event {
             InputEvent::UpdateUpperMark(mark) => Request::MoveMark(mark),
@@ -75,7 +77,8 @@ impl<P: Parts> Request<P> {
 
     // What a command that asks for a drawing asks for.
     pub(crate) fn of_io(command: IoCommand) -> Request<P>
-        ensures { wanted_by result ≡ io_wanted command }
+        ensures wanted { wanted_by result ≡ io_wanted command }
+        ensures keeps { KeepsNone result }
     {
         match command {
             IoCommand::RedrawPrompt => Request::RedrawPrompt,
@@ -109,7 +112,8 @@ impl<P: Parts> Request<P> {
 
     // What a command asks for. Help has no text yet.
     pub(crate) fn of_command(command: CommandOf<P>) -> Request<P>
-        ensures { wanted_by result ≡ wanted_of command }
+        ensures wanted { wanted_by result ≡ wanted_of command }
+        ensures keeps { KeepsOf command result }
     {
         match command {
             CommandOf::SetData(text) => Request::SetText(text),

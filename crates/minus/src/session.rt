@@ -87,6 +87,7 @@ impl<S, P: Parts> Core<S, P> {
     ghost use Rattle.minus_state.specs.Page.{page};
     ghost use Rattle.minus_state.specs.Sizes.{IsSize};
     ghost use Rattle.minus_state.specs.States.{control_of};
+    ghost use Rattle.minus.specs.Callbacks.{callbacks_of};
     ghost use Rattle.minus.specs.Core.{seen_of};
     ghost use Rattle.minus.specs.Outcomes.{LeadsClamped};
     ghost use Rattle.minus.specs.SessionDrawings.{DrawsWithRow, DrawsChange, PutsChange};
@@ -186,6 +187,7 @@ impl<S, P: Parts> Core<S, P> {
         ensures size { OnOk result (IsSize self.new.parts.state.cols self.new.parts.state.rows) }
         ensures sink { self.new.sink ≡ self.old.sink }
         ensures waiting { self.new.waiting ≡ self.old.waiting }
+        ensures callbacks { callbacks_of self.new.parts ≡ callbacks_of self.old.parts }
         ensures err { OnErr result (seen_of self.new ≡ seen_of self.old) }
         ensures memory { IfErr result (λ e. e ≡ MinusError.Memory) }
     {
@@ -200,9 +202,10 @@ impl<S, P: Parts> Core<S, P> {
 }
 
 impl<S: OutputSink, P: Parts> Core<S, P> {
-    ghost use Rattle.std.specs.Prelude.{◌≡◌, ◌<◌, length, OnOk, OnErr, IfErr};
+    ghost use Rattle.std.specs.Prelude.{◌≡◌, ◌<◌, ◌==◌, length, OnOk, OnErr, IfErr, if◌then◌else◌};
     ghost use Rattle.std.specs.Io.KnownBytes.{Appends};
-    ghost use Rattle.minus_term.specs.Counts.{AppendsFront, Stays, Rises};
+    ghost use Rattle.minus.specs.Callbacks.{callbacks_of};
+    ghost use Rattle.minus_term.specs.Counts.{AppendsFront, Stays, Rises, RisesBy};
     ghost use Rattle.minus_term.specs.Refusals.{refusal_of, at_drawing};
     ghost use Rattle.minus.specs.Core.{seen_of};
 
@@ -219,6 +222,9 @@ impl<S: OutputSink, P: Parts> Core<S, P> {
         ensures fails { OnErr result (seen_of self.new ≡ record (seen_of self.old) { status = stands.Failed }) }
         ensures waiting { self.new.waiting ≡ self.old.waiting }
         ensures cause { IfErr result (λ e. refusal_of e ≡ at_drawing) }
+        ensures callbacks { callbacks_of self.new.parts ≡ callbacks_of self.old.parts }
+        ensures settled { OnOk result (RisesBy (S.seen self.old.sink).settles (S.seen self.new.sink).settles
+            (if length self.old.drawing.items == 0 then 0 else 1)) }
     {
         if self.drawing.is_empty() {
             return Ok(());
@@ -232,13 +238,16 @@ impl<S: OutputSink, P: Parts> Core<S, P> {
 }
 
 impl<S: OutputSink + Drop, P: Calls> Core<S, P> {
-    ghost use Rattle.std.specs.Prelude.{◌≡◌, ◌≤◌, ◌<◌, ◌↔◌, is_some, true, option_map, string_bytes, None, Some, OnOk, OnErr, IfOk, IfErr, IsOk, IsErrOf};
+    ghost use Rattle.std.specs.Prelude.{◌≡◌, ◌≤◌, ◌<◌, ◌↔◌, [], is_some, true, option_map, string_bytes, None, Some, OnOk, OnErr, IfOk, IfErr, IsOk, IsErrOf};
     ghost use Rattle.std.specs.VecDeque.{deque_len};
     ghost use Rattle.std.specs.Io.KnownBytes.{Appends};
     ghost use Rattle.minus_term.specs.Counts.{Stays, Rises};
     ghost use Rattle.minus_term.specs.Terminal.{CleanupBreaksOff};
     ghost use Rattle.minus_state.specs.States.{control_of};
+    ghost use Rattle.minus_term.specs.Refusals.{refusal_of};
     ghost use Rattle.minus.specs.Asked.{checked_as};
+    ghost use Rattle.minus.specs.Callbacks.{callbacks_of, with_handed, KeepsOfInput, IsDue, CallsHook, CallsExit};
+    ghost use Rattle.minus.specs.Callbacks.{CallsOutcome, CallsRequest, CallsWorked, CallsTaken, CallsUntaken, exit_in};
     ghost use Rattle.minus.specs.Core.{seen_of};
     ghost use Rattle.minus.specs.Outcomes.{LeadsClamped, IsTakenBy};
     ghost use Rattle.minus.specs.Reads.{an_event, told_of, wanted_by, handing_of};
@@ -248,13 +257,17 @@ impl<S: OutputSink + Drop, P: Calls> Core<S, P> {
     ghost use Rattle.minus.specs.TakenParts.{IsOutcomeTaken, IsOutcomeUntaken, IsHandingTaken, IsHandingUntaken};
     ghost use Rattle.minus.specs.TakenParts.{IsExitTaken, IsExitUntaken, IsTakenAs, IsUntakenAs};
     ghost use Rattle.minus.specs.TakenParts.{AreJoinedTaken, AreJoinedUntaken};
-    ghost use Rattle.minus.specs.Steps.{cleanup_after};
+    ghost use Rattle.minus.specs.Steps.{cleanup_after, IsSinkFault};
+    ghost use Rattle.minus.specs.Table.{hook_after};
     ghost use Rattle.minus.specs.Works.{Work};
 
     // The request that an input is, for an event by the classifier's answer, and whether the typed prefix goes with it.
     fn resolve(&self, input: InputOf<P>) -> Result<(Request<P>, bool), MinusError>
         ensures asked { IfOk result (λ r.
             IsAsked (says_of P.Condition.judges P.Classifier.says) self.now (told_of input) (wanted_by r.0) r.1) }
+        ensures keeps { IfOk result (λ r. KeepsOfInput input r.0) }
+        ensures due { IfOk result (λ r. IsDue input (seen_of self.now).control
+            (hook_after (seen_of self.now).control (wanted_by r.0))) }
         ensures memory { IfErr result (λ e. e ≡ MinusError.Memory) }
     {
         match input {
@@ -281,10 +294,9 @@ impl<S: OutputSink + Drop, P: Calls> Core<S, P> {
         ensures seen { seen_of self.new ≡ seen_of self.old }
         ensures sink { self.new.sink ≡ self.old.sink }
         ensures waiting { self.new.waiting ≡ self.old.waiting }
+        ensures called { CallsHook hook (callbacks_of self.old.parts) (callbacks_of self.new.parts) }
     {
-        if let Some(hook) = hook {
-            self.parts.call(hook);
-        }
+        self.parts.call_due(hook);
     }
 
     // Applies what comes of an input that does not exit, writes what was drawn, and then calls the callbacks of the
@@ -297,6 +309,9 @@ impl<S: OutputSink + Drop, P: Calls> Core<S, P> {
         ensures refused { IfErr result (λ e.
             IsOutcomeUntaken S.seen (says_of P.Condition.judges P.Classifier.says) self.old outcome self.new e) }
         ensures waiting { self.new.waiting ≡ self.old.waiting }
+        ensures called { OnOk result (CallsOutcome outcome self.old self.new) }
+        ensures uncalled { OnErr result (callbacks_of self.new.parts ≡ callbacks_of self.old.parts) }
+        ensures goes_on { IfOk result (λ t. exit_in t ≡ None) }
     {
         let is_move = outcome.moves_to.is_some();
         let copied = self.apply(outcome)?;
@@ -315,6 +330,10 @@ impl<S: OutputSink + Drop, P: Calls> Core<S, P> {
         ensures refused { IfErr result (λ e. IsHandingUntaken S.seen (says_of P.Condition.judges P.Classifier.says)
             self.old (handing_of handed) self.new e) }
         ensures waiting { self.new.waiting ≡ self.old.waiting }
+        ensures callbacks { OnOk result (callbacks_of self.new.parts
+            ≡ with_handed (callbacks_of self.old.parts) handed) }
+        ensures uncalled { OnErr result (callbacks_of self.new.parts ≡ callbacks_of self.old.parts) }
+        ensures goes_on { IfOk result (λ t. exit_in t ≡ None) }
     {
         self.parts.keep(handed)?;
         Ok(Done::On(None))
@@ -330,6 +349,10 @@ impl<S: OutputSink + Drop, P: Calls> Core<S, P> {
         ensures refused { IfErr result (λ e. IsExitUntaken S.seen (says_of P.Condition.judges P.Classifier.says)
             self.old (option_map string_bytes prefix) self.new e) }
         ensures fewer { deque_len self.new.waiting ≤ deque_len self.old.waiting }
+        ensures called { OnOk result (CallsExit (callbacks_of self.old.parts) (callbacks_of self.new.parts)) }
+        ensures uncalled { IfErr result (λ e. CallsUntaken (refusal_of e) self.old self.new) }
+        ensures sink_alone { IfErr result (λ e. IsSinkFault (refusal_of e)) }
+        ensures exits { IfOk result (λ t. is_some (exit_in t) ≡ true) }
     {
         self.parts.leave(prefix);
         if let Err(cause) = cleanup(&mut self.sink, true) {
@@ -353,6 +376,8 @@ impl<S: OutputSink + Drop, P: Calls> Core<S, P> {
         ensures refused { IfErr result (λ e. IsUntakenAs S.seen (says_of P.Condition.judges P.Classifier.says)
             self.old (wanted_by request) clears_prefix self.new e) }
         ensures fewer { deque_len self.new.waiting ≤ deque_len self.old.waiting }
+        ensures called { IfOk result (λ t. CallsRequest (exit_in t) request self.old self.new) }
+        ensures uncalled { IfErr result (λ e. CallsUntaken (refusal_of e) self.old self.new) }
     {
         if let Request::HandOver(handed) = request {
             return self.take_handed(handed);
@@ -373,6 +398,8 @@ impl<S: OutputSink + Drop, P: Calls> Core<S, P> {
         ensures refused { IfErr result (λ e.
             IsUntakenOf S.seen (says_of P.Condition.judges P.Classifier.says) self.old (told_of input) self.new e) }
         ensures fewer { deque_len self.new.waiting ≤ deque_len self.old.waiting }
+        ensures called { IfOk result (λ t. CallsWorked (exit_in t) input self.old self.new) }
+        ensures uncalled { IfErr result (λ e. CallsUntaken (refusal_of e) self.old self.new) }
     {
         let (request, clears_prefix) = self.resolve(input)?;
         let taken = self.execute(request, clears_prefix)?;
@@ -388,6 +415,7 @@ impl<S: OutputSink + Drop, P: Calls> Core<S, P> {
             (seen_of self.now) (an_event event.now) o work) }
         ensures refused { IfErr result (λ e. IsUntakenOf S.seen (says_of P.Condition.judges P.Classifier.says)
             self.now (an_event event.now) self.now e) }
+        ensures still { IfOk result (λ o. o.moves_to ≡ None) }
     {
         let condition = self.parts.condition.as_ref();
         let change = self.parts.state.keyed(self.alloc, condition, event)?;
@@ -404,6 +432,7 @@ impl<S: OutputSink + Drop, P: Calls> Core<S, P> {
             IsTakenOf S.seen (says_of P.Condition.judges P.Classifier.says) self.old (an_event event) self.new t) }
         ensures refused { IfErr result (λ e.
             IsUntakenOf S.seen (says_of P.Condition.judges P.Classifier.says) self.old (an_event event) self.new e) }
+        ensures callbacks { callbacks_of self.new.parts ≡ callbacks_of self.old.parts }
     {
         let outcome = self.keyed(&event)?;
         self.change(outcome)
@@ -417,6 +446,7 @@ impl<S: OutputSink + Drop, P: Calls> Core<S, P> {
             IsTakenOf S.seen (says_of P.Condition.judges P.Classifier.says) self.old (told_of input) self.new t) }
         ensures refused { IfErr result (λ e.
             IsUntakenOf S.seen (says_of P.Condition.judges P.Classifier.says) self.old (told_of input) self.new e) }
+        ensures callbacks { callbacks_of self.new.parts ≡ callbacks_of self.old.parts }
     {
         match fed_event(&input) {
             Some(event) => self.edit(event),
@@ -477,6 +507,8 @@ impl<S: OutputSink + Drop, P: Calls> Core<S, P> {
             IsUntakenOf S.seen (says_of P.Condition.judges P.Classifier.says) self.old (told_of input) self.new e) }
         ensures fewer { (control_of self.old.parts.state).search ≡ None →
             deque_len self.new.waiting ≤ deque_len self.old.waiting }
+        ensures called { IfOk result (λ t. CallsTaken self.old input self.new (exit_in t)) }
+        ensures uncalled { IfErr result (λ e. CallsUntaken (refusal_of e) self.old self.new) }
     {
         if self.is_searching() {
             return self.take_searching(input);
@@ -505,6 +537,12 @@ impl<S: OutputSink + Drop, P: Calls> Core<S, P> {
     pub fn step(&mut self, input: InputOf<P>) -> Result<Answer, MinusError>
         ensures step { IfOk result (λ a.
             IsStepOf S.seen (says_of P.Condition.judges P.Classifier.says) self.old (told_of input) self.new a) }
+
+        // The callbacks, where nothing waited.
+        ensures called { IfOk result (λ a. (seen_of self.old).waiting ≡ [] →
+            CallsTaken self.old input self.new a.exited) }
+        ensures uncalled { IfErr result (λ e. (seen_of self.old).waiting ≡ [] →
+            CallsUntaken (refusal_of e) self.old self.new) }
 
         // A refusal: what it leaves, and when it comes.
         ensures refused { IfErr result (λ e.

@@ -2,18 +2,21 @@
 ghost use Rattle.std.specs.Prelude.{◌≡◌, OnOk, OnErr, IfOk, IfErr};
 ghost use Rattle.std.specs.List.{flat_map};
 ghost use Rattle.std.specs.Io.KnownBytes.{Appends};
-ghost use Rattle.minus_term.specs.Counts.{Stays};
+ghost use Rattle.minus_term.specs.Counts.{Stays, RisesBy};
 ghost use Rattle.minus_term.specs.FullRedraw.{prompt_ops, row_ops};
 ghost use Rattle.minus_term.specs.Writes.{WriteRefuses};
 ghost use Rattle.minus_term.specs.Written.{written_all};
 ghost use Rattle.minus_state.specs.Control.{clamp, moved_to};
 ghost use Rattle.minus_state.specs.Changes.{IsFormedFor, shown_by};
+ghost use Rattle.minus_state.specs.NextTexts.{Belongs};
+ghost use Rattle.minus.specs.DrawsFormed.{DrawsFormed, RefusesFormed};
 ghost use Rattle.minus.specs.Drawings.{whole_page, page_rows, append_from, scroll_to};
 ghost use Rattle.minus_state.specs.States.{IsFormed, control_of};
 
 use crate::state::PagerState;
 use crate::step_drawing::{Drawing, draw_page, push_append};
 use minus_state::change::{Change, Redraw};
+use minus_state::state::after::write_after;
 use minus_term::{MinusError, OutputSink, draw_bytes, write_prompt_row};
 use std::alloc::{AllocError, Global};
 
@@ -32,6 +35,7 @@ pub fn write_prompt<W: OutputSink>(
     ensures ok { OnOk result (Appends (W.seen out.old).bytes (W.seen out.new).bytes
         (written_all (prompt_ops rows text.now))) }
     ensures stays { OnOk result (Stays (W.seen out.old).refusals (W.seen out.new).refusals) }
+    ensures settled { OnOk result (RisesBy (W.seen out.old).settles (W.seen out.new).settles 1) }
     ensures err { IfErr result (λ e. WriteRefuses W.seen e out.old out.new (written_all (prompt_ops rows text.now))) }
 {
     let mut bytes = Vec::new(alloc);
@@ -42,9 +46,9 @@ pub fn write_prompt<W: OutputSink>(
 
 // The mark of a state as it is clamped, and the bytes that draw the whole page there.
 fn drawn_whole(alloc: Global, state: &PagerState) -> Result<(usize, Vec<u8>), AllocError>
-    requires { IsFormed state.now }
-    ensures mark { IfOk result (λ d. d.0 ≡ (clamp (control_of state.now)).mark) }
-    ensures bytes { IfOk result (λ d. d.1.items ≡ written_all (whole_page (clamp (control_of state.now)))) }
+    ensures mark { IfOk result (λ d. IsFormed state.now → d.0 ≡ (clamp (control_of state.now)).mark) }
+    ensures bytes { IfOk result (λ d. IsFormed state.now →
+        d.1.items ≡ written_all (whole_page (clamp (control_of state.now)))) }
 {
     let clamped = state.moved_to(state.upper_mark);
     let (_, bytes) = draw_page(alloc, state, Drawing::Full, &clamped)?;
@@ -58,9 +62,9 @@ fn drawn_scroll(
     state: &PagerState,
     mark: usize,
 ) -> Result<(usize, Vec<u8>), AllocError>
-    requires { IsFormed state.now }
-    ensures mark { IfOk result (λ d. d.0 ≡ (moved_to (control_of state.now) mark).mark) }
-    ensures bytes { IfOk result (λ d. d.1.items ≡ written_all (scroll_to (control_of state.now) mark)) }
+    ensures mark { IfOk result (λ d. IsFormed state.now → d.0 ≡ (moved_to (control_of state.now) mark).mark) }
+    ensures bytes { IfOk result (λ d. IsFormed state.now →
+        d.1.items ≡ written_all (scroll_to (control_of state.now) mark)) }
 {
     let change = state.moved_to(mark);
     let drawing = Drawing::of(state, &change);
@@ -79,14 +83,15 @@ pub fn draw_full<W: OutputSink>(
     out: &mut W,
     state: &mut PagerState,
 ) -> Result<(), MinusError>
-    requires { IsFormed state.old }
-    ensures control { OnOk result (control_of state.new ≡ clamp (control_of state.old)) }
-    ensures formed { IsFormed state.new }
-    ensures ok { OnOk result (Appends (W.seen out.old).bytes (W.seen out.new).bytes
-        (written_all (whole_page (clamp (control_of state.old))))) }
+    ensures control { OnOk result (IsFormed state.old → control_of state.new ≡ clamp (control_of state.old)) }
+    ensures formed { IsFormed state.old → IsFormed state.new }
+    ensures beside { state.new ≡ record state.old { upper_mark = state.new.upper_mark } }
+    ensures ok { OnOk result (DrawsFormed W.seen state.old out.old
+        (whole_page (clamp (control_of state.old))) out.new) }
     ensures stays { OnOk result (Stays (W.seen out.old).refusals (W.seen out.new).refusals) }
-    ensures err { IfErr result (λ e. WriteRefuses W.seen e out.old out.new
-        (written_all (whole_page (clamp (control_of state.old))))) }
+    ensures settled { OnOk result (RisesBy (W.seen out.old).settles (W.seen out.new).settles 1) }
+    ensures err { IfErr result (λ e. RefusesFormed W.seen e state.old out.old
+        (whole_page (clamp (control_of state.old))) out.new) }
     ensures kept { OnErr result (state.new ≡ state.old) }
 {
     let (mark, bytes) = drawn_whole(alloc, state)?;
@@ -108,15 +113,17 @@ pub fn draw_for_change<W: OutputSink>(
     state: &mut PagerState,
     new_upper_mark: &mut usize,
 ) -> Result<(), MinusError>
-    requires { IsFormed state.old }
-    ensures control { OnOk result (control_of state.new ≡ moved_to (control_of state.old) new_upper_mark.old) }
-    ensures formed { IsFormed state.new }
+    ensures control { OnOk result (IsFormed state.old →
+        control_of state.new ≡ moved_to (control_of state.old) new_upper_mark.old) }
+    ensures formed { IsFormed state.old → IsFormed state.new }
+    ensures beside { state.new ≡ record state.old { upper_mark = state.new.upper_mark } }
     ensures mark { OnOk result (new_upper_mark.new ≡ state.new.upper_mark) }
-    ensures ok { OnOk result (Appends (W.seen out.old).bytes (W.seen out.new).bytes
-        (written_all (scroll_to (control_of state.old) new_upper_mark.old))) }
+    ensures ok { OnOk result (DrawsFormed W.seen state.old out.old
+        (scroll_to (control_of state.old) new_upper_mark.old) out.new) }
     ensures stays { OnOk result (Stays (W.seen out.old).refusals (W.seen out.new).refusals) }
-    ensures err { IfErr result (λ e. WriteRefuses W.seen e out.old out.new
-        (written_all (scroll_to (control_of state.old) new_upper_mark.old))) }
+    ensures settled { OnOk result (RisesBy (W.seen out.old).settles (W.seen out.new).settles 1) }
+    ensures err { IfErr result (λ e. RefusesFormed W.seen e state.old out.old
+        (scroll_to (control_of state.old) new_upper_mark.old) out.new) }
     ensures kept { OnErr result (state.new ≡ state.old) }
     ensures mark_kept { OnErr result (new_upper_mark.new ≡ new_upper_mark.old) }
 {
@@ -141,12 +148,12 @@ pub fn draw_append_text<W: OutputSink>(
     first: usize,
     old_count: usize,
 ) -> Result<(), MinusError>
-    requires { IsFormed state.now }
-    ensures ok { OnOk result (Appends (W.seen out.old).bytes (W.seen out.new).bytes
-        (written_all (append_from (control_of state.now) first old_count))) }
+    ensures ok { OnOk result (DrawsFormed W.seen state.now out.old
+        (append_from (control_of state.now) first old_count) out.new) }
     ensures stays { OnOk result (Stays (W.seen out.old).refusals (W.seen out.new).refusals) }
-    ensures err { IfErr result (λ e. WriteRefuses W.seen e out.old out.new
-        (written_all (append_from (control_of state.now) first old_count))) }
+    ensures settled { OnOk result (RisesBy (W.seen out.old).settles (W.seen out.new).settles 1) }
+    ensures err { IfErr result (λ e. RefusesFormed W.seen e state.now out.old
+        (append_from (control_of state.now) first old_count) out.new) }
 {
     let change = state.redrawn(Redraw::Stays);
     let mut bytes = Vec::new(alloc);
@@ -157,19 +164,20 @@ pub fn draw_append_text<W: OutputSink>(
 
 // The bytes that put the rows of text on the page that a change of a state leads to.
 fn written_page(alloc: Global, state: &PagerState, change: &Change) -> Result<Vec<u8>, AllocError>
-    requires { IsFormedFor state.now change.now }
-    ensures { IfOk result (λ bytes. bytes.items ≡ written_all (flat_map row_ops (shown_by state.now change.now))) }
+    requires { Belongs state.now.screen.document change.now.text }
+    ensures { IfOk result (λ bytes. IsFormedFor state.now change.now →
+        bytes.items ≡ written_all (flat_map row_ops (shown_by state.now change.now))) }
 {
     let mut bytes = Vec::new(alloc);
-    state.write_after(alloc, &mut bytes, change, 0)?;
+    write_after(state, alloc, &mut bytes, change, 0)?;
     Ok(bytes)
 }
 
 // The mark of a state as it is clamped, and the bytes that put the rows of text on the page there.
 fn written_rows(alloc: Global, state: &PagerState) -> Result<(usize, Vec<u8>), AllocError>
-    requires { IsFormed state.now }
-    ensures mark { IfOk result (λ d. d.0 ≡ (clamp (control_of state.now)).mark) }
-    ensures bytes { IfOk result (λ d. d.1.items ≡ written_all (page_rows (clamp (control_of state.now)))) }
+    ensures mark { IfOk result (λ d. IsFormed state.now → d.0 ≡ (clamp (control_of state.now)).mark) }
+    ensures bytes { IfOk result (λ d. IsFormed state.now →
+        d.1.items ≡ written_all (page_rows (clamp (control_of state.now)))) }
 {
     let change = state.moved_to(state.upper_mark);
     let bytes = written_page(alloc, state, &change)?;
@@ -188,14 +196,15 @@ pub fn write_from_pagerstate<W: OutputSink>(
     out: &mut W,
     state: &mut PagerState,
 ) -> Result<(), MinusError>
-    requires { IsFormed state.old }
-    ensures control { OnOk result (control_of state.new ≡ clamp (control_of state.old)) }
-    ensures formed { IsFormed state.new }
-    ensures ok { OnOk result (Appends (W.seen out.old).bytes (W.seen out.new).bytes
-        (written_all (page_rows (clamp (control_of state.old))))) }
+    ensures control { OnOk result (IsFormed state.old → control_of state.new ≡ clamp (control_of state.old)) }
+    ensures formed { IsFormed state.old → IsFormed state.new }
+    ensures beside { state.new ≡ record state.old { upper_mark = state.new.upper_mark } }
+    ensures ok { OnOk result (DrawsFormed W.seen state.old out.old
+        (page_rows (clamp (control_of state.old))) out.new) }
     ensures stays { OnOk result (Stays (W.seen out.old).refusals (W.seen out.new).refusals) }
-    ensures err { IfErr result (λ e. WriteRefuses W.seen e out.old out.new
-        (written_all (page_rows (clamp (control_of state.old))))) }
+    ensures settled { OnOk result (RisesBy (W.seen out.old).settles (W.seen out.new).settles 1) }
+    ensures err { IfErr result (λ e. RefusesFormed W.seen e state.old out.old
+        (page_rows (clamp (control_of state.old))) out.new) }
     ensures kept { OnErr result (state.new ≡ state.old) }
 {
     let (mark, bytes) = written_rows(alloc, state)?;

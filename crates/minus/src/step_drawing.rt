@@ -1,15 +1,15 @@
 //! How a change of a state is drawn, and its bytes in a buffer: the drawing is chosen first, then only its rows are
 //! formed.
-ghost use Rattle.std.specs.Prelude.{◌≡◌, ◌-◌, ◌++◌, ◌^◌, ◌<◌, min, string_bytes, OnOk, IfOk};
-ghost use Rattle.minus_state.specs.Control.{Control};
+ghost use Rattle.std.specs.Prelude.{◌≡◌, ◌-◌, ◌^◌, ◌<◌, min, string_bytes, OnOk, IfOk};
 ghost use Rattle.minus_state.specs.ShownPrompt.{prompt_row};
 ghost use Rattle.minus_term.specs.Append.{append_ops};
 ghost use Rattle.minus_term.specs.Scroll.{scroll_ops};
-ghost use Rattle.minus_term.specs.Written.{written_all};
 ghost use Rattle.minus.specs.AddedBytes.{AddsOps, AddsDrawing, AddsStep, IsDrawnBy};
 ghost use Rattle.minus.specs.Drawings.{append_from, ops_of};
 ghost use Rattle.minus_state.specs.States.{control_of, IsFormed};
-ghost use Rattle.minus_state.specs.Changes.{IsChange, IsFormedFor, shown_by};
+ghost use Rattle.minus_state.specs.AddsShown.{AddsShown};
+ghost use Rattle.minus_state.specs.Changes.{IsFormedFor, WhereLed};
+ghost use Rattle.minus_state.specs.NextTexts.{Belongs};
 
 use crate::page_bytes::{
     push_changed_prompt, push_closing, push_page, push_rows_anew, push_scroll_down, push_scroll_up,
@@ -17,6 +17,7 @@ use crate::page_bytes::{
 use crate::prompt_drawing::{push_cursor, push_edit, push_opening};
 use crate::state::PagerState;
 use minus_state::change::{Change, Redraw};
+use minus_state::state::after::{count_after, shown_after};
 use minus_term::{page_len, write_prompt_row};
 use std::alloc::{AllocError, Global};
 
@@ -62,8 +63,8 @@ impl Drawing {
 
     // How a change of a state is drawn.
     pub(crate) fn of(state: &PagerState, change: &Change) -> Drawing
-        requires { IsFormed state.now }
-        ensures { result ≡ drawing_by change.now.redraw (control_of state.now) change.now.mark }
+        ensures { IsFormed state.now →
+            result ≡ drawing_by change.now.redraw (control_of state.now) change.now.mark }
     {
         let (from, to) = (state.upper_mark, change.mark);
         match change.redraw {
@@ -106,9 +107,9 @@ fn push_scroll(
     to: usize,
     prompt: &str,
 ) -> Result<(), AllocError>
-    requires { IsFormedFor state.now change.now }
-    ensures { OnOk result (out.new.items ≡ out.old.items ++ written_all
-        (scroll_ops change.now.rows from to (shown_by state.now change.now) prompt.now)) }
+    requires { Belongs state.now.screen.document change.now.text }
+    ensures { OnOk result (AddsShown state.now change.now
+        (λ shown. scroll_ops change.now.rows from to shown prompt.now) out.old.items out.new.items) }
 {
     let most = page_len(change.rows);
     if from <= to {
@@ -128,13 +129,13 @@ fn push_rows_after<'a>(
     first: usize,
     were: usize,
 ) -> Result<(), AllocError>
-    requires belongs { IsFormedFor state.now change.now }
+    requires belongs { Belongs state.now.screen.document change.now.text }
     requires few { were < 2 ^ 16 }
-    ensures { OnOk result (out.new.items
-        ≡ out.old.items ++ written_all (append_ops first were (shown_by state.now change.now))) }
+    ensures { OnOk result (AddsShown state.now change.now
+        (append_ops first were) out.old.items out.new.items) }
 {
-    let count = state.count_after(change);
-    let texts = state.shown_after(alloc, change, first)?;
+    let count = count_after(state, change);
+    let texts = shown_after(state, alloc, change, first)?;
     let from = first.min(count.max(were));
     let blanks = were.saturating_sub(count.max(first));
     push_rows_anew(alloc, out, from, blanks, &texts)?;
@@ -150,9 +151,8 @@ pub(crate) fn push_append<'a>(
     first: usize,
     old_count: usize,
 ) -> Result<(), AllocError>
-    requires formed { IsFormed state.now }
-    requires belongs { IsFormedFor state.now change.now }
-    ensures { OnOk result (AddsOps (control_of state.now) change.now
+    requires { Belongs state.now.screen.document change.now.text }
+    ensures { OnOk result (IsFormed state.now → AddsOps (control_of state.now) change.now
         (λ new. append_from new first old_count) out.old.items out.new.items) }
 {
     let were = old_count
@@ -172,10 +172,9 @@ fn push_drawing<'a>(
     change: &'a Change,
     prompt: &str,
 ) -> Result<(), AllocError>
-    requires formed { IsFormed state.now }
-    requires belongs { IsFormedFor state.now change.now }
-    ensures { OnOk result (AddsDrawing (control_of state.now) change.now drawing prompt.now
-        (λ new. ops_of drawing new) out.old.items out.new.items) }
+    requires { Belongs state.now.screen.document change.now.text }
+    ensures { OnOk result (IsFormed state.now → AddsDrawing (control_of state.now) change.now drawing prompt.now
+        (ops_of drawing) out.old.items out.new.items) }
 {
     match drawing {
         Drawing::Nothing => Ok(()),
@@ -223,11 +222,10 @@ pub(crate) fn draw_page(
     drawing: Drawing,
     change: &Change,
 ) -> Result<(String, Vec<u8>), AllocError>
-    requires formed { IsFormed state.now }
-    requires belongs { IsFormedFor state.now change.now }
-    ensures prompt { IfOk result (λ d. (new : Control) → IsChange (control_of state.now) change.now new →
-        string_bytes d.0 ≡ prompt_row new) }
-    ensures bytes { IfOk result (λ d. IsDrawnBy (control_of state.now) change.now drawing d.1.items) }
+    requires { Belongs state.now.screen.document change.now.text }
+    ensures prompt { IfOk result (λ d. WhereLed state.now change.now (λ new. string_bytes d.0 ≡ prompt_row new)) }
+    ensures bytes { IfOk result (λ d. IsFormed state.now →
+        IsDrawnBy (control_of state.now) change.now drawing d.1.items) }
 {
     let prompt = state.prompt_row_after(alloc, change)?;
     let mut bytes = Vec::new(alloc);

@@ -113,6 +113,7 @@ impl<S, P: Parts> Core<S, P> {
     ghost use Rattle.std.specs.Prelude.{OnOk, OnErr, IfOk, IfErr, IfSome, IfNone};
     ghost use Rattle.std.specs.VecDeque.{deque_len};
     ghost use Rattle.minus_term.specs.Refusals.{refusal_of};
+    ghost use Rattle.minus.specs.Callbacks.{callbacks_of};
     ghost use Rattle.minus.specs.Core.{seen_of};
     ghost use Rattle.minus.specs.Joined.{MayGoWith};
     ghost use Rattle.minus.specs.Reads.{told_of};
@@ -133,6 +134,7 @@ impl<S, P: Parts> Core<S, P> {
         requires waits { is_some (checked_as (told_of input)) ≡ true }
         ensures kept { IfOk result (λ t. IsKept self.old (told_of input) self.new t) }
         ensures refused { IfErr result (λ e. IsNotKept self.old (told_of input) self.new e) }
+        ensures callbacks { callbacks_of self.new.parts ≡ callbacks_of self.old.parts }
     {
         check(&input)?;
         if self.waiting.push_back(input).is_err() {
@@ -178,6 +180,7 @@ impl<S, P: Parts> Core<S, P> {
         ensures rest { IfNone result ((seen_of self.new ≡ seen_of self.old) × IsAtRest (seen_of self.new)) }
         ensures less { IfSome result (λ input. deque_len self.new.waiting + 1 ≡ deque_len self.old.waiting) }
         ensures sink { self.new.sink ≡ self.old.sink }
+        ensures callbacks { callbacks_of self.new.parts ≡ callbacks_of self.old.parts }
     {
         if self.is_searching() {
             return None;

@@ -1,6 +1,6 @@
 //! Stored rows that are handed in, written on a sink without a state.
 ghost use Rattle.std.specs.Prelude.{◌≡◌, false, ◌++◌, map, string_bytes, OnOk, IfOk, IfErr};
-ghost use Rattle.minus_term.specs.Counts.{Stays};
+ghost use Rattle.minus_term.specs.Counts.{Stays, RisesBy};
 ghost use Rattle.minus_term.specs.FullRedraw.{row_ops};
 ghost use Rattle.minus_term.specs.Written.{written_all};
 ghost use Rattle.minus.specs.WrittenRows.{row_from, lines_of_page, styled_row, styled_lines, styled_text};
@@ -101,6 +101,7 @@ pub fn write_lines<W: OutputSink, L: AsStr>(
     ensures ok { OnOk result (AddsLines (W.seen out.old) (W.seen out.new)
         wrapping cols left_mark numbers line_count (map L.text lines.now)) }
     ensures stays { OnOk result (Stays (W.seen out.old).refusals (W.seen out.new).refusals) }
+    ensures settled { OnOk result (RisesBy (W.seen out.old).settles (W.seen out.new).settles 1) }
     ensures err { IfErr result (λ e. LinesRefused W.seen e out.old out.new
         wrapping cols left_mark numbers line_count (map L.text lines.now)) }
 {
@@ -135,6 +136,7 @@ pub fn write_lines_in_horizontal_scroll<W: OutputSink, L: AsStr>(
     ensures ok { OnOk result (AddsLines (W.seen out.old) (W.seen out.new)
         false cols left_mark numbers line_count (map L.text lines.now)) }
     ensures stays { OnOk result (Stays (W.seen out.old).refusals (W.seen out.new).refusals) }
+    ensures settled { OnOk result (RisesBy (W.seen out.old).settles (W.seen out.new).settles 1) }
     ensures err { IfErr result (λ e. LinesRefused W.seen e out.old out.new
         false cols left_mark numbers line_count (map L.text lines.now)) }
 {
@@ -191,6 +193,7 @@ pub fn write_text_checked<W: OutputSink, L: AsStr>(
     ensures ok { OnOk result (AddsText (W.seen out.old) (W.seen out.new)
         upper_mark rows wrapping cols left_mark line_numbers line_count (map L.text lines.now)) }
     ensures stays { OnOk result (Stays (W.seen out.old).refusals (W.seen out.new).refusals) }
+    ensures settled { OnOk result (RisesBy (W.seen out.old).settles (W.seen out.new).settles 1) }
     ensures err { IfErr result (λ e. TextRefused W.seen e out.old out.new
         upper_mark rows wrapping cols left_mark line_numbers line_count (map L.text lines.now)) }
 {

@@ -6,7 +6,7 @@ use Rattle.minus_term.specs.Counts.{SinkSeen}
 use Rattle.minus_term.specs.Refusals.{Refusal, for_memory, for_newline, for_size, for_mode, for_hook_id, for_free_hook_id, for_description, for_binding, for_query, after_failure, after_exit, at_setup, at_cleanup, at_drawing, for_pattern, of_no_call}
 use Rattle.minus_state.specs.Classifying.{Classifies}
 use Rattle.minus_state.specs.Control.{Control, Saved}
-use Rattle.minus_state.specs.States.{control_of}
+use Rattle.minus_state.specs.States.{control_of, IsFormed}
 use Rattle.minus.specs.declared.commands.CommandOf.{CommandOf}
 use Rattle.minus.specs.declared.commands.CommandOf.TheVariants.{SetData, AppendData, SetPrompt, SendMessage, ShowPrompt, SetLineNumbers, LineWrapping, FollowOutput, UserInput, Io, SetExitStrategy, SetRunNoOverflow, AddExitCallback, AddHook, RemoveHook, IncrementalSearchCondition, SetInputClassifier}
 use Rattle.minus.specs.declared.commands.IoCommand.{IoCommand}
@@ -98,14 +98,14 @@ all_left P H E Q K (io ∷ rest) c = all_left P H E Q K rest (io_left Q K c io)
 -- what waited was done
 pub all_done : {P H E Q K : Type 0} (o : Option IoCommand) (says : Classifies K) (old : PartsOf P H E Q K) (command : CommandOf P H E Q K) (handling new : PartsOf P H E Q K) (queue : List (CommandOf P H E Q K)) (handled : Handled)
     → io_of command ≡ o → HandlesAs o says old [] command handling queue handled
-    → control_of new.state ≡ left_by_all (control_of handling.state) queue
+    → (IsFormed old.state → control_of new.state ≡ left_by_all (control_of handling.state) queue)
     → kept_of new ≡ kept_of handling → new.classifier ≡ handling.classifier → new.condition ≡ handling.condition → IsWorkedOff says old command new handled
 all_done {P = P} {H = H} {E = E} {Q = Q} {K = K} None says old command handling new queue handled is (w, request, d) left kept classifier condition =
     let c : Control = control_of old.state in
     record {
       wanted = w;
       asked = request;
-      control = left ∙ ap (λ l. left_by_all (control_of handling.state) l) d.queue_is ∙ all_left P H E Q K (queued c w) (control_of handling.state) ∙ ap (λ k. all_io_left Q K k (queued c w)) d.control ∙ by_hand_lem Q K c w;
+      control = λ f. left f ∙ ap (λ l. left_by_all (control_of handling.state) l) (d.queue_is f) ∙ all_left P H E Q K (queued c w) (control_of handling.state) ∙ ap (λ k. all_io_left Q K k (queued c w)) (d.control f) ∙ by_hand_lem Q K c w;
       kept = kept ∙ d.kept;
       classifier = classifier ∙ d.classifier;
       condition = condition ∙ d.condition;
@@ -118,10 +118,10 @@ all_done {Q = Q} {K = K} (Some io) says old command handling new queue handled i
     record {
       wanted = io_wanted io;
       asked = subst (λ (x : CommandOf _ _ _ _ _). IsRequestTo says old x (io_wanted io)) (sym (is_io command io is)) (asks_for_itself Q says old.classifier c.help io);
-      control = left ∙ ap (λ l. left_by_all (control_of handling.state) l) q.queue_is ∙ ap (λ (o : Option IoCommand). left_by Q K (control_of handling.state) o) is ∙ ap (λ (p : PartsOf _ _ _ _ _). io_left Q K (control_of p.state) io) q.parts;
+      control = λ f. left f ∙ ap (λ l. left_by_all (control_of handling.state) l) q.queue_is ∙ ap (λ (o : Option IoCommand). left_by Q K (control_of handling.state) o) is ∙ ap (λ (p : PartsOf _ _ _ _ _). io_left Q K (control_of p.state) io) q.parts;
       kept = kept ∙ ap kept_of q.parts ∙ ap (λ (h : Option (Handing Q K)). kept_after (kept_of old) h) (sym none);
       classifier = classifier ∙ ap (λ (p : PartsOf _ _ _ _ _). p.classifier) q.parts ∙ ap (λ (h : Option (Handing Q K)). classifier_after old.classifier h) (sym none);
       condition = condition ∙ ap (λ (p : PartsOf _ _ _ _ _). p.condition) q.parts ∙ ap (λ (h : Option (Handing Q K)). condition_after old.condition h) (sym none);
       exited = q.exited ∙ sym (goes_on Q K c io);
-      copied = ap (λ (t : Option _). option_map string_bytes t) q.copied ∙ sym (copies_nothing Q K c io);
+      copied = λ f. ap (λ (t : Option _). option_map string_bytes t) q.copied ∙ sym (copies_nothing Q K c io);
     }

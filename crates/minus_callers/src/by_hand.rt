@@ -4,7 +4,7 @@ ghost use Rattle.minus_term.specs.Refusals.{refusal_of};
 ghost use Rattle.minus_state.specs.States.{control_of, IsFormed};
 ghost use Rattle.minus.specs.Queued.{waiting_in};
 ghost use Rattle.minus.specs.Reads.{io_of, kept_of};
-ghost use Rattle.minus_callers.specs.ByHand.{left_by, left_by_all, CannotWorkOff, IsIoFault, IsWorkedOff};
+ghost use Rattle.minus_callers.specs.ByHand.{LeavesBy, left_by_all, CannotWorkOff, IsIoFault, IsWorkedOff};
 
 use minus::{
     Calls, CommandOf, CommandQueueOf, Handled, MinusError, OutputSink, PartsOf, handle_event,
@@ -19,14 +19,13 @@ fn do_next<W: OutputSink, P: Calls>(
     parts: &mut PartsOf<P>,
     out: &mut W,
 ) -> Result<(), MinusError>
-    requires formed { IsFormed parts.old.state }
-    ensures control { OnOk result (control_of parts.new.state
-        ≡ left_by P.Condition P.Classifier (control_of parts.old.state) (io_of command)) }
+    ensures control { OnOk result (LeavesBy P.Condition P.Classifier parts.old.state (io_of command)
+        parts.new.state) }
     ensures refused { IfErr result (λ e. IsIoFault (refusal_of e)) }
     ensures kept { kept_of parts.new ≡ kept_of parts.old }
     ensures classifier { parts.new.classifier ≡ parts.old.classifier }
     ensures condition { parts.new.condition ≡ parts.old.condition }
-    ensures formed { IsFormed parts.new.state }
+    ensures formed { IsFormed parts.old.state → IsFormed parts.new.state }
 {
     if let CommandOf::Io(command) = command {
         return handle_io_command(alloc, command, out, parts);
@@ -41,15 +40,14 @@ fn do_waiting<W: OutputSink, P: Calls>(
     queue: &mut CommandQueueOf<P>,
     out: &mut W,
 ) -> Result<(), MinusError>
-    requires formed { IsFormed parts.old.state }
-    ensures control { OnOk result (control_of parts.new.state
+    ensures control { OnOk result (IsFormed parts.old.state → control_of parts.new.state
         ≡ left_by_all (control_of parts.old.state) (waiting_in queue.old)) }
     ensures none { OnOk result (waiting_in queue.new ≡ []) }
     ensures refused { IfErr result (λ e. IsIoFault (refusal_of e)) }
     ensures kept { kept_of parts.new ≡ kept_of parts.old }
     ensures classifier { parts.new.classifier ≡ parts.old.classifier }
     ensures condition { parts.new.condition ≡ parts.old.condition }
-    ensures formed { IsFormed parts.new.state }
+    ensures formed { IsFormed parts.old.state → IsFormed parts.new.state }
 {
     while let Some(command) = queue.pop_front() {
         do_next(alloc, command, parts, out)?;
@@ -72,12 +70,11 @@ pub fn work_off<W: OutputSink, P: Calls>(
     queue: &mut CommandQueueOf<P>,
     out: &mut W,
 ) -> Result<Handled, MinusError>
-    requires formed { IsFormed parts.old.state }
     ensures done { IfOk result (λ handled. waiting_in queue.old ≡ [] →
         IsWorkedOff P.Classifier.says parts.old command parts.new handled) }
     ensures none { OnOk result (waiting_in queue.new ≡ []) }
     ensures refused { IfErr result (λ e. CannotWorkOff (refusal_of e) P.Classifier.says parts.old command) }
-    ensures formed { IsFormed parts.new.state }
+    ensures formed { IsFormed parts.old.state → IsFormed parts.new.state }
 {
     let handled = handle_event(alloc, command, parts, queue)?;
     do_waiting(alloc, parts, queue, out)?;

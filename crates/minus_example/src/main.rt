@@ -11,9 +11,8 @@ fn page(rt: &HostRuntime) -> Result<(), MinusError> {
     // A program asks the system whether its output is a terminal. This one says so, so that its run can be stored.
     let mut session = dynamic_paging(pager, WithTty::new(rt.stdout(), true), 20, 5)?;
     for key in ["j", "3", "G", "s-m", "q", "q"] {
-        if let Ok(key) = parse_key_event(key) {
-            let _ = session.step(Input::Event(Event::Key(key)))?;
-        }
+        let key = parse_key_event(key)?;
+        let _ = session.step(Input::Event(Event::Key(key)))?;
     }
     let (_, cleaned) = session.finish();
     Ok(cleaned?)

@@ -1,8 +1,4 @@
 //! What decides about the events of a session: a register of bindings, or a classifier of its caller's.
-ghost use Rattle.std.specs.Prelude.{◌≡◌, IfOk};
-ghost use Rattle.minus_input.specs.Register.{nothing_bound};
-ghost use Rattle.minus_input.specs.EventTables.{register_of};
-
 use crate::bound::ActionOf;
 use crate::callback::{ActionCall, KeptAction};
 use crate::register::EventTable;
@@ -33,21 +29,27 @@ impl<S: BuildHasher + Drop, C: ActionCall + Drop> InputClassifier for EventTable
     }
 
     fn format_help(&self, alloc: Global) -> Result<Option<String>, AllocError> {
-        self.help(alloc)
+        EventTable::format_help(self, alloc)
     }
 }
 
-/// A register in which nothing is bound, whose keys are hashed by a random seed.
-///
-/// # Errors
-///
-/// What the source of randomness answers.
-pub fn with_default_hasher<C: Drop, R: RandomSource + AllocGlobal>(
-    rt: &R,
-) -> io::Result<EventTable<RandomState, C>>
-    ensures { IfOk result (λ table. register_of table ≡ nothing_bound) }
-{
-    Ok(EventTable::new(rt.alloc(), RandomState::new(rt)?))
+impl<C: Drop> EventTable<RandomState, C> {
+    ghost use Rattle.std.specs.Prelude.{◌≡◌, IfOk};
+    ghost use Rattle.minus_input.specs.Register.{nothing_bound};
+    ghost use Rattle.minus_input.specs.EventTables.{register_of};
+
+    /// A register in which nothing is bound, whose keys are hashed by a random seed.
+    ///
+    /// # Errors
+    ///
+    /// What the source of randomness answers.
+    pub fn with_default_hasher<R: RandomSource + AllocGlobal>(
+        rt: &R,
+    ) -> io::Result<EventTable<RandomState, C>>
+        ensures { IfOk result (λ table. register_of table ≡ nothing_bound) }
+    {
+        Ok(EventTable::new(rt.alloc(), RandomState::new(rt)?))
+    }
 }
 
 /// What a session keeps to decide about events.

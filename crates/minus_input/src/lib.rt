@@ -24,7 +24,7 @@ mod register_help;
 
 pub use bound::ActionOf;
 pub use callback::{ActionCall, ActionCallback, KeptAction};
-pub use classifier::{Classifier, FixedSeed, HashedEventRegister, with_default_hasher};
+pub use classifier::{Classifier, FixedSeed, HashedEventRegister};
 pub use default_action::DefaultAction;
 pub use default_bindings::{
     defaults_have_one_answer, generate_default_bindings, j_scrolls_down, keys_do_as_listed,

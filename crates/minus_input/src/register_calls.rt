@@ -14,7 +14,6 @@ use crate::described::{Described, Keys, MouseActions, check_all, read_all};
 use crate::event_form::EventWrapper;
 use crate::register::EventTable;
 use minus_term::{Event, MinusError};
-use std::alloc::AllocError;
 use std::hash::BuildHasher;
 
 // The key of every resize.
@@ -79,17 +78,19 @@ impl<S: BuildHasher + Drop, C: Drop> EventTable<S, C> {
     ///
     /// # Errors
     ///
-    /// [`AllocError`] where memory ran out, and nothing has changed.
-    pub fn add_resize_event(&mut self, callback: C) -> Result<(), AllocError>
+    /// [`MinusError::Memory`]: nothing has changed then, and the callback is dropped.
+    pub fn add_resize_event(&mut self, callback: C) -> Result<(), MinusError>
         ensures ok { OnOk result (register_of self.new
             ≡ with_keys (register_of self.old) (resize_key ∷ []) (called callback [])) }
         ensures err { OnErr result (register_of self.new ≡ register_of self.old) }
+        ensures memory { IfErr result (λ e. e ≡ MinusError.Memory) }
     {
         let kept = KeptCallback {
             callback,
             description: String::new(self.alloc),
         };
-        self.bind_all(&[RESIZE], kept)
+        self.bind_all(&[RESIZE], kept)?;
+        Ok(())
     }
 
     /// Removes what is bound to the resize of the terminal, if anything is.

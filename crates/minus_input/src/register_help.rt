@@ -64,7 +64,7 @@ impl<S: BuildHasher + Drop, C: Drop> EventTable<S, C> {
     /// # Errors
     ///
     /// [`AllocError`] where memory ran out.
-    pub fn help(&self, alloc: Global) -> Result<Option<String>, AllocError>
+    pub fn format_help(&self, alloc: Global) -> Result<Option<String>, AllocError>
         ensures { IfOk result (λ text. option_map string_bytes text ≡ help_text (register_of self.now)) }
     {
         let entries = self.entries(alloc)?;

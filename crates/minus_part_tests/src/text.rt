@@ -12,3 +12,4 @@ mod search;
 mod searches;
 mod shown;
 mod told;
+mod unfinished;

@@ -6,7 +6,7 @@ use Rattle.std.proofs.lemmas.Bool.{eqb-true, eqb-false, or_parts}
 use Rattle.std.proofs.lemmas.List.{length-append, length-map, map-append, nil_from_length}
 use Rattle.minus_term.specs.declared.error.MinusError.{MinusError}
 use Rattle.minus_term.specs.declared.error.MinusError.TheVariants.{Memory, NewlineInPrompt, HookIdTaken, NoFreeHookId, BadSize, BadDescription, Bound, QueryFull, BadMode, Failed, Ended, Setup, Cleanup, Draw, HandleEvent, Cursor, FmtWriteError, Conversion, SearchExpError}
-use Rattle.minus_term.specs.Refusals.{Refusal, for_memory, for_newline, for_hook_id, for_free_hook_id, for_size, for_description, for_binding, for_query, for_mode, after_failure, after_exit, at_setup, at_cleanup, at_drawing, for_pattern, of_no_call, refusal_of}
+use Rattle.minus_term.specs.Refusals.{Refusal, for_memory, for_size, for_mode, at_setup, at_cleanup, at_drawing, for_pattern, refusal_of}
 use Rattle.minus_state.specs.Control.{Control}
 use Rattle.minus_state.specs.declared.search.condition.NeverShows.{NeverShows}
 use Rattle.minus_script.specs.declared.keys.DefaultKeys.{DefaultKeys}
@@ -30,10 +30,11 @@ use Rattle.minus_script.specs.declared.arguments.Mode.{Mode}
 use Rattle.minus_script.specs.declared.arguments.Mode.TheVariants.{Page, Bytes}
 use Rattle.minus_script.specs.declared.fault.ScriptFault.{ScriptFault}
 use Rattle.minus_script.specs.declared.fault.ScriptFault.TheVariants.{Io, Line, Refused}
-use Rattle.minus_script.specs.Runs.{IsTaken, IsWorkedOff, IsWhole, IsRunOn, IsStoppedBy, exit_code, printed_after, IsShown, IsWantOfMemory, IsRefusal, IsOutputFault, IsRunFault}
+use Rattle.minus_state.specs.Sizes.{IsSize}
+use Rattle.minus_script.specs.Runs.{IsTaken, IsWorkedOff, IsWhole, IsRunOn, IsStoppedBy, exit_code, printed_after, IsShown, IsRefusal, IsOutputFault, IsRunFault}
 use Rattle.minus_script.specs.WriteFaults.{IsWriteFault}
 use Rattle.minus_script.specs.declared.fault.Stream.{Stream}
-use Rattle.minus_script.specs.ShowFaults.{IsShowFault, IsMemory}
+use Rattle.minus_script.specs.ShowFaults.{IsShowFault, IsUncleaned, IsCleanupFault}
 
 -- a start from no text over a sink that holds nothing
 pub started : (keys : DefaultKeys) (seen : Seen NeverShows DefaultKeys) (waiting : List (Wanted NeverShows DefaultKeys)) (cols rows : ℕ) (terminal : Bool) (a b : Option (List ℕ)) → waiting ≡ [] → terminal ≡ true → a ≡ Some [] → IsStarted seen keys waiting Dynamic cols rows terminal a b → IsStarted seen keys [] Dynamic cols rows true (Some []) b
@@ -240,8 +241,8 @@ step_refused BadMode cols rows told rest t answers reached new a b taken runs h 
 step_refused Failed cols rows told rest t answers reached new a b taken runs h = absurd (let both : status.Running ≡ status.Failed = sym runs ∙ h.0 in cc)
 step_refused Ended cols rows told rest t answers reached new a b taken runs h = absurd (let both : status.Running ≡ status.Ended = sym runs ∙ h.0 in cc)
 step_refused (Setup cause) cols rows told rest t answers reached new a b taken runs h = absurd h
-step_refused (Cleanup cause) cols rows told rest t answers reached new a b taken runs h = tt
-step_refused (Draw cause) cols rows told rest t answers reached new a b taken runs h = tt
+step_refused (Cleanup cause) cols rows told rest t answers reached new a b taken runs h = taken.started.can.size
+step_refused (Draw cause) cols rows told rest t answers reached new a b taken runs h = taken.started.can.size
 step_refused (HandleEvent cause) cols rows told rest t answers reached new a b taken runs h = absurd h
 step_refused (Cursor cause) cols rows told rest t answers reached new a b taken runs h = absurd h
 step_refused (FmtWriteError cause) cols rows told rest t answers reached new a b taken runs h = absurd h
@@ -264,37 +265,26 @@ none_refused : (refusal : Refusal) (cols rows : ℕ) (terminal : Bool) (told : L
 none_refused for_memory cols rows terminal told t h = tt
 none_refused (for_size c r) cols rows terminal told t h = elim h [ inl size ↦ inl (size.1, size.2, size.3) | inr fault ↦ absurd fault.1 ]
 none_refused for_mode cols rows terminal told t h = elim h [ inl mode ↦ absurd (let both : Dynamic ≡ Uninitialized = mode in cc) | inr fault ↦ absurd fault.1 ]
-none_refused (at_setup cause) cols rows terminal told t h = subst (λ (x : Bool). IsSetupRefused cause x) t h.1
-none_refused at_drawing cols rows terminal told t h = tt
+none_refused (at_setup cause) cols rows terminal told t h = (subst (λ (x : Bool). IsSetupRefused cause x) t h.1, h.0.can.size)
+none_refused at_drawing cols rows terminal told t h = h.0.can.size
 none_refused for_pattern cols rows terminal told t h = h.can.size
 none_refused refusal cols rows terminal told t h = elim h [ inl cannot ↦ absurd cannot | inr fault ↦ absurd fault.1 ]
 
 pub start_refused : (refusal : Refusal) (cols rows : ℕ) (terminal : Bool) (told : List (Told NeverShows DefaultKeys)) (waiting : List (Wanted NeverShows DefaultKeys)) → waiting ≡ [] → terminal ≡ true → IsStartRefused refusal Dynamic cols rows waiting terminal → IsRefusal refusal cols rows told
 start_refused refusal cols rows terminal told waiting e t h = none_refused refusal cols rows terminal told t (subst (λ (ws : List (Wanted NeverShows DefaultKeys)). IsStartRefused refusal Dynamic cols rows ws terminal) e h)
 
--- memory ran out
-memory_refusal : (refusal : Refusal) (cols rows : ℕ) (told : List (Told NeverShows DefaultKeys)) → IsWantOfMemory refusal → IsRefusal refusal cols rows told
-memory_refusal for_memory cols rows told h = h
-memory_refusal for_newline cols rows told h = absurd h
-memory_refusal (for_size c r) cols rows told h = absurd h
-memory_refusal for_mode cols rows told h = h
-memory_refusal after_failure cols rows told h = h
-memory_refusal after_exit cols rows told h = h
-memory_refusal (at_setup cause) cols rows told h = h
-memory_refusal (at_cleanup cause) cols rows told h = h
-memory_refusal at_drawing cols rows told h = h
-memory_refusal (for_hook_id hook id) cols rows told h = absurd h
-memory_refusal for_free_hook_id cols rows told h = absurd h
-memory_refusal (for_description place cause) cols rows told h = h
-memory_refusal (for_binding place) cols rows told h = h
-memory_refusal for_query cols rows told h = absurd h
-memory_refusal for_pattern cols rows told h = absurd h
-memory_refusal of_no_call cols rows told h = h
+-- memory ran out, or the sink of a pager that was started refused the cleanup at its end
+pub memory_fault : (cols rows : ℕ) (told : List (Told NeverShows DefaultKeys)) (fault : ScriptFault) → fault ≡ Refused Memory → IsShowFault cols rows told fault
+memory_fault cols rows told fault e = rw e tt
 
-pub memory_fault : (cols rows : ℕ) (told : List (Told NeverShows DefaultKeys)) (fault : ScriptFault) → IsMemory fault → IsShowFault cols rows told fault
-memory_fault cols rows told (Io stream cause) e = absurd e
-memory_fault cols rows told (Line number) e = absurd e
-memory_fault cols rows told (Refused cause) e = memory_refusal (refusal_of cause) cols rows told e
+uncleaned : (refusal : Refusal) (cols rows : ℕ) (told : List (Told NeverShows DefaultKeys)) → IsSize cols rows → IsUncleaned refusal → IsRefusal refusal cols rows told
+uncleaned (at_cleanup cause) cols rows told size h = size
+uncleaned refusal cols rows told size h = absurd h
+
+pub cleanup_fault : (cols rows : ℕ) (told : List (Told NeverShows DefaultKeys)) (fault : ScriptFault) → IsSize cols rows → IsCleanupFault fault → IsShowFault cols rows told fault
+cleanup_fault cols rows told (Io stream cause) size e = absurd e
+cleanup_fault cols rows told (Line number) size e = absurd e
+cleanup_fault cols rows told (Refused cause) size e = uncleaned (refusal_of cause) cols rows told size e
 
 -- a writer that fails
 pub output_fault : (mode : Mode) (cols rows : ℕ) (a b c d : Option (List ℕ)) (fault : ScriptFault) → IsWriteFault fault → IsOutputFault mode cols rows a b c d → IsRunFault mode cols rows a b c d fault

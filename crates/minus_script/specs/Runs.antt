@@ -120,15 +120,6 @@ abbrev pub IsScriptRun : Mode → ℕ → ℕ → Option (List ℕ) → Option (
 IsScriptRun mode cols rows old_input new_input old_output new_output =
     (printed : List ℕ) × IsScriptShown mode cols rows old_input new_input printed × Appends old_output new_output printed
 
--- memory ran out: the program's, or that of the pager's sink, which is a terminal in memory and refuses a setup, a cleanup or a
--- drawing for nothing else
-abbrev pub IsWantOfMemory : Refusal → Type 0
-IsWantOfMemory for_memory = Unit {0}
-IsWantOfMemory (at_setup cause) = IsSetupRefused cause true
-IsWantOfMemory (at_cleanup cause) = Unit {0}
-IsWantOfMemory at_drawing = Unit {0}
-IsWantOfMemory refusal = ⊥
-
 -- after a part of what it was told, the pager was asked for this size, which is none of a terminal
 pub record IsSizeAsked (columns lines cols rows : ℕ) (told : List (Told NeverShows DefaultKeys)) : Type 0 where
   pub answers : List Answer
@@ -174,7 +165,9 @@ pub record IsCallbackAsked (refusal : Refusal) (cols rows : ℕ) (told : List (T
   pub unfit : IsUnfit script_says reached refused refusal
 
 -- why a pager that is told all of this refuses: this is the size of the start, or one that was asked for later, and none of a
--- terminal; a prompt or a message has a newline; an id of a hook cannot be given; a query is full; a fixed pattern was not built; or memory ran out
+-- terminal; a prompt or a message has a newline; an id of a hook cannot be given; a query is full; or memory ran out. Once the size is
+-- one of a terminal, a fixed pattern may not be built, and the pager's sink, a terminal in memory, may want memory at a setup, a drawing or
+-- a cleanup
 abbrev pub IsRefusal : Refusal → ℕ → ℕ → List (Told NeverShows DefaultKeys) → Type 0
 IsRefusal (for_size columns lines) cols rows told = ((columns ≡ cols) × (lines ≡ rows) × (IsSize cols rows → ⊥)) ⊎ IsSizeAsked columns lines cols rows told
 IsRefusal for_newline cols rows told = IsPromptAsked cols rows told
@@ -182,7 +175,11 @@ IsRefusal (for_hook_id hook id) cols rows told = IsCallbackAsked (for_hook_id ho
 IsRefusal for_free_hook_id cols rows told = IsCallbackAsked for_free_hook_id cols rows told
 IsRefusal for_query cols rows told = IsQueryFilled cols rows told
 IsRefusal for_pattern cols rows told = IsSize cols rows
-IsRefusal refusal cols rows told = IsWantOfMemory refusal
+IsRefusal (at_setup cause) cols rows told = IsSetupRefused cause true × IsSize cols rows
+IsRefusal at_drawing cols rows told = IsSize cols rows
+IsRefusal (at_cleanup cause) cols rows told = IsSize cols rows
+IsRefusal for_memory cols rows told = Unit {0}
+IsRefusal refusal cols rows told = ⊥
 
 -- a script was read to its end
 abbrev pub IsRead : Option (List ℕ) → Option (List ℕ) → List ℕ → Type 0

@@ -3,8 +3,8 @@ use Rattle.std.specs.Prelude.{ℕ, List}
 use Rattle.minus_state.specs.declared.search.condition.NeverShows.{NeverShows}
 use Rattle.minus_script.specs.declared.keys.DefaultKeys.{DefaultKeys}
 use Rattle.minus.specs.Reads.{Told}
-use Rattle.minus_term.specs.Refusals.{refusal_of}
-use Rattle.minus_script.specs.Runs.{IsWantOfMemory, IsRefusal}
+use Rattle.minus_term.specs.Refusals.{Refusal, at_cleanup, refusal_of}
+use Rattle.minus_script.specs.Runs.{IsRefusal}
 use Rattle.minus_script.specs.declared.fault.ScriptFault.{ScriptFault}
 use Rattle.minus_script.specs.declared.fault.ScriptFault.TheVariants.{Io, Line, Refused}
 
@@ -14,8 +14,12 @@ IsShowFault cols rows told (Io stream cause) = ⊥
 IsShowFault cols rows told (Line number) = ⊥
 IsShowFault cols rows told (Refused cause) = IsRefusal (refusal_of cause) cols rows told
 
--- memory ran out
-abbrev pub IsMemory : ScriptFault → Type 0
-IsMemory (Io stream cause) = ⊥
-IsMemory (Line number) = ⊥
-IsMemory (Refused cause) = IsWantOfMemory (refusal_of cause)
+-- the sink refused a cleanup
+abbrev pub IsUncleaned : Refusal → Type 0
+IsUncleaned (at_cleanup cause) = Unit {0}
+IsUncleaned refusal = ⊥
+
+abbrev pub IsCleanupFault : ScriptFault → Type 0
+IsCleanupFault (Io stream cause) = ⊥
+IsCleanupFault (Line number) = ⊥
+IsCleanupFault (Refused cause) = IsUncleaned (refusal_of cause)

@@ -7,7 +7,9 @@ ghost use Rattle.minus.specs.Steps.{cleanup_after};
 ghost use Rattle.minus.specs.declared.status.Status.TheVariants.{Running};
 ghost use Rattle.minus_script.specs.Runs.{exit_code, printed_exit, printed_after, IsShown, IsScriptRun, IsRunFault, IsBeforePrinting};
 ghost use Rattle.minus_script.specs.Runs.{RunsOn, IsStopped};
-ghost use Rattle.minus_script.specs.ShowFaults.{IsShowFault, IsMemory};
+ghost use Rattle.minus_script.specs.ShowFaults.{IsShowFault, IsCleanupFault};
+ghost use Rattle.minus_script.specs.declared.fault.ScriptFault.TheVariants.{Refused};
+ghost use Rattle.minus_term.specs.declared.error.MinusError.TheVariants.{Memory};
 
 use crate::arguments::Mode;
 use crate::fault::ScriptFault;
@@ -58,7 +60,7 @@ fn print_page(
 ) -> Result<Vec<u8>, ScriptFault>
     ensures page { IfOk result (λ printed. printed.items
         ≡ printed_after (exit_code last.now) (seen_of session.now).control) }
-    ensures memory { IfErr result IsMemory }
+    ensures memory { IfErr result (λ e. e ≡ Refused Memory) }
 {
     match exit_code(last) {
         Some(code) => Ok(print_exit(alloc, code)?),
@@ -74,7 +76,7 @@ fn print_page(
 fn all_written(session: Session) -> Result<Vec<u8>, ScriptFault>
     ensures bytes { IfOk result (λ written.
         Appends (Some session.sink.inner.items) (Some written.items) (cleanup_after (seen_of session).status)) }
-    ensures memory { IfErr result IsMemory }
+    ensures cleanup { IfErr result IsCleanupFault }
 {
     let (sink, cleaned) = session.finish();
     match cleaned {

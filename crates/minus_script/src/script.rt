@@ -13,10 +13,7 @@ ghost use Rattle.minus.specs.Table.{sets_data, appends_data, moves_mark, sets_pr
 use crate::described_events::{parse_key, parse_mouse};
 use crate::fault::ScriptFault;
 use crate::keys::ScriptKinds;
-use minus::{
-    CommandOf, Event, InputEvent, InputOf, KeyCode, KeyEvent, KeyEventKind, KeyEventState,
-    KeyModifiers, LineNumbers, MouseEvent,
-};
+use minus::{CommandOf, Event, InputEvent, InputOf, KeyCode, KeyEvent, LineNumbers, MouseEvent};
 use minus_input::parse_usize;
 use std::alloc::{AllocError, Global};
 
@@ -277,12 +274,7 @@ fn parse_line(alloc: Global, line: &[u8]) -> Result<Option<Line>, AllocError>
 fn press(character: char) -> ScriptInput
     ensures { told_of result ≡ typed character }
 {
-    ScriptInput::Event(Event::Key(KeyEvent {
-        code: KeyCode::Char(character),
-        modifiers: KeyModifiers::NONE,
-        kind: KeyEventKind::Press,
-        state: KeyEventState::NONE,
-    }))
+    ScriptInput::Event(Event::Key(KeyEvent::from(KeyCode::Char(character))))
 }
 
 /// Adds the press of each character's key.

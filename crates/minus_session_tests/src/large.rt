@@ -6,6 +6,9 @@ use minus::InputEvent::UpdateUpperMark;
 use minus::{Core, InputOf, KeyCode, WithTty};
 use std::alloc::Global;
 
+mod keys;
+mod searches;
+
 type Session = Core<WithTty<Vec<u8>>, Plain>;
 
 // A session of 20 columns and so many rows.

@@ -1,9 +1,8 @@
 //! Sessions for the tests: how one starts, what is asked of it, and what is seen of it.
 use minus::{
     Calls, CommandOf, Core, DefaultInputClassifier, Event, ExitStrategy, Hook, InputClassifier,
-    InputEvent, InputOf, IoCommand, KeyCode, KeyEvent, KeyEventKind, KeyEventState, KeyModifiers,
-    Kinds, LineNumbers, NeverCalled, NeverShows, OutputSink, Page, PagerOf, PagerState, RunMode,
-    StartErrorOf, init_core_with,
+    InputEvent, InputOf, IoCommand, KeyCode, KeyEvent, Kinds, LineNumbers, NeverCalled, NeverShows,
+    OutputSink, Page, PagerOf, PagerState, RunMode, StartErrorOf, init_core_with,
 };
 use std::alloc::{AllocError, Global};
 
@@ -75,12 +74,7 @@ pub enum Asked<'a> {
 
 /// The press of a key.
 pub fn pressed(code: KeyCode) -> Event {
-    Event::Key(KeyEvent {
-        code,
-        modifiers: KeyModifiers::NONE,
-        kind: KeyEventKind::Press,
-        state: KeyEventState::NONE,
-    })
+    Event::Key(KeyEvent::from(code))
 }
 
 /// The input that asks for it, in a session of any kinds.

@@ -1,12 +1,15 @@
 -- Ids of hooks: each is held once, and the next free one is not held.
-use Rattle.std.proofs.Common.{arith, subst, true≢false, Option, is_some, ◌||◌, ◌≡◌, ◌<◌, ◌≤◌, ◌==◌, ◌&&◌, ℕ, suc, zero, refl, sym, ap, ◌∙◌, Bool, true, false, List, [], ◌∷◌, ◌++◌, None, Some, position, max, fold, map, filter, cond, if◌then◌else◌}
+use Rattle.std.proofs.Common.{set, get_or, inl, inr, arith, subst, true≢false, Option, is_some, ◌||◌, ◌≡◌, ◌<◌, ◌≤◌, ◌==◌, ◌&&◌, ℕ, suc, zero, refl, sym, ap, ◌∙◌, Bool, true, false, List, [], ◌∷◌, ◌++◌, None, Some, position, max, fold, map, filter, cond, if◌then◌else◌}
 use Rattle.std.specs.List.{IsDistinct, AllByRecursion, list_any, remove}
+use Rattle.std.specs.List.{slice_get}
+use Rattle.std.proofs.lemmas.Bool.{cases_Bool, eq-eqb, eqb-true}
 use Rattle.std.proofs.lemmas.Grind.{common_steps}
+use Rattle.std.proofs.lemmas.Option.{get_or_from_slice_get}
 use Rattle.std.proofs.lemmas.Map.Keys.{IsDistinct-push}
 use Rattle.minus_term.specs.declared.hooks.Hook.{Hook}
 use Rattle.minus_state.specs.declared.hooks.HookId.{HookId}
 use Rattle.minus_state.specs.contracts.hooks.HookIdEq.TheImpl.Laws.{laws-law as id_laws}
-use Rattle.minus_state.specs.HookIds.{same_id, same_hook, id_of, next_free, is_reserved, is_held, is_taken, given}
+use Rattle.minus_state.specs.HookIds.{same_id, same_hook, id_of, next_free, is_reserved, is_held, is_taken, given, AreOthersKept}
 
 pub none_passes : {X : Type 0} (p : X → Bool) (xs : List X) → position p xs ≡ None → list_any p xs ≡ false
 none_passes p [] h = refl
@@ -97,3 +100,23 @@ given_free held hook (suc n) free =
     subst (λ b. position (same_id (id_of hook (if b then next_free held hook else suc n))) held ≡ None) (sym asked)
     (none_of _ (neither (is_reserved hook (suc n)) _
     (subst (λ b. (if b then false else (is_reserved hook (suc n) || is_held held hook (suc n))) ≡ false) asked free)))
+
+-- another element is put at a place, and those at others stay
+slice_get_other : {X : Type 0} (xs : List X) (i k : ℕ) (x : X) → (k ≡ i → ⊥) → slice_get (set xs i x) k ≡ slice_get xs k
+slice_get_other [] i k x ne = refl
+slice_get_other (y ∷ ys) zero zero x ne = absurd (ne refl)
+slice_get_other (y ∷ ys) zero (suc k) x ne = refl
+slice_get_other (y ∷ ys) (suc i) zero x ne = refl
+slice_get_other (y ∷ ys) (suc i) (suc k) x ne = slice_get_other ys i k x (λ e. ne (ap suc e))
+
+-- a callback that is called is one of the hook
+pub kept_called : {C : Type 0} (hook : Hook) (ids : List HookId) (old now : List C) (i : ℕ) (x : C) (d : HookId) → AreOthersKept hook ids old now → same_hook (get_or ids i d).hook hook ≡ true → AreOthersKept hook ids old (set now i x)
+kept_called hook ids old now i x d kept same k entry at other = elim (cases_Bool (k == i)) [
+  | inl e ↦ (
+      let here : slice_get ids i ≡ Some entry = subst (λ (n : ℕ). slice_get ids n ≡ Some entry) (eqb-true k i e) at in
+      let got = get_or_from_slice_get ids i entry d here in
+      let of_hook : same_hook entry.hook hook ≡ true = subst (λ (h : HookId). same_hook h.hook hook ≡ true) got same in
+      absurd (true≢false (sym of_hook ∙ other))
+      )
+  | inr e ↦ slice_get_other now i k x (λ is. true≢false (sym (eq-eqb k i is) ∙ e)) ∙ kept k entry at other
+]

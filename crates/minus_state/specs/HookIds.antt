@@ -1,5 +1,5 @@
 -- The ids under which the callbacks of hooks are held.
-use Rattle.std.specs.Prelude.{ℕ, ◌+◌, ◌^◌, ◌==◌, ◌||◌, ◌≡◌, nat_le, max, Bool, true, false, List, filter, map, fold, Option, is_some, position, if◌then◌else◌}
+use Rattle.std.specs.Prelude.{ℕ, ◌+◌, ◌^◌, ◌==◌, ◌||◌, ◌≡◌, nat_le, max, Bool, true, false, List, filter, map, fold, Option, Some, is_some, slice_get, position, if◌then◌else◌}
 use Rattle.minus_term.specs.Refusals.{Refusal, for_memory, for_hook_id, for_free_hook_id}
 use Rattle.minus_term.specs.declared.hooks.Hook.{Hook}
 use Rattle.minus_term.specs.declared.hooks.Hook.TheVariants.{PostPagerExit}
@@ -64,3 +64,8 @@ IsUngiven refusal held hook id = ⊥
 abbrev pub IsUnadded : Refusal → List HookId → Hook → (id : ℕ) → Type 0
 IsUnadded for_memory held hook id = (is_taken held hook id ≡ false) × (has_no_next held hook id ≡ false)
 IsUnadded refusal held hook id = IsUngiven refusal held hook id
+
+-- of some callbacks, each under the id at its place, those that are not of a hook are as they were
+abbrev pub AreOthersKept : {C : Type 0} → Hook → List HookId → (old new : List C) → Type 0
+AreOthersKept hook ids old new =
+    (i : ℕ) (entry : HookId) → slice_get ids i ≡ Some entry → same_hook entry.hook hook ≡ false → slice_get new i ≡ slice_get old i

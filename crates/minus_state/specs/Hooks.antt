@@ -1,10 +1,10 @@
 -- What a list of hooks' callbacks holds.
-use Rattle.std.specs.Prelude.{ℕ, ◌+◌, ◌≤◌, vec_len, vec_capacity, List, [], ◌∷◌, ◌++◌, Option, None, Some}
+use Rattle.std.specs.Prelude.{◌≡◌, ℕ, ◌+◌, ◌≤◌, vec_len, vec_capacity, List, [], ◌∷◌, ◌++◌, Option, None, Some}
 use Rattle.std.specs.List.{remove}
 use Rattle.minus_term.specs.declared.hooks.Hook.{Hook}
 use Rattle.minus_state.specs.declared.hooks.HookId.{HookId}
 use Rattle.minus_state.specs.declared.hooks.HookList.{HookList}
-use Rattle.minus_state.specs.HookIds.{id_of, place_of, given}
+use Rattle.minus_state.specs.HookIds.{id_of, place_of, given, AreOthersKept}
 
 -- the ids, each with its hook, and the callbacks, both in the order in which they were added
 pub record Held (C : Type 0) : Type 0 where
@@ -41,3 +41,13 @@ removed held hook id = record {
   ids = without_place held.ids (place_of held.ids hook id);
   callbacks = without_place held.callbacks (place_of held.ids hook id);
 }
+
+-- the callbacks of one hook were called, and no others: these are as they were, and so are the ids
+pub record CallsAlone {C : Type 0} (hook : Hook) (old new : Held C) : Type 0 where
+  pub ids : new.ids ≡ old.ids
+  pub others : AreOthersKept hook old.ids old.callbacks new.callbacks
+
+-- those of a hook, if one is due; else none
+abbrev pub CallsFor : {C : Type 0} → Option Hook → (old new : Held C) → Type 0
+CallsFor None old new = new ≡ old
+CallsFor (Some hook) old new = CallsAlone hook old new

@@ -52,14 +52,14 @@ redraw_by Edited = Edit
 redraw_by Confirmed = Closing
 redraw_by Cancelled = Closing
 
--- what may be found at an event that did this to a prompt in a state: for the query that it leaves where it edited that, under the
+-- what may be found at an event that did this to a search prompt in a state: for the query that it leaves where it edited that, under the
 -- condition that is kept, and for the query before where it took that
-abbrev pub MayFindBy : {Q : Type 0} → Fed → Judges Q → Option Q → PagerState → Prompt → Event → Option Re → Type 0
-MayFindBy Unchanged judges condition s p event found = found ≡ None
-MayFindBy Moved judges condition s p event found = found ≡ None
-MayFindBy Edited judges condition s p event found = MayPreview judges condition s p event found
-MayFindBy Confirmed judges condition s p event found = MayTake p found
-MayFindBy Cancelled judges condition s p event found = found ≡ None
+abbrev pub MayFindBy : {Q : Type 0} → Fed → Judges Q → Option Q → PagerState → OpenSearch → Event → Option Re → Type 0
+MayFindBy Unchanged judges condition s o event found = found ≡ None
+MayFindBy Moved judges condition s o event found = found ≡ None
+MayFindBy Edited judges condition s o event found = MayPreview judges condition s o.prompt event found
+MayFindBy Confirmed judges condition s o event found = MayTake o found
+MayFindBy Cancelled judges condition s o event found = found ≡ None
 
 -- what an edit tells, leaves and asks to be drawn, and what may be found for it
 abbrev pub told_by : OpenSearch → QueryEdit → Fed
@@ -72,7 +72,7 @@ abbrev pub keyed_redraw : OpenSearch → QueryEdit → Redraw
 keyed_redraw o edit = redraw_by (told_by o edit)
 
 abbrev pub MayFind : {Q : Type 0} → Judges Q → Option Q → PagerState → OpenSearch → Event → Option Re → Type 0
-MayFind judges condition s o event found = MayFindBy (told_by o (edit_of event)) judges condition s o.prompt event found
+MayFind judges condition s o event found = MayFindBy (told_by o (edit_of event)) judges condition s o event found
 
 -- what a key may lead to, where this search prompt is open in a state, if one is
 abbrev pub MayLead : {Q : Type 0} → Judges Q → Option Q → PagerState → Event → Change → Option OpenSearch → Type 0

@@ -1,4 +1,6 @@
 -- What the contracts cite.
+pub mod ClampedMark
+pub mod AddsShown
 pub mod PromptRow
 pub mod VisibleCharacters
 pub mod Selection

@@ -1,12 +1,17 @@
 -- What may be found for a query.
-use Rattle.std.specs.Prelude.{◌≡◌, ℕ, List, Option, None, Some, length, nat_lt, nat_le, ◌&&◌, Bool}
+use Rattle.std.specs.Prelude.{◌≡◌, ◌≢◌, ℕ, List, Option, None, Some, length, nat_lt, nat_le, ◌&&◌, Bool, true, false}
 use Rattle.std.specs.Str.{encode_utf8_all}
 use Rattle.regex.specs.Patterns.{Re, default_config}
 use Rattle.regex.specs.Strings.{regex_pattern, regex_source, regex_config, IsReadFromSource}
+use Rattle.regex.specs.Failures.{IsRightKind}
+use Rattle.regex.specs.Sources.{IsTextRefusal}
+use Rattle.regex.specs.declared.error.Error.{Error}
+use Rattle.regex.specs.declared.error.Error.TheVariants.{OutOfMemory}
 use Rattle.regex.specs.declared.string.regex.Regex.{Regex}
 use Rattle.minus_text.specs.Document.{line_count}
 use Rattle.minus_state.specs.Control.{Control, document_of}
 use Rattle.minus_state.specs.OpenPrompts.{Prompt}
+use Rattle.minus_state.specs.OpenSearches.{OpenSearch}
 
 -- the text of a query
 abbrev pub query_text : Prompt → List ℕ
@@ -20,7 +25,21 @@ IsPatternOf text pattern = (r : Regex) × (regex_source r ≡ text) × (regex_co
 abbrev pub shows_by_default : Control → Prompt → Bool
 shows_by_default c p = nat_lt 1 (length (query_text p)) && nat_le (line_count (document_of c)) 5000
 
--- what may be found for a query that is taken: no pattern, since none was built, or the one that is read in its text
-abbrev pub MayTake : Prompt → Option Re → Type 0
-MayTake p None = Unit {0}
-MayTake p (Some pattern) = IsPatternOf (query_text p) pattern
+-- `regex` may build no pattern of a text: for another cause than want of memory
+abbrev pub HasNoPattern : List ℕ → Type 0
+HasNoPattern text = (e : Error) × (e ≢ OutOfMemory) × IsTextRefusal default_config text e × IsRightKind default_config text e
+
+-- what may be found for a query that is taken: the pattern whose matches the page shows already, if there is one; else no pattern, where
+-- none may be built, or the one that is read in its text
+abbrev pub MayTakeOver : Option Re → Prompt → Option Re → Type 0
+MayTakeOver (Some shown) p found = found ≡ Some shown
+MayTakeOver None p None = HasNoPattern (query_text p)
+MayTakeOver None p (Some pattern) = IsPatternOf (query_text p) pattern
+
+-- for one that was edited since the prompt was opened; any other is not taken
+abbrev pub MayTakeWhere : (edited : Bool) → OpenSearch → Option Re → Type 0
+MayTakeWhere true o found = MayTakeOver o.preview o.prompt found
+MayTakeWhere false o found = found ≡ None
+
+abbrev pub MayTake : OpenSearch → Option Re → Type 0
+MayTake o found = MayTakeWhere o.edited o found

@@ -7,6 +7,8 @@ use Rattle.minus_text.specs.declared.line_numbers.LineNumbers.TheVariants.{Disab
 use Rattle.minus_text.specs.Searched.{searched}
 use Rattle.minus_state.specs.declared.selection.SelectionEnds.{SelectionEnds}
 use Rattle.minus_state.specs.declared.state.PagerState.{PagerState}
+use Rattle.minus_state.specs.declared.state.term.KeptTerm.{KeptTerm}
+use Rattle.minus_state.specs.declared.state.term.KeptTerm.TheVariants.{Own, Shown}
 use Rattle.minus_state.specs.declared.search.SearchMode.TheVariants.{Unknown}
 use Rattle.minus_state.specs.Control.{Control, Settings, document_of}
 use Rattle.minus_state.specs.Aside.{aside_of}
@@ -26,9 +28,14 @@ settings_of s = record {
 abbrev pub ends_of : PagerState → SelectionEnds
 ends_of s = record { anchor = s.anchor; selection = s.selection }
 
+-- the pattern of a term that is kept
+abbrev pub pattern_kept : KeptTerm → Re
+pattern_kept (Own pattern) = regex_pattern pattern
+pattern_kept (Shown pattern) = regex_pattern pattern.value
+
 -- the term that rows are searched for, if there is one
 abbrev pub term_of : PagerState → Option Re
-term_of s = option_map regex_pattern s.term
+term_of s = option_map pattern_kept s.term
 
 -- the search prompt that is open, if one is
 abbrev pub search_of : PagerState → Option OpenSearch

@@ -8,9 +8,11 @@ use crate::selection::SelectionEnds;
 use crate::state::PagerState;
 use crate::state::help::HelpChange;
 use minus_term::{MinusError, top_of};
+use minus_text::screen::searching::{view_after, view_of};
 use minus_text::{Findings, PendingPush, RowsView, Screen};
 use regex::Regex;
 use std::alloc::{AllocError, Global};
+use std::rc::Rc;
 
 /// What a command asks to be drawn.
 #[derive(Clone, Copy)]
@@ -54,9 +56,9 @@ pub enum NextText {
     Whole(Box<Screen>),
     /// This text is added, and these rows were formed for it.
     Pushed(String, Box<PendingPush>),
-    /// The text on show stays, and this pattern, the term from now on, was found so in its rows. It stands in a box,
-    /// since a pattern is large and most changes have none.
-    Found(Box<Regex>, Findings),
+    /// The text on show stays, and this pattern, the term from now on, was found so in its rows. It may be the one whose
+    /// matches the page shows already.
+    Found(Rc<Regex>, Findings),
     /// Another text in the place of the one that is put aside.
     SavedWhole(String),
     /// More of the text that is put aside.
@@ -66,18 +68,34 @@ pub enum NextText {
 impl NextText {
     ghost use Rattle.std.specs.Prelude.{◌≡◌, length};
     ghost use Rattle.minus_text.specs.Views.{viewed};
-    ghost use Rattle.minus_state.specs.NextTexts.{next_found, next_searched, Belongs};
+    ghost use Rattle.minus_text.specs.Document.{rows_of};
+    ghost use Rattle.minus_state.specs.NextTexts.{next_document, next_found, next_searched, Belongs};
 
-    /// The rows that there will be, where the text on show stands in a screen.
-    pub fn view<'a>(&'a self, screen: &'a Screen) -> RowsView<'a>
+    // The rows that there will be, where the text on show stands in a screen.
+    pub(crate) fn view<'a>(&'a self, screen: &'a Screen) -> RowsView<'a>
         requires { Belongs screen.now.document self.now }
         ensures { viewed result ≡ next_searched screen.now self.now }
     {
         match self {
             NextText::Whole(next) => next.as_ref().view(),
-            NextText::Pushed(text, pending) => screen.view_after(text.as_str(), pending.as_ref()),
-            NextText::Found(_, findings) => screen.view_of(findings),
+            NextText::Pushed(text, pending) => view_after(screen, text.as_str(), pending.as_ref()),
+            NextText::Found(_, findings) => view_of(screen, findings),
             NextText::Same | NextText::SavedWhole(_) | NextText::SavedMore(_) => screen.view(),
+        }
+    }
+
+    // The number of rows that there will be, where the text on show stands in a screen.
+    fn row_count(&self, screen: &Screen) -> usize
+        ensures { Belongs screen.now.document self.now → result
+            ≡ length (rows_of (next_document screen.now.document self.now)) }
+    {
+        match self {
+            NextText::Whole(next) => next.as_ref().formatted_lines_count(),
+            NextText::Pushed(_, pending) => pending.as_ref().row_count(),
+            NextText::Same
+            | NextText::Found(_, _)
+            | NextText::SavedWhole(_)
+            | NextText::SavedMore(_) => screen.formatted_lines_count(),
         }
     }
 
@@ -215,28 +233,28 @@ impl Drop for Change {
 }
 
 impl Change {
-    ghost use Rattle.std.specs.Prelude.{◌≡◌, ◌-◌, min, length, OnOk, OnErr, IfErr};
+    ghost use Rattle.std.specs.Prelude.{◌≡◌, length, OnOk, OnErr, IfErr};
     ghost use Rattle.minus_text.specs.Document.{rows_of};
     ghost use Rattle.minus_state.specs.Changes.{IsPlaced};
+    ghost use Rattle.minus_state.specs.ClampedMark.{clamped_beside};
     ghost use Rattle.minus_term.specs.Marks.{top_of};
     ghost use Rattle.minus_state.specs.NextTexts.{next_document, Belongs};
     ghost use Rattle.minus_state.specs.States.{control_of};
 
-    /// The greatest mark that there will be: the row, counted from 0, at which the last page of the text is full.
+    /// The greatest mark that there will be, where it is formed beside this screen: the row, counted from 0, at which
+    /// the last page of the text is full. It takes no memory.
     pub fn top(&self, screen: &Screen) -> usize
-        requires { Belongs screen.now.document self.now.text }
-        ensures { result ≡ top_of (length (rows_of (next_document screen.now.document self.now.text))) self.now.rows }
+        ensures { Belongs screen.now.document self.now.text → result
+            ≡ top_of (length (rows_of (next_document screen.now.document self.now.text))) self.now.rows }
     {
-        top_of(self.text.view(screen).len(), self.rows)
+        top_of(self.text.row_count(screen), self.rows)
     }
 
     /// Clamps the mark: it is at most the greatest one (`top`).
     pub fn clamp(&mut self, screen: &Screen)
-        requires { Belongs screen.now.document self.old.text }
-        ensures { self.new ≡ record self.old {
-          mark = min self.old.mark (top_of (length (rows_of (next_document screen.now.document self.old.text)))
-              self.old.rows);
-        } }
+        ensures belongs { Belongs screen.now.document self.old.text → self.new
+            ≡ clamped_beside screen.now.document self.old }
+        ensures rest { self.new ≡ record self.old { mark = self.new.mark } }
     {
         self.mark = self.mark.min(self.top(screen));
     }

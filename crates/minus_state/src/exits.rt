@@ -14,7 +14,7 @@ pub struct ExitCallbacks<C> {
 }
 
 impl<C: Drop> ExitCallbacks<C> {
-    ghost use Rattle.std.specs.Prelude.{ℕ, ◌≡◌, ◌+◌, ◌++◌, ◌∷◌, [], length, OnOk, OnErr};
+    ghost use Rattle.std.specs.Prelude.{ℕ, ◌≡◌, ◌+◌, ◌++◌, ◌∷◌, [], length, nat_eq, OnOk, OnErr};
     ghost use Rattle.minus_state.specs.Exits.{exits_of, HasExitRoom};
 
     /// No callbacks.
@@ -31,6 +31,20 @@ impl<C: Drop> ExitCallbacks<C> {
         ensures { result ≡ length (exits_of self.now) }
     {
         self.callbacks.len()
+    }
+
+    /// Whether there are none.
+    pub fn is_empty(&self) -> bool
+        ensures { result ≡ nat_eq (length (exits_of self.now)) 0 }
+    {
+        self.callbacks.is_empty()
+    }
+
+    /// The callbacks, in the order in which they were added.
+    pub fn as_slice(&self) -> &[C]
+        ensures { result.now ≡ exits_of self.now }
+    {
+        self.callbacks.as_slice()
     }
 
     /// Makes room for this number of callbacks more: so many are added without memory. The callbacks stay, whether
@@ -51,7 +65,7 @@ impl<C: Drop> ExitCallbacks<C> {
     /// # Errors
     ///
     /// [`AllocError`] where there is no memory for it, which drops it and changes nothing.
-    pub fn add(&mut self, callback: C) -> Result<(), AllocError>
+    pub fn push(&mut self, callback: C) -> Result<(), AllocError>
         ensures ok { OnOk result (exits_of self.new ≡ exits_of self.old ++ callback ∷ []) }
         ensures err { OnErr result (exits_of self.new ≡ exits_of self.old) }
         ensures room { OnOk result ((more : ℕ) → HasExitRoom self.old (more + 1) → HasExitRoom self.new more) }

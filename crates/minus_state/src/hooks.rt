@@ -1,10 +1,10 @@
 //! The callbacks of hooks, each held under an id of its hook.
-ghost use Rattle.std.specs.Prelude.{◌≡◌, ◌<◌, ◌^◌, ◌+◌, vec_len, false, OnOk, IfOk, IfErr, SomeIff, position};
+ghost use Rattle.std.specs.Prelude.{◌≡◌, ◌<◌, ◌^◌, ◌+◌, length, vec_len, false, OnOk, IfOk, IfErr, SomeIff, position};
 ghost use Rattle.std.specs.List.{IsDistinct};
 ghost use Rattle.std.proofs.Props.{props};
 ghost use Rattle.minus_term.specs.Refusals.{refusal_of};
 ghost use Rattle.minus_state.specs.HookIds.{same_id, ids_of, greatest, next_free, is_reserved, is_taken, has_no_next};
-ghost use Rattle.minus_state.specs.HookIds.{given, IsUngiven};
+ghost use Rattle.minus_state.specs.HookIds.{given, IsUngiven, AreOthersKept};
 
 use crate::state::PagerState;
 use minus_term::{Hook, MinusError};
@@ -83,11 +83,15 @@ fn given(ids: &[HookId], hook: Hook, id: u64) -> Result<u64, MinusError>
     Ok(id)
 }
 
-// Calls each callback whose id is one of the hook.
-fn call_each<C: HookCall>(ids: &[HookId], callbacks: &mut [C], hook: Hook, state: &PagerState) {
-    for (entry, callback) in ids.iter().zip(callbacks) {
-        if entry.hook == hook {
-            callback.call(state);
+// Calls each callback whose id is one of the hook, and no other.
+fn call_each<C: HookCall>(ids: &[HookId], callbacks: &mut [C], hook: Hook, state: &PagerState)
+    requires { length ids.now ≡ length callbacks.old }
+    ensures count { length callbacks.new ≡ length callbacks.old }
+    ensures others { AreOthersKept hook ids.now callbacks.old callbacks.new }
+{
+    for i in 0..ids.len() {
+        if ids[i].hook == hook {
+            callbacks[i].call(state);
         }
     }
 }
@@ -192,11 +196,11 @@ impl<C: Drop> HookList<C> {
 
 impl<C: HookCall> HookList<C> {
     ghost use Rattle.std.specs.Prelude.{◌≡◌};
-    ghost use Rattle.minus_state.specs.Hooks.{held_by};
+    ghost use Rattle.minus_state.specs.Hooks.{held_by, CallsAlone};
 
-    /// Calls each callback of a hook once, in the order in which they were added.
+    /// Calls each callback of a hook once, in the order in which they were added, and no other.
     pub fn run_hooks(&mut self, hook: Hook, state: &PagerState)
-        ensures { (held_by self.new).ids ≡ (held_by self.old).ids }
+        ensures { CallsAlone hook (held_by self.old) (held_by self.new) }
     {
         call_each(&self.ids, &mut self.callbacks, hook, state);
     }

@@ -24,7 +24,7 @@ mod writing;
 pub use change::{AppendStyle, Change, MessageChange, NextText, Redraw};
 pub use copied::extract_selection;
 pub use exits::{ExitCall, ExitCallbacks};
-pub use hooks::{HookCall, HookId, HookList};
+pub use hooks::{HookCall, HookId, HookList, is_reserved};
 pub use input::{InputClassifier, InputEvent};
 pub use kept::{ExitCallback, HookCallback, Hooks, KeptExit, KeptHook, NeverCalled};
 pub use prompt::{PromptRow, format_prompt, prompt_fills_its_row};

@@ -9,7 +9,7 @@ ghost use Rattle.minus_state.specs.ShownPrompt.{has_newline};
 ghost use Rattle.minus_state.specs.Sizes.{IsSize};
 ghost use Rattle.minus_text.specs.Searched.{searched};
 
-mod after;
+pub mod after;
 mod forming;
 pub mod help;
 mod jumps;
@@ -26,10 +26,12 @@ use crate::search::open_search::OpenSearch;
 use crate::search::{SearchMode, SearchState};
 use crate::selection::{Selection, SelectionEnds};
 use crate::state::help::{Saved, add_aside, replace_aside};
+use crate::state::term::{KeptTerm, kept_pattern};
 use minus_term::MinusError;
 use minus_text::{Findings, Layout, LineNumbers, Patterns, RowsView, Screen, Term};
 use regex::Regex;
 use std::alloc::Global;
+use std::rc::Rc;
 
 /// Whether these are columns and rows of a terminal: each from 1 to 65,535.
 pub fn is_size(cols: usize, rows: usize) -> bool
@@ -131,7 +133,7 @@ pub struct PagerState {
     /// The prefix that is typed; empty where there is none.
     pub prefix_num: String,
     pub(crate) patterns: Patterns,
-    pub(crate) term: Option<Regex>,
+    pub(crate) term: Option<KeptTerm>,
     pub(crate) search_mark: usize,
     pub(crate) anchor: Option<Selection>,
     pub(crate) prompt: String,
@@ -273,7 +275,7 @@ impl PagerState {
     fn place_found(
         &mut self,
         alloc: Global,
-        pattern: Box<Regex>,
+        pattern: Rc<Regex>,
         findings: Findings,
     ) -> Result<(), MinusError>
         ensures document { OnOk result (self.new.screen.document
@@ -290,9 +292,9 @@ impl PagerState {
         ensures mode { OnErr result (self.new.search_mode ≡ self.old.search_mode) }
         ensures memory { IfErr result (λ e. e ≡ MinusError.Memory) }
     {
-        let term = searching(&self.patterns, Some(pattern.as_ref()));
+        let term = searching(&self.patterns, Some(&*pattern));
         self.screen.place_findings(alloc, findings, term)?;
-        self.term = Some(Box::into_inner(pattern));
+        self.term = Some(KeptTerm::Shown(pattern));
         Ok(())
     }
 
@@ -315,7 +317,7 @@ impl PagerState {
                 Ok(())
             }
             NextText::Pushed(piece, pending) => {
-                let term = searching(&self.patterns, self.term.as_ref());
+                let term = searching(&self.patterns, kept_pattern(&self.term));
                 let _ = self
                     .screen
                     .place_push(alloc, &piece, Box::into_inner(pending), term)?;

@@ -3,6 +3,7 @@ ghost use Rattle.std.specs.Prelude.{◌≡◌, ◌<◌, ◌++◌, string_bytes, 
 ghost use Rattle.minus_text.specs.TextUnits.{units_left, bytes_left};
 ghost use Rattle.minus_state.specs.VisibleCharacters.{before_visible, behind_visible, text_of, place_of_visible, place_after_visible, marked, MarksAloneAreAdded};
 
+use minus_text::units::bytes_len;
 use minus_text::{Row, Units};
 use std::alloc::{AllocError, Global};
 
@@ -35,7 +36,7 @@ fn from_visible(units: Units<'_>, count: usize) -> Units<'_>
 pub fn place_of_visible(row: &str, number: usize) -> usize
     ensures { result ≡ place_of_visible number row.now }
 {
-    row.len() - from_visible(Units::new(row), number).len()
+    row.len() - bytes_len(from_visible(Units::new(row), number))
 }
 
 /// The place in a row's bytes where its visible character of this number, counted from 0, ends; the row's
@@ -44,7 +45,7 @@ pub fn place_after_visible(row: &str, number: usize) -> usize
     ensures { result ≡ place_after_visible number row.now }
 {
     match from_visible(Units::new(row), number).split_first() {
-        Some((_, rest)) => row.len() - rest.len(),
+        Some((_, rest)) => row.len() - bytes_len(rest),
         None => row.len(),
     }
 }
@@ -65,8 +66,8 @@ pub fn highlight_visible_range(
     if start >= end || from.is_empty() {
         return String::from_str(alloc, row);
     }
-    let first = row.len() - from.len();
-    let last = row.len() - from_visible(from, end - start).len();
+    let first = row.len() - bytes_len(from);
+    let last = row.len() - bytes_len(from_visible(from, end - start));
     let before = &row[..first];
     let marked = &row[first..last];
     let behind = &row[last..];

@@ -1,5 +1,5 @@
 -- How many texts one list of operations after another puts.
-use Rattle.std.proofs.Common.{◌≡◌, ℕ, ◌+◌, ◌≤◌, ◌&&◌, ◌||◌, not, Bool, true, false, List, [], ◌∷◌, ◌++◌, length, Option, None, Some, refl, sym, arith, inl, inr}
+use Rattle.std.proofs.Common.{◌≡◌, ℕ, ◌+◌, ◌≤◌, ◌&&◌, ◌||◌, not, if◌then◌else◌, Bool, true, false, List, [], ◌∷◌, ◌++◌, length, Option, None, Some, refl, sym, arith, inl, inr}
 use Rattle.std.proofs.lemmas.Bool.{cases_Bool}
 use Rattle.minus_term.specs.Operations.{Op, ClearAll, ClearRow, GoTo, Return, NextRow, Put, ScrollUp, ScrollDown, ShowCursor, HideCursor}
 use Rattle.minus_term.specs.PlayedScreen.{PlayedScreen, play, play_all, Below, IsBelow}
@@ -23,7 +23,7 @@ neither_right true y e = absurd (cc)
 neither_right false true e = absurd (cc)
 neither_right false false e = refl
 
-few_of : (op : Op) (rest : List Op) (s : PlayedScreen) → put_of op rest s ≤ 1
+pub few_of : (op : Op) (rest : List Op) (s : PlayedScreen) → put_of op rest s ≤ 1
 few_of op rest s = elim (cases_Bool (is_put op)) [
   | inl e ↦ elim (cases_Bool (is_in_last_row (length s.texts) s.row && is_still rest (play op s))) [
     | inl f ↦ rw (e, f) (omega arith)
@@ -96,3 +96,44 @@ puts_below (op ∷ ops) s t h = let more = puts_below ops (play op s) (play op t
   ]
   | inr e ↦ rw e (omega (arith, more))
 ]
+
+-- how many operations put a text
+abbrev put_count : List Op → ℕ
+put_count [] = 0
+put_count (op ∷ ops) = (if is_put op then 1 else 0) + put_count ops
+
+puts_counted : (ops : List Op) (s : PlayedScreen) → puts ops s ≤ put_count ops
+puts_counted [] s = omega arith
+puts_counted (op ∷ ops) s = let more = puts_counted ops (play op s) in elim (cases_Bool (is_put op)) [
+  | inl e ↦ (let few = few_of op ops s in let one : put_count (op ∷ ops) ≡ 1 + put_count ops = rw e refl in omega (arith, few, one, more))
+  | inr e ↦ rw e (omega (arith, more))
+]
+
+still_counted : (ops : List Op) (s : PlayedScreen) → is_still ops s ≡ true → put_count ops ≡ 0
+still_counted [] s h = refl
+still_counted (op ∷ ops) s h =
+    let quiet = both_left (not (is_put op || scrolls op s)) (is_still ops (play op s)) h in
+    let none : is_put op ≡ false = neither_left (is_put op) (scrolls op s) quiet in
+    let more = still_counted ops (play op s) (both_right (not (is_put op || scrolls op s)) (is_still ops (play op s)) h) in
+    rw none (omega (arith, more))
+
+counted_puts : (ops : List Op) (s : PlayedScreen) → put_count ops ≤ puts ops s + 1
+counted_puts [] s = omega arith
+counted_puts (op ∷ ops) s = let more = counted_puts ops (play op s) in elim (cases_Bool (is_put op)) [
+  | inl e ↦ elim (cases_Bool (is_in_last_row (length s.texts) s.row && is_still ops (play op s))) [
+    | inl f ↦ (let none = still_counted ops (play op s) (both_right (is_in_last_row (length s.texts) s.row) (is_still ops (play op s)) f) in let one : put_count (op ∷ ops) ≡ 1 + put_count ops = rw e refl in omega (arith, none, one))
+    | inr f ↦ (let put : put_of op ops s ≡ 1 = rw (e, f) refl in let one : put_count (op ∷ ops) ≡ 1 + put_count ops = rw e refl in omega (arith, put, one, more))
+  ]
+  | inr e ↦ rw e (omega (arith, more))
+]
+
+puts_split : (xs ys : List Op) (s : PlayedScreen) → puts (xs ++ ys) s ≤ put_count xs + puts ys (play_all xs s)
+puts_split [] ys s = omega arith
+puts_split (op ∷ ops) ys s = let more = puts_split ops ys (play op s) in elim (cases_Bool (is_put op)) [
+  | inl e ↦ (let few = few_of op (ops ++ ys) s in let one : put_count (op ∷ ops) ≡ 1 + put_count ops = rw e refl in omega (arith, few, one, more))
+  | inr e ↦ rw e (omega (arith, more))
+]
+
+-- one list after another puts no more than both, and one more, whatever screen the first one's count starts from
+pub puts_join_any : (xs ys : List Op) (s t : PlayedScreen) → puts (xs ++ ys) s ≤ puts xs t + 1 + puts ys (play_all xs s)
+puts_join_any xs ys s t = omega (arith, puts_split xs ys s, counted_puts xs t)

@@ -6,6 +6,7 @@ pub mod ScrollLaws
 pub mod AppendLaws
 pub mod SearchPromptLaws
 pub mod JoinLaws
+pub mod CursorLaws
 pub mod SinkLaws
 pub mod WritesLaws
 pub mod TerminalLaws

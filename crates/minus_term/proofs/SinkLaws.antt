@@ -1,9 +1,9 @@
 -- Calls of a sink, one after another.
-use Rattle.std.proofs.Common.{◌≡◌, ℕ, ◌-◌, ◌==◌, true, false, Option, None, Some, Result, Ok, Err, OnErr, List, ◌++◌, sym, ap, ◌∙◌, arith, length, take, drop, append_assoc, take-append-drop, length-append}
+use Rattle.std.proofs.Common.{◌≡◌, ℕ, ◌+◌, ◌-◌, ◌==◌, true, false, Option, None, Some, Result, Ok, Err, OnErr, List, ◌++◌, sym, ap, ◌∙◌, arith, length, take, drop, append_assoc, take-append-drop, length-append}
 use Rattle.std.proofs.lemmas.List.{take_rest}
 use Rattle.std.proofs.Math.Seq.{take-append_seam, take-length}
 use Rattle.std.specs.Io.KnownBytes.{Appends, Keeps}
-use Rattle.minus_term.specs.Counts.{CountsCall, Stays, Rises, AppendsFront}
+use Rattle.minus_term.specs.Counts.{CountsCall, Stays, Rises, RisesBy, AppendsFront}
 
 pub Stays-trans : (a b c : Option ℕ) → Stays a b → Stays b c → Stays a c
 Stays-trans None None None p q = tt
@@ -36,6 +36,15 @@ Stays-rises None (Some m) c p q = absurd p
 Stays-rises (Some k) b None p q = tt
 Stays-rises (Some k) None (Some n) p q = absurd q
 Stays-rises (Some k) (Some m) (Some n) p q = omega (arith, p, q)
+
+-- one count after another
+pub RisesBy-trans : (a b c : Option ℕ) (m n : ℕ) → RisesBy a b m → RisesBy b c n → RisesBy a c (m + n)
+RisesBy-trans None None None m n p q = tt
+RisesBy-trans None None (Some k) m n p q = absurd q
+RisesBy-trans None (Some j) c m n p q = absurd p
+RisesBy-trans (Some i) b None m n p q = tt
+RisesBy-trans (Some i) None (Some k) m n p q = absurd q
+RisesBy-trans (Some i) (Some j) (Some k) m n p q = omega (arith, p, q)
 
 -- a call that added nothing, after some that did
 pub Appends-kept : (a b c : Option (List ℕ)) (bytes : List ℕ) → Appends a b bytes → Keeps b c → Appends a c bytes

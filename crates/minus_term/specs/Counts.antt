@@ -1,17 +1,19 @@
--- What a sink tells: the bytes that it holds, how many of its calls it refused, and whether it is a terminal.
+-- What a sink tells: the bytes that it holds, how many of its calls it refused, how often it was settled, and whether it is a terminal.
 use Rattle.std.specs.Prelude.{◌≡◌, ℕ, ◌+◌, ◌-◌, ◌^◌, ◌<◌, ◌≤◌, ◌==◌, ◌++◌, Bool, true, false, if◌then◌else◌, Option, None, Some, Result, Ok, Err, List, length}
 use Rattle.std.specs.Prelude.{take, min, ⊤}
 use Rattle.std.specs.Io.KnownBytes.{Appends}
 
--- the bytes that a sink holds and the number of its calls that it refused, each where the sink tells it, and whether it is a terminal
+-- the bytes that a sink holds, the number of its calls that it refused, and how often it was settled, refused or not, each where the sink
+-- tells it; and whether it is a terminal
 pub record SinkSeen : Type 0 where
   pub bytes : Option (List ℕ)
   pub refusals : Option ℕ
+  pub settles : Option ℕ
   pub terminal : Bool
 
 -- nothing is told, and the sink is no terminal
 abbrev pub unseen : SinkSeen
-unseen = record { bytes = None; refusals = None; terminal = false }
+unseen = record { bytes = None; refusals = None; settles = None; terminal = false }
 
 -- the bytes alone are told
 abbrev pub tells_bytes : List ℕ → SinkSeen
@@ -24,6 +26,13 @@ CountsCall None (Some n) refused = ⊥
 CountsCall (Some m) None refused = ⊤
 CountsCall (Some m) (Some n) true = n ≡ m + 1
 CountsCall (Some m) (Some n) false = n ≡ m
+
+-- over some calls a count rose by so many, where it is told before and after them
+abbrev pub RisesBy : Option ℕ → Option ℕ → ℕ → Type 0
+RisesBy None None more = ⊤
+RisesBy None (Some n) more = ⊥
+RisesBy (Some m) None more = ⊤
+RisesBy (Some m) (Some n) more = n ≡ m + more
 
 -- whether a write was refused: it gave an error of any kind, or took nothing
 abbrev pub is_refused : {E : Type 0} → Result ℕ E → Bool

@@ -1,8 +1,9 @@
 -- The drawing of a whole page.
-use Rattle.std.specs.Prelude.{◌≡◌, ℕ, ◌-◌, ◌<◌, ◌==◌, List, [], ◌∷◌, ◌++◌, length, replicate, flat_map, None, if◌then◌else◌}
+use Rattle.std.specs.Prelude.{◌≡◌, ℕ, ◌-◌, ◌<◌, ◌≤◌, ◌==◌, List, [], ◌∷◌, ◌++◌, length, replicate, flat_map, None, if◌then◌else◌}
 use Rattle.minus_term.specs.Marks.{page_len}
 use Rattle.minus_term.specs.Operations.{Op, ClearAll, ClearRow, GoTo, Return, NextRow, Put}
 use Rattle.minus_term.specs.PlayedScreen.{ShownPage, PlayedScreen, Shows, play_all}
+use Rattle.minus_term.specs.Puts.{puts}
 
 -- a row of text, and on to the next row
 abbrev pub row_ops : List ℕ → List Op
@@ -25,3 +26,9 @@ abbrev pub FullRedrawShowsItsPage : Type 0
 FullRedrawShowsItsPage =
     (rows : ℕ) (shown : List (List ℕ)) (prompt : List ℕ) (s : PlayedScreen) → length s.texts ≡ rows → length shown < rows
     → Shows (play_all (full_ops rows shown prompt) s) (page_of rows shown prompt)
+
+-- it puts no more texts than the page has rows of text, the prompt aside
+abbrev pub FullRedrawPutsFew : Type 0
+FullRedrawPutsFew =
+    (rows : ℕ) (shown : List (List ℕ)) (prompt : List ℕ) (s : PlayedScreen) → length s.texts ≡ rows → length shown < rows
+    → puts (full_ops rows shown prompt) s ≤ length shown

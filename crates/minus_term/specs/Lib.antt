@@ -2,6 +2,7 @@
 pub mod Operations
 pub mod PlayedScreen
 pub mod Puts
+pub mod CursorShown
 pub mod Marks
 pub mod Counts
 pub mod FullRedraw
@@ -12,4 +13,5 @@ pub mod Refusals
 pub mod Written
 pub mod Terminal
 pub mod NormalForm
+pub mod Presses
 pub mod Writes

@@ -52,3 +52,14 @@ abbrev pub ClosingShowsItsPage : Type 0
 ClosingShowsItsPage =
     (rows : ℕ) (shown : List (List ℕ)) (prompt : List ℕ) (s : PlayedScreen) → length s.texts ≡ rows → length shown < rows
     → Shows (play_all (closing_ops rows shown prompt) s) (page_of rows shown prompt)
+
+-- both put no more texts than the page has rows of text, the last row aside
+abbrev pub EditPutsFew : Type 0
+EditPutsFew =
+    (rows : ℕ) (shown : List (List ℕ)) (typed : List ℕ) (cursor : ℕ) (s : PlayedScreen) → length s.texts ≡ rows → length shown < rows
+    → puts (edit_ops rows shown typed cursor) s ≤ length shown
+
+abbrev pub ClosingPutsFew : Type 0
+ClosingPutsFew =
+    (rows : ℕ) (shown : List (List ℕ)) (prompt : List ℕ) (s : PlayedScreen) → length s.texts ≡ rows → length shown < rows
+    → puts (closing_ops rows shown prompt) s ≤ length shown

@@ -1,6 +1,6 @@
 //! The operations that a screen is drawn by, and their bytes.
 ghost use Rattle.std.specs.Prelude.{◌≡◌, ◌+◌, ◌-◌, ◌^◌, ◌<◌, ◌≤◌, [], ◌∷◌, ◌++◌, drop, map, decimal, OnOk, OnErr};
-ghost use Rattle.minus_term.specs.FullRedraw.{FullRedrawShowsItsPage};
+ghost use Rattle.minus_term.specs.FullRedraw.{FullRedrawShowsItsPage, FullRedrawPutsFew};
 ghost use Rattle.minus_term.specs.Append.{AppendShowsItsPage, AppendPutsFew};
 ghost use Rattle.minus_term.specs.Scroll.{ScrollShowsItsPage, ScrollPutsFew};
 ghost use Rattle.minus_term.specs.Operations.{op_of, GoTo};
@@ -157,6 +157,11 @@ pub fn the_unknown_screen_stands_for_all()
 /// A law: the drawing of a whole page shows it, whatever the screen showed before.
 pub fn full_redraw_shows_its_page()
     ensures { FullRedrawShowsItsPage }
+{}
+
+/// A law: the drawing of a whole page puts no more texts than the page has rows of text, the prompt aside.
+pub fn full_redraw_puts_few()
+    ensures { FullRedrawPutsFew }
 {}
 
 /// A law: a scroll leads from the page at one mark to the page at another.

@@ -1,10 +1,11 @@
 //! The errors of the pager.
 ghost use Rattle.std.specs.Prelude.{◌≡◌};
 ghost use Rattle.minus_term.specs.Refusals.{number_of};
-ghost use Rattle.minus_term.specs.declared.error.MinusError.TheVariants.{Memory, Setup, Cleanup, Draw, Cursor, FmtWriteError, SearchExpError};
+ghost use Rattle.minus_term.specs.declared.error.MinusError.TheVariants.{Memory, BadDescription, Setup, Cleanup, Draw};
+ghost use Rattle.minus_term.specs.declared.error.MinusError.TheVariants.{Cursor, FmtWriteError, SearchExpError};
 
 use crate::hooks::Hook;
-use std::alloc::AllocError;
+use std::alloc::{AllocError, AllocFailed};
 use std::{fmt, io};
 use thiserror::Error;
 
@@ -141,6 +142,23 @@ impl From<AllocError> for MinusError {
 
     fn from(_cause: AllocError) -> MinusError {
         MinusError::Memory
+    }
+}
+
+impl<T: Drop> From<AllocFailed<T>> for MinusError {
+    ghost from_gives = { λ cause e. e ≡ Memory };
+
+    fn from(_cause: AllocFailed<T>) -> MinusError {
+        MinusError::Memory
+    }
+}
+
+// (a description that stands alone is the first of its list)
+impl From<DescriptionError> for MinusError {
+    ghost from_gives = { λ cause e. e ≡ BadDescription 0 cause };
+
+    fn from(cause: DescriptionError) -> MinusError {
+        MinusError::BadDescription(0, cause)
     }
 }
 

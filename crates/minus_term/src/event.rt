@@ -1,5 +1,6 @@
 //! What a terminal tells: keys, the mouse, its size and its focus.
-ghost use Rattle.std.specs.Prelude.{⊤, [], ◌∷◌, codes};
+ghost use Rattle.std.specs.Prelude.{⊤, [], ◌∷◌, ◌≡◌, codes};
+ghost use Rattle.minus_term.specs.Presses.{press_of};
 
 pub mod equality;
 
@@ -141,6 +142,29 @@ pub struct KeyEvent {
     pub kind: KeyEventKind,
     /// The locks and the keypad.
     pub state: KeyEventState,
+}
+
+impl KeyEvent {
+    /// The press of a key with these modifiers, with no lock on and outside the keypad.
+    pub const fn new(code: KeyCode, modifiers: KeyModifiers) -> KeyEvent
+        ensures { result ≡ press_of code modifiers }
+    {
+        KeyEvent {
+            code,
+            modifiers,
+            kind: KeyEventKind::Press,
+            state: KeyEventState::NONE,
+        }
+    }
+}
+
+/// The press of a key alone.
+impl From<KeyCode> for KeyEvent {
+    ghost from_gives = { λ code key. key ≡ press_of code (record { 0 = 0 }) };
+
+    fn from(code: KeyCode) -> KeyEvent {
+        KeyEvent::new(code, KeyModifiers::NONE)
+    }
 }
 
 /// A button of the mouse.

@@ -19,8 +19,9 @@ pub mod wrappers;
 pub mod writes;
 
 pub use draw::{
-    DrawOp, append_puts_few, append_shows_its_page, full_redraw_shows_its_page, play_is_monotone,
-    scroll_puts_few, scroll_shows_its_page, the_unknown_screen_stands_for_all, write_op, write_ops,
+    DrawOp, append_puts_few, append_shows_its_page, full_redraw_puts_few,
+    full_redraw_shows_its_page, play_is_monotone, scroll_puts_few, scroll_shows_its_page,
+    the_unknown_screen_stands_for_all, write_op, write_ops,
 };
 pub use error::{CleanupError, DescriptionError, MinusError, RegexError, SetupError, TermError};
 pub use event::equality::{
@@ -39,8 +40,9 @@ pub use page_parts::{
     write_row_end, write_row_start, write_up_start,
 };
 pub use search_prompt::{
-    closing_shows_its_page, cursor_shows_its_page, edit_shows_its_page, opening_puts_none,
-    opening_shows_its_page, write_search_cursor, write_search_opening,
+    closing_puts_few, closing_shows_its_page, cursor_shows_its_page, edit_puts_few,
+    edit_shows_its_page, opening_puts_none, opening_shows_its_page, write_search_cursor,
+    write_search_opening,
 };
 pub use sink::{OutputSink, draw_bytes, write_bytes};
 pub use term::{cleanup, setup};

@@ -3,7 +3,7 @@
 ghost use Rattle.std.specs.Prelude.{◌≡◌, ◌++◌, OnOk};
 ghost use Rattle.minus_term.specs.SearchPrompt.{opening_ops, cursor_ops};
 ghost use Rattle.minus_term.specs.SearchPrompt.{OpeningShowsItsPage, OpeningPutsNone, CursorShowsItsPage};
-ghost use Rattle.minus_term.specs.SearchPrompt.{EditShowsItsPage, ClosingShowsItsPage};
+ghost use Rattle.minus_term.specs.SearchPrompt.{EditShowsItsPage, EditPutsFew, ClosingShowsItsPage, ClosingPutsFew};
 ghost use Rattle.minus_term.specs.Written.{written_all};
 
 use crate::draw::{DrawOp, write_ops};
@@ -77,4 +77,14 @@ pub fn edit_shows_its_page()
 /// A law: a closing shows its page, whatever the screen showed before.
 pub fn closing_shows_its_page()
     ensures { ClosingShowsItsPage }
+{}
+
+/// A law: an edit puts no more texts than the page has rows of text, what is typed aside.
+pub fn edit_puts_few()
+    ensures { EditPutsFew }
+{}
+
+/// A law: a closing puts no more texts than the page has rows of text, the prompt aside.
+pub fn closing_puts_few()
+    ensures { ClosingPutsFew }
 {}

@@ -1,7 +1,7 @@
 //! The setup of a terminal and its cleanup.
 ghost use Rattle.std.specs.Prelude.{◌≡◌, ◌↔◌, [], true, false, OnOk, OnErr, IfErr, IsOk, IsErrOf, if◌then◌else◌};
 ghost use Rattle.std.specs.Io.KnownBytes.{Appends};
-ghost use Rattle.minus_term.specs.Counts.{Stays, Rises, AppendsFront};
+ghost use Rattle.minus_term.specs.Counts.{Stays, Rises, RisesBy, AppendsFront};
 ghost use Rattle.minus_term.specs.Operations as op;
 ghost use Rattle.minus_term.specs.Written.{written};
 ghost use Rattle.minus_term.specs.Terminal.{setup_bytes, cleanup_bytes, SetupBreaksOff, CleanupBreaksOff};
@@ -25,6 +25,7 @@ const CURSOR_OFF: &[u8] = b"\x1b[?25l";
 fn send<S: OutputSink>(out: &mut S, bytes: &[u8]) -> Result<(), TermError>
     ensures ok { OnOk result (Appends (S.seen out.old).bytes (S.seen out.new).bytes bytes.now) }
     ensures stays { OnOk result (Stays (S.seen out.old).refusals (S.seen out.new).refusals) }
+    ensures settled { OnOk result (RisesBy (S.seen out.old).settles (S.seen out.new).settles 1) }
     ensures err { OnErr result (AppendsFront (S.seen out.old).bytes (S.seen out.new).bytes bytes.now) }
     ensures rises { OnErr result (Rises (S.seen out.old).refusals (S.seen out.new).refusals) }
 {
@@ -42,6 +43,7 @@ fn send<S: OutputSink>(out: &mut S, bytes: &[u8]) -> Result<(), TermError>
 pub fn setup<S: OutputSink>(out: &mut S) -> Result<(), SetupError>
     ensures ok { OnOk result (Appends (S.seen out.old).bytes (S.seen out.new).bytes setup_bytes) }
     ensures stays { OnOk result (Stays (S.seen out.old).refusals (S.seen out.new).refusals) }
+    ensures settled { OnOk result (RisesBy (S.seen out.old).settles (S.seen out.new).settles 3) }
     ensures terminal { IsErrOf result SetupError.InvalidTerminal ↔ ((S.seen out.old).terminal ≡ false) }
     ensures untouched { IsErrOf result SetupError.InvalidTerminal → out.new ≡ out.old }
     ensures broken { IfErr result (λ e. SetupBreaksOff e (S.seen out.old).bytes (S.seen out.new).bytes) }
@@ -75,6 +77,8 @@ pub fn cleanup<S: OutputSink>(out: &mut S, cleanup_screen: bool) -> Result<(), C
         (if cleanup_screen then cleanup_bytes else [])) }
     ensures tried { AppendsFront (S.seen out.old).bytes (S.seen out.new).bytes cleanup_bytes }
     ensures stays { OnOk result (Stays (S.seen out.old).refusals (S.seen out.new).refusals) }
+    ensures settled { OnOk result (RisesBy (S.seen out.old).settles (S.seen out.new).settles
+        (if cleanup_screen then 3 else 0)) }
     ensures off { cleanup_screen ≡ false → IsOk result }
     ensures untouched { cleanup_screen ≡ false → out.new ≡ out.old }
     ensures broken { IfErr result (λ e. CleanupBreaksOff e (S.seen out.old).bytes (S.seen out.new).bytes) }

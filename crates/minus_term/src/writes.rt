@@ -1,7 +1,7 @@
 //! Writes beside the drawing of a page.
-ghost use Rattle.std.specs.Prelude.{◌≡◌, ◌++◌, [], ◌∷◌, map, OnOk, IfOk, IfErr};
+ghost use Rattle.std.specs.Prelude.{◌≡◌, ◌++◌, [], ◌∷◌, map, OnOk, IfOk, IfErr, if◌then◌else◌};
 ghost use Rattle.std.specs.Io.KnownBytes.{Appends};
-ghost use Rattle.minus_term.specs.Counts.{Stays};
+ghost use Rattle.minus_term.specs.Counts.{Stays, RisesBy};
 ghost use Rattle.minus_term.specs.Operations.{GoTo, ClearAll};
 ghost use Rattle.minus_term.specs.Writes.{initial_text, raw_lines, SinkRefuses, WriteRefuses};
 ghost use Rattle.minus_term.specs.Written.{written};
@@ -18,6 +18,7 @@ const CLEAR_ALL: &[u8] = b"\x1b[2J";
 fn write_formed<W: OutputSink>(out: &mut W, bytes: &[u8], flush: bool) -> Result<(), MinusError>
     ensures ok { OnOk result (Appends (W.seen out.old).bytes (W.seen out.new).bytes bytes.now) }
     ensures stays { OnOk result (Stays (W.seen out.old).refusals (W.seen out.new).refusals) }
+    ensures settled { OnOk result (RisesBy (W.seen out.old).settles (W.seen out.new).settles (if flush then 1 else 0)) }
     ensures err { IfErr result (λ e. SinkRefuses W.seen e out.old out.new bytes.now) }
 {
     if flush {
@@ -45,6 +46,7 @@ pub fn move_cursor<W: OutputSink>(
 ) -> Result<(), MinusError>
     ensures ok { OnOk result (Appends (W.seen out.old).bytes (W.seen out.new).bytes (written (GoTo x y))) }
     ensures stays { OnOk result (Stays (W.seen out.old).refusals (W.seen out.new).refusals) }
+    ensures settled { OnOk result (RisesBy (W.seen out.old).settles (W.seen out.new).settles (if flush then 1 else 0)) }
     ensures err { IfErr result (λ e. WriteRefuses W.seen e out.old out.new (written (GoTo x y))) }
 {
     let mut bytes = Vec::new(alloc);
@@ -62,6 +64,7 @@ pub fn move_cursor<W: OutputSink>(
 pub fn clear_entire_screen<W: OutputSink>(out: &mut W, flush: bool) -> Result<(), MinusError>
     ensures ok { OnOk result (Appends (W.seen out.old).bytes (W.seen out.new).bytes (written ClearAll)) }
     ensures stays { OnOk result (Stays (W.seen out.old).refusals (W.seen out.new).refusals) }
+    ensures settled { OnOk result (RisesBy (W.seen out.old).settles (W.seen out.new).settles (if flush then 1 else 0)) }
     ensures err { IfErr result (λ e. SinkRefuses W.seen e out.old out.new (written ClearAll)) }
 {
     write_formed(out, CLEAR_ALL, flush)
@@ -114,6 +117,7 @@ pub fn write_raw_lines<W: OutputSink, L: AsStr>(
     ensures ok { OnOk result (Appends (W.seen out.old).bytes (W.seen out.new).bytes
         (raw_lines (initial_text initial.entry) (map L.text lines.now))) }
     ensures stays { OnOk result (Stays (W.seen out.old).refusals (W.seen out.new).refusals) }
+    ensures settled { OnOk result (RisesBy (W.seen out.old).settles (W.seen out.new).settles 0) }
     ensures err { IfErr result (λ e.
         WriteRefuses W.seen e out.old out.new (raw_lines (initial_text initial.entry) (map L.text lines.now))) }
 {

@@ -4,7 +4,7 @@ ghost use Rattle.minus_state.specs.States.{IsFormed};
 
 use crate::facts::{assert_at, assert_holds};
 use crate::player::played;
-use crate::sessions::{Asked, TEN_LINES, does, input, session_on, terminal};
+use crate::sessions::{Asked, Command, TEN_LINES, does, input, session_on, terminal};
 use minus::{
     CommandOf, CommandQueueOf, Handled, InputEvent, InputOf, IoCommand, LineNumbers, PagerState,
     PartsOf, SearchMode, WithTty, handle_event,
@@ -26,13 +26,18 @@ pub(crate) struct Driven {
 
 // Parts without a text, for 20 columns and four rows.
 pub(crate) fn without_text(alloc: Global) -> Option<Driven> {
-    let (Ok(state), Ok(keys)) = (PagerState::new(alloc, 20, 4), DefaultKeys::new(alloc)) else {
+    of_size(alloc, 20, 4)
+}
+
+// Parts without a text, for so many columns and rows.
+pub(crate) fn of_size(alloc: Global, cols: usize, rows: usize) -> Option<Driven> {
+    let (Ok(state), Ok(keys)) = (PagerState::new(alloc, cols, rows), DefaultKeys::new(alloc)) else {
         return None;
     };
     match CommandQueueOf::new(alloc) {
         Ok(queue) => Some(Driven {
             alloc,
-            parts: PartsOf::new(alloc, state, keys, None),
+            parts: PartsOf::keeping(alloc, state, keys, None),
             queue,
             sink: terminal(alloc),
         }),
@@ -41,11 +46,16 @@ pub(crate) fn without_text(alloc: Global) -> Option<Driven> {
 }
 
 impl Driven {
-    // What a command answers; none where it is refused.
+    // What the command answers that asks for this; none where it is refused.
     pub(crate) fn handle(&mut self, asked: Asked<'_>) -> Option<Handled> {
-        let Ok(InputOf::Command(command)) = input(self.alloc, asked) else {
-            return None;
-        };
+        match input(self.alloc, asked) {
+            Ok(InputOf::Command(command)) => self.takes(command),
+            _ => None,
+        }
+    }
+
+    // What a command answers; none where it is refused.
+    pub(crate) fn takes(&mut self, command: Command) -> Option<Handled> {
         match handle_event(self.alloc, command, &mut self.parts, &mut self.queue) {
             Ok(handled) => Some(handled),
             Err(_) => None,

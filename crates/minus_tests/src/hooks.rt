@@ -15,6 +15,8 @@ use std::cell::Cell;
 use std::io::{self, Write};
 use std::rc::Rc;
 
+mod calls;
+
 // Writes a digit behind a number.
 fn write_digit(log: &Cell<u64>, digit: u64) {
     log.set(log.get().wrapping_mul(10).wrapping_add(digit));
@@ -469,7 +471,7 @@ fn is_called_by_hand(alloc: Global, log: &Rc<Cell<u64>>) -> bool {
     ) else {
         return false;
     };
-    let mut parts: PartsOf<Own> = PartsOf::new(alloc, state, Still, None);
+    let mut parts: PartsOf<Own> = PartsOf::keeping(alloc, state, Still, None);
     let mut queue = CommandQueueOf::new_zero(alloc);
     let mut sink = WithTty::new(Vec::new(alloc), true);
     let writes = Writes {
@@ -492,6 +494,31 @@ fn a_move_by_hand_calls_at_the_end(rt: HostRuntime) {
         return;
     };
     assert_holds(&rt, is_called_by_hand(rt.alloc(), &log));
+}
+
+// Whether a callback of an exit is kept as its command is handled, and not called.
+fn is_kept_by_hand(alloc: Global, log: &Rc<Cell<u64>>) -> bool {
+    let (Ok(state), Ok(at_exit)) = (PagerState::new(alloc, 20, 4), shared(log)) else {
+        return false;
+    };
+    let mut parts: PartsOf<Own> = PartsOf::keeping(alloc, state, Still, None);
+    let mut queue = CommandQueueOf::new_zero(alloc);
+    let adds = CommandOf::AddExitCallback(Writes {
+        digit: 1,
+        log: at_exit,
+    });
+    handle_event(alloc, adds, &mut parts, &mut queue).is_ok()
+        && parts.exit_callbacks.len() == 1
+        && queue.is_empty()
+        && log.get() == 0
+}
+
+#[test]
+fn a_callback_of_an_exit_is_kept_by_hand(rt: HostRuntime) {
+    let Ok(log) = Rc::new(rt.alloc(), Cell::new(0)) else {
+        return;
+    };
+    assert_holds(&rt, is_kept_by_hand(rt.alloc(), &log));
 }
 
 // Whether commands with callbacks are shown by what stands beside those, and are equal by that.

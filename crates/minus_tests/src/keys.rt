@@ -6,3 +6,4 @@ mod exact;
 mod helps;
 mod presses;
 mod registers;
+mod wide;

@@ -3,6 +3,8 @@
 #![tactic(auto)]
 
 #[cfg(test)]
+mod asks;
+#[cfg(test)]
 mod by_hand;
 #[cfg(test)]
 mod callers;
@@ -20,6 +22,8 @@ mod endings;
 mod exchanges;
 #[cfg(test)]
 mod facts;
+#[cfg(test)]
+mod handled;
 #[cfg(test)]
 mod helps;
 #[cfg(test)]
@@ -53,6 +57,8 @@ mod selections;
 #[cfg(test)]
 mod sessions;
 #[cfg(test)]
+mod settles;
+#[cfg(test)]
 mod sinks;
 #[cfg(test)]
 mod starts;
@@ -60,5 +66,7 @@ mod starts;
 mod states;
 #[cfg(test)]
 mod table_rows;
+#[cfg(test)]
+mod told;
 #[cfg(test)]
 mod written_rows;

@@ -2,8 +2,8 @@
 use crate::player::played;
 use minus::{
     Calls, CommandOf, Core, Event, ExitStrategy, Hook, InputEvent, InputOf, IoCommand, KeyCode,
-    KeyEvent, KeyEventKind, KeyEventState, KeyModifiers, LineNumbers, MinusError, OutputSink, Page,
-    PagerOf, RanOf, RunMode, StartErrorOf, WithTty, init_core_with,
+    KeyEvent, LineNumbers, MinusError, OutputSink, Page, PagerOf, RanOf, RunMode, StartErrorOf,
+    WithTty, init_core_with,
 };
 pub use minus_part_tests::asked::TEN_LINES;
 use minus_script::{DefaultKeys, ScriptKinds};
@@ -68,12 +68,7 @@ pub enum Asked<'a> {
 
 /// The press of a key.
 pub fn pressed(code: KeyCode) -> Event {
-    Event::Key(KeyEvent {
-        code,
-        modifiers: KeyModifiers::NONE,
-        kind: KeyEventKind::Press,
-        state: KeyEventState::NONE,
-    })
+    Event::Key(KeyEvent::from(code))
 }
 
 /// The input that asks for it, in a session of any kinds.

@@ -2,8 +2,8 @@
 use crate::facts::assert_holds;
 use crate::sessions::{CLEANUP, PROMPT_ROW, SETUP, are_bytes, has_page, terminal};
 use minus::{
-    LineNumbers, MinusError, OutputSink, Pager, RunMode, Session, SetupError, StartError, WithTty,
-    dynamic_paging, init_core,
+    Command, LineNumbers, MinusError, OutputSink, Pager, RunMode, Session, SetupError, StartError,
+    WithTty, dynamic_paging, init_core,
 };
 use minus_part_tests::stubborn::{NOTHING, Refusal, Refused, Stubborn, write};
 use std::alloc::Global;
@@ -235,6 +235,35 @@ fn takes_no_newline(alloc: Global) -> bool {
 #[test]
 fn a_pager_takes_no_newline_for_its_prompt_row(rt: HostRuntime) {
     assert_holds(&rt, takes_no_newline(rt.alloc()));
+}
+
+// Whether a prompt is taken as a string, and a message as a text, and both wait behind the text, in this order.
+fn says_either(alloc: Global) -> bool {
+    let (mut pager, page) = (Pager::new(alloc), 7);
+    let Ok(prompt) = format!(in alloc; "page {page}") else {
+        return false;
+    };
+    let is_told = pager.push_str("a").is_ok()
+        && pager.set_prompt(prompt).is_ok()
+        && pager.send_message("m").is_ok();
+    match pager.waiting() {
+        [
+            Command::AppendData(text),
+            Command::SetPrompt(prompt),
+            Command::SendMessage(message),
+        ] => {
+            is_told
+                && text.as_str() == "a"
+                && prompt.as_str() == "page 7"
+                && message.as_str() == "m"
+        }
+        _ => false,
+    }
+}
+
+#[test]
+fn a_prompt_is_a_text_or_a_string(rt: HostRuntime) {
+    assert_holds(&rt, says_either(rt.alloc()));
 }
 
 // Whether a session with numbers that go on begins with those.

@@ -98,11 +98,51 @@ const WHOLE: Written<'static> = Written {
     ..SHORT
 };
 
-// Fifteen lines behind 95 empty ones.
-const MANY: &str =
-    "\n\n\n\n\n\n\n\n\n\n\n\n\n\n\n\n\n\n\n\n\n\n\n\n\n\n\n\n\n\n\n\n\n\n\n\n\n\n\n\n\n\n\n\n\n\n\n\n\n\n\n\n\n\n\n\n\n\n\n\n\n\n\n\n\n\n\n\n\n\n\n\n\n\n\n\n\n\n\n\n\n\n\n\n\n\n\n\n\n\n\n\n\n\n\nL95\nL96\nL97\nL98\nL99\nL100\nL101\nL102\nL103\nL104\nL105\nL106\nL107\nL108\nL109\n";
+// Four lines on four rows.
+const FOUR: Written<'static> = Written {
+    name: "the first rows of a longer text",
+    text: "A line\nAnother line\nThird line\nFourth line",
+    rows: 4,
+    texts: &["\rA line\n\rAnother line\n\rThird line\n"],
+    ..SHORT
+};
 
-const WRITTEN: [Written<'static>; 9] = [
+// Later ones, from a mark on.
+const LATER: Written<'static> = Written {
+    name: "the last rows of a longer text",
+    text: "Another line\nThird line\nFourth line\nFifth line\n",
+    mark: 1,
+    texts: &["\rThird line\n\rFourth line\n\rFifth line\n"],
+    left: 1,
+    ..FOUR
+};
+
+// The four lines with numbers, from a mark on.
+const NUMBERED_FOUR: Written<'static> = Written {
+    name: "the last rows of a longer text with numbers",
+    numbers: LineNumbers::Enabled,
+    mark: 1,
+    texts: &[
+        "\r     \x1b[1m2.\x1b[0m Another line\n",
+        "\r     \x1b[1m3.\x1b[0m Third line\n",
+        "\r     \x1b[1m4.\x1b[0m Fourth line\n",
+    ],
+    left: 1,
+    ..FOUR
+};
+
+// 110 lines.
+const MANY: &str = concat!(
+    "L0\nL1\nL2\nL3\nL4\nL5\nL6\nL7\nL8\nL9\nL10\nL11\nL12\nL13\nL14\nL15\nL16\nL17\nL18\n",
+    "L19\nL20\nL21\nL22\nL23\nL24\nL25\nL26\nL27\nL28\nL29\nL30\nL31\nL32\nL33\nL34\nL35\n",
+    "L36\nL37\nL38\nL39\nL40\nL41\nL42\nL43\nL44\nL45\nL46\nL47\nL48\nL49\nL50\nL51\nL52\n",
+    "L53\nL54\nL55\nL56\nL57\nL58\nL59\nL60\nL61\nL62\nL63\nL64\nL65\nL66\nL67\nL68\nL69\n",
+    "L70\nL71\nL72\nL73\nL74\nL75\nL76\nL77\nL78\nL79\nL80\nL81\nL82\nL83\nL84\nL85\nL86\n",
+    "L87\nL88\nL89\nL90\nL91\nL92\nL93\nL94\nL95\nL96\nL97\nL98\nL99\nL100\nL101\nL102\n",
+    "L103\nL104\nL105\nL106\nL107\nL108\nL109\n",
+);
+
+const WRITTEN: [Written<'static>; 16] = [
     SHORT,
     Written {
         name: "a mark in a short text is clamped",
@@ -137,6 +177,40 @@ const WRITTEN: [Written<'static>; 9] = [
         ],
         left: 95,
         ..SHORT
+    },
+    FOUR,
+    LATER,
+    Written {
+        name: "a mark past the last page is clamped",
+        mark: 2,
+        ..LATER
+    },
+    Written {
+        name: "the first rows of a longer text with numbers",
+        mark: 0,
+        texts: &[
+            "\r     \x1b[1m1.\x1b[0m A line\n",
+            "\r     \x1b[1m2.\x1b[0m Another line\n",
+            "\r     \x1b[1m3.\x1b[0m Third line\n",
+        ],
+        left: 0,
+        ..NUMBERED_FOUR
+    },
+    NUMBERED_FOUR,
+    Written {
+        name: "a mark past the last page with numbers is clamped",
+        mark: 2,
+        ..NUMBERED_FOUR
+    },
+    Written {
+        name: "the whole first page of a longer text",
+        rows: 3,
+        is_whole: true,
+        texts: &[
+            "\x1b[1;1H\x1b[2J\rA line\n\rAnother line\n\x1b[4;1H\r\x1b[2K\x1b[2;40;37mminus",
+            "                                                                           \x1b[0m",
+        ],
+        ..FOUR
     },
     Written {
         name: "the first rows of a page",

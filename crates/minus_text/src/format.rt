@@ -13,6 +13,9 @@ use crate::search::Term;
 use minus_term::error::MinusError;
 use std::alloc::{AllocError, Global};
 
+// So many lines and rows are counted before a text at most: no text in memory has more.
+const MOST_BEFORE: usize = 0x7fff_ffff_ffff_ffff;
+
 /// A text that is to be formatted, and what takes its rows.
 pub struct FormatOpts<'a, B> {
     /// The rows are put at the end of it.
@@ -24,9 +27,9 @@ pub struct FormatOpts<'a, B> {
     pub attachment: Option<TextBlock<'a>>,
     /// Whether rows begin with the numbers of their lines.
     pub line_numbers: LineNumbers,
-    /// How many lines there are before the text, with the attachment. They are fewer than 2^63.
+    /// How many lines there are before the text, with the attachment. More than 2^63 - 1 count as so many.
     pub lines_count: usize,
-    /// How many rows these lines have. They are fewer than 2^63.
+    /// How many rows these lines have. More than 2^63 - 1 count as so many.
     pub formatted_lines_count: usize,
     /// The columns of a row.
     pub cols: usize,
@@ -76,8 +79,6 @@ pub fn format_text_block<B: AppendableBuffer>(
     alloc: Global,
     opts: FormatOpts<'_, B>,
 ) -> Result<FormatResult, MinusError>
-    requires lines { opts.lines_count < 2 ^ 63 }
-    requires rows { opts.formatted_lines_count < 2 ^ 63 }
     ensures rows { OnOk result (B.rows opts.exit.0.now ≡ B.rows opts.entry.buffer.now
         ++ block_rows (term_of opts.entry) (block_of opts.entry)) }
     ensures told { IfOk result (λ r.
@@ -108,8 +109,8 @@ pub fn format_text_block<B: AppendableBuffer>(
         attachment,
         text,
         layout,
-        lines_count,
-        formatted_lines_count,
+        lines_count.min(MOST_BEFORE),
+        formatted_lines_count.min(MOST_BEFORE),
         prev_unterminated,
     )?;
     let told = put_block(alloc, buffer, block, search_term, clean)?;

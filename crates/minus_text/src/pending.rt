@@ -25,10 +25,17 @@ impl Model for PendingPush {
 }
 
 impl PendingPush {
-    ghost use Rattle.std.specs.Prelude.{◌≡◌, ◌++◌, length};
+    ghost use Rattle.std.specs.Prelude.{◌≡◌, ◌+◌, ◌++◌, length};
     ghost use Rattle.minus_text.specs.Fragments.{rows_in};
     ghost use Rattle.minus_text.specs.Found.{AreFoundIn, Ascend, found_above};
     ghost use Rattle.minus_text.specs.FoundBy.{found_rows};
+
+    /// The number of rows once it is made: those that stay, and those formed. It takes no memory.
+    pub fn row_count(&self) -> usize
+        ensures { result ≡ self.now.push.kept_rows + length (rows_in self.now.push.tail) }
+    {
+        self.push.kept_rows() + self.push.formed_rows()
+    }
 
     // What was formed.
     pub(crate) fn push(&self) -> &FormedPush

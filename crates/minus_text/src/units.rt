@@ -27,6 +27,14 @@ pub struct Units<'t> {
     spaces: usize,
 }
 
+/// How many bytes are left. The caller knows that they are those of a text, and so that a number counts them.
+pub fn bytes_len(left: Units<'_>) -> usize
+    requires { length (bytes_left left) < 2 ^ 64 }
+    ensures { result ≡ length (bytes_left left.entry) }
+{
+    left.body.len() + left.spaces
+}
+
 impl<'t> Units<'t> {
     /// All units of a text taken as one piece: those of its body, and the spaces at its end.
     pub fn new(text: &'t str) -> Units<'t>
@@ -38,14 +46,6 @@ impl<'t> Units<'t> {
             body,
             spaces: text.len() - body.len(),
         }
-    }
-
-    /// How many bytes are left.
-    pub fn len(self) -> usize
-        requires { length (bytes_left self) < 2 ^ 64 }
-        ensures { result ≡ length (bytes_left self.entry) }
-    {
-        self.body.len() + self.spaces
     }
 
     /// Whether no unit is left.

@@ -25,7 +25,7 @@ pub(crate) struct NextPush<'s> {
 }
 
 /// The rows of a text, with what was found in them: those that a screen has, or those that a push would leave.
-/// `Screen::view`, `Screen::view_of` and `Screen::view_after` make it.
+/// `Screen::view`, and `view_of` and `view_after` of `screen::searching`, make it.
 #[derive(Clone, Copy)]
 pub struct RowsView<'s> {
     pub(crate) store: &'s Store,

@@ -4,18 +4,13 @@ ghost use Rattle.minus_view.specs.Keys.{press, look_up, cursor_keys, editing_key
 
 use crate::numbers::{number, past_number, past_semicolon};
 use bitflags::Flags;
-use minus_term::{Event, KeyCode, KeyEvent, KeyEventKind, KeyEventState, KeyModifiers};
+use minus_term::{Event, KeyCode, KeyEvent, KeyModifiers};
 
 /// A press of a key, with the modifiers of some bits.
 pub fn press(code: KeyCode, bits: u8) -> Event
     ensures { result ≡ press code bits }
 {
-    Event::Key(KeyEvent {
-        code,
-        modifiers: KeyModifiers::from_bits_retain(bits),
-        kind: KeyEventKind::Press,
-        state: KeyEventState::NONE,
-    })
+    Event::Key(KeyEvent::new(code, KeyModifiers::from_bits_retain(bits)))
 }
 
 // Whether the bytes are those of a row.

@@ -42,6 +42,34 @@ fn modifiers_and_keys_are_read(rt: HostRuntime) {
     }
 }
 
+// The keys that the default bindings name without modifiers or with one.
+const BOUND: [(&str, KeyCode, KeyModifiers); 17] = [
+    ("up", KeyCode::Up, KeyModifiers::NONE),
+    ("k", KeyCode::Char('k'), KeyModifiers::NONE),
+    ("j", KeyCode::Char('j'), KeyModifiers::NONE),
+    ("down", KeyCode::Down, KeyModifiers::NONE),
+    ("enter", KeyCode::Enter, KeyModifiers::NONE),
+    ("c-d", KeyCode::Char('d'), KeyModifiers::CONTROL),
+    ("g", KeyCode::Char('g'), KeyModifiers::NONE),
+    ("G", KeyCode::Char('G'), KeyModifiers::NONE),
+    ("pageup", KeyCode::PageUp, KeyModifiers::NONE),
+    ("pagedown", KeyCode::PageDown, KeyModifiers::NONE),
+    ("c-l", KeyCode::Char('l'), KeyModifiers::CONTROL),
+    ("q", KeyCode::Char('q'), KeyModifiers::NONE),
+    ("c-c", KeyCode::Char('c'), KeyModifiers::CONTROL),
+    ("/", KeyCode::Char('/'), KeyModifiers::NONE),
+    ("?", KeyCode::Char('?'), KeyModifiers::NONE),
+    ("n", KeyCode::Char('n'), KeyModifiers::NONE),
+    ("p", KeyCode::Char('p'), KeyModifiers::NONE),
+];
+
+#[test]
+fn keys_of_bindings_are_read(rt: HostRuntime) {
+    for (text, code, modifiers) in &BOUND {
+        assert_at(&rt, text, is_key(text, *code, *modifiers));
+    }
+}
+
 #[test]
 fn the_first_fault_from_the_left_is_told(rt: HostRuntime) {
     let cases: &[(&str, DescriptionError)] = &[

@@ -23,15 +23,18 @@ fn is_refused(text: &str, fault: DescriptionError) -> bool {
 fn buttons_and_wheel_are_read(rt: HostRuntime) {
     let cases: &[(&str, MouseEventKind)] = &[
         ("Left:Down", MouseEventKind::Down(MouseButton::Left)),
+        ("left:down", MouseEventKind::Down(MouseButton::Left)),
         ("left:up", MouseEventKind::Up(MouseButton::Left)),
         ("LEFT:drag", MouseEventKind::Drag(MouseButton::Left)),
         ("right:down", MouseEventKind::Down(MouseButton::Right)),
         ("Right:up", MouseEventKind::Up(MouseButton::Right)),
         ("right:DRAG", MouseEventKind::Drag(MouseButton::Right)),
         ("mid:down", MouseEventKind::Down(MouseButton::Middle)),
+        ("mid:up", MouseEventKind::Up(MouseButton::Middle)),
         ("Mid:drag", MouseEventKind::Drag(MouseButton::Middle)),
         ("move", MouseEventKind::Moved),
         ("scroll:UP", MouseEventKind::ScrollUp),
+        ("scroll:up", MouseEventKind::ScrollUp),
         ("Scroll:down", MouseEventKind::ScrollDown),
     ];
     for (text, kind) in cases {

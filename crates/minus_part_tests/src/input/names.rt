@@ -61,11 +61,16 @@ const ALL: &[KeyModifiers] = &[
     KeyModifiers::SHIFT,
 ];
 
-const NAMES: [&Named<'static>; 10] = [
+const NAMES: [&Named<'static>; 11] = [
     &Named {
         code: KeyCode::Char('q'),
         modifiers: &[],
         name: "q",
+    },
+    &Named {
+        code: KeyCode::Char('c'),
+        modifiers: &[KeyModifiers::CONTROL],
+        name: "Ctrl-c",
     },
     &Named {
         code: KeyCode::Char('x'),
@@ -150,10 +155,12 @@ fn a_table_has_a_line_for_each_description(rt: HostRuntime) {
         "  -- Press q to return to pager --\n",
     );
     assert_holds(&rt, is_table(rt.alloc(), entries, wanted));
+    assert_holds(&rt, is_table(rt.alloc(), &entries[..3], wanted));
 }
 
 #[test]
 fn a_table_without_descriptions_is_empty(rt: HostRuntime) {
     let key = pressed(KeyCode::Char('x'), KeyModifiers::NONE);
     assert_holds(&rt, is_table(rt.alloc(), &[(&key, " ")], ""));
+    assert_holds(&rt, is_table(rt.alloc(), &[], ""));
 }

@@ -139,9 +139,9 @@ fn callbacks_of_a_hook_are_called_in_order(rt: HostRuntime) {
 fn are_called_at_an_exit(alloc: Global, log: &Cell<u64>) -> bool {
     let mut exits = ExitCallbacks::new(alloc);
     let is_empty = exits.len() == 0;
-    let are_added = exits.add(Writes { digit: 1, log }).is_ok()
-        && exits.add(Writes { digit: 2, log }).is_ok()
-        && exits.add(Writes { digit: 3, log }).is_ok();
+    let are_added = exits.push(Writes { digit: 1, log }).is_ok()
+        && exits.push(Writes { digit: 2, log }).is_ok()
+        && exits.push(Writes { digit: 3, log }).is_ok();
     exits.run();
     is_empty && are_added && exits.len() == 3 && log.get() == 123
 }
@@ -179,7 +179,7 @@ fn are_boxes_called(alloc: Global) -> bool {
     let mut exits: ExitCallbacks<KeptExit> = ExitCallbacks::new(alloc);
     let asked = (Hook::PrePagerExit, 0, Ok(2));
     let are_added = is_given(&mut hooks, &asked, KeptHook::new(hook))
-        && exits.add(KeptExit::new(exit)).is_ok();
+        && exits.push(KeptExit::new(exit)).is_ok();
     hooks.run_hooks(Hook::PrePagerExit, &state);
     exits.run();
     hooks.run_hooks(Hook::PostPagerExit, &state);

@@ -3,7 +3,7 @@ use crate::asked::{press, set_term};
 use crate::facts::{assert_at, assert_holds};
 use crate::state::terms::{TEN_LINES, has_matches, has_page, state_of};
 use minus_state::{NeverShows, PagerState, SearchMode};
-use minus_term::{Event, KeyCode, KeyEvent, KeyEventKind, KeyEventState, KeyModifiers};
+use minus_term::{Event, KeyCode, KeyEvent};
 use std::alloc::Global;
 
 // Ten lines on three rows of text, under a term, with a search prompt that was opened for a direction.
@@ -31,12 +31,7 @@ fn feed(alloc: Global, state: &mut PagerState, event: &Event) -> bool {
 fn type_text(alloc: Global, state: &mut PagerState, text: &str) -> bool {
     let mut is_typed = true;
     for character in text.chars() {
-        let typed = Event::Key(KeyEvent {
-            code: KeyCode::Char(character),
-            modifiers: KeyModifiers::NONE,
-            kind: KeyEventKind::Press,
-            state: KeyEventState::NONE,
-        });
+        let typed = Event::Key(KeyEvent::from(KeyCode::Char(character)));
         is_typed &= feed(alloc, state, &typed);
     }
     is_typed

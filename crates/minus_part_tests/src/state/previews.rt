@@ -8,7 +8,7 @@ use minus_state::{
     Change, Fed, InputStatus, OpenPrompt, PagerState, SearchMode, SearchOpts, incremental_preview,
     search_opts,
 };
-use minus_term::{Event, KeyCode, KeyEvent, KeyEventKind, KeyEventState, KeyModifiers};
+use minus_term::{Event, KeyCode, KeyEvent, KeyModifiers};
 use minus_text::LineNumbers;
 use regex::Regex;
 use std::alloc::Global;
@@ -229,12 +229,7 @@ fn a_search_that_begins_sees_an_empty_query(rt: HostRuntime) {
 
 // The press of a key.
 fn pressed(code: KeyCode, modifiers: KeyModifiers) -> Event {
-    Event::Key(KeyEvent {
-        code,
-        modifiers,
-        kind: KeyEventKind::Press,
-        state: KeyEventState::NONE,
-    })
+    Event::Key(KeyEvent::new(code, modifiers))
 }
 
 // Whether a key that is pressed at a prompt is told so, and leaves the cursor there.

@@ -1,9 +1,10 @@
 //! Worked queries: what events do to one, and where its words start. Where memory runs out, each answer is `false`.
 use crate::asked::{key, mouse, press};
 use crate::facts::{assert_at, assert_holds};
-use minus_state::{Fed, InputStatus, QueryEditor, SearchMode};
+use minus_state::{Fed, InputStatus, PagerState, QueryEditor, SearchMode};
 use minus_term::{Event, KeyCode, KeyEvent, KeyEventKind, KeyEventState, KeyModifiers};
 use minus_text::Patterns;
+use regex::Regex;
 use std::alloc::Global;
 
 // The fixed patterns, and an empty query.
@@ -129,10 +130,70 @@ const KEYS: [Case<'static>; 39] = [
     ("é▲\u{1f600}b", 2, "x", Fed::Edited, "é▲x\u{1f600}b", 4),
 ];
 
+// A query of 33 characters.
+const LONG: &str = "this is@complex-text_search?query";
+
+// One key after a longer query.
+const LONG_KEYS: [Case<'static>; 6] = [
+    (LONG, 0, "home", Fed::Moved, LONG, 1),
+    (LONG, 33, "end", Fed::Moved, LONG, 34),
+    (LONG, 0, "esc", Fed::Cancelled, LONG, 34),
+    (LONG, 0, "enter", Fed::Confirmed, LONG, 34),
+    (
+        "text search matches",
+        0,
+        "enter",
+        Fed::Confirmed,
+        "text search matches",
+        20,
+    ),
+    ("Hello World", 0, "enter", Fed::Confirmed, "Hello World", 12),
+];
+
 #[test]
 fn keys_edit_a_query(rt: HostRuntime) {
     for case in &KEYS {
         assert_at(&rt, case.2, does(rt.alloc(), case));
+    }
+    for case in &LONG_KEYS {
+        assert_at(&rt, case.2, does(rt.alloc(), case));
+    }
+}
+
+// The press of a character's key, with SHIFT where it is a capital.
+fn typed(character: char) -> Event {
+    let modifiers = match character {
+        'A'..='Z' => KeyModifiers::SHIFT,
+        _ => KeyModifiers::NONE,
+    };
+    Event::Key(KeyEvent {
+        code: KeyCode::Char(character),
+        modifiers,
+        kind: KeyEventKind::Press,
+        state: KeyEventState::NONE,
+    })
+}
+
+// Whether each character of a text is told as an edit and leads the cursor on by one, and the query is the text at last.
+fn is_typed(alloc: Global, text: &str) -> bool {
+    let Some((patterns, mut editor)) = opened(alloc) else {
+        return false;
+    };
+    let mut cursor = 1_usize;
+    for character in text.chars() {
+        cursor = cursor.saturating_add(1);
+        match editor.feed(alloc, &patterns, &typed(character)) {
+            Ok(Fed::Edited) if editor.cursor() == cursor => {}
+            _ => return false,
+        }
+    }
+    editor.query() == text
+}
+
+#[test]
+fn characters_lead_the_cursor(rt: HostRuntime) {
+    for text in &["text search matches", LONG, "Hello World"] {
+        assert_at(&rt, text, is_typed(rt.alloc(), text));
     }
 }
 
@@ -221,6 +282,32 @@ fn words_of_a_query_lead_the_cursor(rt: HostRuntime) {
     }
 }
 
+// Where the left key leads from the end of the long query, and the right key back: no further than its two ends.
+const LEFT: [usize; 34] = [
+    33, 32, 31, 30, 29, 28, 27, 26, 25, 24, 23, 22, 21, 20, 19, 18, 17, 16, 15, 14, 13, 12, 11, 10,
+    9, 8, 7, 6, 5, 4, 3, 2, 1, 1,
+];
+
+const RIGHT: [usize; 34] = [
+    2, 3, 4, 5, 6, 7, 8, 9, 10, 11, 12, 13, 14, 15, 16, 17, 18, 19, 20, 21, 22, 23, 24, 25, 26, 27,
+    28, 29, 30, 31, 32, 33, 34, 34,
+];
+
+// Whether the keys lead so.
+fn walks(alloc: Global) -> bool {
+    let Some((patterns, mut editor)) = opened(alloc) else {
+        return false;
+    };
+    type_text(alloc, &patterns, &mut editor, LONG)
+        && stops_at(alloc, &patterns, &mut editor, "left", &LEFT)
+        && stops_at(alloc, &patterns, &mut editor, "right", &RIGHT)
+}
+
+#[test]
+fn arrows_lead_the_cursor_by_one(rt: HostRuntime) {
+    assert_holds(&rt, walks(rt.alloc()));
+}
+
 // A text of so many letters.
 fn letters(alloc: Global, count: usize) -> Option<String> {
     let mut text = String::new(alloc);
@@ -279,6 +366,32 @@ fn is_full(alloc: Global) -> bool {
 fn a_full_query_is_refused(rt: HostRuntime) {
     assert_holds(&rt, is_full(rt.alloc()));
     assert_holds(&rt, is_refused(rt.alloc(), 65_535, 8));
+}
+
+// Whether a line of as many letters as a query may have is found by such a query.
+fn finds_the_longest(alloc: Global) -> bool {
+    let (Some(letters), Ok(mut state)) = (letters(alloc, 65_533), PagerState::new(alloc, 20, 4))
+    else {
+        return false;
+    };
+    // (another letter first, so that a match begins at one place alone)
+    let Ok(line) = format!(in alloc; "y{letters}") else {
+        return false;
+    };
+    let Ok(pattern) = Regex::new(alloc, &line) else {
+        return false;
+    };
+    state.set_line_wrapping(alloc, false).is_ok()
+        && state.append_str(alloc, "a\n").is_ok()
+        && state.append_str(alloc, &line).is_ok()
+        && state.set_term(alloc, Some(pattern)).is_ok()
+        && state.screen.match_count() == 1
+        && state.screen.match_row(0) == Some(1)
+}
+
+#[test]
+fn the_longest_query_is_found(rt: HostRuntime) {
+    assert_holds(&rt, finds_the_longest(rt.alloc()));
 }
 
 #[test]

@@ -75,6 +75,97 @@ fn an_append_tells_the_first_row_that_it_changes(rt: HostRuntime) {
     assert_holds(&rt, goes_on(rt.alloc()));
 }
 
+// A text that is appended, and the whole text and its rows of 80 columns then.
+type Grown<'a> = (&'a str, &'a str, &'a [&'a str]);
+
+// Whether a state of ten rows has these rows after each append, and as they are formed anew at the end.
+fn grows(alloc: Global, texts: &[Grown<'_>]) -> bool {
+    let Ok(mut state) = PagerState::new(alloc, 80, 10) else {
+        return false;
+    };
+    for (text, whole, rows) in texts {
+        if state.append_str(alloc, text).is_err()
+            || state.screen.orig_text() != *whole
+            || !has_rows(&state, rows)
+        {
+            return false;
+        }
+    }
+    match texts.last() {
+        Some((_, _, rows)) => state.reformat_display(alloc).is_ok() && has_rows(&state, rows),
+        None => false,
+    }
+}
+
+const GROWN: [&[Grown<'static>]; 5] = [
+    // a line goes on
+    &[
+        ("This is a line.", "This is a line.", &["This is a line."]),
+        (
+            " This is a follow up line",
+            "This is a line. This is a follow up line",
+            &["This is a line. This is a follow up line"],
+        ),
+    ],
+    // lines come one behind the other
+    &[
+        (
+            "This is a line.\n",
+            "This is a line.\n",
+            &["This is a line."],
+        ),
+        (
+            " This is a follow up line\n",
+            "This is a line.\n This is a follow up line\n",
+            &["This is a line.", " This is a follow up line"],
+        ),
+    ],
+    // a line goes on until its newline
+    &[
+        ("this is a line", "this is a line", &["this is a line"]),
+        (
+            " and this is another",
+            "this is a line and this is another",
+            &["this is a line and this is another"],
+        ),
+        (
+            " and this is yet another\n",
+            "this is a line and this is another and this is yet another\n",
+            &["this is a line and this is another and this is yet another"],
+        ),
+        (
+            "and this should be on a newline",
+            "this is a line and this is another and this is yet another\nand this should be on a newline",
+            &[
+                "this is a line and this is another and this is yet another",
+                "and this should be on a newline",
+            ],
+        ),
+    ],
+    // empty lines have empty rows
+    &[(
+        "This\n\n\nhas many\n newlines\n",
+        "This\n\n\nhas many\n newlines\n",
+        &["This", "", "", "has many", " newlines"],
+    )],
+    &[(
+        "This is a line with a bunch of\nin between\nbut not at the end",
+        "This is a line with a bunch of\nin between\nbut not at the end",
+        &[
+            "This is a line with a bunch of",
+            "in between",
+            "but not at the end",
+        ],
+    )],
+];
+
+#[test]
+fn rows_grow_with_their_text(rt: HostRuntime) {
+    for (i, texts) in GROWN.iter().enumerate() {
+        assert!(rt; grows(rt.alloc(), texts), "at case {i}");
+    }
+}
+
 // Four texts that are appended, and the rows of 80 columns that they have together.
 struct Appended<'a> {
     texts: [&'a str; 4],
@@ -94,7 +185,7 @@ fn fills(alloc: Global, case: &Appended<'_>) -> bool {
         && has_rows(&state, case.rows)
 }
 
-const APPENDED: [Appended<'static>; 5] = [
+const APPENDED: [Appended<'static>; 2] = [
     // a carriage return before a newline ends a line with it
     Appended {
         texts: [
@@ -104,11 +195,6 @@ const APPENDED: [Appended<'static>; 5] = [
             "of weird line endings",
         ],
         rows: &["hello,", "this is a test", "of weird line endings"],
-    },
-    // empty lines have empty rows, and nothing more is appended
-    Appended {
-        texts: ["This\n\n\nhas many\n newlines\n", "", "", ""],
-        rows: &["This", "", "", "has many", " newlines"],
     },
     // spaces at the end of a text stay where the line goes on, and those at a line's start
     Appended {
@@ -121,32 +207,6 @@ const APPENDED: [Appended<'static>; 5] = [
         rows: &[
             "This line has trailing whitespace           This has leading whitespace",
             "   This has whitespace on both sides   Andthishasnone",
-        ],
-    },
-    // a line goes on until its newline
-    Appended {
-        texts: [
-            "this is a line",
-            " and this is another",
-            " and this is yet another\n",
-            "and this should be on a newline",
-        ],
-        rows: &[
-            "this is a line and this is another and this is yet another",
-            "and this should be on a newline",
-        ],
-    },
-    Appended {
-        texts: [
-            "This is a line with a bunch of\nin between\nbut not at the end",
-            "",
-            "",
-            "",
-        ],
-        rows: &[
-            "This is a line with a bunch of",
-            "in between",
-            "but not at the end",
         ],
     },
 ];

@@ -2,6 +2,7 @@
 use crate::facts::{assert_at, assert_holds};
 use crate::text::screens::{has_rows, push, push_all, stores};
 use crate::text::told::{Told, tells};
+use minus_text::screen::searching::view_after;
 use minus_text::{FormatResult, Layout, LineNumbers, LinesRowMap, PendingPush, RowsView, Screen};
 use std::alloc::Global;
 
@@ -177,7 +178,7 @@ fn is_made(alloc: Global, screen: &mut Screen, pending: PendingPush) -> bool {
 fn is_seen_twice(alloc: Global, screen: &mut Screen) -> bool {
     match screen.prepare_push(alloc, "ee\nfour", LineNumbers::Disabled, 5, None) {
         Ok(pending) => {
-            let is_seen = is_seen_before(screen, screen.view_after("ee\nfour", &pending));
+            let is_seen = is_seen_before(screen, view_after(screen, "ee\nfour", &pending));
             is_made(alloc, screen, pending) && is_seen
         }
         Err(_) => false,

@@ -4,6 +4,7 @@ use crate::text::screens::{push, sees, set, stores};
 use crate::text::searches::Search;
 use crate::text::told::{row_of, tells_matches};
 use minus_term::error::MinusError;
+use minus_text::screen::searching::view_after;
 use minus_text::{Findings, FormatResult, Layout, LineNumbers, RowsView, Screen, Term};
 use std::alloc::Global;
 
@@ -116,7 +117,7 @@ fn matches_change_when_the_unfinished_line_goes_on(rt: HostRuntime) {
 // Whether the last row is seen so beside a push that is prepared.
 fn shows_after(alloc: Global, screen: &Screen, term: Option<Term<'_>>, row: &str) -> bool {
     match screen.prepare_push(alloc, "st", LineNumbers::Disabled, 20, term) {
-        Ok(pending) => sees(alloc, screen.view_after("st", &pending), 2, row),
+        Ok(pending) => sees(alloc, view_after(screen, "st", &pending), 2, row),
         Err(_) => false,
     }
 }
@@ -167,7 +168,7 @@ fn are_found_after(alloc: Global, term: &str) -> bool {
         return false;
     }
     match screen.prepare_push(alloc, "test", LineNumbers::Disabled, 20, search.term()) {
-        Ok(pending) => matches_after(screen.view_after("test", &pending)),
+        Ok(pending) => matches_after(view_after(&screen, "test", &pending)),
         Err(_) => false,
     }
 }

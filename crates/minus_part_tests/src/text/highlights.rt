@@ -32,7 +32,14 @@ struct Shown<'a> {
     plain: &'a str,
 }
 
-const SHOWN: [Shown<'static>; 15] = [
+const SHOWN: [Shown<'static>; 16] = [
+    Shown {
+        name: "one match without escapes",
+        line: "this is a test",
+        query: " a ",
+        accurate: "this is\x1b[7m a \x1b[27mtest",
+        plain: "this is\x1b[7m a \x1b[27mtest",
+    },
     Shown {
         name: "an escape cuts a match",
         line: "this \x1b[34mis a te\x1b[0mst",
@@ -173,4 +180,5 @@ fn stays(alloc: Global, line: &str, query: &str) -> bool {
 #[test]
 fn a_line_without_a_match_stays(rt: HostRuntime) {
     assert_holds(&rt, stays(rt.alloc(), "a \x1b[1mline\x1b[0m", "test"));
+    assert_holds(&rt, stays(rt.alloc(), "no match", "test"));
 }

@@ -1,6 +1,7 @@
 //! Rows with numbers before them, and lines that are not wrapped.
 use crate::facts::assert_holds;
 use crate::text::screens::{push, sees, set, stores};
+use minus_text::screen::searching::view_after;
 use minus_text::{Layout, LineNumbers, RowsView, Screen};
 use std::alloc::Global;
 
@@ -169,7 +170,7 @@ fn sees_all(alloc: Global, rows: RowsView<'_>, all: &Screen) -> bool {
 // Whether a push is seen, before it is made, as another screen stores its rows.
 fn is_seen_before(alloc: Global, screen: &Screen, piece: &str, all: &Screen) -> bool {
     match screen.prepare_push(alloc, piece, LineNumbers::Enabled, 14, None) {
-        Ok(pending) => sees_all(alloc, screen.view_after(piece, &pending), all),
+        Ok(pending) => sees_all(alloc, view_after(screen, piece, &pending), all),
         Err(_) => false,
     }
 }

@@ -1,6 +1,7 @@
 //! An unfinished line that comes in pieces has the rows of the whole.
 use crate::facts::{assert_at, assert_holds};
 use crate::text::screens::push;
+use minus_text::screen::searching::view_after;
 use minus_text::{LineNumbers, PendingPush, RowsView, Screen};
 use std::alloc::Global;
 
@@ -120,7 +121,7 @@ fn shows_before(rows: RowsView<'_>, all: &Screen) -> bool {
 fn pushed_as(alloc: Global, screen: &mut Screen, piece: &str, cols: usize, all: &Screen) -> bool {
     match screen.prepare_push(alloc, piece, LineNumbers::Disabled, cols, None) {
         Ok(pending) => {
-            let is_seen = shows_before(screen.view_after(piece, &pending), all);
+            let is_seen = shows_before(view_after(screen, piece, &pending), all);
             let is_made = screen.place_push(alloc, piece, pending, None).is_ok();
             is_seen && is_made && same(screen, all)
         }

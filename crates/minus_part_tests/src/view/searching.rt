@@ -39,6 +39,40 @@ fn queries_come_back(rt: HostRuntime) {
     }
 }
 
+// So many letters stand before the number of a query.
+const LETTERS: &str = concat!(
+    "xxxxxxxxxxxxxxxxxxxxxxxxxxxxxxxxxxxxxxxxxxxxxxxxxx",
+    "xxxxxxxxxxxxxxxxxxxxxxxxxxxxxxxxxxxxxxxxxxxxxxxxxx"
+);
+
+// Whether a hundred queries of more than a hundred characters each are kept, and come back from the last to the first.
+fn keeps_a_hundred(alloc: Global) -> bool {
+    let mut history = History::new(alloc);
+    for number in 0..100 {
+        let Ok(query) = format!(in alloc; "{LETTERS}{number}") else {
+            return false;
+        };
+        if history.take(&query).is_err() {
+            return false;
+        }
+    }
+    history.begin();
+    let mut steps = 0_usize;
+    for _ in 0..101 {
+        match history.go_back("typed") {
+            Ok(true) => steps = steps.saturating_add(1),
+            Ok(false) => {}
+            Err(_) => return false,
+        }
+    }
+    steps == 100 && history.shown().strip_prefix(LETTERS) == Some("0")
+}
+
+#[test]
+fn a_hundred_queries_are_kept(rt: HostRuntime) {
+    assert_holds(&rt, keeps_a_hundred(rt.alloc()));
+}
+
 #[test]
 fn a_program_keeps_some_keys_at_a_prompt(rt: HostRuntime) {
     let cases: [(KeyCode, u8, bool, SearchKey); 10] = [

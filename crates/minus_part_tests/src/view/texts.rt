@@ -25,7 +25,7 @@ fn becomes(alloc: Global, bytes: &[u8], wanted: &str, by_bytes: &str) -> bool {
     whole.as_str() == wanted && cut.as_str() == by_bytes
 }
 
-const PLAIN: [(&[u8], &str); 20] = [
+const PLAIN: [(&[u8], &str); 23] = [
     (b"", ""),
     (b"one line\n\nand more\n", "one line\n\nand more\n"),
     (b"no end", "no end"),
@@ -55,6 +55,11 @@ const PLAIN: [(&[u8], &str); 20] = [
     (b"\x1b]0;no end\nx\x1b\ny", "\nx\ny"),
     (b"a\x1b[31", "a"),
     (b"\xf0\x9f\x98\x80\xef\xbb\xbf", "\u{1f600}\u{feff}"),
+    // four bytes for a character of three
+    (b"\xf0\x82\x82\xac", "\u{fffd}"),
+    // a tab strikes over nothing, and nothing over a tab
+    (b"a\x08\tb", "a       b"),
+    (b"\t\x08x", "        ^Hx"),
 ];
 
 #[test]
@@ -64,7 +69,7 @@ fn plain_texts_are_prepared(rt: HostRuntime) {
     }
 }
 
-const STYLED: [(&[u8], &str, &str); 12] = [
+const STYLED: [(&[u8], &str, &str); 16] = [
     (b"a\x08ab\n", "\x1b[1ma\x1b[0mb\n", "\x1b[1ma\x1b[0mb\n"),
     (b"_\x08ab\n", "\x1b[4ma\x1b[0mb\n", "\x1b[4ma\x1b[0mb\n"),
     (b"a\x08_b", "\x1b[4ma\x1b[0mb", "\x1b[4ma\x1b[0mb"),
@@ -105,6 +110,28 @@ const STYLED: [(&[u8], &str, &str); 12] = [
         "\x1b[31m\x1b[1mx\x1b[0m\x1b[31my\x1b[0m\n",
     ),
     (b"\x1b[31m", "", ""),
+    (
+        b"_\x08ab\x08b\n",
+        "\x1b[4ma\x1b[24;1mb\x1b[0m\n",
+        "\x1b[4ma\x1b[0m\x1b[1mb\x1b[0m\n",
+    ),
+    // underlined inside a colour, and inside bold
+    (
+        b"\x1b[31mx_\x08yz\n",
+        "\x1b[31mx\x1b[4my\x1b[24mz\x1b[0m\n",
+        "\x1b[31mx\x1b[0m\x1b[31m\x1b[4my\x1b[0m\x1b[31mz\x1b[0m\n",
+    ),
+    (
+        b"\x1b[1mx_\x08yz\n",
+        "\x1b[1mx\x1b[4my\x1b[24mz\x1b[0m\n",
+        "\x1b[1mx\x1b[0m\x1b[1m\x1b[4my\x1b[0m\x1b[1mz\x1b[0m\n",
+    ),
+    // two zeros reset
+    (
+        b"\x1b[31mx\x1b[00my\n",
+        "\x1b[31mx\x1b[0my\n",
+        "\x1b[31mx\x1b[0my\n",
+    ),
 ];
 
 #[test]
@@ -112,6 +139,37 @@ fn styles_are_kept_and_reset(rt: HostRuntime) {
     for case in &STYLED {
         assert_at(&rt, case.1, becomes(rt.alloc(), case.0, case.1, case.2));
     }
+}
+
+// A text so often.
+fn repeated(alloc: Global, text: &str, times: usize) -> Option<String> {
+    let mut all = String::new(alloc);
+    for _ in 0..times {
+        all.push_str(text).ok()?;
+    }
+    Some(all)
+}
+
+// Whether 204 bytes of colours hold for a line and for the next one.
+fn keeps_colours(alloc: Global) -> bool {
+    let Some(colours) = repeated(alloc, "\x1b[1;3m", 34) else {
+        return false;
+    };
+    let (Ok(text), Ok(wanted)) = (
+        format!(in alloc; "{colours}x\ny\n"),
+        format!(in alloc; "{colours}x\x1b[0m\n{colours}y\x1b[0m\n"),
+    ) else {
+        return false;
+    };
+    match prepared(alloc, text.as_bytes(), 4096) {
+        Some(shown) => shown.as_str() == wanted.as_str(),
+        None => false,
+    }
+}
+
+#[test]
+fn more_than_200_bytes_of_colours_hold(rt: HostRuntime) {
+    assert_holds(&rt, keeps_colours(rt.alloc()));
 }
 
 #[test]

@@ -5,6 +5,7 @@ ghost use Rattle.minus_state.specs.OpenSearches.{seen_search, search_after};
 use crate::search::keys::QueryEdit;
 use crate::search::open_prompt::OpenPrompt;
 use regex::Regex;
+use std::rc::Rc;
 
 /// A search prompt that is open in a pager.
 #[derive(Debug)]
@@ -14,7 +15,7 @@ pub struct OpenSearch {
     /// Whether the query was edited since the prompt was opened.
     pub edited: bool,
     /// The pattern of the query, where the page shows the match that it leads to.
-    pub preview: Option<Box<Regex>>,
+    pub preview: Option<Rc<Regex>>,
 }
 
 // By hand: a derived drop would stand anew in the proof of each function that lets one go.

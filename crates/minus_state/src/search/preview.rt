@@ -10,6 +10,7 @@ use crate::rendering::render_rows_for_display;
 use crate::showing::ShownRows;
 use crate::state::PagerState;
 use minus_term::page_len;
+use minus_text::screen::searching::view_of;
 use minus_text::{Rows, Term};
 use regex::Regex;
 use std::alloc::{AllocError, Global};
@@ -32,7 +33,7 @@ fn rows_found_at(
     let end = mark.saturating_add(page_len(state.rows));
     let findings = state.screen.search_rows(alloc, Some(term), mark, end)?;
     let shown = ShownRows {
-        view: state.screen.view_of(&findings),
+        view: view_of(&state.screen, &findings),
         left_mark: state.left_mark,
         ends: state.ends(),
     };

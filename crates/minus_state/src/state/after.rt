@@ -1,7 +1,13 @@
 //! What a state shows after a change.
-ghost use Rattle.std.specs.Prelude.{◌≡◌, ◌++◌, [], map, option_map, unwrap_or, string_bytes, OnOk};
+ghost use Rattle.std.specs.Prelude.{◌≡◌, ◌+◌, ◌-◌, ◌++◌, ◌^◌, ◌<◌, ◌≤◌, [], length, map, take, drop, option_map, unwrap_or, string_bytes, IfOk, OnOk};
+ghost use Rattle.std.specs.List.{flat_map};
+ghost use Rattle.minus_term.specs.FullRedraw.{row_ops};
+ghost use Rattle.minus_text.specs.Views.{viewed};
 ghost use Rattle.minus_state.specs.ShownRow.{before_rows};
 ghost use Rattle.minus_state.specs.Showing.{row_text};
+ghost use Rattle.minus_state.specs.NextTexts.{next_searched, Belongs};
+ghost use Rattle.minus_state.specs.AddsShown.{AddsShown};
+ghost use Rattle.minus_state.specs.Changes.{IsFormedFor, shown_by};
 
 use crate::change::{Change, MessageChange, Redraw};
 use crate::prompt::{PromptRow, format_prompt};
@@ -13,8 +19,9 @@ use std::alloc::{AllocError, Global};
 
 // Puts a shown row at the end, if there is one.
 fn push_shown<'a>(rows: &mut Vec<ShownRow<'a>>, row: Option<ShownRow<'a>>) -> Result<(), AllocError>
-    ensures { OnOk result (map row_text rows.new.items
+    ensures rows { OnOk result (map row_text rows.new.items
         ≡ map row_text rows.old.items ++ before_rows (option_map row_text row.entry) []) }
+    ensures few { OnOk result (length rows.new.items ≤ length rows.old.items + 1) }
 {
     match row {
         Some(row) => Ok(rows.push(row)?),
@@ -33,19 +40,13 @@ fn text_after<'a>(next: &'a Option<String>, before: &'a String) -> &'a str
 }
 
 impl PagerState {
-    ghost use Rattle.std.specs.Prelude.{◌≡◌, None, true, ◌+◌, ◌^◌, ◌<◌, length, map, take, drop, string_bytes, IfOk};
-    ghost use Rattle.std.specs.List.{flat_map};
+    ghost use Rattle.std.specs.Prelude.{◌≡◌, None, true, string_bytes, IfOk};
     ghost use Rattle.std.specs.Option.{option_map, unwrap_or};
-    ghost use Rattle.minus_term.specs.FullRedraw.{row_ops};
-    ghost use Rattle.minus_term.specs.Written.{written_all};
     ghost use Rattle.minus_state.specs.Control.{first_changed};
     ghost use Rattle.minus_state.specs.ShownPrompt.{prompt_row, row_or};
     ghost use Rattle.minus_state.specs.PromptRow.{seen_prompt};
     ghost use Rattle.minus_state.specs.States.{control_of, IsFormed};
-    ghost use Rattle.minus_state.specs.NextTexts.{next_searched, Belongs};
-    ghost use Rattle.minus_text.specs.Views.{viewed};
-    ghost use Rattle.minus_state.specs.Changes.{WhereLed, IsFormedFor, prompt_after, prompt_row_after, shown_prompt, displayed_prompt, shown_by};
-    ghost use Rattle.minus_state.specs.Showing.{row_text};
+    ghost use Rattle.minus_state.specs.Changes.{WhereLed, prompt_after, prompt_row_after, shown_prompt, displayed_prompt};
 
     // What the prompt row is formed of after a change.
     fn prompt_after<'a>(&'a self, change: &'a Change) -> PromptRow<'a>
@@ -121,115 +122,6 @@ impl PagerState {
         Ok(Some(row))
     }
 
-    /// How many rows of text the page has that a change leads to.
-    pub fn count_after(&self, change: &Change) -> usize
-        requires { Belongs self.now.screen.document change.now.text }
-        ensures count { result ≡ length (shown_by self.now change.now) }
-        ensures within { change.now.mark + result < 2 ^ 64 }
-    {
-        let rows = change.text.view(&self.screen).len();
-        let left = rows.saturating_sub(change.mark);
-        left.min(page_len(change.rows))
-    }
-
-    // What rows are shown of after a change, and how.
-    fn showing<'a>(&'a self, change: &'a Change) -> ShownRows<'a>
-        requires { Belongs self.now.screen.document change.now.text }
-        ensures view { viewed result.view ≡ next_searched self.now.screen change.now.text }
-        ensures left { result.left_mark ≡ change.now.left }
-        ensures ends { result.ends ≡ change.now.ends }
-    {
-        ShownRows {
-            view: change.text.view(&self.screen),
-            left_mark: change.left,
-            ends: change.ends,
-        }
-    }
-
-    /// The texts of the rows of text on the page that a change leads to, from one of them on and before another, both
-    /// counted from 0 at the top of the page. Fails for want of memory alone.
-    pub fn shown_between<'a>(
-        &'a self,
-        alloc: Global,
-        change: &'a Change,
-        first: usize,
-        end: usize,
-    ) -> Result<Vec<ShownRow<'a>>, AllocError>
-        requires { IsFormedFor self.now change.now }
-        ensures { IfOk result (λ v. map row_text v.items ≡ drop first (take end (shown_by self.now change.now))) }
-    {
-        let count = self.count_after(change).min(end);
-        let start = first.min(count);
-        let showing = self.showing(change);
-        let mut shown = Vec::with_capacity(alloc, count - start)?;
-        for i in start..count {
-            push_shown(&mut shown, showing.row(alloc, change.mark + i)?)?;
-        }
-        Ok(shown)
-    }
-
-    /// The texts of the rows of text on the page that a change leads to, from one of them on, counted from 0 at the
-    /// top of the page. Fails for want of memory alone.
-    pub fn shown_after<'a>(
-        &'a self,
-        alloc: Global,
-        change: &'a Change,
-        first: usize,
-    ) -> Result<Vec<ShownRow<'a>>, AllocError>
-        requires { IsFormedFor self.now change.now }
-        ensures { IfOk result (λ v. map row_text v.items ≡ drop first (shown_by self.now change.now)) }
-    {
-        self.shown_between(alloc, change, first, page_len(change.rows))
-    }
-
-    /// Adds the rows of text on the page that a change leads to, from one of them on and before another, both counted
-    /// from 0 at the top of the page, to the bytes of a drawing: each is put from the first column of its row on.
-    ///
-    /// # Errors
-    ///
-    /// [`AllocError`] where there is no memory for the bytes: a beginning of them was added.
-    pub fn write_between(
-        &self,
-        alloc: Global,
-        out: &mut Vec<u8>,
-        change: &Change,
-        first: usize,
-        end: usize,
-    ) -> Result<(), AllocError>
-        requires { IsFormedFor self.now change.now }
-        ensures { OnOk result (out.new.items ≡ out.old.items ++ written_all
-            (flat_map row_ops (drop first (take end (shown_by self.now change.now))))) }
-    {
-        let count = self.count_after(change).min(end);
-        let start = first.min(count);
-        let showing = self.showing(change);
-        let mut place = RowPlace::TOP;
-        for i in start..count {
-            showing.write_shown(alloc, out, change.mark + i, &mut place)?;
-        }
-        Ok(())
-    }
-
-    /// Adds the rows of text on the page that a change leads to, from one of them on, counted from 0 at the top of the
-    /// page, to the bytes of a drawing: each is put from the first column of its row on.
-    ///
-    /// # Errors
-    ///
-    /// [`AllocError`] where there is no memory for the bytes: a beginning of them was added.
-    pub fn write_after(
-        &self,
-        alloc: Global,
-        out: &mut Vec<u8>,
-        change: &Change,
-        first: usize,
-    ) -> Result<(), AllocError>
-        requires { IsFormedFor self.now change.now }
-        ensures { OnOk result (out.new.items ≡ out.old.items ++ written_all
-            (flat_map row_ops (drop first (shown_by self.now change.now)))) }
-    {
-        self.write_between(alloc, out, change, first, page_len(change.rows))
-    }
-
     /// The first row that an append may change, counted from 0: the first one of the line that no newline ends, or the
     /// first new one.
     pub fn first_changed(&self) -> usize
@@ -239,4 +131,117 @@ impl PagerState {
             .formatted_lines_count()
             .saturating_sub(self.screen.unterminated())
     }
+}
+
+/// How many rows of text the page has that a change leads to.
+pub fn count_after(state: &PagerState, change: &Change) -> usize
+    requires { Belongs state.now.screen.document change.now.text }
+    ensures count { result ≡ length (shown_by state.now change.now) }
+    ensures within { change.now.mark + result < 2 ^ 64 }
+{
+    let rows = change.text.view(&state.screen).len();
+    let left = rows.saturating_sub(change.mark);
+    left.min(page_len(change.rows))
+}
+
+// What rows are shown of after a change, and how.
+fn showing<'a>(state: &'a PagerState, change: &'a Change) -> ShownRows<'a>
+    requires { Belongs state.now.screen.document change.now.text }
+    ensures view { viewed result.view ≡ next_searched state.now.screen change.now.text }
+    ensures left { result.left_mark ≡ change.now.left }
+    ensures ends { result.ends ≡ change.now.ends }
+{
+    ShownRows {
+        view: change.text.view(&state.screen),
+        left_mark: change.left,
+        ends: change.ends,
+    }
+}
+
+/// The texts of the rows of text on the page that a change leads to, from one of them on and before another, both
+/// counted from 0 at the top of the page. Fails for want of memory alone.
+pub fn shown_between<'a>(
+    state: &'a PagerState,
+    alloc: Global,
+    change: &'a Change,
+    first: usize,
+    end: usize,
+) -> Result<Vec<ShownRow<'a>>, AllocError>
+    requires { Belongs state.now.screen.document change.now.text }
+    ensures rows { IfOk result (λ v. IsFormedFor state.now change.now →
+        map row_text v.items ≡ drop first (take end (shown_by state.now change.now))) }
+    ensures few { IfOk result (λ v. length v.items ≤ length (shown_by state.now change.now) - first) }
+{
+    let count = count_after(state, change).min(end);
+    let start = first.min(count);
+    let showing = showing(state, change);
+    let mut shown = Vec::with_capacity(alloc, count - start)?;
+    for i in start..count {
+        push_shown(&mut shown, showing.row(alloc, change.mark + i)?)?;
+    }
+    Ok(shown)
+}
+
+/// The texts of the rows of text on the page that a change leads to, from one of them on, counted from 0 at the
+/// top of the page. Fails for want of memory alone.
+pub fn shown_after<'a>(
+    state: &'a PagerState,
+    alloc: Global,
+    change: &'a Change,
+    first: usize,
+) -> Result<Vec<ShownRow<'a>>, AllocError>
+    requires { Belongs state.now.screen.document change.now.text }
+    ensures rows { IfOk result (λ v. IsFormedFor state.now change.now →
+        map row_text v.items ≡ drop first (shown_by state.now change.now)) }
+    ensures few { IfOk result (λ v. length v.items ≤ length (shown_by state.now change.now) - first) }
+{
+    shown_between(state, alloc, change, first, page_len(change.rows))
+}
+
+/// Adds the rows of text on the page that a change leads to, from one of them on and before another, both counted
+/// from 0 at the top of the page, to the bytes of a drawing: each is put from the first column of its row on.
+///
+/// # Errors
+///
+/// [`AllocError`] where there is no memory for the bytes: a beginning of them was added.
+pub fn write_between(
+    state: &PagerState,
+    alloc: Global,
+    out: &mut Vec<u8>,
+    change: &Change,
+    first: usize,
+    end: usize,
+) -> Result<(), AllocError>
+    requires { Belongs state.now.screen.document change.now.text }
+    ensures { OnOk result (AddsShown state.now change.now
+        (λ shown. flat_map row_ops (drop first (take end shown))) out.old.items out.new.items) }
+{
+    let count = count_after(state, change).min(end);
+    let start = first.min(count);
+    let showing = showing(state, change);
+    let mut place = RowPlace::TOP;
+    for i in start..count {
+        showing.write_shown(alloc, out, change.mark + i, &mut place)?;
+    }
+    Ok(())
+}
+
+/// Adds the rows of text on the page that a change leads to, from one of them on, counted from 0 at the top of the
+/// page, to the bytes of a drawing: each is put from the first column of its row on.
+///
+/// # Errors
+///
+/// [`AllocError`] where there is no memory for the bytes: a beginning of them was added.
+pub fn write_after(
+    state: &PagerState,
+    alloc: Global,
+    out: &mut Vec<u8>,
+    change: &Change,
+    first: usize,
+) -> Result<(), AllocError>
+    requires { Belongs state.now.screen.document change.now.text }
+    ensures { OnOk result (AddsShown state.now change.now
+        (λ shown. flat_map row_ops (drop first shown)) out.old.items out.new.items) }
+{
+    write_between(state, alloc, out, change, first, page_len(change.rows))
 }

@@ -101,6 +101,7 @@ impl PagerState {
     /// The state with its mark moved to a row, counted from 0, or to the greatest mark (`top`) where that is less.
     pub fn moved_to(&self, mark: usize) -> Change
         ensures next { Leads self.now result (moved_to (control_of self.now) mark) }
+        ensures text { result.text ≡ NextText.Same }
         ensures redraw { result.redraw ≡ Redraw.Moved }
     {
         self.at_mark(mark.min(self.top()), Redraw::Moved)

@@ -1,8 +1,9 @@
 //! What a key does to a state whose search prompt is open, formed beside it.
-ghost use Rattle.std.specs.Prelude.{◌≡◌, length, nat_lt, chars, IfOk, IfErr, IfSome};
+ghost use Rattle.std.specs.Prelude.{◌≡◌, ◌≢◌, length, nat_lt, chars, option_map, OnOk, IfOk, IfErr, IfSome, IfNone};
 ghost use Rattle.std.specs.Str.{encode_utf8_all};
 ghost use Rattle.regex.specs.Strings.{regex_pattern};
-ghost use Rattle.minus_state.specs.QueryPatterns.{IsPatternOf};
+ghost use Rattle.minus_state.specs.OpenSearches.{seen_search};
+ghost use Rattle.minus_state.specs.QueryPatterns.{IsPatternOf, HasNoPattern, MayTakeOver};
 
 use crate::change::{Change, Redraw};
 use crate::search::condition::ConditionCall;
@@ -15,6 +16,7 @@ use crate::state::PagerState;
 use minus_term::{Event, MinusError};
 use regex::{Error, Regex};
 use std::alloc::{AllocError, Global};
+use std::rc::Rc;
 
 // The message where a query that is taken has no pattern.
 const NO_PATTERN: &str = "Invalid regular expression. Press Enter";
@@ -22,16 +24,59 @@ const NO_PATTERN: &str = "Invalid regular expression. Press Enter";
 // As many lines as a text may have for the page to show where a query leads.
 const MOST_LINES: usize = 5_000;
 
+// Whether `regex` builds no pattern for another cause than want of memory.
+fn check_cause(cause: Error) -> Result<(), MinusError>
+    ensures other { OnOk result (cause ≢ Error.OutOfMemory) }
+    ensures memory { IfErr result (λ e. e ≡ MinusError.Memory) }
+{
+    match cause {
+        Error::OutOfMemory => Err(MinusError::Memory),
+        _ => Ok(()),
+    }
+}
+
 // The pattern of a query; `None` where `regex` builds none for another cause than memory.
 fn pattern_of(alloc: Global, query: &str) -> Result<Option<Regex>, MinusError>
     ensures found { IfOk result (λ found. IfSome found (λ r.
         IsPatternOf (encode_utf8_all (chars query.now)) (regex_pattern r))) }
+    ensures none { IfOk result (λ found. IfNone found (HasNoPattern (encode_utf8_all (chars query.now)))) }
     ensures memory { IfErr result (λ e. e ≡ MinusError.Memory) }
 {
     match Regex::new(alloc, query) {
         Ok(pattern) => Ok(Some(pattern)),
-        Err(Error::OutOfMemory) => Err(MinusError::Memory),
-        Err(_) => Ok(None),
+        Err(cause) => {
+            check_cause(cause)?;
+            Ok(None)
+        }
+    }
+}
+
+// The pattern that is built of a query, where it may stay with others who have it.
+fn built(alloc: Global, query: &str) -> Result<Option<Rc<Regex>>, MinusError>
+    ensures found { IfOk result (λ found. IfSome found (λ r.
+        IsPatternOf (encode_utf8_all (chars query.now)) (regex_pattern r.value))) }
+    ensures none { IfOk result (λ found. IfNone found (HasNoPattern (encode_utf8_all (chars query.now)))) }
+    ensures memory { IfErr result (λ e. e ≡ MinusError.Memory) }
+{
+    match pattern_of(alloc, query)? {
+        Some(pattern) => {
+            let pattern = Rc::new(alloc, pattern)?;
+            Ok(Some(pattern))
+        }
+        None => Ok(None),
+    }
+}
+
+// The pattern of a query that is taken: the one whose matches the page shows, or, where it shows none, one that is built
+// now; `None` where none is built.
+fn query_taken(alloc: Global, search: &OpenSearch) -> Result<Option<Rc<Regex>>, MinusError>
+    ensures found { IfOk result (λ f. MayTakeOver (seen_search search.now).preview (seen_search search.now).prompt
+        (option_map (λ r. regex_pattern r.value) f)) }
+    ensures memory { IfErr result (λ e. e ≡ MinusError.Memory) }
+{
+    match &search.preview {
+        Some(shown) => Ok(Some(shown.clone()?)),
+        None => built(alloc, search.prompt.query()),
     }
 }
 
@@ -113,7 +158,7 @@ impl PagerState {
 
     // The state with its search prompt closed, and the query taken if it was edited.
     fn entered(&self, alloc: Global, search: &OpenSearch) -> Result<Change, MinusError>
-        ensures next { IfOk result (λ c. (f : Option Re) × MayTake search.now.prompt f
+        ensures next { IfOk result (λ c. (f : Option Re) × MayTake (seen_search search.now) f
             × Leads self.now c (entered (control_of self.now) search.now.edited f)) }
         ensures redraw { IfOk result (λ c. c.redraw ≡ Redraw.Closing) }
         ensures memory { IfErr result (λ e. e ≡ MinusError.Memory) }
@@ -122,7 +167,7 @@ impl PagerState {
         if !search.edited {
             return Ok(self.closed());
         }
-        let Some(query) = pattern_of(alloc, search.prompt.query())? else {
+        let Some(query) = query_taken(alloc, search)? else {
             return Ok(self.closed_with(String::from_str(alloc, NO_PATTERN)?));
         };
         Ok(self.taken(alloc, query)?)

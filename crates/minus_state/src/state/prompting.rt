@@ -9,10 +9,12 @@ use minus_term::MinusError;
 use minus_text::Term;
 use regex::Regex;
 use std::alloc::{AllocError, Global};
+use std::rc::Rc;
 
 impl PagerState {
     ghost use Rattle.std.specs.Prelude.{◌≡◌, Some, option_map, string_bytes, IfOk, IfErr};
     ghost use Rattle.regex.specs.Strings.{regex_pattern};
+    ghost use Rattle.minus_state.specs.declared.change.NextText.TheVariants.{Same};
     ghost use Rattle.minus_state.specs.Changes.{Leads, as_is};
     ghost use Rattle.minus_state.specs.Confirming.{confirmed};
     ghost use Rattle.minus_state.specs.Control.{with_message};
@@ -36,6 +38,7 @@ impl PagerState {
     pub fn opened(&self, alloc: Global, mode: SearchMode) -> Result<Change, MinusError>
         ensures next { IfOk result (λ c. Leads self.now c (opened (control_of self.now) mode)) }
         ensures redraw { IfOk result (λ c. c.redraw ≡ opening_redraw mode) }
+        ensures text { IfOk result (λ c. c.text ≡ Same) }
         ensures memory { IfErr result (λ e. e ≡ MinusError.Memory) }
     {
         let Some(search_char) = mode.search_char() else {
@@ -81,12 +84,12 @@ impl PagerState {
     /// # Errors
     ///
     /// [`AllocError`] where there is no memory for what is found.
-    pub fn taken(&self, alloc: Global, query: Regex) -> Result<Change, AllocError>
+    pub fn taken(&self, alloc: Global, query: Rc<Regex>) -> Result<Change, AllocError>
         ensures next { IfOk result (λ c. Leads self.now c
-            (closed (confirmed (control_of self.now) (regex_pattern query)))) }
+            (closed (confirmed (control_of self.now) (regex_pattern query.value)))) }
         ensures redraw { IfOk result (λ c. c.redraw ≡ Redraw.Closing) }
     {
-        let mut change = self.confirmed(alloc, query)?;
+        let mut change = self.found_by(alloc, query)?;
         change.search = SearchChange::Closes;
         change.redraw = Redraw::Closing;
         Ok(change)
@@ -107,7 +110,7 @@ impl PagerState {
         &self,
         alloc: Global,
         found: Option<Regex>,
-    ) -> Result<Option<Box<Regex>>, AllocError>
+    ) -> Result<Option<Rc<Regex>>, AllocError>
         ensures { IfOk result (λ b. IsFormed self.now → option_map (λ r. regex_pattern r.value) b
             ≡ previewed (control_of self.now) (option_map regex_pattern found)) }
     {
@@ -121,7 +124,7 @@ impl PagerState {
         let first = self.screen.first_match(alloc, term, self.upper_mark)?;
         match first {
             Some(_) => {
-                let shown = Box::new(alloc, query)?;
+                let shown = Rc::new(alloc, query)?;
                 Ok(Some(shown))
             }
             None => Ok(None),

@@ -2,7 +2,7 @@
 use crate::state::PagerState;
 
 impl PagerState {
-    ghost use Rattle.std.specs.Prelude.{◌≡◌, slice_get};
+    ghost use Rattle.std.specs.Prelude.{◌≡◌, slice_get, string_bytes};
     ghost use Rattle.minus_text.specs.Document.{line_map};
     ghost use Rattle.minus_state.specs.States.{control_of};
 
@@ -11,6 +11,13 @@ impl PagerState {
         ensures { result ≡ (control_of self.now).settings.follow }
     {
         self.follow
+    }
+
+    /// What the prompt row says where there is no message.
+    pub fn prompt(&self) -> &str
+        ensures { result.now ≡ string_bytes self.now.prompt }
+    {
+        self.prompt.as_str()
     }
 
     /// Whether the prompt row is shown.

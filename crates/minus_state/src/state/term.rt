@@ -1,11 +1,35 @@
 //! The term that rows are searched for, and the rows that match it.
+ghost use Rattle.std.specs.Prelude.{◌≡◌, option_map};
+ghost use Rattle.regex.specs.Strings.{regex_pattern};
+ghost use Rattle.minus_state.specs.States.{pattern_kept};
+
 use crate::change::{Change, NextText, Redraw};
 use crate::search::matches::Matches;
 use crate::state::{PagerState, search_mark_anew, searching};
 use minus_term::MinusError;
+use minus_text::screen::searching::view_of;
 use minus_text::{Findings, Patterns, Term};
 use regex::Regex;
 use std::alloc::{AllocError, Global};
+use std::rc::Rc;
+
+// The term that a state keeps: one of its own, or one that a search prompt has, whose matches the page showed.
+#[derive(Debug, Drop)]
+pub(crate) enum KeptTerm {
+    Own(Regex),
+    Shown(Rc<Regex>),
+}
+
+// Its pattern, if one is kept.
+pub(crate) fn kept_pattern(term: &Option<KeptTerm>) -> Option<&Regex>
+    ensures { option_map (λ t. regex_pattern t.now) result ≡ option_map pattern_kept term.now }
+{
+    match term {
+        Some(KeptTerm::Own(pattern)) => Some(pattern),
+        Some(KeptTerm::Shown(pattern)) => Some(&**pattern),
+        None => None,
+    }
+}
 
 impl PagerState {
     ghost use Rattle.std.specs.Prelude.{◌≡◌, Some, option_map, OnOk, OnErr, IfOk, IfErr};
@@ -23,7 +47,7 @@ impl PagerState {
     pub fn term(&self) -> Option<&Regex>
         ensures { option_map (λ t. regex_pattern t.now) result ≡ (control_of self.now).term }
     {
-        self.term.as_ref()
+        kept_pattern(&self.term)
     }
 
     /// The rows that match the term; none without a term.
@@ -61,7 +85,7 @@ impl PagerState {
     pub(crate) fn searching(&self) -> Option<Term<'_>>
         ensures { pattern_of result ≡ term_of self.now }
     {
-        searching(&self.patterns, self.term.as_ref())
+        searching(&self.patterns, kept_pattern(&self.term))
     }
 
     /// What a pattern finds in the rows. Nothing changes.
@@ -101,9 +125,26 @@ impl PagerState {
             return Err((term, cause));
         }
         self.search_mark = search_mark_anew(self.screen.view(), self.upper_mark);
-        self.term = term;
+        self.term = term.map(KeptTerm::Own);
         self.tell_mode();
         Ok(())
+    }
+
+    // The state with a query's pattern as its term, as `confirmed` says.
+    pub(crate) fn found_by(&self, alloc: Global, query: Rc<Regex>) -> Result<Change, AllocError>
+        ensures next { IfOk result (λ c. Leads self.now c
+            (confirmed (control_of self.now) (regex_pattern query.value))) }
+        ensures redraw { IfOk result (λ c. c.redraw ≡ Redraw.Whole) }
+    {
+        let findings = self.search(alloc, &query)?;
+        let view = view_of(&self.screen, &findings);
+        let search_mark = search_mark_anew(view, self.upper_mark);
+        let mark = view.match_row(search_mark).unwrap_or(self.upper_mark);
+        let mut change = self.redrawn(Redraw::Whole);
+        change.mark = mark.min(self.top());
+        change.search_mark = search_mark;
+        change.text = NextText::Found(query, findings);
+        Ok(change)
     }
 
     /// The state with a query's pattern as its term, with its mark at the match that the search goes to, or at the
@@ -117,15 +158,7 @@ impl PagerState {
             (confirmed (control_of self.now) (regex_pattern query))) }
         ensures redraw { IfOk result (λ c. c.redraw ≡ Redraw.Whole) }
     {
-        let findings = self.search(alloc, &query)?;
-        let view = self.screen.view_of(&findings);
-        let search_mark = search_mark_anew(view, self.upper_mark);
-        let mark = view.match_row(search_mark).unwrap_or(self.upper_mark);
-        let pattern = Box::new(alloc, query)?;
-        let mut change = self.redrawn(Redraw::Whole);
-        change.mark = mark.min(self.top());
-        change.search_mark = search_mark;
-        change.text = NextText::Found(pattern, findings);
-        Ok(change)
+        let query = Rc::new(alloc, query)?;
+        self.found_by(alloc, query)
     }
 }

@@ -1,5 +1,6 @@
 //! Changes of a state's text and of its layout, each at once.
 use crate::change::AppendStyle;
+use crate::state::term::kept_pattern;
 use crate::state::{PagerState, search_mark_anew, searching};
 use minus_term::MinusError;
 use minus_text::Layout;
@@ -61,7 +62,7 @@ impl PagerState {
     {
         let first = self.first_changed();
         let columns = self.prefix();
-        let term = searching(&self.patterns, self.term.as_ref());
+        let term = searching(&self.patterns, kept_pattern(&self.term));
         let _ = self
             .screen
             .push_screen_buf(alloc, text, self.line_numbers, self.cols, term)?;
@@ -80,7 +81,7 @@ impl PagerState {
         ensures err { OnErr result (self.new ≡ self.old) }
         ensures memory { IfErr result (λ e. e ≡ MinusError.Memory) }
     {
-        let term = searching(&self.patterns, self.term.as_ref());
+        let term = searching(&self.patterns, kept_pattern(&self.term));
         let _ = self.screen.reform(alloc, layout, term)?;
         self.search_mark = search_mark_anew(self.screen.view(), self.upper_mark);
         self.tell_mode();
@@ -100,7 +101,7 @@ impl PagerState {
         ensures memory { IfErr result (λ e. e ≡ MinusError.Memory) }
     {
         let layout = self.layout();
-        let term = searching(&self.patterns, self.term.as_ref());
+        let term = searching(&self.patterns, kept_pattern(&self.term));
         let _ = self.screen.set_text(alloc, text, layout, term)?;
         self.search_mark = search_mark_anew(self.screen.view(), self.upper_mark);
         self.tell_mode();

@@ -5,8 +5,8 @@ use crate::keys::registers::{goes, is_bad, is_bound};
 use crate::sessions::{TEN_LINES, terminal};
 use minus::{
     ActionCallback, Calls, Classifier, CommandOf, Core, DescriptionError, Event, EventTable,
-    InputEvent, InputOf, KeptAction, OutputSink, Pager, PagerState, RunMode, init_core,
-    init_core_with, with_default_hasher,
+    HashedEventRegister, InputEvent, InputOf, KeptAction, OutputSink, Pager, PagerState, RunMode,
+    init_core, init_core_with,
 };
 use minus_part_tests::asked::{START, answers, press};
 use std::alloc::Global;
@@ -164,7 +164,7 @@ fn asks_a_random_register<R: RandomSource + AllocGlobal>(rt: &R) -> bool {
         return false;
     };
     let callback: ActionCallback = made;
-    let Ok(mut register) = with_default_hasher(rt) else {
+    let Ok(mut register) = HashedEventRegister::with_default_hasher(rt) else {
         return false;
     };
     let is_added = register

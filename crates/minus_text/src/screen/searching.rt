@@ -7,6 +7,7 @@ ghost use Rattle.minus_text.specs.Matches.{match_at};
 ghost use Rattle.regex.specs.Strings.{regex_pattern};
 ghost use Rattle.minus_text.specs.FoundRows.{pattern_of};
 ghost use Rattle.minus_text.specs.Searched.{searched_after, IsFoundBy, IsFoundBetween};
+ghost use Rattle.minus_text.specs.Views.{viewed};
 
 use crate::pending::PendingPush;
 use crate::screen::{Screen, TextBlock};
@@ -18,7 +19,7 @@ use std::alloc::{AllocError, Global};
 use std::marker::Model;
 
 /// What a term finds in the rows of a text, apart from what is kept as found: `Screen::search` makes it,
-/// `Screen::view_of` shows it, and `Screen::place_findings` keeps it.
+/// [`view_of`] shows it, and `Screen::place_findings` keeps it.
 #[derive(Debug, Drop)]
 pub struct Findings {
     rows: FoundRows,
@@ -47,6 +48,36 @@ impl Findings {
     }
 }
 
+/// The rows of a screen, with what a search found in them. The caller knows that it was found there.
+pub fn view_of<'s>(screen: &'s Screen, findings: &'s Findings) -> RowsView<'s>
+    requires { AreFoundIn 0 (rows_of screen.now.document) findings.now }
+    ensures { viewed result ≡ record screen.now { found = findings.now } }
+{
+    RowsView {
+        store: &screen.store,
+        found: &findings.rows,
+        next: None,
+    }
+}
+
+/// The rows of a screen that a push of this text would leave, for the numbers and columns that it was prepared for. The
+/// caller knows that it was prepared on this screen with this text. It takes no memory.
+pub fn view_after<'s>(
+    screen: &'s Screen,
+    text: TextBlock<'s>,
+    pending: &'s PendingPush,
+) -> RowsView<'s>
+    requires { IsPending screen.now.document text.now pending.now.push.numbers pending.now.push.cols
+        pending.now.push }
+    ensures { viewed result ≡ searched_after screen.now text.now pending.now }
+{
+    RowsView {
+        store: &screen.store,
+        found: &screen.found,
+        next: Some(NextPush { text, pending }),
+    }
+}
+
 impl Screen {
     ghost use Rattle.std.specs.Prelude.{◌++◌, length};
     ghost use Rattle.minus_text.specs.Found.{found_above};
@@ -60,32 +91,6 @@ impl Screen {
             store: &self.store,
             found: &self.found,
             next: None,
-        }
-    }
-
-    /// Its rows, with what a search found in them.
-    pub fn view_of<'s>(&'s self, findings: &'s Findings) -> RowsView<'s>
-        requires { AreFoundIn 0 (rows_of self.now.document) findings.now }
-        ensures { viewed result ≡ record self.now { found = findings.now } }
-    {
-        RowsView {
-            store: &self.store,
-            found: &findings.rows,
-            next: None,
-        }
-    }
-
-    /// The rows that a push of this text would leave, for the numbers and columns that it was prepared for. It takes
-    /// no memory.
-    pub fn view_after<'s>(&'s self, text: TextBlock<'s>, pending: &'s PendingPush) -> RowsView<'s>
-        requires { IsPending self.now.document text.now pending.now.push.numbers pending.now.push.cols
-            pending.now.push }
-        ensures { viewed result ≡ searched_after self.now text.now pending.now }
-    {
-        RowsView {
-            store: &self.store,
-            found: &self.found,
-            next: Some(NextPush { text, pending }),
         }
     }
 
@@ -112,7 +117,7 @@ impl Screen {
     }
 
     /// What a term finds in the rows from `start` on up to but without `end`, counted from 0, as far as there are rows:
-    /// `view_of` shows these rows with their matches. No other row is searched, and what is kept as found stays.
+    /// [`view_of`] shows these rows with their matches. No other row is searched, and what is kept as found stays.
     ///
     /// # Errors
     ///

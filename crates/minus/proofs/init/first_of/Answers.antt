@@ -18,7 +18,7 @@ pub draw_move-requires-clause-prompt : goal.draw_move-requires-clause-prompt
 draw_move-requires-clause-prompt g c =
     let state = c.in_ok-state.state in
     let same = unchanged state c.redrawn-change.result _ c.redrawn-change.ensures.is in
-    c.deref-2.ensures ∙ c.in_ok-prompt_row.ensures.prompt (control_of state) same
+    c.deref-2.ensures ∙ c.in_ok-prompt_row.ensures.prompt (control_of state) c.in_ok-state.ensures.formed same
 
 pub returns-clause-begins : goal.returns-clause-begins
 returns-clause-begins g c = record { can = c.in_ok-check_start.ensures.can; takes = subst (λ queue. CanTakeAll [] (map wanted_of queue)) c.deref.ensures.value c.in_ok-check_waiting.ensures.can }
@@ -29,12 +29,12 @@ invariant_of-result g c =
     let waiting = map wanted_of c.args.pager.now.queue.items in
     let same = unchanged state c.redrawn-change.result _ c.redrawn-change.ensures.is in
     let closed = ap (λ (k : Control). k.search) c.in_ok-state.ensures.control ∙ first_search c.args.cols c.args.rows waiting in
-    let kept = ap (λ p. p.state) c.reserve.ensures.rest ∙ c.new-parts.ensures.state in
+    let kept = ap (λ p. p.state) c.reserve.ensures.rest ∙ c.keeping-parts.ensures.state in
     record {
       formed = rw kept c.in_ok-state.ensures.formed;
       clamped = rw kept (first_is_clamped c.args.cols c.args.rows waiting (control_of state) c.in_ok-state.ensures.control);
-      prompted = rw kept (c.in_ok-prompt_row.ensures.prompt (control_of state) same);
-      drawn = rw kept (c.in_ok-prompt_row.ensures.bytes (control_of state) same tt);
+      prompted = rw kept (c.in_ok-prompt_row.ensures.prompt (control_of state) c.in_ok-state.ensures.formed same);
+      drawn = rw kept (c.in_ok-prompt_row.ensures.bytes c.in_ok-state.ensures.formed (control_of state) same tt);
       closed = rw kept (ap is_some closed);
       moved = rw kept c.in_ok-movement.ensures.drawn;
       marked = rw kept c.in_ok-movement.ensures.mark;

@@ -21,7 +21,7 @@ loop-command-preserved g c =
     let can = subst (CanTakeAll at.invariant.2.0) all at.invariant.2.1 in
     let left = map wanted_of c.in_ok-request.left.now in
     let w = wanted_by c.in_ok-request.request in
-    let leads = subst (λ (x : Change). IsChange old x (unmoved old w)) (sym c.into_change.ensures) c.in_ok-outcome.ensures.ok.leads in
+    let leads = subst (λ (x : Change). IsChange old x (unmoved old w)) (sym c.into_change.ensures) (c.in_ok-outcome.ensures.ok at.invariant.0).leads in
     let placed = c.in_ok-place.ensures in (
       placed.formed (unmoved old w) at.invariant.0 leads,
       ap (λ k. taken_all k left) (placed.control (unmoved old w) at.invariant.0 leads) ∙ c.in_ok-request.ensures.next ∙ ap (taken_all old) (sym all) ∙ at.invariant.1,

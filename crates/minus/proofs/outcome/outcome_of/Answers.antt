@@ -5,6 +5,7 @@ use Rattle.minus_state.specs.Changes.{IsChange}
 use Rattle.minus_state.specs.Control.{Control, cleared}
 use Rattle.minus_state.specs.States.{control_of}
 use Rattle.minus_state.specs.declared.change.Change.{Change}
+use Rattle.minus_state.proofs.ChangeLaws.{formed_for}
 use Rattle.minus.specs.Reads.{wanted_by}
 use Rattle.minus.specs.Shapes.{Effect}
 use Rattle.minus.specs.Table.{effect_of, moved, changed_by}
@@ -17,14 +18,15 @@ returns-then-not-clears_prefix-clause-ok g c =
     let old : Control = control_of s in
     let e : Effect = effect_of old (wanted_by c.args.request) in
     let formed = c.in_ok-outcome.ensures in
-    let mark = c.unwrap_or-outcome.ensures ∙ ap (λ to. unwrap_or to c.in_ok-outcome.outcome.change.mark) formed.moves_to ∙ ap (unwrap_or e.moves_to) formed.leads.mark_is in
-    let leads = moved_leads s c.in_ok-outcome.outcome.change c.unwrap_or-outcome.result _ c.clamp.new.self e.changed (moved e.changed e.moves_to) c.requires formed.leads (ap (λ (n : ℕ). let r : Control = record e.changed { mark = n } in r) mark) c.clamp.ensures in
+    let mark = c.unwrap_or-outcome.ensures ∙ ap (λ to. unwrap_or to c.in_ok-outcome.outcome.change.mark) (formed.moves_to c.requires) ∙ ap (unwrap_or e.moves_to) (formed.leads c.requires).mark_is in
+    let belongs = (formed_for s c.in_ok-outcome.outcome.change e.changed c.requires (formed.leads c.requires)).0 in
+    let leads = moved_leads s c.in_ok-outcome.outcome.change c.unwrap_or-outcome.result _ c.clamp.new.self e.changed (moved e.changed e.moves_to) c.requires (formed.leads c.requires) (ap (λ (n : ℕ). let r : Control = record e.changed { mark = n } in r) mark) (c.clamp.ensures.belongs belongs) in
     record {
       possible = formed.possible;
       leads = subst (λ (b : Bool). IsChange old c.clamp.new.self (cleared b (changed_by e))) (sym c.if-not-clears_prefix.true) leads;
-      redraw = ap (λ (x : Change). x.redraw) c.clamp.ensures ∙ formed.redraw;
-      moves_to = formed.moves_to;
-      copied = formed.copied;
+      redraw = ap (λ (x : Change). x.redraw) c.clamp.ensures.rest ∙ formed.redraw c.requires;
+      moves_to = formed.moves_to c.requires;
+      copied = formed.copied c.requires;
       exits = formed.exits;
     }
 
@@ -34,8 +36,9 @@ returns-clause-ok g c =
     let old : Control = control_of s in
     let e : Effect = effect_of old (wanted_by c.args.request) in
     let formed = c.in_ok-outcome.ensures in
-    let mark = c.unwrap_or-outcome.ensures ∙ ap (λ to. unwrap_or to c.in_ok-outcome.outcome.change.mark) formed.moves_to ∙ ap (unwrap_or e.moves_to) formed.leads.mark_is in
-    let leads = moved_leads s c.in_ok-outcome.outcome.change c.unwrap_or-outcome.result _ c.clamp.new.self e.changed (moved e.changed e.moves_to) c.requires formed.leads (ap (λ (n : ℕ). let r : Control = record e.changed { mark = n } in r) mark) c.clamp.ensures in
+    let mark = c.unwrap_or-outcome.ensures ∙ ap (λ to. unwrap_or to c.in_ok-outcome.outcome.change.mark) (formed.moves_to c.requires) ∙ ap (unwrap_or e.moves_to) (formed.leads c.requires).mark_is in
+    let belongs = (formed_for s c.in_ok-outcome.outcome.change e.changed c.requires (formed.leads c.requires)).0 in
+    let leads = moved_leads s c.in_ok-outcome.outcome.change c.unwrap_or-outcome.result _ c.clamp.new.self e.changed (moved e.changed e.moves_to) c.requires (formed.leads c.requires) (ap (λ (n : ℕ). let r : Control = record e.changed { mark = n } in r) mark) (c.clamp.ensures.belongs belongs) in
     let on : c.args.clears_prefix ≡ true = c.if-not-clears_prefix.false in
     record {
       possible = formed.possible;
@@ -54,8 +57,8 @@ returns-clause-ok g c =
         mode_is = leads.mode_is;
         search_is = leads.search_is;
       });
-      redraw = ap (λ (x : Change). x.redraw) c.clamp.ensures ∙ formed.redraw;
-      moves_to = formed.moves_to;
-      copied = formed.copied;
+      redraw = ap (λ (x : Change). x.redraw) c.clamp.ensures.rest ∙ formed.redraw c.requires;
+      moves_to = formed.moves_to c.requires;
+      copied = formed.copied c.requires;
       exits = formed.exits;
     }

@@ -3,6 +3,7 @@ use Rattle.std.proofs.Common.{ap, ◌∙◌}
 use Rattle.minus_state.specs.Control.{Control}
 use Rattle.minus_state.specs.States.{control_of}
 use Rattle.minus_state.specs.declared.change.Change.{Change}
+use Rattle.minus_state.proofs.ChangeLaws.{formed_for}
 use Rattle.minus.specs.Reads.{wanted_by}
 use Rattle.minus.specs.Shapes.{Effect}
 use Rattle.minus.specs.Table.{effect_of}
@@ -10,16 +11,17 @@ use Rattle.minus.proofs.OutcomeLaws.{clamped_change, unsearched}
 use Rattle.minus.proofs.outcome.unmoved.Goals as goal
 
 pub returns-clause-ok : goal.returns-clause-ok
-returns-clause-ok g c =
+returns-clause-ok g c f =
     let s = c.args.state.now in
     let old : Control = control_of s in
     let e : Effect = effect_of old (wanted_by c.args.request) in
     let formed = c.in_ok-outcome.ensures in
+    let leads = unsearched old c.in_ok-outcome.outcome.change e.changed _ (formed.leads f) in
     record {
-      leads = clamped_change s _ c.clamp.new.self _ c.requires (unsearched old c.in_ok-outcome.outcome.change e.changed _ formed.leads) c.clamp.ensures;
-      redraw = ap (λ (x : Change). x.redraw) c.clamp.ensures ∙ formed.redraw;
+      leads = clamped_change s _ c.clamp.new.self _ f leads (c.clamp.ensures.belongs (formed_for s _ _ f leads).0);
+      redraw = ap (λ (x : Change). x.redraw) c.clamp.ensures.rest ∙ formed.redraw f;
       row_only = formed.row_only;
-      moves_to = formed.moves_to;
+      moves_to = formed.moves_to f;
       exits = formed.exits;
-      copies = formed.copied;
+      copies = formed.copied f;
     }

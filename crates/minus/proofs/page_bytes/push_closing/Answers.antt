@@ -8,6 +8,6 @@ use Rattle.minus_state.specs.declared.change.Change.{Change}
 use Rattle.minus.proofs.page_bytes.push_closing.Goals as goal
 
 pub returns : goal.returns
-returns c =
+returns c next =
     let change : Change = c.args.change.now in
-    ops_added _ _ _ (GoTo 0 change.rows ∷ ClearRow ∷ HideCursor ∷ []) (full_ops change.rows (shown_by c.args.state.now change) c.args.prompt.now) c.in_ok-write_closing_start.ensures c.in_ok-push_page.ensures
+    ops_added _ _ _ (GoTo 0 change.rows ∷ ClearRow ∷ HideCursor ∷ []) (full_ops change.rows (shown_by c.args.state.now change) c.args.prompt.now) c.in_ok-write_closing_start.ensures (c.in_ok-push_page.ensures next)

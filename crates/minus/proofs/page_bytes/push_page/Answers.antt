@@ -9,11 +9,11 @@ use Rattle.minus_state.specs.declared.change.Change.{Change}
 use Rattle.minus.proofs.page_bytes.push_page.Goals as goal
 
 pub returns : goal.returns
-returns c =
+returns c next =
     let change : Change = c.args.change.now in
     let old = c.args.out.now.items in
     let a = c.write_page_start.new.out.items in
     let b = c.write_after.new.out.items in
     let start : List Op = GoTo 0 0 ∷ ClearAll ∷ [] in
     let rows : List Op = flat_map row_ops (shown_by c.args.state.now change) in
-    ops_added old b c.write_prompt_row.new.out.items (start ++ rows) (prompt_ops change.rows c.args.prompt.now) (ops_added old a b start rows c.in_ok-write_page_start.ensures c.in_ok-write_after.ensures) c.in_ok-write_prompt_row.ensures
+    ops_added old b c.write_prompt_row.new.out.items (start ++ rows) (prompt_ops change.rows c.args.prompt.now) (ops_added old a b start rows c.in_ok-write_page_start.ensures (c.in_ok-write_after.ensures next)) c.in_ok-write_prompt_row.ensures

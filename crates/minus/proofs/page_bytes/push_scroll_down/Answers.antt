@@ -10,11 +10,11 @@ use Rattle.minus_state.specs.declared.change.Change.{Change}
 use Rattle.minus.proofs.page_bytes.push_scroll_down.Goals as goal
 
 pub returns : goal.returns
-returns c =
+returns c next =
     let change : Change = c.args.change.now in
     let old = c.args.out.now.items in
     let a = c.write_down_start.new.out.items in
     let b = c.write_after.new.out.items in
     let start : List Op = ScrollUp c.args.k ∷ GoTo 0 (change.rows - c.args.k - 1) ∷ ClearRow ∷ [] in
     let rows : List Op = flat_map row_ops (drop (change.rows - 1 - c.args.k) (shown_by c.args.state.now change)) in
-    ops_added old b c.write_prompt_row.new.out.items (start ++ rows) (prompt_ops change.rows c.args.prompt.now) (ops_added old a b start rows c.in_ok-write_down_start.ensures (c.in_ok-write_after.ensures ∙ ap (λ (n : ℕ). a ++ written_all (flat_map row_ops (drop (n - c.args.k) (shown_by c.args.state.now change)))) c.page_len.ensures)) c.in_ok-write_prompt_row.ensures
+    ops_added old b c.write_prompt_row.new.out.items (start ++ rows) (prompt_ops change.rows c.args.prompt.now) (ops_added old a b start rows c.in_ok-write_down_start.ensures (c.in_ok-write_after.ensures next ∙ ap (λ (n : ℕ). a ++ written_all (flat_map row_ops (drop (n - c.args.k) (shown_by c.args.state.now change)))) c.page_len.ensures)) c.in_ok-write_prompt_row.ensures

@@ -17,7 +17,7 @@ use Rattle.minus.proofs.PageLaws.{open_as, closed_as}
 use Rattle.minus.proofs.prompt_drawing.push_edit.Goals as goal
 
 pub returns-in_default : goal.returns-in_default
-returns-in_default c new h alone =
+returns-in_default c formed new h alone =
     let out : List ℕ = c.args.out.now.items in
     let none : new.search ≡ None = sym h.search_is ∙ closed_as view_seen c.open_after.result _ c.in_default.is c.open_after.ensures in
     no_op out ∙ ap (λ (s : Option OpenSearch). out ++ written_all (edit_under new s)) (sym none)
@@ -28,10 +28,10 @@ returns c =
     let mid : List ℕ = c.push_previewed.new.out.items in
     let old : Control = control_of c.args.state.now in
     let o : OpenSearch = view_seen c.in-Some.view in
-    on_ok_weaker c.push_cursor.result (λ e new h alone. (
+    on_ok_weaker c.push_cursor.result (λ e formed new h alone. (
     let is : new.search ≡ Some o = sym h.search_is ∙ open_as view_seen c.open_after.result _ _ c.in-Some.is c.open_after.ensures in
     let texts : List (List ℕ) = shown (confirmed_by new o.preview) in
-    let first = c.in_ok-push_previewed.ensures new h (alone o is ∙ ap (λ (s : Option OpenSearch). let x : Control = record old { search = s } in x) (sym is)) in
+    let first = c.in_ok-push_previewed.ensures formed new h (alone o is ∙ ap (λ (s : Option OpenSearch). let x : Control = record old { search = s } in x) (sym is)) in
     let row : List Op = full_ops new.rows texts c.as_str.result.now in
     let second = e new h ∙ ap (λ (s : Option OpenSearch). mid ++ written_all (cursor_under new.rows s)) is in
     ops_added out mid _ row (cursor_ops new.rows o.prompt.editor.cursor) first second

@@ -8,5 +8,4 @@ use Rattle.minus.proofs.prompt_drawing.push_preview.Goals as goal
 pub returns : goal.returns
 returns c =
     let out : List ℕ = c.args.out.now.items in
-    let texts = ap (map string_bytes) c.deref.ensures.value ∙ c.in_ok-found.ensures c.requires in
-    on_ok_weaker c.write_page.result (λ e. e ∙ ap (λ (ts : List (List ℕ)). out ++ written_all (full_ops c.args.rows ts c.args.typed.now)) texts) c.write_page.ensures
+    on_ok_weaker c.write_page.result (λ e f. e ∙ ap (λ (ts : List (List ℕ)). out ++ written_all (full_ops c.args.rows ts c.args.typed.now)) (ap (map string_bytes) c.deref.ensures.value ∙ c.in_ok-found.ensures f)) c.write_page.ensures

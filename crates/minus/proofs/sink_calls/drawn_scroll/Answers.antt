@@ -11,10 +11,10 @@ use Rattle.minus.specs.Table.{drawing_by}
 use Rattle.minus.proofs.sink_calls.drawn_scroll.Goals as goal
 
 pub returns-clause-bytes : goal.returns-clause-bytes
-returns-clause-bytes c =
+returns-clause-bytes c f =
     let old : Control = control_of c.args.state.now in
     let is = c.moved_to-change.ensures in
-    let drawing = c.of-drawing.ensures ∙ ap (λ r. drawing_by r old c.moved_to-change.result.mark) is.redraw ∙ ap (λ m. drawing_by Moved old m) (is.next c.requires).mark_is in
+    let drawing = c.of-drawing.ensures f ∙ ap (λ r. drawing_by r old c.moved_to-change.result.mark) is.redraw ∙ ap (λ m. drawing_by Moved old m) (is.next f).mark_is in
     let new : Control = moved_to old c.args.mark in
     let can = subst (λ (d : Drawing). IsDrawable d old new) (sym drawing) (moved_drawable old new new.mark) in
-    c.in_ok-bytes.ensures.bytes _ (is.next c.requires) can ∙ ap (λ d. written_all (ops_of d (moved_to old c.args.mark))) drawing
+    c.in_ok-bytes.ensures.bytes f _ (is.next f) can ∙ ap (λ d. written_all (ops_of d (moved_to old c.args.mark))) drawing

@@ -7,4 +7,4 @@ use Rattle.minus_state.specs.Changes.{shown_by}
 use Rattle.minus.proofs.sink_calls.written_page.Goals as goal
 
 pub returns : goal.returns
-returns c = c.in_ok-write_after.ensures ∙ ap (λ bs. bs ++ written_all (flat_map row_ops (shown_by c.args.state.now c.args.change.now))) c.new-bytes.ensures.items
+returns c next = c.in_ok-write_after.ensures next ∙ ap (λ bs. bs ++ written_all (flat_map row_ops (shown_by c.args.state.now c.args.change.now))) c.new-bytes.ensures.items

@@ -6,8 +6,8 @@ use Rattle.minus.proofs.step_drawing.push_step.Goals as goal
 
 pub returns-then-draws_prompt : goal.returns-then-draws_prompt
 returns-then-draws_prompt c new h can same =
-    drawn_with_prompt c.args.drawing (control_of c.args.state.now) new c.args.out.now.items _ (sym c.draws_prompt.ensures ∙ c.if-draws_prompt.true) (c.in_ok-push_drawing.ensures new h can same)
+    drawn_with_prompt c.args.drawing (control_of c.args.state.now) new c.args.out.now.items _ (sym c.draws_prompt.ensures ∙ c.if-draws_prompt.true) (c.in_ok-push_drawing.ensures c.requires.formed new h can same)
 
 pub returns : goal.returns
 returns c new h can same =
-    drawn_before_prompt c.args.drawing (control_of c.args.state.now) new c.args.out.now.items _ _ c.args.change.now.rows c.args.prompt.now c.args.before.now (sym c.draws_prompt.ensures ∙ c.if-draws_prompt.false) h.rows_are same c.requires.before (c.in_ok-push_drawing.ensures new h can same) c.in_ok-push_changed_prompt.ensures
+    drawn_before_prompt c.args.drawing (control_of c.args.state.now) new c.args.out.now.items _ _ c.args.change.now.rows c.args.prompt.now c.args.before.now (sym c.draws_prompt.ensures ∙ c.if-draws_prompt.false) h.rows_are same c.requires.before (c.in_ok-push_drawing.ensures c.requires.formed new h can same) c.in_ok-push_changed_prompt.ensures

@@ -14,15 +14,15 @@ loop-command-preserved g c =
     let done = c.do_next.ensures in
     let before = control_of c.loop-command.parts.state in
     let rest = waiting_in c.pop_front.new.self in (
-      done.formed,
+      λ f. done.formed (so.0 f),
       done.kept ∙ so.1,
       done.classifier ∙ so.2,
       done.condition ∙ so.3,
-      ap (λ (k : Control). left_by_all k rest) c.in_ok-do_next.ensures.control ∙ sym (ap (left_by_all before) c.in-Some.ensures.first) ∙ so.4,
+      λ f. ap (λ (k : Control). left_by_all k rest) (c.in_ok-do_next.ensures.control (so.0 f)) ∙ sym (ap (left_by_all before) c.in-Some.ensures.first) ∙ so.4 f,
     )
 
 pub returns-clause-control : goal.returns-clause-control
-returns-clause-control g c = sym (ap (left_by_all (control_of c.loop-command.parts.state)) c.in_default.ensures.none.0) ∙ c.loop-command.invariant.4
+returns-clause-control g c f = sym (ap (left_by_all (control_of c.loop-command.parts.state)) c.in_default.ensures.none.0) ∙ c.loop-command.invariant.4 f
 
 pub returns-in_err-do_next-clause-refused : goal.returns-in_err-do_next-clause-refused
 returns-in_err-do_next-clause-refused g c =

@@ -8,9 +8,9 @@ use Rattle.minus_callers.proofs.by_hand.do_waiting.Given as goal
 
 abbrev pub invariant-loop-command : goal.invariant-loop-command
 invariant-loop-command g l =
-    IsFormed l.parts.state
+    (IsFormed l.fn.parts.state → IsFormed l.parts.state)
     × (kept_of l.parts ≡ kept_of l.fn.parts) × (l.parts.classifier ≡ l.fn.parts.classifier) × (l.parts.condition ≡ l.fn.parts.condition)
-    × (left_by_all (control_of l.parts.state) (waiting_in l.queue) ≡ left_by_all (control_of l.fn.parts.state) (waiting_in l.fn.queue))
+    × (IsFormed l.fn.parts.state → left_by_all (control_of l.parts.state) (waiting_in l.queue) ≡ left_by_all (control_of l.fn.parts.state) (waiting_in l.fn.queue))
 
 abbrev pub decreases-loop-command : goal.decreases-loop-command
 decreases-loop-command g l = length (waiting_in l.queue)

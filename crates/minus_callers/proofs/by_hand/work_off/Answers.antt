@@ -21,7 +21,7 @@ returns-clause-done g c none =
     let waiting = c.do_waiting.ensures in
     all_done (io_of command) says old command handling c.do_waiting.new.parts queue handled refl
     (subst (λ (l : List (CommandOf _ _ _ _ _)). HandlesAs (io_of command) says old l command handling queue handled) none c.in_ok-handled.ensures.handled)
-    c.in_ok-do_waiting.ensures.control waiting.kept waiting.classifier waiting.condition
+    (λ f. c.in_ok-do_waiting.ensures.control (c.handle_event.ensures.formed f)) waiting.kept waiting.classifier waiting.condition
 
 pub returns-in_err-handled-clause-refused : goal.returns-in_err-handled-clause-refused
 returns-in_err-handled-clause-refused g c =

@@ -7,11 +7,12 @@ use Rattle.minus.specs.Reads.{wanted_of}
 use Rattle.minus.specs.Seen.{Seen}
 use Rattle.minus.specs.Starts.{kept_taken}
 use Rattle.minus.specs.Table.{Wanted, appends_data, hands_over}
+use Rattle.minus.proofs.PagerLaws.{asked_behind}
 use Rattle.minus_callers.proofs.fetcher.page_beginning.Goals as goal
 
 pub returns-clause-hook : goal.returns-clause-hook
 returns-clause-hook g c =
     let added : List (Wanted _ _) = hands_over (a_callback EofReached 0) ∷ [] in
-    let pushed = c.in_ok-push_str.ensures.ok ∙ ap (λ (items : _). map wanted_of items ++ appends_data c.args.beginning.now ∷ []) c.new-pager.ensures in
+    let pushed = asked_behind _ _ _ c.in_ok-push_str.ensures.ok ∙ ap (λ (items : _). map wanted_of items ++ appends_data c.args.beginning.now ∷ []) c.new-pager.ensures in
     let waits = ap (map wanted_of) c.in_ok-add_hook.ensures.ok ∙ map-append wanted_of _ _ ∙ ap (λ l. l ++ added) pushed in
     ap (λ (s : Seen _ _). s.kept.ids) c.in_ok-session.ensures.started.started.begins ∙ ap (λ l. (kept_taken kept_at_first l).ids) waits

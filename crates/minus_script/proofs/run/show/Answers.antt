@@ -3,12 +3,14 @@ use Rattle.std.proofs.Common.{◌≡◌, map, Some, refl, ap}
 use Rattle.std.specs.Io.KnownBytes.{Appends}
 use Rattle.std.proofs.lemmas.Result.{IfOk-weaker, IfErr-weaker}
 use Rattle.minus_term.specs.Refusals.{refusal_of}
+use Rattle.minus_term.specs.declared.error.MinusError.TheVariants.{Memory}
+use Rattle.minus_script.specs.declared.fault.ScriptFault.TheVariants.{Refused}
 use Rattle.minus.specs.Core.{seen_of}
 use Rattle.minus.specs.Reads.{told_of, wanted_of}
 use Rattle.minus.specs.Steps.{cleanup_after}
 use Rattle.minus_script.specs.Runs.{exit_code, printed_after, IsShown}
-use Rattle.minus_script.specs.ShowFaults.{IsShowFault, IsMemory}
-use Rattle.minus_script.proofs.RunLaws.{started, start_refused, page_shown, bytes_shown, run_refused, memory_fault}
+use Rattle.minus_script.specs.ShowFaults.{IsShowFault, IsCleanupFault}
+use Rattle.minus_script.proofs.RunLaws.{started, start_refused, page_shown, bytes_shown, run_refused, memory_fault, cleanup_fault}
 use Rattle.minus_script.proofs.run.show.Goals as goal
 
 pub returns-in-Err-clause-fault : goal.returns-in-Err-clause-fault
@@ -35,8 +37,8 @@ returns-in-Bytes-clause-shown c =
 
 pub returns-in-Bytes-clause-fault : goal.returns-in-Bytes-clause-fault
 returns-in-Bytes-clause-fault c =
-    IfErr-weaker c.all_written.result IsMemory (IsShowFault c.args.cols c.args.rows (map told_of c.args.inputs.items)) (memory_fault c.args.cols c.args.rows (map told_of c.args.inputs.items)) c.all_written.ensures.memory
+    IfErr-weaker c.all_written.result IsCleanupFault (IsShowFault c.args.cols c.args.rows (map told_of c.args.inputs.items)) (λ fault h. cleanup_fault c.args.cols c.args.rows (map told_of c.args.inputs.items) fault c.in-Ok.ensures.started.started.can.size h) c.all_written.ensures.cleanup
 
 pub returns-in-Page-clause-fault : goal.returns-in-Page-clause-fault
 returns-in-Page-clause-fault c =
-    IfErr-weaker c.print_page.result IsMemory (IsShowFault c.args.cols c.args.rows (map told_of c.args.inputs.items)) (memory_fault c.args.cols c.args.rows (map told_of c.args.inputs.items)) c.print_page.ensures.memory
+    IfErr-weaker c.print_page.result (λ e. e ≡ Refused Memory) (IsShowFault c.args.cols c.args.rows (map told_of c.args.inputs.items)) (memory_fault c.args.cols c.args.rows (map told_of c.args.inputs.items)) c.print_page.ensures.memory

@@ -23,13 +23,13 @@ pub range-before-requires-clause-end_boundary : goal.range-before-requires-claus
 range-before-requires-clause-end_boundary c =
     let rest = bytes_left c.from_visible-from.result in
     let split = sym c.new.ensures.bytes ∙ c.from_visible-from.ensures.bytes ∙ ap (λ us. text_of (before_visible c.args.start us) ++ rest) c.new.ensures.units in
-    (cut_behind c.args.row.now rest (before_visible c.args.start (row_units c.args.row.now)) c.len.result c.utf8.row split c.len.ensures).boundary
+    (cut_behind c.args.row.now rest (before_visible c.args.start (row_units c.args.row.now)) c.bytes_len.result c.utf8.row split c.bytes_len.ensures).boundary
 
 pub range-marked-requires-clause-start_boundary : goal.range-marked-requires-clause-start_boundary
 range-marked-requires-clause-start_boundary c = λ some.
     let rest = bytes_left c.from_visible-from.result in
     let split = sym c.new.ensures.bytes ∙ c.from_visible-from.ensures.bytes ∙ ap (λ us. text_of (before_visible c.args.start us) ++ rest) c.new.ensures.units in
-    (cut_behind c.args.row.now rest (before_visible c.args.start (row_units c.args.row.now)) c.len.result c.utf8.row split c.len.ensures).boundary
+    (cut_behind c.args.row.now rest (before_visible c.args.start (row_units c.args.row.now)) c.bytes_len.result c.utf8.row split c.bytes_len.ensures).boundary
 
 pub range-marked-requires-clause-end_boundary : goal.range-marked-requires-clause-end_boundary
 range-marked-requires-clause-end_boundary c =
@@ -39,7 +39,7 @@ range-marked-requires-clause-end_boundary c =
     let inner = before_visible (c.args.end - c.args.start) (units_left c.from_visible-from.result) in
     let split = sym c.new.ensures.bytes ∙ c.from_visible-from.ensures.bytes ∙ ap (λ us. text_of (before_visible c.args.start us) ++ rest) c.new.ensures.units in
     let both = split ∙ ap (λ bs. text_of before ++ bs) c.from_visible.ensures.bytes ∙ sym (append_assoc (text_of before) (text_of inner) to) ∙ ap (λ bs. bs ++ to) (sym (text_of-append before inner)) in
-    (cut_behind c.args.row.now to (before ++ inner) c.len-2.result c.utf8.row both c.len-2.ensures).boundary
+    (cut_behind c.args.row.now to (before ++ inner) c.bytes_len-2.result c.utf8.row both c.bytes_len-2.ensures).boundary
 
 pub range_from-behind-requires : goal.range_from-behind-requires
 range_from-behind-requires c = λ some.
@@ -49,7 +49,7 @@ range_from-behind-requires c = λ some.
     let inner = before_visible (c.args.end - c.args.start) (units_left c.from_visible-from.result) in
     let split = sym c.new.ensures.bytes ∙ c.from_visible-from.ensures.bytes ∙ ap (λ us. text_of (before_visible c.args.start us) ++ rest) c.new.ensures.units in
     let both = split ∙ ap (λ bs. text_of before ++ bs) c.from_visible.ensures.bytes ∙ sym (append_assoc (text_of before) (text_of inner) to) ∙ ap (λ bs. bs ++ to) (sym (text_of-append before inner)) in
-    (cut_behind c.args.row.now to (before ++ inner) c.len-2.result c.utf8.row both c.len-2.ensures).boundary
+    (cut_behind c.args.row.now to (before ++ inner) c.bytes_len-2.result c.utf8.row both c.bytes_len-2.ensures).boundary
 
 pub returns : goal.returns
 returns c =
@@ -63,4 +63,4 @@ returns c =
     IfOk-weaker c.format.result _ _ (λ text e.
     let all = parts_joined (string_bytes text) c.range-before.result.now c.range-marked.result.now c.range_from-behind.result.now _ _ _ e c.range-before.ensures.value c.range-marked.ensures.value c.range_from-behind.ensures.value in
     marked_formed c.args.start c.args.end _ _ row from to (string_bytes text) c.utf8.row c.if-start-end.false (λ z. not_empty (ap length behind ∙ z)) split inner
-    (ap (λ (n : ℕ). length row - n) c.len.ensures) (ap (λ (n : ℕ). length row - n) c.len-2.ensures) all) c.format.ensures.ok
+    (ap (λ (n : ℕ). length row - n) c.bytes_len.ensures) (ap (λ (n : ℕ). length row - n) c.bytes_len-2.ensures) all) c.format.ensures.ok

@@ -14,7 +14,7 @@ returns-in-Some c =
     let said = c.in-Some.ensures in
     let split = sym c.new.ensures.bytes ∙ c.from_visible.ensures.bytes ∙ ap (λ us. text_of (before_visible n us) ++ bytes_left c.from_visible.result) c.new.ensures.units ∙ ap (λ bs. text_of (before_visible n (row_units row)) ++ bs) said.bytes in
     let units = ap (behind_visible n) (sym c.new.ensures.units) ∙ sym c.from_visible.ensures.units ∙ said.units in
-    place_after_some n row text rest (chars text) (units_left c.in-Some.rest) c.len.result split units said.text c.len.ensures
+    place_after_some n row text rest (chars text) (units_left c.in-Some.rest) c.bytes_len.result split units said.text c.bytes_len.ensures
 
 pub returns-in-None : goal.returns-in-None
 returns-in-None c = place_after_none c.args.number c.args.row.now c.utf8.row (ap (behind_visible c.args.number) (sym c.new.ensures.units) ∙ sym c.from_visible.ensures.units ∙ c.in-None.ensures.units)

@@ -11,4 +11,4 @@ returns c =
     let rest = bytes_left c.from_visible.result in
     let row = c.args.row.now in
     let split = sym c.new.ensures.bytes ∙ c.from_visible.ensures.bytes ∙ ap (λ us. text_of (before_visible c.args.number us) ++ rest) c.new.ensures.units in
-    (cut_behind row rest (before_visible c.args.number (row_units row)) c.len.result c.utf8.row split c.len.ensures).place
+    (cut_behind row rest (before_visible c.args.number (row_units row)) c.bytes_len.result c.utf8.row split c.bytes_len.ensures).place

@@ -1,6 +1,6 @@
 -- The flush comes after the bytes.
 use Rattle.std.proofs.Common.{rules}
-use Rattle.minus_term.proofs.SinkLaws.{Rises-call, Appends-kept, AppendsFront-all, at_err}
+use Rattle.minus_term.proofs.SinkLaws.{Rises-call, RisesBy-trans, Appends-kept, AppendsFront-all, at_err}
 use Rattle.minus_term.proofs.sink.draw_bytes.Goals as goal
 
 pub returns-clause-ok : goal.returns-clause-ok
@@ -22,3 +22,6 @@ returns-in_err-write_bytes-clause-err g c = at_err _ c.in_err-write_bytes.ensure
 
 pub returns-in_err-write_bytes-clause-rises : goal.returns-in_err-write_bytes-clause-rises
 returns-in_err-write_bytes-clause-rises g c = at_err _ c.in_err-write_bytes.ensures.rises
+
+pub returns-clause-settled : goal.returns-clause-settled
+returns-clause-settled g c = RisesBy-trans _ _ _ 0 1 c.in_ok-write_bytes.ensures.unsettled c.in_ok-settle.ensures.settled

@@ -1,7 +1,7 @@
 -- Each part comes after those before it.
 use Rattle.std.proofs.Common.{sym, ◌∙◌}
 use Rattle.std.proofs.lemmas.Bool.{false≢true}
-use Rattle.minus_term.proofs.SinkLaws.{Stays-trans, Stays-rises, AppendsFront-all}
+use Rattle.minus_term.proofs.SinkLaws.{Stays-trans, Stays-rises, RisesBy-trans, AppendsFront-all}
 use Rattle.minus_term.proofs.TerminalLaws.{show_cursor_is, mouse_off_is, main_screen_is, first_added, part_added, first_broken, part_broken, part_is_front, first_is_front, last_is_front}
 use Rattle.minus_term.proofs.term.cleanup.Goals as goal
 
@@ -94,3 +94,8 @@ returns-in-Err-send-2-clause-rises g c =
 pub returns-clause-stays : goal.returns-clause-stays
 returns-clause-stays g c =
     Stays-trans _ _ _ c.in_default.ensures.stays (Stays-trans _ _ _ c.in_default-send.ensures.stays c.in_default-send-2.ensures.stays)
+
+pub returns-clause-settled : goal.returns-clause-settled
+returns-clause-settled g c =
+    let all = RisesBy-trans _ _ _ 1 2 c.in_default.ensures.settled (RisesBy-trans _ _ _ 1 1 c.in_default-send.ensures.settled c.in_default-send-2.ensures.settled) in
+    rw c.if-not-cleanup_screen.false all

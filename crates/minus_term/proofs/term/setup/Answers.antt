@@ -1,5 +1,5 @@
 -- Each part comes after those before it.
-use Rattle.minus_term.proofs.SinkLaws.{Stays-trans, Stays-rises}
+use Rattle.minus_term.proofs.SinkLaws.{Stays-trans, Stays-rises, RisesBy-trans}
 use Rattle.minus_term.proofs.TerminalLaws.{alternate_screen_is, mouse_on_is, hide_cursor_is, first_added, part_added, first_broken, part_broken, not_invalid, on_terminal}
 use Rattle.minus_term.proofs.term.setup.Goals as goal
 
@@ -57,3 +57,7 @@ returns-in-Err-send-2-clause-untouched g c = λ e. absurd (not_invalid _ tt e)
 
 pub returns-clause-untouched : goal.returns-clause-untouched
 returns-clause-untouched g c = λ e. absurd (not_invalid _ tt e)
+
+pub returns-clause-settled : goal.returns-clause-settled
+returns-clause-settled g c =
+    RisesBy-trans _ _ _ 1 2 c.in_default.ensures.settled (RisesBy-trans _ _ _ 1 1 c.in_default-send.ensures.settled c.in_default-send-2.ensures.settled)

@@ -4,11 +4,11 @@ use Rattle.minus.specs.Room.{HasRoomFor}
 use Rattle.minus.proofs.KeepLaws.{on_ok, one_less}
 use Rattle.minus.proofs.parts.PartsOf.keep.Goals as goal
 
-pub returns-in_err-add-in-ExitCallback-clause-enough : goal.returns-in_err-add-in-ExitCallback-clause-enough
-returns-in_err-add-in-ExitCallback-clause-enough g c = λ is more room. c.in_err-add-in-ExitCallback.ensures.enough more room.exits
+pub returns-in_err-push-in-ExitCallback-clause-enough : goal.returns-in_err-push-in-ExitCallback-clause-enough
+returns-in_err-push-in-ExitCallback-clause-enough g c = λ is more room. c.in_err-push-in-ExitCallback.ensures.enough more room.exits
 
-pub returns-in_ok-add-in-ExitCallback-clause-room : goal.returns-in_ok-add-in-ExitCallback-clause-room
-returns-in_ok-add-in-ExitCallback-clause-room g c = λ more room. record { hooks = (one_less c.args.self.now more room).hooks; exits = c.in_ok-add-in-ExitCallback.ensures.room more room.exits }
+pub returns-in_ok-push-in-ExitCallback-clause-room : goal.returns-in_ok-push-in-ExitCallback-clause-room
+returns-in_ok-push-in-ExitCallback-clause-room g c = λ more room. record { hooks = (one_less c.args.self.now more room).hooks; exits = c.in_ok-push-in-ExitCallback.ensures.room more room.exits }
 
 pub returns-in-Callback-clause-room : goal.returns-in-Callback-clause-room
 returns-in-Callback-clause-room g c = on_ok c.add_callback.result (λ h more room. record { hooks = h more room.hooks; exits = (one_less c.args.self.now more room).exits }) c.add_callback.ensures.room

@@ -2,6 +2,7 @@
 use Rattle.std.proofs.Common.{◌≡◌, ℕ, ◌+◌, List, ◌∷◌, length, map, sym, ap, subst, ◌∙◌, arith}
 use Rattle.std.specs.Vec.Iter.{into_iter_items}
 use Rattle.minus_state.specs.declared.hooks.HookId.{HookId}
+use Rattle.minus.specs.Callbacks.{callbacks_of, with_commands}
 use Rattle.minus.specs.Reads.{kept_of, wanted_of}
 use Rattle.minus.specs.Room.{HasRoomFor}
 use Rattle.minus.specs.Starts.{kept_taken, classifier_taken, condition_taken, CanTakeAll}
@@ -29,4 +30,5 @@ loop-command-preserved g c =
           let gone = c.in-Some.ensures.steps.1 in
           let short = ap length steps in
           omega arith,
+      ap (λ k. with_commands k left) kept.callbacks ∙ ap (λ l. with_commands (callbacks_of at.self) l) (sym steps) ∙ at.invariant.7,
     )

@@ -1,6 +1,7 @@
 -- What the commands that are left lead to is what all do, and there is room for them.
 use Rattle.std.proofs.Common.{◌≡◌, length, map}
 use Rattle.std.specs.Vec.Iter.{into_iter_items, into_iter_len}
+use Rattle.minus.specs.Callbacks.{callbacks_of, with_commands}
 use Rattle.minus.specs.Reads.{kept_of, wanted_of}
 use Rattle.minus.specs.Room.{HasRoomFor}
 use Rattle.minus.specs.Starts.{kept_taken, classifier_taken, condition_taken, CanTakeAll}
@@ -17,3 +18,4 @@ invariant-loop-command g l =
     × HasRoomFor l.self (length (into_iter_items l.command-iterator))
     × (l.self.state ≡ l.initial.self.state)
     × (into_iter_len l.command-iterator ≡ length (into_iter_items l.command-iterator))
+    × (with_commands (callbacks_of l.self) (into_iter_items l.command-iterator) ≡ with_commands (callbacks_of l.initial.self) (into_iter_items l.initial.command-iterator))

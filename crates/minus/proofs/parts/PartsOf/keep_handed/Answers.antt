@@ -9,5 +9,5 @@ use Rattle.minus.proofs.parts.PartsOf.keep_handed.Goals as goal
 pub unwrap-requires : goal.unwrap-requires
 unwrap-requires g c =
     let ids = (kept_of c.args.self.now).ids in
-    let is = ap handed (sym c.of_command.ensures ∙ ap wanted_by c.in-HandOver.is) in
+    let is = ap handed (sym c.of_command.ensures.wanted ∙ ap wanted_by c.in-HandOver.is) in
     is_handed c.keep.result ids (handing_of c.in-HandOver.handed) (subst (IsFreeFor ids) is c.requires.free) c.keep.ensures.refused (λ no. c.keep.ensures.enough no 0 c.requires.room)

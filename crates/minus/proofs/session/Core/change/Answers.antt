@@ -1,7 +1,12 @@
 -- The change was not drawn, or its drawing is whole or broken off.
-use Rattle.std.proofs.Common.{◌≤◌, string_bytes, sym, ap, subst, ◌∙◌}
+use Rattle.std.proofs.Common.{Bool, Option, is_some, ◌≤◌, string_bytes, sym, ap, subst, ◌∙◌}
 use Rattle.std.specs.Option.{option_map}
 use Rattle.minus_state.proofs.RefusalLaws.{passed_on}
+use Rattle.minus_term.specs.declared.hooks.Hook.{Hook}
+use Rattle.minus_state.specs.Control.{Control}
+use Rattle.minus_state.specs.States.{control_of}
+use Rattle.minus.specs.Callbacks.{Callbacks, callbacks_of, CallsHook}
+use Rattle.minus.specs.Table.{end_hook, is_at_end}
 use Rattle.minus.specs.Core.{seen_of}
 use Rattle.minus.specs.Outcomes.{IsTakenBy}
 use Rattle.minus.specs.Reads.{Told}
@@ -45,3 +50,13 @@ returns-in_err-write_drawing-clause-refused g c =
       untouched = λ quiet. absurd (quiet (rw broken.cause tt));
     }
     ))
+
+pub returns-clause-called : goal.returns-clause-called
+returns-clause-called g c next leads =
+    let applied = c.in_ok-copied.ensures in
+    let written = c.in_ok-write_drawing.ensures in
+    let left = callbacks_of c.call_hook.new.self.parts in
+    let control = ap (λ s. (seen_of s).control) written.rest ∙ ap (λ (x : Seen _ _). x.control) (applied.done next leads) in
+    let due = c.end_hook-hook.ensures c.write_drawing.new.self.formed ∙ ap (λ (b : Bool). end_hook b (is_at_end (control_of c.write_drawing.new.self.parts.state))) c.is_some-is_move.ensures ∙ ap (λ (k : Control). end_hook (is_some c.args.outcome.moves_to) (is_at_end k)) control in
+    let kept = c.write_drawing.ensures.callbacks ∙ c.apply.ensures.callbacks in
+    subst (λ (h : Option Hook). CallsHook h (callbacks_of c.args.self.now.parts) left) due (subst (λ (k : Callbacks _ _). CallsHook c.end_hook-hook.result k left) kept c.call_hook.ensures.called)

@@ -1,11 +1,15 @@
 -- What is handed over is kept; an exit leaves the control, but for the typed prefix; and all else is applied.
-use Rattle.std.proofs.Common.{◌≡◌, Bool, None, sym, subst, arith}
+use Rattle.std.proofs.Common.{◌≡◌, ℕ, Bool, Option, None, is_some, sym, ap, subst, arith, ◌∙◌}
 use Rattle.std.proofs.lemmas.Result.{IfOk-weaker, IfErr-weaker}
 use Rattle.minus.specs.Core.{seen_of}
 use Rattle.minus.specs.Outcomes.{IsOutcome}
 use Rattle.minus.specs.Reads.{wanted_by}
-use Rattle.minus.specs.Table.{handed, control_after}
-use Rattle.minus.proofs.RequestLaws.{none_handed}
+use Rattle.minus_term.specs.declared.hooks.Hook.{Hook}
+use Rattle.minus_state.specs.Control.{Control}
+use Rattle.minus.specs.Callbacks.{Callbacks, callbacks_of, CallsHook}
+use Rattle.minus.specs.Table.{handed, control_after, changed_by, effect_of, hook_after, end_hook, is_at_end}
+use Rattle.minus.proofs.CalledLaws.{called_on, uncalled_at, end_cleared}
+use Rattle.minus.proofs.RequestLaws.{none_handed, none_kept}
 use Rattle.minus.proofs.StepLaws.{exits_with, worked_by}
 use Rattle.minus.proofs.session.Core.execute.Goals as goal
 
@@ -66,3 +70,18 @@ change-requires-clause-leads g c =
     let old = seen_of c.args.self.now in
     let w = wanted_by c.args.request in
     (control_after c.args.clears_prefix old.control w, c.in_ok-outcome.ensures.ok.leads, omega arith)
+
+pub returns-clause-called : goal.returns-clause-called
+returns-clause-called g c =
+    let old = seen_of c.args.self.now in
+    let w = wanted_by c.args.request in
+    let outcome = c.in_ok-outcome.ensures.ok in
+    let held = callbacks_of c.args.self.now.parts in
+    let left = callbacks_of c.change.new.self.parts in
+    let next : Control = control_after c.args.clears_prefix old.control w in
+    let due = ap (λ (m : Option ℕ). end_hook (is_some m) (is_at_end next)) outcome.moves_to ∙ ap (λ (b : Bool). end_hook (is_some (effect_of old.control w).moves_to) b) (end_cleared c.args.clears_prefix (changed_by (effect_of old.control w))) in
+    called_on c.change.result c.args.request c.args.self.now c.change.new.self c.change.ensures.called c.change.ensures.goes_on (λ calls.
+    subst (λ (k : Callbacks _ _). CallsHook (hook_after old.control w) k left) (sym (none_kept c.args.request held c.in_default.not-HandOver)) (subst (λ (h : Option Hook). CallsHook h held left) due (calls next outcome.leads)))
+
+pub returns-clause-uncalled : goal.returns-clause-uncalled
+returns-clause-uncalled g c = uncalled_at c.change.result c.args.self.now c.change.new.self c.change.ensures.uncalled

@@ -1,5 +1,6 @@
 -- The page of the change that changes nothing.
-use Rattle.std.proofs.Common.{option_map, Some, Box, Global, sym, ap, ◌∙◌}
+use Rattle.std.proofs.Common.{option_map, Some, Global, sym, ap, ◌∙◌}
+use Rattle.std.specs.declared.rc.Rc.{Rc}
 use Rattle.regex.specs.declared.string.regex.Regex.{Regex}
 use Rattle.std.proofs.lemmas.Result.{IfOk-weaker}
 use Rattle.minus_term.specs.PlayedScreen.{ShownPage}
@@ -32,7 +33,7 @@ returns-in-Some-clause-rows g c =
     let state : PagerState = c.args.self.now.parts.state in
     let control : Control = control_of state in
     let rows = shown_is state c.redrawn-change.result control c.args.self.now.formed (unchanged state c.redrawn-change.result _ c.redrawn-change.ensures.is) in
-    let all = rows ∙ ap (λ p. shown (confirmed_by control (option_map (λ (b : Box Regex Global). regex_pattern b.value) p))) (sym c.in-None-preview.is) in
+    let all = rows ∙ ap (λ p. shown (confirmed_by control (option_map (λ (b : Rc Regex Global). regex_pattern b.value) p))) (sym c.in-None-preview.is) in
     let typed = page_of_prompt control _ _ (open_as _ c.open_search.result control.search _ c.in-Some.is c.open_search.ensures) all in
     IfOk-weaker c.with_prompt.result _ _ (λ p h. h ∙ sym (ap (λ (s : ShownPage). s.texts) typed)) c.with_prompt.ensures.rows
 
@@ -41,20 +42,20 @@ returns-in-Some-clause-cursor g c =
     let state : PagerState = c.args.self.now.parts.state in
     let control : Control = control_of state in
     let rows = shown_is state c.redrawn-change.result control c.args.self.now.formed (unchanged state c.redrawn-change.result _ c.redrawn-change.ensures.is) in
-    let all = rows ∙ ap (λ p. shown (confirmed_by control (option_map (λ (b : Box Regex Global). regex_pattern b.value) p))) (sym c.in-None-preview.is) in
+    let all = rows ∙ ap (λ p. shown (confirmed_by control (option_map (λ (b : Rc Regex Global). regex_pattern b.value) p))) (sym c.in-None-preview.is) in
     let typed = page_of_prompt control _ _ (open_as _ c.open_search.result control.search _ c.in-Some.is c.open_search.ensures) all in
     IfOk-weaker c.with_prompt.result _ _ (λ p h. h ∙ sym (ap (λ (s : ShownPage). s.cursor) typed)) c.with_prompt.ensures.cursor
 
 pub returns-in-Some-preview-clause-rows : goal.returns-in-Some-preview-clause-rows
 returns-in-Some-preview-clause-rows g c =
     let control : Control = control_of c.args.self.now.parts.state in
-    let all = ap (λ (r : Regex). shown (confirmed_by control (Some (regex_pattern r)))) c.as_ref-pattern.ensures ∙ ap (λ p. shown (confirmed_by control (option_map (λ (b : Box Regex Global). regex_pattern b.value) p))) (sym c.in-Some-preview.is) in
+    let all = ap (λ (r : Regex). shown (confirmed_by control (Some (regex_pattern r)))) c.as_ref-pattern.ensures ∙ ap (λ p. shown (confirmed_by control (option_map (λ (b : Rc Regex Global). regex_pattern b.value) p))) (sym c.in-Some-preview.is) in
     let typed = page_of_prompt control _ _ (open_as _ c.open_search.result control.search _ c.in-Some.is c.open_search.ensures) all in
     IfOk-weaker c.with_preview.result _ _ (λ p h. h ∙ sym (ap (λ (s : ShownPage). s.texts) typed)) c.with_preview.ensures.rows
 
 pub returns-in-Some-preview-clause-cursor : goal.returns-in-Some-preview-clause-cursor
 returns-in-Some-preview-clause-cursor g c =
     let control : Control = control_of c.args.self.now.parts.state in
-    let all = ap (λ (r : Regex). shown (confirmed_by control (Some (regex_pattern r)))) c.as_ref-pattern.ensures ∙ ap (λ p. shown (confirmed_by control (option_map (λ (b : Box Regex Global). regex_pattern b.value) p))) (sym c.in-Some-preview.is) in
+    let all = ap (λ (r : Regex). shown (confirmed_by control (Some (regex_pattern r)))) c.as_ref-pattern.ensures ∙ ap (λ p. shown (confirmed_by control (option_map (λ (b : Rc Regex Global). regex_pattern b.value) p))) (sym c.in-Some-preview.is) in
     let typed = page_of_prompt control _ _ (open_as _ c.open_search.result control.search _ c.in-Some.is c.open_search.ensures) all in
     IfOk-weaker c.with_preview.result _ _ (λ p h. h ∙ sym (ap (λ (s : ShownPage). s.cursor) typed)) c.with_preview.ensures.cursor

@@ -10,7 +10,8 @@ use Rattle.minus.specs.Asked.{IsRequest, clears_prefix}
 use Rattle.minus.specs.Core.{seen_of}
 use Rattle.minus.specs.Reads.{event_wanted, answer_wanted, an_event, wanted_by}
 use Rattle.minus.specs.Seen.{Seen}
-use Rattle.minus.specs.Table.{Wanted}
+use Rattle.minus.specs.Table.{Wanted, hook_after}
+use Rattle.minus.proofs.RequestLaws.{due_as}
 use Rattle.minus.proofs.session.Core.resolve.Goals as goal
 
 asked_as : {Q K : Type 0} (answer : Option InputEvent) → event_wanted {Q = Q} {K = K} (unwrap_or answer Ignore) ≡ answer_wanted answer
@@ -30,9 +31,15 @@ returns-in_ok-set_help-in-Event-clause-asked g c =
     let says = says_of g.P.Condition.ConditionCall.judges g.P.Classifier.InputClassifier.says in
     let seen = seen_of c.args.self.now in
     let wanted = wanted_by c.set_help-in-Event.new.request in
-    let asked = c.of_event-request.ensures ∙ ap event_wanted c.unwrap_or-answer.ensures ∙ asked_as c.classify_input-answer.result in
-    let answered = subst (λ (w : Wanted _ _). IsRequest says.events seen.classifier seen.control.help w wanted) c.of_event-request.ensures c.in_ok-set_help-in-Event.ensures.ok in
+    let asked = c.of_event-request.ensures.wanted ∙ ap event_wanted c.unwrap_or-answer.ensures ∙ asked_as c.classify_input-answer.result in
+    let answered = subst (λ (w : Wanted _ _). IsRequest says.events seen.classifier seen.control.help w wanted) c.of_event-request.ensures.wanted c.in_ok-set_help-in-Event.ensures.ok in
     rw c.in-Event.is (record {
       asks = (c.args.self.now.parts.state, c.classify_input-answer.result, c.args.self.now.formed, refl, c.classify_input-answer.ensures, subst (λ (w : Wanted _ _). IsRequest says.events seen.classifier seen.control.help w wanted) asked c.in_ok-set_help-in-Event.ensures.ok);
       prefix = clears_as says seen c.in-Event.event c.unwrap_or-answer.result wanted answered ∙ sym c.clears_prefix.ensures;
     })
+
+pub returns-in_ok-set_help-in-Command-clause-due : goal.returns-in_ok-set_help-in-Command-clause-due
+returns-in_ok-set_help-in-Command-clause-due g c =
+    let says = says_of g.P.Condition.ConditionCall.judges g.P.Classifier.InputClassifier.says in
+    let seen = seen_of c.args.self.now in
+    rw c.in-Command.is (due_as says.events seen.classifier seen.control.help seen.control _ _ c.in_ok-set_help-in-Command.ensures.ok ∙ ap (hook_after seen.control) c.of_command-request.ensures.wanted)

@@ -1,5 +1,5 @@
 -- What was worked off so far, at each end of the step.
-use Rattle.std.proofs.Common.{rules, ◌≡◌, ◌++◌, ◌∷◌, [], ℕ, List, Option, map, true, false, option_map, string_bytes, sym, ap, subst, ◌∙◌, arith, inl, inr, ◌⊎◌, ◌↔◌, Err}
+use Rattle.std.proofs.Common.{rules, ◌≡◌, ◌++◌, ◌∷◌, [], ℕ, List, Option, None, is_some, map, true, false, option_map, string_bytes, sym, ap, subst, ◌∙◌, arith, inl, inr, ◌⊎◌, ◌↔◌, Err}
 use Rattle.std.proofs.lemmas.List.{map-append}
 use Rattle.minus_term.specs.Counts.{Stays}
 use Rattle.minus_term.specs.Refusals.{Refusal, refusal_of, for_memory}
@@ -17,7 +17,9 @@ use Rattle.minus.specs.SessionSteps.{IsTakenOf, IsTakenWithOf, IsRefusedStepOf}
 use Rattle.minus.specs.Steps.{goes_on, has_exited, is_passed}
 use Rattle.minus.specs.declared.done.Done.{Done}
 use Rattle.minus.specs.Handing.{Exit}
+use Rattle.minus.specs.Callbacks.{CallsTaken, CallsUntaken, exit_in}
 use Rattle.minus.specs.Works.{leaving}
+use Rattle.minus.proofs.CalledLaws.{called_still, rests_after, none_next}
 use Rattle.minus.proofs.StartLaws.{Stays-refl}
 use Rattle.minus.proofs.LoopLaws.{SoFar, begun, one_more, passed_over, step_rests, step_exits, step_exits_later, refused_at_once, took_as, fails_as, refused_so, passed_no_fault, late_rises, late_stays, has_changed, runs_on, refused_by, failed_never, ended_never, err_only, passed_whole}
 use Rattle.minus.proofs.session.Core.step.Goals as goal
@@ -61,6 +63,8 @@ loop-next-init g c =
     let taken = subst (λ (d : Done). IsTakenOf g.S.OutputSink.seen says c.args.self.now (told_of c.args.input) c.take.new.self d) c.in-On.is c.in_ok-first.ensures.taken in (
       taken.stays,
       subst (λ (r : List Refusal). SoFar says old (told_of c.args.input) (g.S.OutputSink.seen c.args.self.now.sink).bytes (g.S.OutputSink.seen c.take.new.self.sink).bytes new r (option_map string_bytes c.in-On.text)) (sym (ap (map refusal_of) c.new-refused.ensures.items)) (begun says old new (told_of c.args.input) _ _ _ taken.took),
+      λ none. subst (λ (d : Done). CallsTaken c.args.self.now c.args.input c.take.new.self (exit_in d)) c.in-On.is c.in_ok-first.ensures.called,
+      λ none. rests_after says old new (told_of c.args.input) _ _ taken.took.1 none,
     )
 
 pub take_next-requires : goal.take_next-requires
@@ -104,7 +108,7 @@ loop-next-preserved-in-Ok-On g c =
     let stays = (let h = taken.stays in rw (ap (λ x. (g.S.OutputSink.seen x).refusals) c.in-Some.ensures.sink) at h) in
     let so = one_more says old (told_of c.args.input) s new (told_of c.in-Some.next) m.waiting (map refusal_of c.loop-next.refused.items) (option_map string_bytes c.loop-next.copied) text _ _ _ c.loop-next.invariant.1 c.in-Some.ensures.next
     (took_as says (goes_on text) m (told_of c.in-Some.next) new (leaving s m.waiting) _ _ _ c.in-Some.ensures.seen (ap (λ x. (g.S.OutputSink.seen x).bytes) c.in-Some.ensures.sink) taken.took) in
-    (Stays-trans _ _ _ c.loop-next.invariant.0 stays, subst (λ (x : Option (List ℕ)). SoFar says old (told_of c.args.input) (g.S.OutputSink.seen c.args.self.now.sink).bytes (g.S.OutputSink.seen c.take_next.new.self.sink).bytes new (map refusal_of c.loop-next.refused.items) x) (sym c.last_of-copied.ensures) so)
+    (Stays-trans _ _ _ c.loop-next.invariant.0 stays, subst (λ (x : Option (List ℕ)). SoFar says old (told_of c.args.input) (g.S.OutputSink.seen c.args.self.now.sink).bytes (g.S.OutputSink.seen c.take_next.new.self.sink).bytes new (map refusal_of c.loop-next.refused.items) x) (sym c.last_of-copied.ensures) so, λ none. none_next s (told_of c.in-Some.next) m.waiting (c.loop-next.invariant.3 none) c.in-Some.ensures.next, λ none. none_next s (told_of c.in-Some.next) m.waiting (c.loop-next.invariant.3 none) c.in-Some.ensures.next)
 
 pub returns-clause-step : goal.returns-clause-step
 returns-clause-step g c =
@@ -173,4 +177,20 @@ loop-next-preserved g c =
     rw (kept, same) (
       subst (λ x. Stays (g.S.OutputSink.seen c.args.self.now.sink).refusals (g.S.OutputSink.seen x).refusals) (sym sink) c.loop-next.invariant.0,
       so,
+      λ none. none_next s (told_of c.in-Some.next) m.waiting (c.loop-next.invariant.3 none) c.in-Some.ensures.next,
+      λ none. none_next s (told_of c.in-Some.next) m.waiting (c.loop-next.invariant.3 none) c.in-Some.ensures.next,
     )
+
+pub returns-in-Ok-Exit-clause-called : goal.returns-in-Ok-Exit-clause-called
+returns-in-Ok-Exit-clause-called g c = λ none. none_next (seen_of c.loop-next.self) (told_of c.in-Some.next) _ (c.loop-next.invariant.3 none) c.in-Some.ensures.next
+
+pub returns-in_err-pass_over-in-Err-clause-uncalled : goal.returns-in_err-pass_over-in-Err-clause-uncalled
+returns-in_err-pass_over-in-Err-clause-uncalled g c =
+    passed_on c.from_residual-in_err-pass_over-in-Err.result (λ e. (seen_of c.args.self.now).waiting ≡ [] → CallsUntaken (refusal_of e) c.args.self.now c.pass_over.new.self) c.in_err-pass_over-in-Err.field-0.0 c.from_residual-in_err-pass_over-in-Err.ensures
+    (λ none. none_next (seen_of c.loop-next.self) (told_of c.in-Some.next) _ (c.loop-next.invariant.3 none) c.in-Some.ensures.next)
+
+pub returns-clause-called : goal.returns-clause-called
+returns-clause-called g c = λ none.
+    let old : Seen _ _ = seen_of c.args.self.now in
+    let called = called_still (is_some old.control.search) None c.args.input c.args.self.now c.loop-next.self c.next_waiting.new.self c.in_default.ensures.callbacks (c.loop-next.invariant.2 none) in
+    subst (λ (x : Option Exit). CallsTaken c.args.self.now c.args.input c.next_waiting.new.self x) (sym c.of_step-2.ensures.exited) called

@@ -31,7 +31,7 @@ returns-in_ok-edited-in-Edited-clause-next g c =
     let after : c.feed.new.self ≡ fed o.prompt e = c.in_ok-feed.ensures.new ∙ ap (λ (p : Prompt). fed p e) c.in_ok-prompt.ensures in
     let leads = subst (λ (p : Prompt). Leads c.args.self.now c.in_ok-edited-in-Edited.field-0 (edited k p found)) after c.in_ok-edited-in-Edited.ensures.next in (
       found,
-      subst (λ (t : Fed). MayFindBy t g.C.ConditionCall.judges kept c.args.self.now o.prompt c.args.event.now found) (sym tells) c.in_ok-found-in-Edited.ensures.found,
+      subst (λ (t : Fed). MayFindBy t g.C.ConditionCall.judges kept c.args.self.now o c.args.event.now found) (sym tells) c.in_ok-found-in-Edited.ensures.found,
       subst (λ (t : Fed). Leads c.args.self.now c.in_ok-edited-in-Edited.field-0 (left_by t k o.edited (fed o.prompt e) found)) (sym tells) leads,
     )
 
@@ -44,7 +44,7 @@ returns-in_default-clause-next g c =
     let told_is : told_by o e ≡ c.in_ok-feed.field-0 = ap (λ (p : Prompt). told_of p.editor e) (sym c.in_ok-prompt.ensures) ∙ sym c.in_ok-feed.ensures.told in
     let tells : told_by o e ≡ told.Unchanged = told_stays o.prompt.editor e c.requires (λ is. never_moved e c.requires (c.in_ok-feed.ensures.moved (sym told_is ∙ is))) (λ is. c.in_default.not-Edited (sym told_is ∙ is)) in (
       None,
-      subst (λ (t : Fed). MayFindBy t g.C.ConditionCall.judges kept c.args.self.now o.prompt c.args.event.now None) (sym tells) refl,
+      subst (λ (t : Fed). MayFindBy t g.C.ConditionCall.judges kept c.args.self.now o c.args.event.now None) (sym tells) refl,
       subst (λ (t : Fed). Leads c.args.self.now c.redrawn.result (left_by t k o.edited (fed o.prompt e) None)) (sym tells) c.redrawn.ensures.next,
     )
 

@@ -19,6 +19,6 @@ returns-in-Confirms-clause-next g c =
     let confirms : edit_of c.args.event.now ≡ edits.Confirms = sym c.edit_of.ensures ∙ c.in-Confirms.is in
     IfOk-weaker c.entered.result _ _ (λ x h. (
       h.0,
-      subst (λ (e : QueryEdit). MayFindBy (told_by o e) g.C.ConditionCall.judges kept c.args.self.now o.prompt c.args.event.now h.0) (sym confirms) h.1,
+      subst (λ (e : QueryEdit). MayFindBy (told_by o e) g.C.ConditionCall.judges kept c.args.self.now o c.args.event.now h.0) (sym confirms) h.1,
       subst (λ (e : QueryEdit). Leads c.args.self.now x (keyed k o e h.0)) (sym confirms) h.2,
     )) c.entered.ensures.next
