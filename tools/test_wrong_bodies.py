@@ -394,12 +394,12 @@ class Turns(unittest.TestCase):
             begun.append(crate)
             return [f"{crate.name}/a: FAILED"]
 
-        lines = in_turn([self.high, self.low], 2, lambda it: it is self.low or self.low in begun, lambda: False, call)
+        lines = in_turn([self.high, self.low], lambda: 2, lambda it: it is self.low or self.low in begun, lambda: False, call)
         self.assertEqual(begun, [self.low, self.high])
         self.assertEqual(lines, ["low/a: FAILED", "high/a: FAILED"])
 
     def test_a_crate_that_cannot_begin_is_said_at_the_end(self):
-        lines = in_turn([self.high, self.low], 1, lambda it: it is self.low, lambda: True, lambda it: [])
+        lines = in_turn([self.high, self.low], lambda: 1, lambda it: it is self.low, lambda: True, lambda it: [])
         self.assertEqual(lines, ["high: no body was tried: a crate below it is not proved"])
 
 

@@ -44,13 +44,14 @@ import shutil
 import subprocess
 import sys
 import tempfile
-import threading
 import time
 from concurrent.futures import FIRST_COMPLETED, ThreadPoolExecutor, wait
 from dataclasses import dataclass, field, replace
 
 FUNCTION = re.compile(r"^( {4})?(?:pub(?:\([^)]*\))? )?(?:const |unsafe )*fn (\w+)", re.M)
 SOURCES = ["src", "specs", "proofs"]
+# (a part begins with the crate's laws, which takes a minute or two)
+MOST_OF_PART = 120
 TAKEN_AWAY = re.compile(r"has no `|has no field|is not in scope|was not admitted")
 NAMED = re.compile(r"(?:`([^`]+)`: )?")
 SEARCHED = re.compile(r"(^pub (\S+) : .*^\2 [^=]*=).*", re.M | re.S)
@@ -435,16 +436,24 @@ def call(words, folder):
 
 def copy_of(top, to, parts):
     """Copies these parts of a repository's crates."""
-    os.makedirs(f"{to}/.git")
+    os.makedirs(f"{to}/.git", exist_ok=True)
     shutil.copyfile(f"{top}/crates.txt", f"{to}/crates.txt")
     for name in os.listdir(f"{top}/crates"):
         for part in parts:
             copy_part(top, to, name, part)
 
 
-def copy_part(top, to, name, part):
+def copy_part(top, to, name, part, copy_file=shutil.copy2):
     if os.path.isdir(f"{top}/crates/{name}/{part}"):
-        shutil.copytree(f"{top}/crates/{name}/{part}", f"{to}/crates/{name}/{part}", copy_function=shutil.copy2)
+        shutil.copytree(f"{top}/crates/{name}/{part}", f"{to}/crates/{name}/{part}", copy_function=copy_file)
+
+
+def link_or_copy(file, to):
+    """Links a file that nobody writes, which takes no room, or copies it where that is on another disk."""
+    try:
+        os.link(file, to)
+    except OSError:
+        shutil.copy2(file, to)
 
 
 def has_kept(top):
@@ -571,14 +580,14 @@ def told_by(file):
 
 
 def in_turn(left, lanes, can_begin, is_over, call):
-    """Calls a function for each crate once that can begin, the first of these first, as many side by side as there are lanes, and
-    returns the lines that all return. A crate that cannot begin when all is over has one line."""
+    """Calls a function for each crate, or part of one, once that can begin, the first of these first, as many side by side as there are
+    lanes then, and returns the lines that all return. A crate that cannot begin when all is over has one line."""
     lines, running = [], set()
-    with ThreadPoolExecutor(lanes) as pool:
+    with ThreadPoolExecutor(len(left) or 1) as pool:
         while left or running:
             over = is_over()
             ready = [it for it in left if can_begin(it)]
-            for it in ready[: lanes - len(running)]:
+            for it in ready[: max(0, lanes() - len(running))]:
                 left = [other for other in left if other is not it]
                 running.add(pool.submit(call, it))
             if not ready and not running and over:
@@ -590,24 +599,54 @@ def in_turn(left, lanes, can_begin, is_over, call):
     return lines
 
 
-def try_beside(rt, top, base, every, given, lanes, told, is_anew):
-    """Tries the bodies beside an rt ci, and returns a line for each that is not refused."""
-    kept, built, lock = rt.Kept(every, is_anew) if hasattr(rt, "Kept") else None, set(), threading.Lock()
+@dataclass(eq=False)
+class Part:
+    """A part of a crate's wrong bodies, which is tried on a copy of its own, beside the others."""
 
-    def can_begin(crate):
-        return {it.name for it in crate.below()} <= told_by(told)[0]
+    name: str
+    files: list
+    base: str
+    crate: object
 
-    def call(crate):
-        with lock:
-            for name in {it.name for it in crate.below()} - built:
-                copy_part(top, base, name, "out/rlib")
-                built.add(name)
-        bodies = untried(kept, crate, bodies_of(rt, kept, crate, given[crate.name]))
-        return try_crate(rt, kept, crate, bodies, True) if bodies else []
 
-    # (the crate with the most bodies goes first)
-    left = sorted((it for it in every if it.name in given), key=lambda it: -len(given[it.name]))
-    return in_turn(left, lanes, can_begin, lambda: told_by(told)[1], call)
+def parts_of(rt, top, base, given):
+    """Returns the parts of all crates, those of the crate with the most bodies first, each on a copy of the sources."""
+    parts = []
+    for name, files in sorted(given.items(), key=lambda it: -len(it[1])):
+        count = -(-len(files) // MOST_OF_PART)
+        for number in range(count):
+            at = f"{base}/{name}_{number}"
+            copy_of(top, at, SOURCES)
+            crate = next(it for it in rt.rtlib.crates_below(at) if it.name == name)
+            parts.append(Part(name, files[number::count], at, crate))
+    return parts
+
+
+def try_beside(rt, top, base, given, lanes, told, is_anew):
+    """Tries the bodies beside an rt ci, and returns a line for each that is not refused: in these lanes, and once it has ended in as
+    many as a machine has processors."""
+    parts = parts_of(rt, top, base, given)
+    kept = rt.Kept(rt.rtlib.crates_below(parts[0].base), is_anew) if hasattr(rt, "Kept") else None
+
+    def can_begin(part):
+        return {it.name for it in part.crate.below()} <= told_by(told)[0]
+
+    def call(part):
+        for below in part.crate.below():
+            copy_part(top, part.base, below.name, "out/rlib", link_or_copy)
+        bodies = untried(kept, part.crate, bodies_of(rt, kept, part.crate, part.files))
+        failed = try_crate(rt, kept, part.crate, bodies, True) if bodies else []
+        shutil.rmtree(part.base, ignore_errors=True)
+        return failed
+
+    is_over = lambda: told_by(told)[1]
+    return in_turn(parts, lambda: max(lanes, rooms()) if is_over() else lanes, can_begin, is_over, call)
+
+
+def rooms():
+    """Returns how many checks may run side by side on this machine: as many as it has processors, where each has 5 GB of memory."""
+    room = int(re.search(r"^MemTotal:\s*(\d+)", read("/proc/meminfo"), re.M)[1]) // 5_000_000
+    return max(1, min(4, os.cpu_count() or 1, room))
 
 
 def try_proved(rt, base, every, given, lanes, is_proved, is_whole, is_anew):
@@ -620,7 +659,7 @@ def try_proved(rt, base, every, given, lanes, is_proved, is_whole, is_anew):
         call(["rt", "all", "check", "--jobs", str(lanes)], base)
     # (the crate with the most bodies goes first)
     crates = sorted((it for it in left if left[it]), key=lambda it: -len(left[it]))
-    return in_turn(crates, lanes, lambda it: True, lambda: True, lambda it: try_crate(rt, kept, it, left[it], is_proved))
+    return in_turn(crates, lambda: lanes, lambda it: True, lambda: True, lambda it: try_crate(rt, kept, it, left[it], is_proved))
 
 
 def main(words):
@@ -633,11 +672,11 @@ def main(words):
     given = given_by(words, top)
     rt, count = load_rt(), sum(map(len, given.values()))
     with tempfile.TemporaryDirectory(prefix="wrong-bodies-") as base:
-        copy_of(top, base, SOURCES if told else [*SOURCES, "out/incremental", "out/rlib"])
-        every = rt.rtlib.crates_below(base)
         if told:
-            failed = try_beside(rt, top, base, every, given, lanes, told, is_anew)
+            failed = try_beside(rt, top, base, given, lanes, told, is_anew)
         else:
+            copy_of(top, base, [*SOURCES, "out/incremental", "out/rlib"])
+            every = rt.rtlib.crates_below(base)
             failed = try_proved(rt, base, every, given, lanes, is_proved, not words, is_anew)
     # (once more at the end, where a log that was cut still shows them)
     for line in failed:

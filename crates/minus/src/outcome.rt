@@ -43,8 +43,16 @@ impl Drop for Outcome {
 }
 
 impl Outcome {
-    ghost use Rattle.std.specs.Prelude.{◌≡◌, None, true, false};
+    ghost use Rattle.std.specs.Prelude.{◌≡◌, Some, None, not, true, false};
+    ghost use Rattle.minus_state.specs.Control.{document_of, top, with_follow};
+    ghost use Rattle.minus_state.specs.Copied.{copied};
+    ghost use Rattle.minus_state.specs.Help.{help_open, left_help, restored};
+    ghost use Rattle.minus_state.specs.MatchJumps.{next_match_row, prev_match_row, telling_next, telling_prev};
     ghost use Rattle.minus_state.specs.NextTexts.{Belongs};
+    ghost use Rattle.minus_state.specs.Redraws.{whole_where};
+    ghost use Rattle.minus_state.specs.Selecting.{has_ends, no_ends};
+    ghost use Rattle.minus_state.specs.Selection.{ends_in_order};
+    ghost use Rattle.minus_state.specs.States.{ends_of};
     ghost use Rattle.minus.specs.Outcomes.{followed_by};
 
     // A change alone.
@@ -112,6 +120,91 @@ impl Outcome {
         Outcome::moving(change, to)
     }
 
+    // A page that goes on with its text, or does not, from the last page on.
+    fn following(state: &PagerState, follow: bool) -> Outcome
+        ensures next { Leads state.now result.change (with_follow (control_of state.now) follow) }
+        ensures redraw { result.change.redraw ≡ Redraw.Moved }
+        ensures moves_to { IsFormed state.now → result.moves_to ≡ Some (top (control_of state.now)) }
+        ensures row_only { result.row_only ≡ false }
+        ensures copied { result.copied ≡ None }
+        ensures exits { result.exits ≡ false }
+    {
+        Outcome::moving(state.with_follow(follow), Some(state.top()))
+    }
+
+    // A jump on, to the match that the prompt row then tells of.
+    fn jumping_on(state: &PagerState, jump: usize) -> Outcome
+        ensures next { Leads state.now result.change (telling_next (control_of state.now) jump) }
+        ensures redraw { result.change.redraw ≡ Redraw.Moved }
+        ensures moves_to { IsFormed state.now → result.moves_to ≡ next_match_row (control_of state.now) jump }
+        ensures row_only { result.row_only ≡ false }
+        ensures copied { result.copied ≡ None }
+        ensures exits { result.exits ≡ false }
+    {
+        Outcome::moving(state.telling_next(jump), state.next_match_row(jump))
+    }
+
+    // A jump back, to the match that the prompt row then tells of.
+    fn jumping_back(state: &PagerState, jump: usize) -> Outcome
+        ensures next { Leads state.now result.change (telling_prev (control_of state.now) jump) }
+        ensures redraw { result.change.redraw ≡ Redraw.Moved }
+        ensures moves_to { IsFormed state.now → result.moves_to ≡ prev_match_row (control_of state.now) jump }
+        ensures row_only { result.row_only ≡ false }
+        ensures copied { result.copied ≡ None }
+        ensures exits { result.exits ≡ false }
+    {
+        Outcome::moving(state.telling_prev(jump), state.prev_match_row(jump))
+    }
+
+    // An exit, which leaves help where it is open.
+    fn leaving(state: &PagerState, alloc: Global) -> Result<Outcome, MinusError>
+        ensures next { IfOk result (λ o. Leads state.now o.change
+            (left_help (control_of state.now) (control_of state.now).help)) }
+        ensures redraw { IfOk result (λ o. o.change.redraw ≡ whole_where (help_open (control_of state.now))) }
+        ensures moves_to { IfOk result (λ o. o.moves_to ≡ None) }
+        ensures row_only { IfOk result (λ o. o.row_only ≡ false) }
+        ensures copied { IfOk result (λ o. o.copied ≡ None) }
+        ensures exits { IfOk result (λ o. o.exits ≡ not (help_open (control_of state.now))) }
+        ensures memory { IfErr result (λ e. e ≡ MinusError.Memory) }
+    {
+        let mut outcome = Outcome::of(state.left_help(alloc)?);
+        outcome.exits = !state.help_open();
+        Ok(outcome)
+    }
+
+    // What leaves help where it is open, and else lets the message go, which the prompt row alone shows.
+    fn restoring(state: &PagerState, alloc: Global) -> Result<Outcome, MinusError>
+        ensures next { IfOk result (λ o. Leads state.now o.change
+            (restored (control_of state.now) (control_of state.now).help)) }
+        ensures redraw { IfOk result (λ o. o.change.redraw ≡ whole_where (help_open (control_of state.now))) }
+        ensures moves_to { IfOk result (λ o. o.moves_to ≡ None) }
+        ensures row_only { IfOk result (λ o. o.row_only ≡ not (help_open (control_of state.now))) }
+        ensures copied { IfOk result (λ o. o.copied ≡ None) }
+        ensures exits { IfOk result (λ o. o.exits ≡ false) }
+        ensures memory { IfErr result (λ e. e ≡ MinusError.Memory) }
+    {
+        let mut outcome = Outcome::of(state.restored(alloc)?);
+        outcome.row_only = !state.help_open();
+        Ok(outcome)
+    }
+
+    // What is selected, to be copied, and no longer selected.
+    fn copying(state: &PagerState, alloc: Global) -> Result<Outcome, MinusError>
+        ensures next { IfOk result (λ o. Leads state.now o.change (record (control_of state.now) { ends = no_ends })) }
+        ensures redraw { IfOk result (λ o. o.change.redraw ≡ whole_where (has_ends (ends_of state.now))) }
+        ensures moves_to { IfOk result (λ o. o.moves_to ≡ None) }
+        ensures row_only { IfOk result (λ o. o.row_only ≡ false) }
+        ensures copied { IfOk result (λ o. IsFormed state.now → option_map string_bytes o.copied
+            ≡ copied (document_of (control_of state.now)) (ends_in_order (control_of state.now).ends)) }
+        ensures exits { IfOk result (λ o. o.exits ≡ false) }
+        ensures memory { IfErr result (λ e. e ≡ MinusError.Memory) }
+    {
+        let copied = extract_selection(alloc, &state.screen, state.ends())?;
+        let mut outcome = Outcome::of(state.unselected());
+        outcome.copied = copied;
+        Ok(outcome)
+    }
+
     // The change alone.
     pub(crate) fn into_change(self) -> Change
         ensures { result ≡ self.change }
@@ -164,25 +257,14 @@ fn form_any<P: Parts>(
         Request::AppendText(text) => Ok(Outcome::appending(state, state.added(alloc, text)?)),
         Request::MoveMark(mark) => Ok(Outcome::moving(state.redrawn(Redraw::Moved), Some(mark))),
         Request::Resize(cols, rows) => Ok(Outcome::of(state.resized(alloc, cols, rows)?)),
-        Request::Exit => {
-            let mut outcome = Outcome::of(state.left_help(alloc)?);
-            outcome.exits = !state.help_open();
-            Ok(outcome)
-        }
+        Request::Exit => Outcome::leaving(state, alloc),
         Request::Ignore => Ok(Outcome::of(state.redrawn(Redraw::Stays))),
         Request::SetPrompt(text) => Ok(Outcome::setting(state.prompted(text)?)),
         Request::SendMessage(text) => Ok(Outcome::setting(state.messaged(text)?)),
         Request::ShowPrompt(is_shown) => Ok(Outcome::setting(state.with_prompt_shown(is_shown))),
-        Request::Follow(follow) => Ok(Outcome::moving(
-            state.with_follow(follow),
-            Some(state.top()),
-        )),
+        Request::Follow(follow) => Ok(Outcome::following(state, follow)),
         Request::Type(character) => Ok(Outcome::setting(state.typed(alloc, character)?)),
-        Request::RestorePrompt => {
-            let mut outcome = Outcome::of(state.restored(alloc)?);
-            outcome.row_only = !state.help_open();
-            Ok(outcome)
-        }
+        Request::RestorePrompt => Outcome::restoring(state, alloc),
         Request::RedrawPrompt => Ok(Outcome::of(state.redrawn(Redraw::PromptRow))),
         Request::RedrawPage => Ok(Outcome::of(state.redrawn(Redraw::Whole))),
         Request::HandOver(_) => Ok(Outcome::of(state.redrawn(Redraw::Stays))),
@@ -192,19 +274,10 @@ fn form_any<P: Parts>(
         Request::StartSelection { x, y } => Ok(Outcome::of(state.selected(x, y))),
         Request::UpdateSelection { x, y } => Ok(Outcome::of(state.led(x, y))),
         Request::ClearSelection => Ok(Outcome::of(state.unselected())),
-        Request::CopySelection => {
-            let copied = extract_selection(alloc, &state.screen, state.ends())?;
-            let mut outcome = Outcome::of(state.unselected());
-            outcome.copied = copied;
-            Ok(outcome)
-        }
+        Request::CopySelection => Outcome::copying(state, alloc),
         Request::ShowHelp(text) => Ok(Outcome::of(state.turned(alloc, text)?)),
-        Request::MoveToNextMatch(jump) => {
-            Ok(Outcome::moving(state.telling_next(jump), state.next_match_row(jump)))
-        }
-        Request::MoveToPrevMatch(jump) => {
-            Ok(Outcome::moving(state.telling_prev(jump), state.prev_match_row(jump)))
-        }
+        Request::MoveToNextMatch(jump) => Ok(Outcome::jumping_on(state, jump)),
+        Request::MoveToPrevMatch(jump) => Ok(Outcome::jumping_back(state, jump)),
         Request::Search(mode) => Ok(Outcome::of(state.opened(alloc, mode)?)),
         Request::FetchSearchQuery => {
             let mode = state.search_state.search_mode;
