@@ -944,4 +944,6 @@ if __name__ == '__main__':
     SHOW = os.path.join(TOP, 'crates', 'minus_show', 'out', 'minus_show')
     if len(sys.argv) > 1 and os.path.isfile(sys.argv[1]):
         SHOW = os.path.abspath(sys.argv.pop(1))
+    # (under nohup a shell would ignore it, and could not be hung up)
+    signal.signal(signal.SIGHUP, signal.SIG_DFL)
     unittest.main(verbosity=1)
