@@ -146,8 +146,7 @@ def contents(path):
 class Terminal:
     """A shell with job control in a pseudo terminal."""
 
-    def __init__(self, folder, cols=40, rows=8):
-        shell = shutil.which('dash')
+    def __init__(self, folder, cols=40, rows=8, shell=shutil.which('dash')):
         words = [shell, '-i'] if shell else ['bash', '--noediting', '--norc', '--noprofile', '-i']
         self.player = Player(cols, rows)
         self.bytes = b''
@@ -272,10 +271,10 @@ class PagerTests(unittest.TestCase):
             file.write(text if isinstance(text, bytes) else text.encode())
         return path
 
-    def page(self, command, cols=40, rows=8):
+    def page(self, command, cols=40, rows=8, **shell):
         """Types a command in a new terminal, and waits for its page."""
         self.tearDown()
-        self.terminal = Terminal(self.folder, cols, rows)
+        self.terminal = Terminal(self.folder, cols, rows, **shell)
         self.terminal.send(command + '\n')
         self.terminal.wait(lambda: self.terminal.player.modes.get(1049), 'the first page')
         return self.terminal
@@ -840,6 +839,62 @@ class PagerTests(unittest.TestCase):
 
     def test_the_launcher_is_hung_up(self):
         self.end_by('minus', signal.SIGHUP, 129)
+
+    def test_the_launcher_is_told_to_quit(self):
+        self.end_by('minus', signal.SIGQUIT, 131)
+
+    @unittest.skipUnless(shutil.which('bash'), 'dash resumes no job that is ended')
+    def test_a_suspended_pager_is_ended(self):
+        self.write('notes', self.LINES)
+        self.page('./minus notes', shell=None)
+        self.terminal.wait_for('1-7/100')
+        self.suspend()
+        self.terminal.send('kill %1\n')
+        self.terminal.wait(lambda: not self.terminal.processes('minus'), 'the end of the launcher')
+        self.terminal.send('\n')
+        self.terminal.wait(lambda: b'Exit 143' in self.terminal.bytes and self.terminal.ends_with('ready> '), 'a status')
+        self.assert_back(0)
+
+    def test_a_link_leads_to_the_launcher(self):
+        os.mkdir(os.path.join(self.folder, 'links'))
+        os.symlink('../minus', os.path.join(self.folder, 'links', 'first'))
+        os.symlink(os.path.join(self.folder, 'links', 'first'), os.path.join(self.folder, 'second'))
+        self.write('notes', self.LINES)
+        for link in ('links/first', './second'):
+            self.page(f'{link} notes')
+            self.terminal.wait_for('1-7/100')
+            self.quit()
+
+    def test_a_terminal_that_does_not_know_its_size(self):
+        self.write('notes', self.LINES)
+        self.terminal = Terminal(self.folder, 80, 24)
+        self.terminal.set_size(0, 0)
+        self.terminal.send('./minus notes\n')
+        self.terminal.wait_for('1-23/100')
+        self.quit()
+
+    def test_a_pipe_is_left_as_it_was(self):
+        self.page('seq 3 | { ./minus; grep flags /proc/self/fdinfo/0; }')
+        self.terminal.wait_for('1-3/3')
+        self.press('q')
+        self.terminal.wait(lambda: b'flags:' in self.terminal.bytes and self.terminal.ends_with('ready> '), 'flags')
+        flags = re.search(rb'flags:\s*(\d+)', self.terminal.bytes).group(1)
+        self.assertFalse(int(flags, 8) & os.O_NONBLOCK, flags)
+
+    def test_another_place_takes_the_files(self):
+        self.write('notes', self.LINES)
+        self.page('TMPDIR=/none ./minus notes')
+        self.terminal.wait_for('1-7/100')
+        self.quit()
+
+    def test_where_no_place_takes_a_file_the_text_goes_on(self):
+        os.chmod(self.write('mktemp', '#!/bin/sh\nexit 1\n'), 0o755)
+        self.write('notes', 'one\ntwo\n')
+        self.terminal = Terminal(self.folder, 60, 8)
+        self.terminal.send('PATH=.:$PATH ./minus notes\n')
+        self.terminal.wait(lambda: self.terminal.bytes.endswith(b'\r\none\r\ntwo\r\nready> '), 'the text')
+        self.assertIn(b'the text is not paged', self.terminal.bytes)
+        self.assertEqual(self.terminal.mode(), self.terminal.before)
 
     def test_the_program_is_killed(self):
         self.end_by('minus_pager', signal.SIGKILL, 137)
