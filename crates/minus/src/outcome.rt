@@ -44,7 +44,7 @@ impl Drop for Outcome {
 
 impl Outcome {
     ghost use Rattle.std.specs.Prelude.{◌≡◌, Some, None, not, true, false};
-    ghost use Rattle.minus_state.specs.Control.{document_of, top, with_follow};
+    ghost use Rattle.minus_state.specs.Control.{top, with_follow};
     ghost use Rattle.minus_state.specs.Copied.{copied};
     ghost use Rattle.minus_state.specs.Help.{help_open, left_help, restored};
     ghost use Rattle.minus_state.specs.MatchJumps.{next_match_row, prev_match_row, telling_next, telling_prev};
@@ -194,8 +194,8 @@ impl Outcome {
         ensures redraw { IfOk result (λ o. o.change.redraw ≡ whole_where (has_ends (ends_of state.now))) }
         ensures moves_to { IfOk result (λ o. o.moves_to ≡ None) }
         ensures row_only { IfOk result (λ o. o.row_only ≡ false) }
-        ensures copied { IfOk result (λ o. IsFormed state.now → option_map string_bytes o.copied
-            ≡ copied (document_of (control_of state.now)) (ends_in_order (control_of state.now).ends)) }
+        ensures copied { IfOk result (λ o. option_map string_bytes o.copied
+            ≡ copied state.now.screen.document (ends_in_order (ends_of state.now))) }
         ensures exits { IfOk result (λ o. o.exits ≡ false) }
         ensures memory { IfErr result (λ e. e ≡ MinusError.Memory) }
     {
