@@ -50,8 +50,8 @@ from dataclasses import dataclass, field, replace
 
 FUNCTION = re.compile(r"^( {4})?(?:pub(?:\([^)]*\))? )?(?:const |unsafe )*fn (\w+)", re.M)
 SOURCES = ["src", "specs", "proofs"]
-# (a part begins with the crate's laws, which takes a minute or two)
-MOST_OF_PART = 120
+# (a part begins with the laws of its crate, which take a minute or two; one of this many bodies takes 5 GB at most)
+MOST_OF_PART = 60
 TAKEN_AWAY = re.compile(r"has no `|has no field|is not in scope|was not admitted")
 NAMED = re.compile(r"(?:`([^`]+)`: )?")
 SEARCHED = re.compile(r"(^pub (\S+) : .*^\2 [^=]*=).*", re.M | re.S)
