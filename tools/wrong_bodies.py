@@ -26,8 +26,9 @@ constant, a trait's default) is tried alone, and something in its module must be
 All this happens on a copy of the repository, over the work that `rt check` kept in out/, where there is some. The crate as
 it stands must be proved there first. With --proved that is taken from the caller, in a repository where nothing is kept: the
 rounds then stand on the libraries that rt ci built. With --beside a crate's bodies are tried as soon as the file says that
-the crates below it are proved and built; that the crate itself is, is for rt ci to say. The file ends with a line
-`rt ci: ended`. RT_JOBS is how many checks run side by side, as it is for rt ci.
+the crates below it are proved and built, those of a large crate in parts; that the crate itself is, is for rt ci to say. The
+file ends with a line that begins with `rt ci: ended`. RT_JOBS is how many checks run side by side, as it is for rt ci; behind
+that line they are as many as the machine has processors, where it has the memory.
 
 That a body was refused is kept where rt ci keeps what it passed, on this machine alone, under a sum of the kit, this tool, the
 body, the files of its crate and of those below it, and the libraries that were built of these. So a later run tries what has
