@@ -69,15 +69,3 @@ pub mod RowHomesLaws
 pub mod StoredKeptLaws
 mod WordStartsLaws
 pub mod ViewLaws
-pub mod StylesLaws
-pub mod LineFindsLaws
-pub mod FindsLaws
-pub mod LineSplitLaws
-pub mod PlacedFindsLaws
-pub mod LineLaws
-pub mod TextFindsLaws
-pub mod PartsPlacedLaws
-pub mod JumpLaws
-pub mod FindsGoOnLaws
-pub mod StoredLineLaws
-pub mod LineRangeLaws

@@ -23,17 +23,7 @@ pub mod Highlight
 pub mod Shown
 pub mod Singles
 pub mod Found
-pub mod LineFinds
-pub mod LineSplits
-pub mod LineLaws
-pub mod FindsStand
-pub mod WorkedLines
-pub mod Styles
-pub mod WorkedStyles
 pub mod FoundRows
-pub mod Jumps
-pub mod Finds
-pub mod CarriedStyles
 pub mod Layouts
 pub mod Document
 pub mod Fragments
@@ -51,7 +41,6 @@ pub mod Pending
 pub mod FoundBy
 pub mod LinePlaces
 pub mod Searched
-pub mod StoredLines
 pub mod Words
 pub mod NextPushes
 pub mod Views

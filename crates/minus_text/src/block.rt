@@ -135,7 +135,6 @@ impl FormattedBlock {
                 numbers: layout.numbers,
                 cols: layout.cols,
                 escapes_end,
-                match_lines: false,
             },
             layout,
             lines_before,

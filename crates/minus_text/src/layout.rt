@@ -14,11 +14,6 @@ pub struct Layout {
     pub wrapping: bool,
     /// Whether rows begin with the numbers of their lines.
     pub numbers: LineNumbers,
-    /// Whether a term is searched for in each line. Otherwise it is searched for in each row by itself, so that a match does not go
-    /// over the end of a row.
-    pub match_lines: bool,
-    /// Whether each row is put with the style that holds where it begins, and leaves none behind.
-    pub carry_style: bool,
 }
 
 impl Layout {
@@ -30,8 +25,6 @@ impl Layout {
             cols,
             wrapping: true,
             numbers: LineNumbers::Disabled,
-            match_lines: false,
-            carry_style: false,
         }
     }
 
@@ -43,8 +36,6 @@ impl Layout {
             cols,
             wrapping: self.wrapping,
             numbers,
-            match_lines: self.match_lines,
-            carry_style: self.carry_style,
         }
     }
 }

@@ -22,7 +22,6 @@ mod seams;
 pub mod search;
 mod spaces;
 mod store;
-mod stored_line;
 pub mod units;
 pub mod view;
 mod viewed_row;
