@@ -101,13 +101,6 @@ impl<S, P: Parts> Core<S, P> {
         &self.parts.state
     }
 
-    /// What decides about its events.
-    pub fn classifier(&self) -> &P::Classifier
-        ensures { result.now ≡ self.now.parts.classifier }
-    {
-        &self.parts.classifier
-    }
-
     /// The mode that the session was started in; `Uninitialized` after an exit or a failure.
     pub fn mode(&self) -> RunMode
         ensures { result ≡ mode_told (seen_of self.now) }
