@@ -69,3 +69,7 @@ pub mod RowHomesLaws
 pub mod StoredKeptLaws
 mod WordStartsLaws
 pub mod ViewLaws
+pub mod StylesLaws
+pub mod StyleSourceLaws
+pub mod CarriedStyleLaws
+pub mod PushedPlacesLaws

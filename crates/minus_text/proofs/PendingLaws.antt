@@ -17,6 +17,7 @@ use Rattle.minus_text.specs.Lines.{Cut, cut, whole, behind, finished_lines, unfi
 use Rattle.minus_text.specs.Document.{Document, first_rows, line_map, line_count, rows_of, rows_of_lines, open_rows, pushed, wrap_in, plan_of}
 use Rattle.minus_text.specs.Fragments.{rows_in}
 use Rattle.minus_text.specs.Kept.{Reaches, IsFormOf, IsRestart, IsRestartOf, at_start, line_going_on, piece_behind}
+use Rattle.minus_text.specs.PushedPlaces.{PlacesGoOn}
 use Rattle.minus_text.specs.Pending.{Pending, IsPending}
 use Rattle.minus_text.proofs.LinesLaws.{lines-cut}
 use Rattle.minus_text.proofs.DocumentLaws.{length-first_rows, first_rows-append}
@@ -125,9 +126,10 @@ map_after d piece numbers cols plan entries is m = ap (λ (p : Plan). first_rows
 pub prepared_pending : (d : Document) (piece tail : List ℕ) (numbers : LineNumbers) (cols : ℕ) (start : Restart) (plan : Plan) → plan ≡ plan_of d piece numbers cols → IsRestartOf d.text plan start
     → IsUtf8 (line_going_on d.text plan ++ piece_behind d.text plan piece) → tail ≡ drop start.bytes (line_going_on d.text plan) ++ piece_behind d.text plan piece
     → (f : Formed) → IsFormOf plan.wrap (line_going_on d.text plan) (piece_behind d.text plan piece) start f
+    → PlacesGoOn d (pushed d piece numbers cols) piece (start.finished.rows + start.rows) start (record { text = tail; wrap = plan.wrap })
     → IsPending d piece numbers cols (record { kept_rows = start.finished.rows + start.rows; kept_lines = start.finished.lines; first_rows = f.first_rows; start = start; tail = record { text = tail; wrap = plan.wrap }; numbers = numbers; cols = cols })
 unfolding rows_of rows_in
-prepared_pending d piece tail numbers cols start plan is k u t f formed =
+prepared_pending d piece tail numbers cols start plan is k u t f formed places =
     let entries = entries_after d piece plan start f (plan_keeps d piece numbers cols plan is) k formed in
     elim (cases_Bool plan.keeps) [
       | inl e ↦
@@ -142,6 +144,7 @@ prepared_pending d piece tail numbers cols start plan is k u t f formed =
             few = omega (arith, on.1, ap (λ w. length (rows_of_lines w (lines d.text))) same);
             map = map_after d piece numbers cols plan (take start.finished.lines (line_map d) ++ f.first_rows) is (sym entries.0);
             few_lines = entries.1;
+            places = places;
             its_numbers = refl;
             its_cols = refl;
           }
@@ -159,6 +162,7 @@ prepared_pending d piece tail numbers cols start plan is k u t f formed =
             few = omega (arith, none);
             map = map_after d piece numbers cols plan (take start.finished.lines (line_map d) ++ f.first_rows) is (sym entries.0);
             few_lines = entries.1;
+            places = places;
             its_numbers = refl;
             its_cols = refl;
           }

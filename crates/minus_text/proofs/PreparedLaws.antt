@@ -48,6 +48,10 @@ pub whole_append : (xs ys : List ℕ) → cut xs ≡ whole xs → cut ys ≡ who
 whole_append [] ys h k = k
 whole_append (b ∷ xs) ys h k = let one = whole_cons b xs h in whole_more b (xs ++ ys) one.0 (whole_append xs ys one.1 k)
 
+pub whole_front : (xs ys : List ℕ) → cut (xs ++ ys) ≡ whole (xs ++ ys) → cut xs ≡ whole xs
+whole_front [] ys h = refl
+whole_front (b ∷ xs) ys h = let one = whole_cons b (xs ++ ys) h in whole_more b xs one.0 (whole_front xs ys one.1)
+
 pub whole_behind : (xs ys : List ℕ) → cut (xs ++ ys) ≡ whole (xs ++ ys) → cut ys ≡ whole ys
 whole_behind [] ys h = h
 whole_behind (b ∷ xs) ys h = whole_behind xs ys (whole_cons b (xs ++ ys) h).1

@@ -94,7 +94,7 @@ open_moved wrap n at line = elim (cases_Bool (eqb (length line) 0)) [
   | inr f ↦ rw f (line_moved wrap n at line)
 ]
 
-stored_moved : (wrap : Wrap) (n : ℕ) (c : Cut) → stored_from wrap n c ≡ map (moved n) (stored_from wrap 0 c)
+pub stored_moved : (wrap : Wrap) (n : ℕ) (c : Cut) → stored_from wrap n c ≡ map (moved n) (stored_from wrap 0 c)
 stored_moved wrap n c =
     let z : n ≡ n + 0 = omega arith in
     let e : n + sum_by bytes_of c.closed ≡ n + (0 + sum_by bytes_of c.closed) = omega arith in

@@ -45,7 +45,7 @@ unescaped_append e text piece h p = elim (cases_lt (length text) e) [
 ]
 
 -- no byte from a place on is ESC, where a search finds none
-none_from : (k : ℕ) (hay : List ℕ) → Nowhere (Passes (is_byte 27) hay) k (length hay) → list_all is_unescaped (drop k hay) ≡ true
+pub none_from : (k : ℕ) (hay : List ℕ) → Nowhere (Passes (is_byte 27) hay) k (length hay) → list_all is_unescaped (drop k hay) ≡ true
 none_from zero [] h = refl
 none_from (suc k) [] h = refl
 none_from (suc k) (c ∷ cs) h = none_from k cs (λ j l m. h (suc j) (omega (arith, l)) (omega (arith, m)))

@@ -13,7 +13,7 @@ use Rattle.minus_text.specs.Layouts.{own_rows, margin}
 use Rattle.minus_text.specs.Lines.{finished_lines, unfinished_line}
 use Rattle.minus_text.specs.Document.{Document, rows_of, rows_of_lines, open_rows, unfinished_rows, line_count, pushed, wrap_in, margin_in, stored_line, stored_lines, stored_rows, keeps_rows, IsPrefixOf}
 use Rattle.minus_text.specs.Fragments.{rows_in}
-use Rattle.minus_text.specs.Searched.{shown_for, stored_lines_for, stored_rows_for}
+use Rattle.minus_text.specs.Searched.{put_rows, put_lines, stored_rows_for}
 use Rattle.minus_text.proofs.DocumentLaws.{length-rows_of_lines}
 use Rattle.minus_text.proofs.PushedLaws.{lines_pushed, keeps_wrap, rows_kept}
 use Rattle.minus_text.proofs.SearchedLaws.{length-lines_for}
@@ -48,26 +48,26 @@ line_alike on m n k [] h = refl
 line_alike on m n k (row ∷ more) h =
     ap (λ (p : List ℕ). (p ++ row) ∷ map (λ r. prefix on m k false ++ r) more) (h true) ∙ ap (λ (p : List ℕ). (prefix on n k true ++ row) ∷ map (λ r. p ++ r) more) (h false)
 
-lines_alike : (term : Option Re) (wrap : Wrap) (on : Bool) (m n k : ℕ) (ls : List (List ℕ)) → ((line : ℕ) (first : Bool) → prefix on m line first ≡ prefix on n line first) → stored_lines_for term wrap on m k ls ≡ stored_lines_for term wrap on n k ls
-lines_alike term wrap on m n k [] h = refl
-lines_alike term wrap on m n k (x ∷ xs) h =
-    ap (λ rs. rs ++ stored_lines_for term wrap on m (k + 1) xs) (line_alike on m n k (map (shown_for term) (own_rows wrap x)) (h k))
-    ∙ ap (λ rs. stored_line on n k (map (shown_for term) (own_rows wrap x)) ++ rs) (lines_alike term wrap on m n (k + 1) xs h)
+lines_alike : (term : Option Re) (wrap : Wrap) (carry on : Bool) (m n k : ℕ) (ls : List (List ℕ)) → ((line : ℕ) (first : Bool) → prefix on m line first ≡ prefix on n line first) → put_lines term wrap carry on m k ls ≡ put_lines term wrap carry on n k ls
+lines_alike term wrap carry on m n k [] h = refl
+lines_alike term wrap carry on m n k (x ∷ xs) h =
+    ap (λ rs. rs ++ put_lines term wrap carry on m (k + 1) xs) (line_alike on m n k (put_rows term wrap carry x) (h k))
+    ∙ ap (λ rs. stored_line on n k (put_rows term wrap carry x) ++ rs) (lines_alike term wrap carry on m n (k + 1) xs h)
 
 -- ---- the finished lines come first
 
-lines_front : (term : Option Re) (wrap : Wrap) (on : Bool) (count k : ℕ) (xs ys : List (List ℕ)) → (rest : List (List ℕ)) × (stored_lines_for term wrap on count k (xs ++ ys) ≡ stored_lines_for term wrap on count k xs ++ rest)
-lines_front term wrap on count k [] ys = (stored_lines_for term wrap on count k ys, refl)
-lines_front term wrap on count k (x ∷ xs) ys =
-    let here : List (List ℕ) = stored_line on count k (map (shown_for term) (own_rows wrap x)) in
-    let more = lines_front term wrap on count (k + 1) xs ys in
-    (more.0, ap (λ rs. here ++ rs) more.1 ∙ sym (append_assoc here (stored_lines_for term wrap on count (k + 1) xs) more.0))
+lines_front : (term : Option Re) (wrap : Wrap) (carry on : Bool) (count k : ℕ) (xs ys : List (List ℕ)) → (rest : List (List ℕ)) × (put_lines term wrap carry on count k (xs ++ ys) ≡ put_lines term wrap carry on count k xs ++ rest)
+lines_front term wrap carry on count k [] ys = (put_lines term wrap carry on count k ys, refl)
+lines_front term wrap carry on count k (x ∷ xs) ys =
+    let here : List (List ℕ) = stored_line on count k (put_rows term wrap carry x) in
+    let more = lines_front term wrap carry on count (k + 1) xs ys in
+    (more.0, ap (λ rs. here ++ rs) more.1 ∙ sym (append_assoc here (put_lines term wrap carry on count (k + 1) xs) more.0))
 
-stored_front : (term : Option Re) (wrap : Wrap) (on : Bool) (count n : ℕ) (text piece : List ℕ) → n ≡ length (rows_of_lines wrap (finished_lines text)) → take n (stored_lines_for term wrap on count 1 (lines (text ++ piece))) ≡ stored_lines_for term wrap on count 1 (finished_lines text)
-stored_front term wrap on count n text piece e =
-    let split = lines_front term wrap on count 1 (finished_lines text) (lines (unfinished_line text ++ piece)) in
-    ap (λ ls. take n (stored_lines_for term wrap on count 1 ls)) (lines_pushed text piece) ∙ ap (take n) split.1
-    ∙ take_at (stored_lines_for term wrap on count 1 (finished_lines text)) split.0 n (sym (e ∙ length-lines_for term wrap on count 1 (finished_lines text)))
+stored_front : (term : Option Re) (wrap : Wrap) (carry on : Bool) (count n : ℕ) (text piece : List ℕ) → n ≡ length (rows_of_lines wrap (finished_lines text)) → take n (put_lines term wrap carry on count 1 (lines (text ++ piece))) ≡ put_lines term wrap carry on count 1 (finished_lines text)
+stored_front term wrap carry on count n text piece e =
+    let split = lines_front term wrap carry on count 1 (finished_lines text) (lines (unfinished_line text ++ piece)) in
+    ap (λ ls. take n (put_lines term wrap carry on count 1 ls)) (lines_pushed text piece) ∙ ap (take n) split.1
+    ∙ take_at (put_lines term wrap carry on count 1 (finished_lines text)) split.0 n (sym (e ∙ length-lines_for term wrap carry on count 1 (finished_lines text)))
 
 -- the first rows of a push that keeps rows, as they are stored
 pub stored_kept : (term : Option Re) (d : Document) (piece : List ℕ) → keeps_rows d piece d.layout.numbers d.layout.cols ≡ true
@@ -76,17 +76,18 @@ unfolding rows_of unfinished_rows stored_rows_for
 stored_kept term d piece e =
     let after : Document = pushed d piece d.layout.numbers d.layout.cols in
     let on : Bool = is_on d.layout.numbers in
+    let carry : Bool = d.layout.carry_style in
     let n : ℕ = length (rows_of_lines (wrap_in d) (lines d.text)) - length (open_rows (wrap_in d) (unfinished_line d.text)) in
     let counts = length-rows_of_lines d.text (wrap_in d) in
     let first : n ≡ length (rows_of_lines (wrap_in d) (finished_lines d.text)) = omega (arith, counts) in
     let both = and_parts (eqb d.layout.cols d.layout.cols) (eqb (margin_in after) (margin_in d)) e in
     let margins : margin_in after ≡ margin_in d = eqb-true (margin_in after) (margin_in d) both.1 in
-    let alike = lines_alike term (wrap_in d) on (line_count after) (line_count d) 1 (finished_lines d.text) (λ line f. prefix_alike d.layout.numbers (line_count after) (line_count d) line f margins) in
-    ap (λ t. take n (stored_lines_for term (wrap_in d) on (line_count d) 1 (lines t))) (sym (append-nil d.text))
-    ∙ stored_front term (wrap_in d) on (line_count d) n d.text [] first
+    let alike = lines_alike term (wrap_in d) carry on (line_count after) (line_count d) 1 (finished_lines d.text) (λ line f. prefix_alike d.layout.numbers (line_count after) (line_count d) line f margins) in
+    ap (λ t. take n (put_lines term (wrap_in d) carry on (line_count d) 1 (lines t))) (sym (append-nil d.text))
+    ∙ stored_front term (wrap_in d) carry on (line_count d) n d.text [] first
     ∙ sym alike
-    ∙ sym (stored_front term (wrap_in d) on (line_count after) n d.text piece first)
-    ∙ ap (λ (w : Wrap). take n (stored_lines_for term w on (line_count after) 1 (lines (d.text ++ piece)))) (sym (keeps_wrap d piece d.layout.numbers d.layout.cols e))
+    ∙ sym (stored_front term (wrap_in d) carry on (line_count after) n d.text piece first)
+    ∙ ap (λ (w : Wrap). take n (put_lines term w carry on (line_count after) 1 (lines (d.text ++ piece)))) (sym (keeps_wrap d piece d.layout.numbers d.layout.cols e))
 
 -- and as they are
 pub rows_stay : (d : Document) (piece : List ℕ) → keeps_rows d piece d.layout.numbers d.layout.cols ≡ true
@@ -107,7 +108,7 @@ margin_kept d piece e =
 
 pub length-stored_for : (term : Option Re) (d : Document) → length (stored_rows_for term d) ≡ length (rows_of d)
 unfolding rows_of stored_rows_for
-length-stored_for term d = sym (length-lines_for term (wrap_in d) (is_on d.layout.numbers) (line_count d) 1 (lines d.text))
+length-stored_for term d = sym (length-lines_for term (wrap_in d) d.layout.carry_style (is_on d.layout.numbers) (line_count d) 1 (lines d.text))
 
 -- without numbers they are the rows, and nothing stands before one
 own_lines : (wrap : Wrap) (count k : ℕ) (ls : List (List ℕ)) → stored_lines wrap false count k ls ≡ rows_of_lines wrap ls

@@ -1,5 +1,5 @@
 -- What a call that formats a text is asked for.
-use Rattle.std.specs.Prelude.{ℕ, ◌-◌, ◌^◌, min, Bool, List, ◌++◌, Option, None, Some, option_map, is_none}
+use Rattle.std.specs.Prelude.{false, ℕ, ◌-◌, ◌^◌, min, Bool, List, ◌++◌, Option, None, Some, option_map, is_none}
 use Rattle.regex.specs.Patterns.{Re}
 use Rattle.minus_text.specs.declared.layout.Layout.{Layout}
 use Rattle.minus_text.specs.declared.format.FormatOpts.{FormatOpts}
@@ -19,7 +19,12 @@ counted_before n = min n (2 ^ 63 - 1)
 
 abbrev pub block_of : {B : Type 0} → FormatOpts B → Block
 block_of opts =
-    let layout : Layout = record { cols = opts.cols; wrapping = opts.line_wrapping; numbers = opts.line_numbers } in
+    let layout : Layout = record {
+      cols = opts.cols;
+      wrapping = opts.line_wrapping;
+      numbers = opts.line_numbers;
+      carry_style = false;
+    } in
     block_with (option_map (λ a. a.now) opts.attachment) opts.text.now layout (counted_before opts.lines_count)
     (counted_before opts.formatted_lines_count) opts.prev_unterminated
 

@@ -1,5 +1,5 @@
 -- How the lines of a text fill rows.
-use Rattle.std.specs.Prelude.{ℕ, ◌+◌, ◌-◌, Bool, true, List, [], ◌∷◌, length, if◌then◌else◌}
+use Rattle.std.specs.Prelude.{ℕ, ◌+◌, ◌-◌, Bool, true, false, List, [], ◌∷◌, length, if◌then◌else◌}
 use Rattle.minus_text.specs.declared.wrap.Span.{Span}
 use Rattle.minus_text.specs.declared.layout.Wrap.{Wrap}
 use Rattle.minus_text.specs.declared.layout.Wrap.TheVariants.{At, Off}
@@ -33,8 +33,8 @@ wrap_of layout line_count = wrapped layout.wrapping (layout.cols - margin layout
 
 -- the layout of so many columns in which lines are wrapped and have no numbers
 abbrev pub plain : ℕ → Layout
-plain cols = record { cols = cols; wrapping = true; numbers = Disabled }
+plain cols = record { cols = cols; wrapping = true; numbers = Disabled; carry_style = false }
 
 -- a layout with other numbers and columns
 abbrev pub relaid : Layout → LineNumbers → ℕ → Layout
-relaid layout numbers cols = record { cols = cols; wrapping = layout.wrapping; numbers = numbers }
+relaid layout numbers cols = record layout { cols = cols; numbers = numbers }

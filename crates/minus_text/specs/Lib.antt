@@ -23,6 +23,8 @@ pub mod Highlight
 pub mod Shown
 pub mod Singles
 pub mod Found
+pub mod Styles
+pub mod WorkedStyles
 pub mod FoundRows
 pub mod Layouts
 pub mod Document
@@ -37,9 +39,13 @@ pub mod Seams
 pub mod Settled
 pub mod Forms
 pub mod FormatResults
+pub mod PushedPlaces
 pub mod Pending
 pub mod FoundBy
 pub mod LinePlaces
+pub mod CarriedStyles
+pub mod StyleSources
+pub mod StylesStay
 pub mod Searched
 pub mod Words
 pub mod NextPushes

@@ -6,6 +6,7 @@ use Rattle.minus_text.specs.declared.line_numbers.LineNumbers.{LineNumbers}
 use Rattle.minus_text.specs.declared.view.NextPush.{NextPush}
 use Rattle.minus_text.specs.Document.{Document, pushed}
 use Rattle.minus_text.specs.Pending.{Pending, IsPending}
+use Rattle.minus_text.specs.PushedPlaces.{PlacesGoOn-prop}
 use Rattle.minus_text.specs.Found.{RowMatches, found_above}
 
 -- the document that it would leave
@@ -37,7 +38,7 @@ numbers_set : IsSet LineNumbers
 numbers_set = Coded-set line_numbers.the_row.coded
 
 IsPending-prop : (d : Document) (piece : List ℕ) (numbers : LineNumbers) (cols : ℕ) (p : Pending) → IsProp (IsPending d piece numbers cols p)
-IsPending-prop d piece numbers cols p = hlevel (le_prop, rows_set, entries_set, number_set, numbers_set)
+IsPending-prop d piece numbers cols p = hlevel (le_prop, PlacesGoOn-prop, rows_set, entries_set, number_set, numbers_set)
 
 pub IsPendingBehind-prop : (d : Document) (next : Option NextPush) → IsProp (IsPendingBehind d next)
 IsPendingBehind-prop d None = hlevel

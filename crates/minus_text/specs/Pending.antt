@@ -6,6 +6,7 @@ use Rattle.minus_text.specs.declared.formed.Restart.{Restart}
 use Rattle.minus_text.specs.Document.{Document, rows_of, line_map, wrap_in, plan_of, pushed}
 use Rattle.minus_text.specs.Fragments.{Fragment, rows_in}
 use Rattle.minus_text.specs.Kept.{IsRestartOf}
+use Rattle.minus_text.specs.PushedPlaces.{PlacesGoOn}
 
 -- how many rows and lines stay, the first rows of the lines that follow, where that begins, the fragment whose rows follow, and the
 -- numbers and columns of the push
@@ -24,6 +25,7 @@ pub record IsPending (d : Document) (piece : List ℕ) (numbers : LineNumbers) (
   pub few : p.kept_rows ≤ length (rows_of d)
   pub map : line_map (pushed d piece numbers cols) ≡ take p.kept_lines (line_map d) ++ p.first_rows
   pub few_lines : p.kept_lines ≤ length (line_map d)
+  pub places : PlacesGoOn d (pushed d piece numbers cols) piece p.kept_rows p.start p.tail
   pub its_numbers : p.numbers ≡ numbers
   pub its_cols : p.cols ≡ cols
 

@@ -8,6 +8,7 @@ use Rattle.minus_text.specs.Layouts.{own_rows}
 use Rattle.minus_text.specs.Document.{Document, rows_of, wrap_in, line_count, stored_line, pushed}
 use Rattle.minus_text.specs.Fragments.{rows_in}
 use Rattle.minus_text.specs.Pending.{Pending}
+use Rattle.minus_text.specs.CarriedStyles.{carried_style, line_styles, styled}
 use Rattle.minus_text.specs.Highlight.{highlighted}
 use Rattle.minus_text.specs.Found.{RowMatches, found_by, found_above, found_of_row}
 
@@ -53,24 +54,37 @@ abbrev pub shown_for : Option Re → List ℕ → List ℕ
 shown_for None row = row
 shown_for (Some pattern) row = highlighted pattern false row
 
--- the stored rows of lines under a term, of which the first has a number
+-- the rows of a line as they are put: each with its matches in reverse, behind the style that it begins with where one is carried
+abbrev pub put_rows : Option Re → Wrap → Bool → List ℕ → List (List ℕ)
+put_rows term wrap carry line = styled (line_styles carry wrap line) (map (shown_for term) (own_rows wrap line))
+
+-- the stored rows of lines under a term, of which the first has a number; no style is carried
 abbrev pub stored_lines_for : Option Re → Wrap → Bool → ℕ → ℕ → List (List ℕ) → List (List ℕ)
 stored_lines_for term wrap numbers count line [] = []
 stored_lines_for term wrap numbers count line (x ∷ xs) =
     stored_line numbers count line (map (shown_for term) (own_rows wrap x)) ++ stored_lines_for term wrap numbers count (line + 1) xs
 
--- the stored rows of a document under a term: what stands before each row, and the row with its matches shown in reverse
+-- those of lines whose rows are put with the styles that they begin with, where styles are carried
+abbrev pub put_lines : Option Re → Wrap → Bool → Bool → ℕ → ℕ → List (List ℕ) → List (List ℕ)
+put_lines term wrap carry numbers count line [] = []
+put_lines term wrap carry numbers count line (x ∷ xs) =
+    stored_line numbers count line (put_rows term wrap carry x) ++ put_lines term wrap carry numbers count (line + 1) xs
+
+-- the stored rows of a document under a term: what stands before each row, the style that is carried to it, and the row with its matches in
+-- reverse
 unfoldable pub stored_rows_for : Option Re → Document → List (List ℕ)
-stored_rows_for term d = stored_lines_for term (wrap_in d) (is_on d.layout.numbers) (line_count d) 1 (lines d.text)
+stored_rows_for term d = put_lines term (wrap_in d) d.layout.carry_style (is_on d.layout.numbers) (line_count d) 1 (lines d.text)
 
--- a row, if there is one, with its matches shown in reverse and this before it, under whatever term it was searched for
+-- a row, if there is one, with its matches shown in reverse, the style that is carried to it before that, and this before both, under whatever
+-- term it was searched for
 abbrev pub IsRowBehind : List ℕ → Searched → ℕ → Option (List ℕ) → Type 0
-IsRowBehind before s i row =
-    (term : Option Re) → IsFoundAt term s i → row ≡ option_map (λ text. before ++ shown_for term text) (slice_get (rows_of s.document) i)
+IsRowBehind before s i row = (term : Option Re) → IsFoundAt term s i
+    → row ≡ option_map (λ text. before ++ carried_style s.document i ++ shown_for term text) (slice_get (rows_of s.document) i)
 
--- a row, if there is one, with its matches shown in reverse and nothing before it
+-- a row, if there is one, with its matches shown in reverse and nothing before it but the style that is carried to it
 abbrev pub IsHighlightedRow : Searched → ℕ → Option (List ℕ) → Type 0
-IsHighlightedRow s i row = (term : Option Re) → IsFoundAt term s i → row ≡ option_map (shown_for term) (slice_get (rows_of s.document) i)
+IsHighlightedRow s i row = (term : Option Re) → IsFoundAt term s i
+    → row ≡ option_map (λ text. carried_style s.document i ++ shown_for term text) (slice_get (rows_of s.document) i)
 
 -- a stored row, if there is one, under whatever term it was searched for
 abbrev pub IsStoredRow : Searched → ℕ → Option (List ℕ) → Type 0

@@ -14,6 +14,10 @@ pub struct Layout {
     pub wrapping: bool,
     /// Whether rows begin with the numbers of their lines.
     pub numbers: LineNumbers,
+    /// Whether each row is put with the style that its line carries to it: the style sequences, `ESC[..m`, before the
+    /// row in its line since the last reset, `ESC[m` or `ESC[0m`. No style goes on from a line into the next one. Blocks of
+    /// rows that stand by themselves carry none.
+    pub carry_style: bool,
 }
 
 impl Layout {
@@ -25,6 +29,7 @@ impl Layout {
             cols,
             wrapping: true,
             numbers: LineNumbers::Disabled,
+            carry_style: false,
         }
     }
 
@@ -36,6 +41,7 @@ impl Layout {
             cols,
             wrapping: self.wrapping,
             numbers,
+            carry_style: self.carry_style,
         }
     }
 }

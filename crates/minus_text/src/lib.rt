@@ -3,6 +3,7 @@
 
 mod block;
 mod buffers;
+pub mod carried_style;
 pub mod crop;
 mod format;
 mod formatted;
@@ -28,6 +29,7 @@ mod viewed_row;
 pub mod wrap;
 
 pub use buffers::{AppendableBuffer, ReusableRows};
+pub use carried_style::{carried_styles_stay, styles_stand_before};
 pub use crop::{Window, crop_columns, cropped_texts_fit, fit_columns, fitted_texts_fill};
 pub use format::{FormatOpts, format_lines_into, format_text_block};
 pub use formatted::{FormattedRow, SearchFormattedRow, format_search_rows};

@@ -248,8 +248,8 @@ impl Screen {
         self.found.row(i)
     }
 
-    /// A row as it is stored, counted from 0, if there is one: what stands before its text, and its text
-    /// with its matches shown in reverse. Fails for want of memory alone.
+    /// A row as it is stored, counted from 0, if there is one: what stands before its text, the style that is
+    /// carried to it, and its text with its matches shown in reverse. Fails for want of memory alone.
     pub fn formatted_row(&self, alloc: Global, i: usize) -> Result<Option<Row>, AllocError>
         ensures { IfOk result (λ row. IsStoredRow self.now i (option_map string_bytes row)) }
     {
@@ -257,7 +257,7 @@ impl Screen {
     }
 
     /// The own text of a row, counted from 0, if there is one, with its matches shown in reverse and nothing
-    /// before it. Fails for want of memory alone.
+    /// before it but the style that is carried to it. Fails for want of memory alone.
     pub fn highlighted_row(&self, alloc: Global, i: usize) -> Result<Option<Row>, AllocError>
         ensures { IfOk result (λ row. IsHighlightedRow self.now i (option_map string_bytes row)) }
     {

@@ -7,6 +7,7 @@ pub mod matches;
 pub mod patterns;
 pub(crate) mod shown_matches;
 mod standing;
+pub mod styles;
 pub mod term;
 pub mod words;
 

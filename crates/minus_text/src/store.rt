@@ -11,6 +11,7 @@ ghost use Rattle.minus_text.specs.LinePlaces.{row_places};
 ghost use Rattle.minus_text.specs.Pending.{IsPending, IsPreparedFor};
 ghost use Rattle.minus_text.specs.FormatResults.{Tells, TellsPlan, TellsPush};
 ghost use Rattle.minus_text.specs.Formatted.{prefix_of};
+ghost use Rattle.minus_text.specs.RowText.{IsUnescapedFrom};
 
 use crate::formatted::RowPrefix;
 use crate::formed::{Border, Finished, Formed, Plan, Restart, form};
@@ -327,6 +328,13 @@ impl Store {
             Some(row) => Some(row.text),
             None => None,
         }
+    }
+
+    // Whether no byte of the text is ESC, as far as is known.
+    pub(crate) fn is_unescaped(&self) -> bool
+        ensures { IsTrue result → IsUnescapedFrom 0 self.now.text }
+    {
+        self.escapes_end == 0
     }
 
     // The place of a row's own text, counted from 0, in the bytes of the text.

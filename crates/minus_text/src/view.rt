@@ -170,8 +170,8 @@ impl<'s> RowsView<'s> {
         formed
     }
 
-    // A row, counted from 0, if there is one, with this before its text. How many rows match above it is looked for
-    // near some number first, and put there.
+    // A row, counted from 0, if there is one, with this before its text and the style that is carried to it. How many
+    // rows match above it is looked for near some number first, and put there.
     fn row_behind(self, prefix: RowPrefix, i: usize, near: &mut usize) -> Option<ViewedRow<'s>>
         ensures { IsRowBehind (prefix_of prefix) (viewed self.entry) i (option_map viewed_text result) }
     {
@@ -181,12 +181,14 @@ impl<'s> RowsView<'s> {
         let found = self.found_at(i).of_row(i, near);
         Some(ViewedRow {
             row: FormattedRow { row, prefix },
+            style: self.style_source(i),
             found,
         })
     }
 
-    /// A row as it is stored, counted from 0, if there is one: what stands before its text, and its text with its
-    /// matches in reverse. It takes no memory. It is looked for near a place first, which is moved on to it.
+    /// A row as it is stored, counted from 0, if there is one: what stands before its text, the style that is carried to
+    /// it, and its text with its matches in reverse. It takes no memory. It is looked for near a place first, which is
+    /// moved on to it. Where styles are carried, its line is read back from it as far as the last reset.
     pub fn row(self, i: usize, place: &mut RowPlace) -> Option<ViewedRow<'s>>
         ensures { IsStoredRow (viewed self.entry) i (option_map viewed_text result) }
     {
@@ -195,8 +197,8 @@ impl<'s> RowsView<'s> {
         self.row_behind(prefix, i, &mut place.found)
     }
 
-    /// A row as it is stored, counted from 0, if there is one: what stands before its text, and its text with its
-    /// matches in reverse.
+    /// A row as it is stored, counted from 0, if there is one: what stands before its text, the style that is carried to
+    /// it, and its text with its matches in reverse.
     ///
     /// # Errors
     ///
@@ -209,7 +211,8 @@ impl<'s> RowsView<'s> {
         row_of(alloc, row)
     }
 
-    /// The text of a row, counted from 0, if there is one, with its matches in reverse and nothing before it.
+    /// The text of a row, counted from 0, if there is one, with its matches in reverse and nothing before it but the
+    /// style that is carried to it.
     ///
     /// # Errors
     ///
@@ -222,8 +225,8 @@ impl<'s> RowsView<'s> {
         row_of(alloc, row)
     }
 
-    /// The text of a row, counted from 0, if there is one and nothing was found in it: so it is with its matches in
-    /// reverse. It takes no memory.
+    /// The text of a row, counted from 0, if there is one, nothing was found in it, and no style is carried to it: so it
+    /// is with its matches in reverse. It takes no memory.
     pub fn plain_text(self, i: usize) -> Option<&'s str>
         ensures { IfSome result (λ text. IsHighlightedRow (viewed self.entry) i (Some text.now)) }
     {
@@ -236,6 +239,9 @@ impl<'s> RowsView<'s> {
         ensures { IfSome result (λ row. IsHighlightedRow (viewed self.entry) i (Some row.text.now)) }
     {
         let row = self.row_text(i)?;
+        if !self.style_source(i).is_plain() {
+            return None;
+        }
         let mut near = 0;
         match self.found_at(i).of_row(i, &mut near) {
             Some(_) => None,
@@ -255,8 +261,8 @@ impl<'s> RowsView<'s> {
         Some(MatchedText { text, found })
     }
 
-    /// A row, counted from 0, if there is one that is stored as its own text: it has no number, and nothing was found
-    /// in it. It takes no memory.
+    /// A row, counted from 0, if there is one that is stored as its own text: it has no number, nothing was found in it,
+    /// and no style is carried to it. It takes no memory.
     pub fn plain_row(self, i: usize) -> Option<&'s str>
         ensures { IfSome result (λ row. IsStoredRow (viewed self.entry) i (Some row.now)) }
     {

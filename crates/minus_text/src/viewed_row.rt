@@ -3,6 +3,7 @@ ghost use Rattle.std.specs.Prelude.{◌≡◌, ◌++◌, Some, option_map, OnOk}
 ghost use Rattle.minus_text.specs.Found.{marked, IsPlaced, IsPlacedSome, IsPlacedSome-prop};
 ghost use Rattle.minus_text.specs.FoundRows.{matches_of};
 
+use crate::carried_style::StyleSource;
 use crate::formatted::FormattedRow;
 use crate::push_text::PushText;
 use crate::screen::Row;
@@ -28,10 +29,11 @@ impl RowPlace {
     pub const TOP: RowPlace = RowPlace { line: 0, found: 0 };
 }
 
-/// A row of a view: what stands before its text, its text, and what was found in that.
+/// A row of a view: what stands before its text, the style that is carried to it, its text, and what was found in that.
 #[derive(Clone, Copy)]
 pub struct ViewedRow<'s> {
     pub(crate) row: FormattedRow<'s>,
+    pub(crate) style: StyleSource<'s>,
     pub(crate) found: Option<&'s FoundRow>,
     pub(crate) ghost placed: { IsPlacedSome row.row.now (option_map (λ f. matches_of f.now) found) } by { IsPlacedSome-prop row.row.now (option_map (λ f. matches_of f.now) found) },
 }
@@ -60,7 +62,7 @@ impl<'s> ViewedRow<'s> {
     ghost use Rattle.std.specs.Prelude.{◌≡◌, ◌++◌, string_bytes, IfOk, OnOk};
     ghost use Rattle.minus_text.specs.ViewedRows.{viewed_text};
 
-    // Bytes enough for it, where it has no escape sequences.
+    // Bytes enough for it, where it has no escape sequences and no style is carried to it.
     fn room(self) -> usize {
         let marks = match self.found {
             Some(found) => found.matches.len().saturating_mul(MARKS),
@@ -76,6 +78,7 @@ impl<'s> ViewedRow<'s> {
     {
         let FormattedRow { row, prefix } = self.row;
         prefix.push_to(out)?;
+        self.style.push_to(alloc, out)?;
         match self.found {
             Some(found) => push_found(alloc, out, row, found)?,
             None => out.push_text(row)?,
@@ -83,7 +86,8 @@ impl<'s> ViewedRow<'s> {
         Ok(())
     }
 
-    /// Adds it to the bytes of a drawing: what stands before its text, and its text with its matches in reverse.
+    /// Adds it to the bytes of a drawing: what stands before its text, the style that is carried to it, and its text with its
+    /// matches in reverse.
     ///
     /// # Errors
     ///
@@ -94,7 +98,8 @@ impl<'s> ViewedRow<'s> {
         self.push_to(alloc, out)
     }
 
-    /// It as a row of its own: what stands before its text, and its text with its matches in reverse.
+    /// It as a row of its own: what stands before its text, the style that is carried to it, and its text with its matches
+    /// in reverse.
     ///
     /// # Errors
     ///

@@ -4,9 +4,11 @@ use Rattle.std.specs.String.{string_bytes}
 use Rattle.std.proofs.lemmas.List.{length-append, length-drop}
 use Rattle.minus_text.specs.declared.formed.Plan.{Plan}
 use Rattle.minus_text.specs.RowText.{IsUnescapedFrom}
-use Rattle.minus_text.specs.Kept.{IsRestartOf, line_going_on, piece_behind}
+use Rattle.minus_text.specs.Lines.{cut}
+use Rattle.minus_text.specs.Kept.{stored_from, IsRestartOf, line_going_on, piece_behind}
 use Rattle.minus_text.proofs.ScreenLaws.{push_start}
 use Rattle.minus_text.proofs.PendingLaws.{prepared_pending, plan_keeps}
+use Rattle.minus_text.proofs.PushedPlacesLaws.{prepared_places}
 use Rattle.minus_text.proofs.store.Store.prepare_push.Goals as goal
 
 pub restart-start-requires : goal.restart-start-requires
@@ -35,7 +37,9 @@ returns-clause-pending c =
     let h = push_start c.args.self.now.text c.plan-plan.result c.restart-start.result c.args.text.now r.text c.utf8.text r.start in
     let tail = c.in_ok-tail.ensures ∙ h.1 in
     let formed = c.in_ok-formed.ensures.its_form (line_going_on c.args.self.now.text c.plan-plan.result) (piece_behind c.args.self.now.text c.plan-plan.result c.args.text.now) r.start.restarts h.0 (c.deref.ensures ∙ tail) in
-    prepared_pending c.args.self.now c.args.text.now (string_bytes c.in_ok-tail.tail) c.args.numbers c.args.cols c.restart-start.result c.plan-plan.result c.plan-plan.ensures r.start h.0 tail c.in_ok-formed.formed formed
+    let its = c.in_ok-formed.ensures.its_rows ∙ ap (λ t. stored_from c.plan-plan.result.wrap (c.restart-start.result.finished.bytes + c.restart-start.result.bytes) (cut t)) c.deref.ensures in
+    let places = prepared_places c.args.self.now c.args.text.now (string_bytes c.in_ok-tail.tail) c.args.numbers c.args.cols c.restart-start.result c.plan-plan.result c.in_ok-formed.formed c.plan-plan.ensures r.start r.text c.in_ok-tail.ensures its formed in
+    prepared_pending c.args.self.now c.args.text.now (string_bytes c.in_ok-tail.tail) c.args.numbers c.args.cols c.restart-start.result c.plan-plan.result c.plan-plan.ensures r.start h.0 tail c.in_ok-formed.formed formed places
 
 pub returns-clause-prepared : goal.returns-clause-prepared
 returns-clause-prepared c =
