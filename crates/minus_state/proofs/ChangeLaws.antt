@@ -27,13 +27,14 @@ use Rattle.minus_state.specs.declared.search.SearchMode.{SearchMode}
 use Rattle.minus_state.specs.Sizes.{IsSize}
 use Rattle.minus_state.specs.States.{control_of, settings_of, term_of, search_of, IsFormed}
 
-same_control : (a b : Control) → a.text ≡ b.text → a.cols ≡ b.cols → a.rows ≡ b.rows → a.numbers ≡ b.numbers → a.wrapping ≡ b.wrapping → a.mark ≡ b.mark → a.left ≡ b.left → a.ends ≡ b.ends → a.term ≡ b.term → a.search_mark ≡ b.search_mark → a.settings ≡ b.settings → a.help ≡ b.help → a.mode ≡ b.mode → a.search ≡ b.search → a ≡ b
-same_control a b t c r n w m l e p q s h d o =
+same_control : (a b : Control) → a.text ≡ b.text → a.cols ≡ b.cols → a.rows ≡ b.rows → a.numbers ≡ b.numbers → a.wrapping ≡ b.wrapping → a.carry_style ≡ b.carry_style → a.mark ≡ b.mark → a.left ≡ b.left → a.ends ≡ b.ends → a.term ≡ b.term → a.search_mark ≡ b.search_mark → a.settings ≡ b.settings → a.help ≡ b.help → a.mode ≡ b.mode → a.search ≡ b.search → a ≡ b
+same_control a b t c r n w v m l e p q s h d o =
     ap (λ (x : List ℕ). let k : Control = record a { text = x } in k) t
     ∙ ap (λ (x : ℕ). let k : Control = record a { text = b.text; cols = x } in k) c
     ∙ ap (λ (x : ℕ). let k : Control = record a { text = b.text; cols = b.cols; rows = x } in k) r
     ∙ ap (λ (x : LineNumbers). let k : Control = record a { text = b.text; cols = b.cols; rows = b.rows; numbers = x } in k) n
     ∙ ap (λ (x : Bool). let k : Control = record a { text = b.text; cols = b.cols; rows = b.rows; numbers = b.numbers; wrapping = x } in k) w
+    ∙ ap (λ (x : Bool). let k : Control = record a { text = b.text; cols = b.cols; rows = b.rows; numbers = b.numbers; wrapping = b.wrapping; carry_style = x } in k) v
     ∙ ap (λ (x : ℕ). let k : Control = record b { mark = x; left = a.left; ends = a.ends; term = a.term; search_mark = a.search_mark; settings = a.settings; help = a.help; mode = a.mode; search = a.search } in k) m
     ∙ ap (λ (x : ℕ). let k : Control = record b { left = x; ends = a.ends; term = a.term; search_mark = a.search_mark; settings = a.settings; help = a.help; mode = a.mode; search = a.search } in k) l
     ∙ ap (λ (x : SelectionEnds). let k : Control = record b { ends = x; term = a.term; search_mark = a.search_mark; settings = a.settings; help = a.help; mode = a.mode; search = a.search } in k) e
@@ -94,7 +95,7 @@ pub placed : (s t : PagerState) (change : Change) (new : Control) → IsFormed s
 placed s t change new f h p =
     let next = document_next s change new f h in
     let document : t.screen.document ≡ document_of new = p.document ∙ next in
-    same_control (control_of t) new (ap (λ (d : Document). d.text) document) (p.cols ∙ h.cols_are) (p.rows ∙ h.rows_are) (p.numbers ∙ ap (λ (d : Document). d.layout.numbers) next) (ap (λ (d : Document). d.layout.wrapping) document) (p.mark ∙ h.mark_is) (p.left ∙ h.left_is) (p.ends ∙ h.ends_are) (p.term ∙ h.term_is) (p.search_mark ∙ h.search_mark_is) (p.settings ∙ h.settings_are) (p.help ∙ h.help_is) (p.search_mode ∙ h.mode_is) (p.search ∙ h.search_is)
+    same_control (control_of t) new (ap (λ (d : Document). d.text) document) (p.cols ∙ h.cols_are) (p.rows ∙ h.rows_are) (p.numbers ∙ ap (λ (d : Document). d.layout.numbers) next) (ap (λ (d : Document). d.layout.wrapping) document) (ap (λ (d : Document). d.layout.carry_style) document) (p.mark ∙ h.mark_is) (p.left ∙ h.left_is) (p.ends ∙ h.ends_are) (p.term ∙ h.term_is) (p.search_mark ∙ h.search_mark_is) (p.settings ∙ h.settings_are) (p.help ∙ h.help_is) (p.search_mode ∙ h.mode_is) (p.search ∙ h.search_is)
 
 -- and it is formed
 pub formed_placed : (s t : PagerState) (change : Change) (new : Control) → IsFormed s → IsChange (control_of s) change new → IsPlaced s change t → IsFormed t

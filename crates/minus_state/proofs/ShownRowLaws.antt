@@ -1,5 +1,5 @@
 -- Laws of shown rows.
-use Rattle.std.proofs.Common.{◌≡◌, ℕ, suc, ◌+◌, ◌≤◌, List, [], ◌∷◌, ◌++◌, length, chars, Option, Some, None, append_assoc, option_map, refl, sym, subst, ap, ◌∙◌, inl, unwrap_or, ◌⊎◌}
+use Rattle.std.proofs.Common.{◌≡◌, ℕ, suc, true, ◌+◌, ◌≤◌, List, [], ◌∷◌, ◌++◌, length, chars, Option, Some, None, append_assoc, option_map, refl, sym, subst, ap, ◌∙◌, inl, unwrap_or, ◌⊎◌}
 use Rattle.std.specs.List.{slice_get, concat}
 use Rattle.std.specs.Str.{IsUtf8, encode_utf8_all}
 use Rattle.minus_text.specs.Crop.{cropped, shown_units, columns_of}
@@ -9,7 +9,9 @@ use Rattle.minus_text.specs.Document.{Document, rows_of}
 use Rattle.minus_text.specs.ShownMatches.{shown_within}
 use Rattle.minus_text.proofs.ShownColumnsLaws.{shown_columns_fit}
 use Rattle.minus_state.specs.declared.selection.Selection.{Selection}
-use Rattle.minus_state.specs.ShownRow.{columns_for_text, line_prefix, cropped_line, cropped_row, unmarked_row, selected_range, with_marks, shown_row, before_rows, rows_from, ShownRowsFit, SelectionAddsMarkersAlone}
+use Rattle.minus_state.specs.ShownRow.{columns_for_text, line_prefix, cropped_line, cropped_row, laid_row, ended_in, unmarked_row, selected_range, with_marks, shown_row, before_rows, rows_from, ShownRowsFit, ShownRowsAreClosed, SelectionAddsMarkersAlone}
+use Rattle.minus_text.specs.Styles.{ended, IsClosed}
+use Rattle.minus_text.proofs.StylesLaws.{ended_closed}
 use Rattle.minus_state.specs.VisibleCharacters.{HasMarks}
 use Rattle.std.proofs.lemmas.List.{append-nil}
 use Rattle.minus_state.proofs.VisibleLaws.{marks_alone}
@@ -31,18 +33,30 @@ all_rows term d left ends i m rows total e t = sym (append-nil rows) ∙ ap (λ 
 
 -- ---- shown rows fit
 
-fits : (d : Document) (left i : ℕ) (row : List ℕ) (o : Option (List ℕ)) → option_map (with_marks None) (option_map (cropped_line d left i) o) ≡ Some row
-    → (units : List (List ℕ)) × (row ≡ line_prefix d i ++ encode_utf8_all (concat units)) × (columns_of units ≤ columns_for_text d)
+fits : (d : Document) (left i : ℕ) (row : List ℕ) (o : Option (List ℕ)) → option_map (with_marks None) (option_map (ended_in d) (option_map (cropped_line d left i) o)) ≡ Some row
+    → (units : List (List ℕ)) × (row ≡ ended_in d (line_prefix d i ++ encode_utf8_all (concat units))) × (columns_of units ≤ columns_for_text d)
 unfolding cropped
 fits d left i row None e = absurd cc
 fits d left i row (Some text) e =
-    let is : line_prefix d i ++ cropped left (columns_for_text d) text ≡ row = cc in
+    let is : ended_in d (line_prefix d i ++ cropped left (columns_for_text d) text) ≡ row = cc in
     (shown_units left (columns_for_text d) [] (text_units (chars text)), sym is, shown_columns_fit left (columns_for_text d) (chars text))
 
 pub rows_fit : ShownRowsFit
 rows_fit term d left i row off e =
-    let cropped_is : unmarked_row term d left i ≡ cropped_row term d left i = rw off refl in
-    fits d left i row (option_map (shown_within term left (columns_for_text d)) (slice_get (rows_of d) i)) (sym (ap (option_map (with_marks None)) cropped_is) ∙ e)
+    let cropped_is : laid_row term d left i ≡ cropped_row term d left i = rw off refl in
+    fits d left i row (option_map (shown_within term left (columns_for_text d)) (slice_get (rows_of d) i)) (sym (ap (λ o. option_map (with_marks None) (option_map (ended_in d) o)) cropped_is) ∙ e)
+
+-- ---- shown rows leave no style open
+
+closed_some : (d : Document) (row : List ℕ) (o : Option (List ℕ)) → d.layout.carry_style ≡ true → option_map (with_marks None) (option_map (ended_in d) o) ≡ Some row → IsClosed row
+closed_some d row None on e = absurd cc
+closed_some d row (Some text) on e =
+    let is : ended_in d text ≡ row = cc in
+    let carried : ended_in d text ≡ ended text = rw on refl in
+    subst IsClosed (sym carried ∙ is) (ended_closed text)
+
+pub rows_closed : ShownRowsAreClosed
+rows_closed term d left i row on e = closed_some d row (laid_row term d left i) on e
 
 -- ---- marks
 

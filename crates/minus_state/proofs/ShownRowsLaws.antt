@@ -13,7 +13,7 @@ use Rattle.minus_text.proofs.StoredKeptLaws.{prefix_alike, columns_alike, stored
 use Rattle.minus_state.specs.declared.selection.Selection.{Selection}
 use Rattle.minus_state.specs.Selection.{marked_range}
 use Rattle.minus_state.specs.View.{prefix_in, cut_in}
-use Rattle.minus_state.specs.ShownRow.{columns_for_text, line_prefix, cropped_line, cropped_row, unmarked_row, selected_range, with_marks, shown_row, before_rows, rows_from, shown_rows}
+use Rattle.minus_state.specs.ShownRow.{columns_for_text, line_prefix, cropped_line, cropped_row, laid_row, ended_in, unmarked_row, selected_range, with_marks, shown_row, before_rows, rows_from, shown_rows}
 
 -- ---- there is a shown row where there is a row
 
@@ -22,27 +22,27 @@ some_at [] i l = absurd (omega arith)
 some_at (x ∷ xs) zero l = (x, refl)
 some_at (x ∷ xs) (suc i) l = some_at xs i (omega arith)
 
-unmarked_on : (term : Option Re) (d : Document) (left i : ℕ) → d.layout.wrapping ≡ true → unmarked_row term d left i ≡ slice_get (stored_rows_for term d) i
-unmarked_on term d left i on = ap (λ (b : Bool). if b then slice_get (stored_rows_for term d) i else cropped_row term d left i) on
+laid_on : (term : Option Re) (d : Document) (left i : ℕ) → d.layout.wrapping ≡ true → laid_row term d left i ≡ slice_get (stored_rows_for term d) i
+laid_on term d left i on = ap (λ (b : Bool). if b then slice_get (stored_rows_for term d) i else cropped_row term d left i) on
 
-unmarked_off : (term : Option Re) (d : Document) (left i : ℕ) → d.layout.wrapping ≡ false → unmarked_row term d left i ≡ cropped_row term d left i
-unmarked_off term d left i off = ap (λ (b : Bool). if b then slice_get (stored_rows_for term d) i else cropped_row term d left i) off
+laid_off : (term : Option Re) (d : Document) (left i : ℕ) → d.layout.wrapping ≡ false → laid_row term d left i ≡ cropped_row term d left i
+laid_off term d left i off = ap (λ (b : Bool). if b then slice_get (stored_rows_for term d) i else cropped_row term d left i) off
 
-unmarked_there : (term : Option Re) (d : Document) (left i : ℕ) → i < length (rows_of d) → (row : List ℕ) × (unmarked_row term d left i ≡ Some row)
-unmarked_there term d left i l = elim (cases_Bool d.layout.wrapping) [
+laid_there : (term : Option Re) (d : Document) (left i : ℕ) → i < length (rows_of d) → (row : List ℕ) × (laid_row term d left i ≡ Some row)
+laid_there term d left i l = elim (cases_Bool d.layout.wrapping) [
   | inl on ↦
       let count = length-stored_for term d in
       let row = some_at (stored_rows_for term d) i (omega (arith, l, count)) in
-      (row.0, unmarked_on term d left i on ∙ row.1)
+      (row.0, laid_on term d left i on ∙ row.1)
   | inr off ↦
       let row = some_at (rows_of d) i l in
-      (cropped_line d left i (shown_within term left (columns_for_text d) row.0), unmarked_off term d left i off ∙ ap (λ (o : Option (List ℕ)). option_map (cropped_line d left i) (option_map (shown_within term left (columns_for_text d)) o)) row.1)
+      (cropped_line d left i (shown_within term left (columns_for_text d) row.0), laid_off term d left i off ∙ ap (λ (o : Option (List ℕ)). option_map (cropped_line d left i) (option_map (shown_within term left (columns_for_text d)) o)) row.1)
 ]
 
 shown_there : (term : Option Re) (d : Document) (left : ℕ) (ends : Option (Selection × Selection)) (i : ℕ) → i < length (rows_of d) → (row : List ℕ) × (shown_row term d left ends i ≡ Some row)
 shown_there term d left ends i l =
-    let row = unmarked_there term d left i l in
-    (with_marks (selected_range d left ends i) row.0, ap (option_map (with_marks (selected_range d left ends i))) row.1)
+    let row = laid_there term d left i l in
+    (with_marks (selected_range d left ends i) (ended_in d row.0), ap (λ (o : Option (List ℕ)). option_map (with_marks (selected_range d left ends i)) (option_map (ended_in d) o)) row.1)
 
 -- ---- as many as rows, each at its number
 
@@ -173,18 +173,18 @@ range_alike d piece left (Some ends) i keeps =
     let columns : prefix_in d ≡ prefix_in e = columns_alike d.layout.numbers (line_count d) (line_count e) (sym (margin_kept d piece keeps)) in
     ap (λ (n : ℕ). marked_range ends.0 ends.1 i n (cut_in d left)) columns
 
-unmarked_alike : (term : Option Re) (d : Document) (piece : List ℕ) (left i : ℕ) → keeps_rows d piece d.layout.numbers d.layout.cols ≡ true → i < length (rows_of d) - unfinished_rows d
-    → (let e : Document = pushed d piece d.layout.numbers d.layout.cols in unmarked_row term d left i ≡ unmarked_row term e left i)
-unmarked_alike term d piece left i keeps l =
+laid_alike : (term : Option Re) (d : Document) (piece : List ℕ) (left i : ℕ) → keeps_rows d piece d.layout.numbers d.layout.cols ≡ true → i < length (rows_of d) - unfinished_rows d
+    → (let e : Document = pushed d piece d.layout.numbers d.layout.cols in laid_row term d left i ≡ laid_row term e left i)
+laid_alike term d piece left i keeps l =
     let e : Document = pushed d piece d.layout.numbers d.layout.cols in
     let n : ℕ = length (rows_of d) - unfinished_rows d in
     let stored : slice_get (stored_rows_for term d) i ≡ slice_get (stored_rows_for term e) i = below (stored_rows_for term d) (stored_rows_for term e) n i (stored_kept term d piece keeps) l in
     let own : slice_get (rows_of d) i ≡ slice_get (rows_of e) i = below (rows_of d) (rows_of e) n i (rows_stay d piece keeps) l in
     elim (cases_Bool d.layout.wrapping) [
-      | inl on ↦ unmarked_on term d left i on ∙ stored ∙ sym (unmarked_on term e left i on)
+      | inl on ↦ laid_on term d left i on ∙ stored ∙ sym (laid_on term e left i on)
       | inr off ↦
-          unmarked_off term d left i off ∙ ap (λ (o : Option (List ℕ)). option_map (cropped_line d left i) (option_map (shown_within term left (columns_for_text d)) o)) own
-          ∙ cropped_alike term d piece left i (slice_get (rows_of e) i) keeps ∙ sym (unmarked_off term e left i off)
+          laid_off term d left i off ∙ ap (λ (o : Option (List ℕ)). option_map (cropped_line d left i) (option_map (shown_within term left (columns_for_text d)) o)) own
+          ∙ cropped_alike term d piece left i (slice_get (rows_of e) i) keeps ∙ sym (laid_off term e left i off)
     ]
 
 -- the shown rows before the first that it changes stay
@@ -199,4 +199,4 @@ shown_kept term d piece left ends keeps =
     let there = length-take n (rows_of e) in
     same_all term d e left ends n (omega arith) (omega (arith, front, here, there)) (λ j l.
     ap (λ (r : Option (ℕ × Option ℕ)). option_map (with_marks r) (unmarked_row term d left j)) (range_alike d piece left ends j keeps)
-    ∙ ap (option_map (with_marks (selected_range e left ends j))) (unmarked_alike term d piece left j keeps l))
+    ∙ ap (option_map (with_marks (selected_range e left ends j))) (ap (option_map (ended_in d)) (laid_alike term d piece left j keeps l)))

@@ -1,12 +1,14 @@
 -- Rows of text in the bytes of a drawing.
-use Rattle.std.proofs.Common.{◌≡◌, ℕ, zero, suc, ◌+◌, ◌<◌, ◌≤◌, List, [], ◌∷◌, ◌++◌, length, take, drop, Option, Some, None, refl, sym, ap, ◌∙◌}
+use Rattle.std.proofs.Common.{◌≡◌, ℕ, zero, suc, ◌+◌, ◌<◌, ◌≤◌, List, [], ◌∷◌, ◌++◌, length, take, drop, Option, Some, None, refl, sym, ap, ap₂, ◌∙◌}
 use Rattle.std.specs.List.{flat_map, slice_get}
+use Rattle.std.proofs.lemmas.List.{take_at, drop_at}
 use Rattle.std.proofs.lemmas.List.Concat.{flat_map-append}
 use Rattle.minus_term.specs.FullRedraw.{row_ops}
 use Rattle.minus_term.specs.Operations.{Op}
 use Rattle.minus_term.specs.Written.{written_all}
 use Rattle.minus_term.proofs.WrittenLaws.{no_op, ops_added}
-use Rattle.minus_state.specs.ShownRow.{before_rows}
+use Rattle.minus_state.specs.ShownRow.{before_rows, ended_in}
+use Rattle.minus_text.specs.Document.{Document}
 use Rattle.minus_state.specs.Writing.{some_row_ops}
 use Rattle.minus_state.proofs.ShownLaws.{shown_next}
 
@@ -17,6 +19,13 @@ none_written old o is = no_op old ∙ ap (λ (row : Option (List ℕ)). old ++ w
 -- a row that is there was added
 pub row_written : (old new row : List ℕ) (o : Option (List ℕ)) → new ≡ old ++ written_all (row_ops row) → Some row ≡ o → new ≡ old ++ written_all (some_row_ops o)
 row_written old new row o e is = e ∙ ap (λ (row : Option (List ℕ)). old ++ written_all (some_row_ops row)) is
+
+-- the text of a row, ended where styles are carried, behind what stands before the text
+pub ended_behind : (d : Document) (old text all new : List ℕ) (from : ℕ) → from ≡ length old → all ≡ old ++ text → new ≡ take from all ++ ended_in d (drop from all) → new ≡ old ++ ended_in d text
+ended_behind d old text all new from at is e =
+    let front : take from all ≡ old = ap (take from) is ∙ take_at old text from (sym at) in
+    let rest : drop from all ≡ text = ap (drop from) is ∙ drop_at old text from (sym at) in
+    e ∙ ap₂ (λ a b. a ++ ended_in d b) front rest
 
 none_yet : {X : Type 0} (n : ℕ) (xs : List X) → drop n (take n xs) ≡ []
 none_yet zero [] = refl

@@ -31,16 +31,17 @@ pub record Saved : Type 0 where
   pub prompt : List ℕ
   pub follow : Bool
 
--- the text, the size, whether lines have numbers and are wrapped, the first row on the page, the columns that are cut off at the
--- left where lines are not wrapped, the ends of a selection, the term that rows are searched for, if there is one, and which of the
--- rows that match is told of, counted from 0; what is set beside them; while help is open, what is put aside; the direction of the last
--- search; and, while a search prompt is open, that
+-- the text, the size, whether lines have numbers and are wrapped, whether rows are put with the styles that their lines carry to them,
+-- the first row on the page, the columns that are cut off at the left where lines are not wrapped, the ends of a selection, the term
+-- that rows are searched for, if there is one, and which of the rows that match is told of, counted from 0; what is set beside them;
+-- while help is open, what is put aside; the direction of the last search; and, while a search prompt is open, that
 pub record Control : Type 0 where
   pub text : List ℕ
   pub cols : ℕ
   pub rows : ℕ
   pub numbers : LineNumbers
   pub wrapping : Bool
+  pub carry_style : Bool
   pub mark : ℕ
   pub left : ℕ
   pub ends : SelectionEnds
@@ -53,7 +54,8 @@ pub record Control : Type 0 where
 
 -- the document of the text on show
 abbrev pub document_of : Control → Document
-document_of c = record { text = c.text; layout = record { cols = c.cols; wrapping = c.wrapping; numbers = c.numbers } }
+document_of c =
+    record { text = c.text; layout = record { cols = c.cols; wrapping = c.wrapping; numbers = c.numbers; carry_style = c.carry_style } }
 
 -- the texts of its rows
 abbrev pub text_rows : Control → List (List ℕ)
@@ -93,7 +95,13 @@ reformed c = record c { search_mark = search_mark_anew c.term (document_of c) c.
 
 -- another text in another layout, whose rows are formed anew, with the mark at a row
 abbrev pub anew_at : Control → List ℕ → Layout → ℕ → Control
-anew_at c text layout mark = reformed (record c { text = text; numbers = layout.numbers; wrapping = layout.wrapping; mark = mark })
+anew_at c text layout mark = reformed (record c {
+  text = text;
+  numbers = layout.numbers;
+  wrapping = layout.wrapping;
+  carry_style = layout.carry_style;
+  mark = mark;
+})
 
 -- the rows are searched for another term, or for none
 abbrev pub searched_for : Control → Option Re → Control

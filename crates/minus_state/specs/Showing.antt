@@ -4,7 +4,7 @@ use Rattle.regex.specs.Patterns.{Re}
 use Rattle.minus_text.specs.Searched.{IsFoundAt, IsFoundBetween}
 use Rattle.minus_text.specs.Views.{viewed}
 use Rattle.minus_state.specs.Selection.{ends_in_order}
-use Rattle.minus_state.specs.ShownRow.{cropped_row, unmarked_row, shown_row, shown_rows}
+use Rattle.minus_state.specs.ShownRow.{cropped_row, laid_row, unmarked_row, shown_row, shown_rows}
 use Rattle.minus_state.specs.declared.showing.ShownRow.{ShownRow}
 use Rattle.minus_state.specs.declared.showing.ShownRow.TheVariants.{Own, Formed}
 use Rattle.minus_state.specs.declared.showing.ShownRows.{ShownRows}
@@ -18,6 +18,11 @@ row_text (Formed row) = string_bytes row
 abbrev pub IsCroppedRow : ShownRows → ℕ → Option (List ℕ) → Type 0
 IsCroppedRow shown i row =
     (term : Option Re) → IsFoundAt term (viewed shown.view) i → row ≡ cropped_row term (viewed shown.view).document shown.left_mark i
+
+-- the row with a number, if there is one, is laid out so
+abbrev pub IsLaidRow : ShownRows → ℕ → Option (List ℕ) → Type 0
+IsLaidRow shown i row =
+    (term : Option Re) → IsFoundAt term (viewed shown.view) i → row ≡ laid_row term (viewed shown.view).document shown.left_mark i
 
 -- the row with a number, if there is one, is shown so, where nothing in it is selected
 abbrev pub IsUnmarkedRow : ShownRows → ℕ → Option (List ℕ) → Type 0

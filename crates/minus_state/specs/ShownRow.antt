@@ -9,6 +9,7 @@ use Rattle.regex.specs.Patterns.{Re}
 use Rattle.minus_text.specs.Document.{Document, rows_of, line_count}
 use Rattle.minus_text.specs.Searched.{stored_rows_for}
 use Rattle.minus_text.specs.ShownMatches.{shown_within}
+use Rattle.minus_text.specs.Styles.{ended, IsClosed}
 use Rattle.minus_state.specs.declared.selection.Selection.{Selection}
 use Rattle.minus_state.specs.Selection.{marked_range}
 use Rattle.minus_state.specs.View.{prefix_in, cut_in}
@@ -30,9 +31,17 @@ cropped_line d left i text = line_prefix d i ++ cropped left (columns_for_text d
 abbrev pub cropped_row : Option Re → Document → ℕ → ℕ → Option (List ℕ)
 cropped_row term d left i = option_map (cropped_line d left i) (option_map (shown_within term left (columns_for_text d)) (slice_get (rows_of d) i))
 
--- a row without a selection: as it is stored, or, where lines are not wrapped, what is shown of its line
+-- a row as it is laid out: as it is stored, or, where lines are not wrapped, what is shown of its line
+abbrev pub laid_row : Option Re → Document → ℕ → ℕ → Option (List ℕ)
+laid_row term d left i = if d.layout.wrapping then slice_get (stored_rows_for term d) i else cropped_row term d left i
+
+-- a row of a document: where styles are carried, it is ended, so that it leaves none open behind it
+abbrev pub ended_in : Document → List ℕ → List ℕ
+ended_in d row = if d.layout.carry_style then ended row else row
+
+-- a row without a selection
 abbrev pub unmarked_row : Option Re → Document → ℕ → ℕ → Option (List ℕ)
-unmarked_row term d left i = if d.layout.wrapping then slice_get (stored_rows_for term d) i else cropped_row term d left i
+unmarked_row term d left i = option_map (ended_in d) (laid_row term d left i)
 
 -- the visible characters of a row that are selected, if some may be
 abbrev pub selected_range : Document → ℕ → Option (Selection × Selection) → ℕ → Option (ℕ × Option ℕ)
@@ -62,10 +71,16 @@ rows_from term d left ends i (suc n) = before_rows (shown_row term d left ends i
 unfoldable pub shown_rows : Option Re → Document → ℕ → Option (Selection × Selection) → ℕ → ℕ → List (List ℕ)
 shown_rows term d left ends start end = rows_from term d left ends start (min end (length (rows_of d)) - start)
 
--- where lines are not wrapped, a row without a selection takes no more columns behind its prefix than are left for its text
+-- where lines are not wrapped, a row without a selection, less the reset that ends it, takes no more columns behind its prefix than are
+-- left for its text
 abbrev pub ShownRowsFit : Type 0
 ShownRowsFit = (term : Option Re) (d : Document) (left i : ℕ) (row : List ℕ) → d.layout.wrapping ≡ false → shown_row term d left None i ≡ Some row
-    → (units : List (List ℕ)) × (row ≡ line_prefix d i ++ encode_utf8_all (concat units)) × (columns_of units ≤ columns_for_text d)
+    → (units : List (List ℕ)) × (row ≡ ended_in d (line_prefix d i ++ encode_utf8_all (concat units))) × (columns_of units ≤ columns_for_text d)
+
+-- where styles are carried, a row without a selection leaves none open
+abbrev pub ShownRowsAreClosed : Type 0
+ShownRowsAreClosed = (term : Option Re) (d : Document) (left i : ℕ) (row : List ℕ) → d.layout.carry_style ≡ true
+    → shown_row term d left None i ≡ Some row → IsClosed row
 
 -- a shown row without the two marks of a selection is the row without a selection, or it has none
 abbrev pub SelectionAddsMarkersAlone : Type 0

@@ -49,6 +49,7 @@ control_of s = record {
   rows = s.rows;
   numbers = s.line_numbers;
   wrapping = s.screen.document.layout.wrapping;
+  carry_style = s.screen.document.layout.carry_style;
   mark = s.upper_mark;
   left = s.left_mark;
   ends = ends_of s;
@@ -70,7 +71,7 @@ pub record IsFormed (s : PagerState) : Type 0 where
 abbrev pub first_settings : Settings
 first_settings = record { prompt = codes "minus"; message = None; prefix = []; is_shown = true; follow = false }
 
--- no text, lines without numbers and wrapped, the marks at the first row and column, nothing selected, no term, and no prompt open
+-- no text, lines without numbers and wrapped, no styles carried, the marks at the first row and column, nothing selected, no term, and no prompt open
 abbrev pub at_start : ℕ → ℕ → Control
 at_start cols rows = record {
   text = [];
@@ -78,6 +79,7 @@ at_start cols rows = record {
   rows = rows;
   numbers = Disabled;
   wrapping = true;
+  carry_style = false;
   mark = 0;
   left = 0;
   ends = record { anchor = None; selection = None };

@@ -28,7 +28,9 @@ pub use hooks::{HookCall, HookId, HookList, is_reserved};
 pub use input::{InputClassifier, InputEvent};
 pub use kept::{ExitCallback, HookCallback, Hooks, KeptExit, KeptHook, NeverCalled};
 pub use prompt::{PromptRow, format_prompt, prompt_fills_its_row};
-pub use rendering::{render_rows_for_display, selection_adds_markers_alone, shown_rows_fit};
+pub use rendering::{
+    render_rows_for_display, selection_adds_markers_alone, shown_rows_are_closed, shown_rows_fit,
+};
 pub use scroll::get_horizontal_scroll_bounds;
 pub use search::condition::{ConditionCall, KeptCondition, NeverShows, SearchCondition};
 pub use search::keys::{QueryEdit, edit_of};

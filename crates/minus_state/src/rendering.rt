@@ -1,6 +1,6 @@
 //! What is shown of rows.
 ghost use Rattle.std.specs.Prelude.{◌≡◌, [], ◌++◌, map, option_map, string_bytes, IfOk, OnOk};
-ghost use Rattle.minus_state.specs.ShownRow.{before_rows, ShownRowsFit, SelectionAddsMarkersAlone};
+ghost use Rattle.minus_state.specs.ShownRow.{before_rows, ShownRowsFit, ShownRowsAreClosed, SelectionAddsMarkersAlone};
 ghost use Rattle.minus_state.specs.Showing.{row_text, AreShownRows};
 
 use crate::showing::{ShownRow, ShownRows};
@@ -43,6 +43,11 @@ pub fn render_rows_for_display(
 /// left for its text.
 pub fn shown_rows_fit()
     ensures { ShownRowsFit }
+{}
+
+/// Where styles are carried, a row without a selection leaves none open, whatever its text is.
+pub fn shown_rows_are_closed()
+    ensures { ShownRowsAreClosed }
 {}
 
 /// A shown row without the two markers of a selection is the row as it is shown without a selection, or it

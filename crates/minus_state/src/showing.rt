@@ -2,11 +2,12 @@
 ghost use Rattle.std.specs.Prelude.{◌+◌, ◌<◌, ◌^◌, option_map, string_bytes, IfOk};
 ghost use Rattle.minus_text.specs.Searched.{IsStoredRow};
 ghost use Rattle.minus_text.specs.Views.{viewed};
-ghost use Rattle.minus_state.specs.Showing.{row_text, IsCroppedRow, IsUnmarkedRow, IsShownRow};
+ghost use Rattle.minus_state.specs.Showing.{row_text, IsCroppedRow, IsLaidRow, IsUnmarkedRow, IsShownRow};
 
 use crate::frame::Frame;
 use crate::selection::SelectionEnds;
 use crate::visible::highlight_visible_range;
+use minus_text::search::styles::closing;
 use minus_text::{Row, RowsView};
 use std::alloc::{AllocError, Global};
 
@@ -21,6 +22,7 @@ pub enum ShownRow<'a> {
 
 impl<'a> ShownRow<'a> {
     ghost use Rattle.std.specs.Prelude.{◌≡◌, string_bytes, IfOk};
+    ghost use Rattle.minus_text.specs.Styles.{ended};
     ghost use Rattle.minus_state.specs.ShownRow.{with_marks};
     ghost use Rattle.minus_state.specs.Showing.{row_text};
 
@@ -46,6 +48,19 @@ impl<'a> ShownRow<'a> {
             ShownRow::Own(row) => String::from_str(alloc, row),
             ShownRow::Formed(row) => Ok(row),
         }
+    }
+
+    // It with a reset behind it where a style is open at its end.
+    fn ended(self, alloc: Global) -> Result<ShownRow<'a>, AllocError>
+        ensures { IfOk result (λ shown. row_text shown ≡ ended (row_text self.entry)) }
+    {
+        let end = closing(alloc, self.as_str().as_bytes())?;
+        if end.is_empty() {
+            return Ok(self);
+        }
+        let mut row = self.into_row(alloc)?;
+        row.push_str(end)?;
+        Ok(ShownRow::Formed(row))
     }
 
     // It with marks around a range of its visible characters.
@@ -102,16 +117,31 @@ impl<'s> ShownRows<'s> {
         Ok(Some(row))
     }
 
-    // A row without a selection, counted from 0, if there is one.
-    fn unmarked(self, alloc: Global, i: usize) -> Result<Option<ShownRow<'s>>, AllocError>
+    // A row as it is laid out, counted from 0, if there is one.
+    fn laid(self, alloc: Global, i: usize) -> Result<Option<ShownRow<'s>>, AllocError>
         requires { i + 1 < 2 ^ 64 }
-        ensures { IfOk result (λ row. IsUnmarkedRow self.entry i (option_map row_text row)) }
+        ensures { IfOk result (λ row. IsLaidRow self.entry i (option_map row_text row)) }
     {
         if self.view.layout().wrapping {
             return self.stored(alloc, i);
         }
         match self.cropped(alloc, i)? {
             Some(row) => Ok(Some(ShownRow::Formed(row))),
+            None => Ok(None),
+        }
+    }
+
+    // A row without a selection, counted from 0, if there is one.
+    fn unmarked(self, alloc: Global, i: usize) -> Result<Option<ShownRow<'s>>, AllocError>
+        requires { i + 1 < 2 ^ 64 }
+        ensures { IfOk result (λ row. IsUnmarkedRow self.entry i (option_map row_text row)) }
+    {
+        let row = self.laid(alloc, i)?;
+        if !self.view.layout().carry_style {
+            return Ok(row);
+        }
+        match row {
+            Some(row) => Ok(Some(row.ended(alloc)?)),
             None => Ok(None),
         }
     }

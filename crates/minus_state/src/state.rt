@@ -231,6 +231,13 @@ impl PagerState {
         self.screen.layout().wrapping
     }
 
+    /// Whether rows are put with the styles that their lines carry to them.
+    pub fn carry_style(&self) -> bool
+        ensures { result ≡ (control_of self.now).carry_style }
+    {
+        self.screen.layout().carry_style
+    }
+
     /// How the rows are laid out.
     pub fn layout(&self) -> Layout
         ensures { result ≡ (document_of (control_of self.now)).layout }
@@ -239,6 +246,7 @@ impl PagerState {
             cols: self.cols,
             wrapping: self.line_wrapping(),
             numbers: self.line_numbers,
+            carry_style: self.carry_style(),
         }
     }
 

@@ -1,14 +1,41 @@
 //! What is shown of the rows of a text, added to the bytes of a drawing. An `Err` is for want of memory alone; it may
 //! leave some of a row behind.
+ghost use Rattle.std.specs.Prelude.{◌≡◌, ◌≤◌, ◌++◌, length, take, drop, OnOk};
+ghost use Rattle.minus_text.specs.Styles.{closing};
+
 use crate::frame::Frame;
 use crate::showing::ShownRows;
 use minus_term::{write_row, write_row_end, write_row_start};
 use minus_text::RowPlace;
+use minus_text::search::styles::closing;
 use std::alloc::{AllocError, Global};
 
+// Adds a reset behind the text of a row, which stands from a place of these bytes on, where a style is open at its end.
+fn write_closing(alloc: Global, out: &mut Vec<u8>, from: usize) -> Result<(), AllocError>
+    requires { from ≤ length out.old.items }
+    ensures { OnOk result (out.new.items ≡ out.old.items ++ closing (drop from out.old.items)) }
+{
+    let end = closing(alloc, &out.as_slice()[from..])?;
+    out.extend_from_slice(end.as_bytes())
+}
+
 impl<'s> ShownRows<'s> {
-    ghost use Rattle.std.specs.Prelude.{◌+◌, ◌^◌, ◌<◌, OnOk};
+    ghost use Rattle.std.specs.Prelude.{◌≡◌, ◌+◌, ◌^◌, ◌<◌, ◌++◌, OnOk};
+    ghost use Rattle.minus_state.specs.ShownRow.{ended_in};
+    ghost use Rattle.minus_text.specs.Views.{viewed};
     ghost use Rattle.minus_state.specs.Writing.{WritesStored, WritesCropped, WritesUnmarked, WritesShown};
+
+    // Ends the text of a row, which stands from a place of these bytes on, where styles are carried.
+    fn write_ended(self, alloc: Global, out: &mut Vec<u8>, from: usize) -> Result<(), AllocError>
+        requires { from ≤ length out.old.items }
+        ensures { OnOk result (out.new.items
+            ≡ take from out.old.items ++ ended_in (viewed self.entry.view).document (drop from out.old.items)) }
+    {
+        if !self.view.layout().carry_style {
+            return Ok(());
+        }
+        write_closing(alloc, out, from)
+    }
 
     // Adds a row as it is stored, counted from 0, if there is one. It is looked for near a place first.
     fn write_stored(
@@ -24,7 +51,9 @@ impl<'s> ShownRows<'s> {
             return Ok(());
         };
         write_row_start(out)?;
+        let from = out.len();
         row.write_to(alloc, out)?;
+        self.write_ended(alloc, out, from)?;
         write_row_end(out)?;
         Ok(())
     }
@@ -38,7 +67,9 @@ impl<'s> ShownRows<'s> {
             return Ok(());
         };
         write_row_start(out)?;
+        let from = out.len();
         Frame::of(self.view, self.left_mark).write_cropped(alloc, out, i, text)?;
+        self.write_ended(alloc, out, from)?;
         write_row_end(out)?;
         Ok(())
     }

@@ -196,6 +196,24 @@ impl PagerState {
         self.formed_anew(alloc, self.copied_text(alloc)?, layout, self.upper_mark)
     }
 
+    /// The state with its rows put with the styles that their lines carry to them, or not, for which the text is formed anew.
+    ///
+    /// # Errors
+    ///
+    /// [`MinusError::Memory`] where there is no memory for it.
+    pub fn restyled(&self, alloc: Global, carry_style: bool) -> Result<Change, MinusError>
+        ensures next { IfOk result (λ c. Leads self.now c
+            (reformed (record (control_of self.now) { carry_style = carry_style }))) }
+        ensures redraw { IfOk result (λ c. c.redraw ≡ Redraw.Whole) }
+        ensures memory { IfErr result (λ e. e ≡ MinusError.Memory) }
+    {
+        let layout = Layout {
+            carry_style,
+            ..self.layout()
+        };
+        self.formed_anew(alloc, self.copied_text(alloc)?, layout, self.upper_mark)
+    }
+
     /// The state in another size, columns and rows, for which the text is formed anew.
     ///
     /// # Errors

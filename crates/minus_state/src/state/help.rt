@@ -123,6 +123,7 @@ impl PagerState {
             cols: self.cols,
             wrapping: false,
             numbers: LineNumbers::Disabled,
+            carry_style: self.carry_style(),
         };
         let prompt = String::from_str(alloc, PROMPT)?;
         let saved = boxed(alloc, self.put_aside(alloc)?)?;
@@ -146,6 +147,7 @@ impl PagerState {
             cols: self.cols,
             wrapping: saved.wrapping,
             numbers: saved.numbers,
+            carry_style: self.carry_style(),
         };
         let text = String::from_str(alloc, &saved.text)?;
         let prompt = String::from_str(alloc, &saved.prompt)?;

@@ -76,7 +76,10 @@ impl PagerState {
         requires cols { layout.cols ≡ self.old.cols }
         requires numbers { layout.numbers ≡ self.old.line_numbers }
         ensures control { OnOk result (control_of self.new
-            ≡ reformed (record (control_of self.old) { wrapping = layout.wrapping })) }
+            ≡ reformed (record (control_of self.old) {
+              wrapping = layout.wrapping;
+              carry_style = layout.carry_style;
+            })) }
         ensures formed { OnOk result (IsFormed self.new) }
         ensures err { OnErr result (self.new ≡ self.old) }
         ensures memory { IfErr result (λ e. e ≡ MinusError.Memory) }
@@ -122,6 +125,26 @@ impl PagerState {
     {
         let layout = Layout {
             wrapping,
+            ..self.layout()
+        };
+        self.reform(alloc, layout)
+    }
+
+    /// Puts each row with the style that its line carries to it, and ends the row with a reset where it leaves a style open;
+    /// or puts rows as their texts are. A style does not go on from line to line. The mark stays where it is.
+    ///
+    /// # Errors
+    ///
+    /// [`MinusError::Memory`] where there is no memory, and nothing has changed.
+    pub fn set_carry_style(&mut self, alloc: Global, carry_style: bool) -> Result<(), MinusError>
+        ensures control { OnOk result (control_of self.new
+            ≡ reformed (record (control_of self.old) { carry_style = carry_style })) }
+        ensures formed { OnOk result (IsFormed self.new) }
+        ensures err { OnErr result (self.new ≡ self.old) }
+        ensures memory { IfErr result (λ e. e ≡ MinusError.Memory) }
+    {
+        let layout = Layout {
+            carry_style,
             ..self.layout()
         };
         self.reform(alloc, layout)
