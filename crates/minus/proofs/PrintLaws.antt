@@ -1,9 +1,9 @@
 -- Stored rows one below another.
-use Rattle.std.proofs.Common.{◌≡◌, ℕ, ◌+◌, ◌<◌, ◌≤◌, nat_lt, List, [], ◌++◌, get_or, length, take, Option, None, Some, Bool, false, slice_get, map, Result, Ok, Err, IfOk, IfErr, inl, inr, refl, sym, ap, subst, ◌∙◌, arith}
+use Rattle.std.proofs.Common.{◌≡◌, ℕ, ◌+◌, ◌<◌, ◌≤◌, nat_lt, List, [], ◌++◌, get_or, length, take, Option, None, Some, Bool, false, slice_get, map, option_map, Result, Ok, Err, IfOk, IfErr, inl, inr, refl, sym, ap, subst, ◌∙◌, arith}
 use Rattle.std.specs.List.{flat_map}
-use Rattle.std.proofs.lemmas.List.{take_more, take_all}
+use Rattle.std.proofs.lemmas.List.{take_more, take_all, length-map}
 use Rattle.std.proofs.lemmas.Bool.{le-ltb}
-use Rattle.std.proofs.lemmas.Option.{get_or_from_slice_get, slice_get-get_or}
+use Rattle.std.proofs.lemmas.Option.{get_or_from_slice_get, slice_get-get_or, slice_get-map}
 use Rattle.minus_term.specs.FullRedraw.{row_ops}
 use Rattle.minus_term.specs.Written.{written_all}
 use Rattle.minus_term.proofs.WrittenLaws.{written_all-nil}
@@ -14,6 +14,7 @@ use Rattle.minus_text.proofs.StoredKeptLaws.{length-stored_for}
 use Rattle.minus_state.specs.Control.{Control, document_of, text_rows}
 use Rattle.minus_state.specs.declared.state.PagerState.{PagerState}
 use Rattle.minus_state.specs.States.{control_of, term_of, IsFormed}
+use Rattle.minus_state.specs.ShownRow.{ended_in}
 use Rattle.minus_state.proofs.AppendLaws.{document_is}
 use Rattle.minus_term.specs.Counts.{SinkSeen}
 use Rattle.minus_term.specs.Refusals.{refusal_of}
@@ -26,7 +27,7 @@ use Rattle.minus.specs.declared.static_pager.PagedOf.TheVariants.{Written, Start
 use Rattle.minus.specs.Handing.{Kept}
 use Rattle.minus.specs.Reads.{kept_of, wanted_of}
 use Rattle.minus.specs.Starts.{first_control, kept_taken, CanBegin, IsFormRefused}
-use Rattle.minus.specs.StaticPager.{stored_rows, rows_that_fit, printed, printed_of, IsWritten, IsUnwritten, IsShownAll, IsNotShownAll, IsPaged, IsFirstPaged, IsUnpaged}
+use Rattle.minus.specs.StaticPager.{ended_rows, rows_that_fit, printed, printed_of, IsWritten, IsUnwritten, IsShownAll, IsNotShownAll, IsPaged, IsFirstPaged, IsUnpaged}
 use Rattle.minus.proofs.BeginLaws.{IsPrepared, begun, not_begun, if_ok, if_err}
 use Rattle.minus.proofs.StartLaws.{refused_with, form_is_early}
 use Rattle.minus.proofs.DrawingLaws.{row_added}
@@ -35,39 +36,42 @@ use Rattle.minus.proofs.DrawingLaws.{row_added}
 found_at : (s : PagerState) (i : ℕ) → IsFormed s → IsFoundAt (term_of s) s.screen i
 found_at s i formed = ap (λ (x : Searched). found_of_row i x.found) formed.screen ∙ sym (ap (λ (d : Document). found_of_row i (found_by (term_of s) 0 (rows_of d))) (document_is s formed))
 
-stored_at : (s : PagerState) (i : ℕ) (row : Option (List ℕ)) → IsFormed s → IsStoredRow s.screen i row → row ≡ slice_get (stored_rows (control_of s)) i
-stored_at s i row formed h = h (term_of s) (found_at s i formed) ∙ ap (λ (d : Document). slice_get (stored_rows_for (term_of s) d) i) (document_is s formed)
+-- and it ended where styles are carried
+pub ended_at : (s : PagerState) (i : ℕ) (row : Option (List ℕ)) → IsFormed s → IsStoredRow s.screen i row → option_map (ended_in (document_of (control_of s))) row ≡ slice_get (ended_rows (control_of s)) i
+ended_at s i row formed h =
+    let d : Document = document_of (control_of s) in
+    ap (option_map (ended_in d)) (h (term_of s) (found_at s i formed) ∙ ap (λ (e : Document). slice_get (stored_rows_for (term_of s) e) i) (document_is s formed))
+    ∙ sym (slice_get-map (ended_in d) (stored_rows_for (term_of s) d) i)
 
-pub stored_is : (s : PagerState) (i : ℕ) (row : Option (List ℕ)) (text : List ℕ) → IsFormed s → IsStoredRow s.screen i row → row ≡ Some text → text ≡ get_or (stored_rows (control_of s)) i []
-stored_is s i row text formed h e = sym (get_or_from_slice_get (stored_rows (control_of s)) i text [] (sym (stored_at s i row formed h) ∙ e))
+pub printed_is : (c : Control) (i : ℕ) (row : Option (List ℕ)) (text : List ℕ) → row ≡ slice_get (ended_rows c) i → row ≡ Some text → text ≡ get_or (ended_rows c) i []
+printed_is c i row text h e = sym (get_or_from_slice_get (ended_rows c) i text [] (sym h ∙ e))
 
--- as many are stored as the text has
-pub stored_count : (c : Control) → length (stored_rows c) ≡ length (text_rows c)
-stored_count c = length-stored_for c.term (document_of c)
+-- as many are printed as the text has
+pub printed_count : (c : Control) → length (ended_rows c) ≡ length (text_rows c)
+printed_count c = length-map (stored_rows_for c.term (document_of c)) (ended_in (document_of c)) ∙ length-stored_for c.term (document_of c)
 
-pub stored_not : {X : Type 0} (s : PagerState) (i : ℕ) (row : Option (List ℕ)) → IsFormed s → IsStoredRow s.screen i row → i < length (text_rows (control_of s)) → row ≡ None → X
-stored_not s i row formed h l e =
-    let k : Control = control_of s in
-    let n = stored_count k in
-    let inside : i < length (stored_rows k) = omega (arith, l, n) in
-    absurd (let both : None ≡ Some (get_or (stored_rows k) i []) = sym e ∙ stored_at s i row formed h ∙ slice_get-get_or (stored_rows k) i [] inside in cc)
+pub printed_not : {X : Type 0} (c : Control) (i : ℕ) (row : Option (List ℕ)) → row ≡ slice_get (ended_rows c) i → i < length (text_rows c) → row ≡ None → X
+printed_not c i row h l e =
+    let n = printed_count c in
+    let inside : i < length (ended_rows c) = omega (arith, l, n) in
+    absurd (let both : None ≡ Some (get_or (ended_rows c) i []) = sym e ∙ h ∙ slice_get-get_or (ended_rows c) i [] inside in cc)
 
 -- ---- one below another
 
 pub rows_none : [] ≡ written_all (flat_map row_ops [])
 rows_none = sym written_all-nil
 
-pub rows_next : (c : Control) (i : ℕ) (before after : List ℕ) → i < length (text_rows c) → before ≡ written_all (flat_map row_ops (take i (stored_rows c))) → after ≡ before ++ written_all (row_ops (get_or (stored_rows c) i [])) → after ≡ written_all (flat_map row_ops (take (i + 1) (stored_rows c)))
+pub rows_next : (c : Control) (i : ℕ) (before after : List ℕ) → i < length (text_rows c) → before ≡ written_all (flat_map row_ops (take i (ended_rows c))) → after ≡ before ++ written_all (row_ops (get_or (ended_rows c) i [])) → after ≡ written_all (flat_map row_ops (take (i + 1) (ended_rows c)))
 rows_next c i before after l e g =
-    let n = stored_count c in
-    let inside : i < length (stored_rows c) = omega (arith, l, n) in
-    row_added [] before after (take i (stored_rows c)) (get_or (stored_rows c) i []) e g ∙ ap (λ rs. written_all (flat_map row_ops rs)) (sym (take_more (stored_rows c) i [] inside))
+    let n = printed_count c in
+    let inside : i < length (ended_rows c) = omega (arith, l, n) in
+    row_added [] before after (take i (ended_rows c)) (get_or (ended_rows c) i []) e g ∙ ap (λ rs. written_all (flat_map row_ops rs)) (sym (take_more (ended_rows c) i [] inside))
 
 -- all of them, where they fit
-pub rows_fit : (c : Control) (count i : ℕ) (bytes : List ℕ) → count ≡ length (text_rows c) → count ≤ c.rows → count ≤ i → bytes ≡ written_all (flat_map row_ops (take i (stored_rows c))) → Some bytes ≡ rows_that_fit c
+pub rows_fit : (c : Control) (count i : ℕ) (bytes : List ℕ) → count ≡ length (text_rows c) → count ≤ c.rows → count ≤ i → bytes ≡ written_all (flat_map row_ops (take i (ended_rows c))) → Some bytes ≡ rows_that_fit c
 rows_fit c count i bytes is fits past e =
-    let n = stored_count c in
-    let all : take i (stored_rows c) ≡ stored_rows c = take_all i (stored_rows c) (omega (arith, past, is, n)) in
+    let n = printed_count c in
+    let all : take i (ended_rows c) ≡ ended_rows c = take_all i (ended_rows c) (omega (arith, past, is, n)) in
     let fit : nat_lt c.rows (length (text_rows c)) ≡ false = le-ltb c.rows (length (text_rows c)) (omega (arith, fits, is)) in
     rw fit (ap Some (e ∙ ap (λ rs. written_all (flat_map row_ops rs)) all))
 

@@ -8,6 +8,7 @@ use Rattle.minus_term.specs.Refusals.{at_drawing, refusal_of}
 use Rattle.minus_term.specs.Written.{written_all}
 use Rattle.minus_text.specs.Searched.{stored_rows_for}
 use Rattle.minus_state.specs.Control.{Control, document_of, text_rows}
+use Rattle.minus_state.specs.ShownRow.{ended_in}
 use Rattle.minus_state.specs.declared.state.RunMode.TheVariants.{Static}
 use Rattle.minus.specs.declared.init.StartErrorOf.{StartErrorOf}
 use Rattle.minus.specs.declared.pager.PagerOf.{PagerOf}
@@ -24,12 +25,12 @@ use Rattle.minus.specs.Starts.{CanBegin, IsEarly, first_control, kept_taken}
 abbrev pub printed_text : Control → List ℕ
 printed_text c = c.text ++ codes "\n"
 
--- the stored rows of a text, and those one below another
-abbrev pub stored_rows : Control → List (List ℕ)
-stored_rows c = stored_rows_for c.term (document_of c)
+-- the stored rows of a text, each ended where styles are carried, and those one below another
+abbrev pub ended_rows : Control → List (List ℕ)
+ended_rows c = map (ended_in (document_of c)) (stored_rows_for c.term (document_of c))
 
 abbrev pub printed_rows : Control → List ℕ
-printed_rows c = written_all (flat_map row_ops (stored_rows c))
+printed_rows c = written_all (flat_map row_ops (ended_rows c))
 
 -- where they are no more than those of the terminal
 abbrev pub rows_that_fit : Control → Option (List ℕ)

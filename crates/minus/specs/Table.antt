@@ -43,6 +43,7 @@ pub data Wanted (Q K : Type 0) : Type 0 where
   hands_over : Handing Q K → Wanted Q K
   sets_numbers : LineNumbers → Wanted Q K
   sets_wrapping : Bool → Wanted Q K
+  sets_carry_style : Bool → Wanted Q K
   shifts : ℕ → Wanted Q K
   starts_selection : (x y : ℕ) → Wanted Q K
   updates_selection : (x y : ℕ) → Wanted Q K
@@ -73,6 +74,7 @@ shape c redraws_page = shows c true None
 shape c (hands_over handing) = registers handing
 shape c (sets_numbers numbers) = shows (reformed (record c { numbers = numbers })) true None
 shape c (sets_wrapping wrapping) = shows (reformed (record c { wrapping = wrapping })) true None
+shape c (sets_carry_style carry_style) = shows (reformed (record c { carry_style = carry_style })) true None
 shape c (shifts left) = shows (record c { left = left_after c left }) (may_shift c left) None
 shape c (starts_selection x y) = shows (record c { ends = ends_begun c.ends (end_at c x y) }) (is_some (end_at c x y)) None
 shape c (updates_selection x y) = shows (record c { mark = mark_led c y; ends = ends_led c x y }) (not (stays_led c x y)) None

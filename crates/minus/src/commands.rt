@@ -41,6 +41,9 @@ pub enum CommandOf<P: Parts> {
     SetLineNumbers(LineNumbers),
     /// Wrap lines that are too long for the columns, or let each be one row.
     LineWrapping(bool),
+    /// Put each row with the style that its line carries to it, and end it with a reset where it leaves a style open, or
+    /// put rows as their texts are.
+    SetCarryStyle(bool),
     /// Move to the last page, and go on with what is appended from now on, or no longer.
     FollowOutput(bool),
     /// Do what an event would ask for.

@@ -164,6 +164,22 @@ impl<P: Parts> PagerOf<P> {
         Ok(())
     }
 
+    /// Puts each row with the style that its line carries to it, and ends it with a reset where it leaves a style open, or
+    /// puts rows as their texts are, as the original does. A style does not go on from line to line.
+    ///
+    /// # Errors
+    ///
+    /// [`MinusError::Memory`] where there is no memory, and nothing has changed.
+    pub fn set_carry_style(&mut self, on: bool) -> Result<(), MinusError>
+        ensures ok { OnOk result (self.new.queue.items
+            ≡ self.old.queue.items ++ CommandOf.SetCarryStyle on ∷ []) }
+        ensures err { OnErr result (self.new.queue.items ≡ self.old.queue.items) }
+        ensures memory { IfErr result (λ e. e ≡ MinusError.Memory) }
+    {
+        self.queue(CommandOf::SetCarryStyle(on))?;
+        Ok(())
+    }
+
     /// Begins on the last page, and goes on with what is appended, or no longer.
     ///
     /// # Errors

@@ -1,5 +1,5 @@
 //! A text that is written where it fits the terminal, or where there is none, and paged else.
-ghost use Rattle.std.specs.Prelude.{◌≡◌, ◌<◌, ◌++◌, [], get_or, length, Some, None, if◌then◌else◌, codes, option_map, OnOk, OnErr, IfOk, IfErr};
+ghost use Rattle.std.specs.Prelude.{◌≡◌, ◌<◌, ◌++◌, [], get_or, length, Some, None, if◌then◌else◌, codes, option_map, slice_get, string_bytes, OnOk, OnErr, IfOk, IfErr};
 ghost use Rattle.std.specs.Io.KnownBytes.{Appends};
 ghost use Rattle.minus_term.specs.Counts.{AppendsFront, Stays, Rises};
 ghost use Rattle.minus_term.specs.FullRedraw.{row_ops};
@@ -7,7 +7,7 @@ ghost use Rattle.minus_term.specs.Written.{written_all};
 ghost use Rattle.minus_state.specs.Control.{text_rows};
 ghost use Rattle.minus_state.specs.States.{IsFormed, control_of};
 ghost use Rattle.minus_input.specs.DefaultClassifier.{IsDefault};
-ghost use Rattle.minus.specs.StaticPager.{stored_rows, rows_that_fit, IsWrittenOn, IsUnwritten, IsShownAll, IsNotShownAll};
+ghost use Rattle.minus.specs.StaticPager.{ended_rows, rows_that_fit, IsWrittenOn, IsUnwritten, IsShownAll, IsNotShownAll};
 ghost use Rattle.minus.specs.StaticPager.{IsPaged, IsFirstPaged, IsUnpaged};
 
 use crate::hooks::{ExitCall, HookCall};
@@ -19,6 +19,8 @@ use crate::search::ConditionCall;
 use crate::session::Core;
 use crate::state::{PagerState, RunMode};
 use minus_term::{MinusError, OutputSink, draw_bytes, write_bytes, write_row};
+use minus_text::Row;
+use minus_text::search::styles::closing;
 use std::alloc::{AllocError, Global};
 use std::io;
 
@@ -34,8 +36,24 @@ pub enum PagedOf<S, P: Parts> {
 /// What came of a text, where a session keeps what its caller boxes, or a register of bindings.
 pub type Paged<S> = PagedOf<S, Boxes>;
 
-// Adds a stored row, and goes to the next.
-fn push_stored_row(
+// A row as it is printed, whole: as it is stored, and ended where styles are carried.
+fn printed_row(alloc: Global, state: &PagerState, row: usize) -> Result<Option<Row>, AllocError>
+    requires { IsFormed state.now }
+    ensures { IfOk result (λ printed. option_map string_bytes printed
+        ≡ slice_get (ended_rows (control_of state.now)) row) }
+{
+    let Some(mut text) = state.screen.formatted_row(alloc, row)? else {
+        return Ok(None);
+    };
+    if state.carry_style() {
+        let end = closing(alloc, text.as_bytes())?;
+        text.push_str(end)?;
+    }
+    Ok(Some(text))
+}
+
+// Adds a row as it is printed, and goes to the next.
+fn push_printed_row(
     alloc: Global,
     out: &mut Vec<u8>,
     state: &PagerState,
@@ -44,15 +62,15 @@ fn push_stored_row(
     requires formed { IsFormed state.now }
     requires inside { row < length (text_rows (control_of state.now)) }
     ensures { OnOk result (out.new.items
-        ≡ out.old.items ++ written_all (row_ops (get_or (stored_rows (control_of state.now)) row []))) }
+        ≡ out.old.items ++ written_all (row_ops (get_or (ended_rows (control_of state.now)) row []))) }
 {
-    match state.screen.formatted_row(alloc, row)? {
+    match printed_row(alloc, state, row)? {
         Some(text) => write_row(out, &text),
         None => Ok(()),
     }
 }
 
-// The stored rows of a text one below another, where they are no more than those of the terminal.
+// The rows of a text as they are printed, one below another, where they are no more than those of the terminal.
 fn fitting_rows(alloc: Global, state: &PagerState) -> Result<Option<Vec<u8>>, AllocError>
     requires { IsFormed state.now }
     ensures { IfOk result (λ rows. option_map (λ r. r.items) rows ≡ rows_that_fit (control_of state.now)) }
@@ -63,7 +81,7 @@ fn fitting_rows(alloc: Global, state: &PagerState) -> Result<Option<Vec<u8>>, Al
     }
     let mut bytes = Vec::new(alloc);
     for i in 0..count {
-        push_stored_row(alloc, &mut bytes, state, i)?;
+        push_printed_row(alloc, &mut bytes, state, i)?;
     }
     Ok(Some(bytes))
 }

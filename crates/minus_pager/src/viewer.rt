@@ -148,6 +148,8 @@ fn pager_of(
     if paging.chops {
         pager.horizontal_scroll(true)?;
     }
+    // (a colour goes on over the rows of its line)
+    pager.set_carry_style(true)?;
     pager.push_str(beginning)?;
     Ok(pager)
 }

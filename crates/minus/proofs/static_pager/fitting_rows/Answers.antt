@@ -12,7 +12,7 @@ loop-i-init c = c.new-bytes.ensures.items ∙ rows_none
 pub loop-i-preserved : goal.loop-i-preserved
 loop-i-preserved c =
     let count = c.formatted_lines_count-count.ensures.value ∙ ap (λ (d : Document). length (rows_of d)) (document_is c.args.state.now c.requires) in
-    rows_next (control_of c.args.state.now) c.loop-i.i c.loop-i.bytes.items c.push_stored_row.new.out.items (subst (λ (n : ℕ). c.loop-i.i < n) count c.loop-i-test.true) c.loop-i.invariant c.in_ok-push_stored_row.ensures
+    rows_next (control_of c.args.state.now) c.loop-i.i c.loop-i.bytes.items c.push_printed_row.new.out.items (subst (λ (n : ℕ). c.loop-i.i < n) count c.loop-i-test.true) c.loop-i.invariant c.in_ok-push_printed_row.ensures
 
 pub returns : goal.returns
 returns c =
