@@ -18,10 +18,21 @@ FAULTS = [
     (["page", "20", "5"], "prompt a\\nb\n", 3, "refused 2"),
 ]
 
+# the script, and the first rows of its page of 10 columns and 6 rows
+PAGES = [
+    ("carrystyle on\npush \\e[31mred red red red\\e[0m x\n", ["\\e[31mred red\\e[0m", "\\e[31mred red\\e[0m x"]),
+    ("push \\e[31mred red red red\\e[0m x\ncarrystyle on\ncarrystyle off\n", ["\\e[31mred red", "red red\\e[0m x"]),
+]
+
 
 def main():
     program = sys.argv[1]
     failed = 0
+    for script, rows in PAGES:
+        ran = subprocess.run([program, "page", "10", "6"], input=script.encode(), capture_output=True, timeout=60)
+        if ran.returncode != 0 or ran.stdout.decode().split("\n")[:len(rows)] != rows:
+            failed += 1
+            print(f"{script!r}: {ran}")
     for words, script, status, said in FAULTS:
         ran = subprocess.run([program, *words], input=script.encode(), capture_output=True, timeout=60)
         got = (ran.returncode, ran.stderr.decode(errors="replace").rstrip("\n"), ran.stdout)
@@ -34,7 +45,7 @@ def main():
     if (ran.returncode, ran.stderr) != (1, b"standard output failed\n"):
         failed += 1
         print(f"a full device: {ran.returncode} {ran.stderr!r}")
-    print(f"test_show: {len(FAULTS) + 1 - failed} passed, {failed} failed")
+    print(f"test_show: {len(PAGES) + len(FAULTS) + 1 - failed} passed, {failed} failed")
     return failed != 0
 
 

@@ -11,5 +11,6 @@ mod screens;
 mod search;
 mod searches;
 mod shown;
+mod styles;
 mod told;
 mod unfinished;

@@ -27,7 +27,7 @@ fn is_told(alloc: Global, case: &Told<'_>) -> bool {
     }
 }
 
-const TOLD: [&Told<'static>; 14] = [
+const TOLD: [&Told<'static>; 15] = [
     &Told {
         asked: Asked::Push("a"),
         other: Asked::Push("b"),
@@ -57,6 +57,11 @@ const TOLD: [&Told<'static>; 14] = [
         asked: Asked::Wrapped(false),
         other: Asked::Wrapped(true),
         text: "LineWrapping(false)",
+    },
+    &Told {
+        asked: Asked::Styled(true),
+        other: Asked::Styled(false),
+        text: "SetCarryStyle(true)",
     },
     &Told {
         asked: Asked::Follow(true),

@@ -57,6 +57,7 @@ const UNWRAPPED: Layout = Layout {
     cols: 4,
     wrapping: false,
     numbers: LineNumbers::Disabled,
+    carry_style: false,
 };
 
 // A line in it, with nothing selected.

@@ -45,6 +45,7 @@ pub(crate) const PLAIN: Layout = Layout {
     cols: 20,
     wrapping: true,
     numbers: LineNumbers::Disabled,
+    carry_style: false,
 };
 
 // One of 11 columns with numbers, whose lines are not.
@@ -52,4 +53,5 @@ pub(crate) const NUMBERED: Layout = Layout {
     cols: 11,
     wrapping: false,
     numbers: LineNumbers::Enabled,
+    carry_style: false,
 };

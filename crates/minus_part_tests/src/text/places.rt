@@ -11,6 +11,7 @@ const LAYOUT: Layout = Layout {
     cols: 16,
     wrapping: true,
     numbers: LineNumbers::Enabled,
+    carry_style: false,
 };
 
 // Whether a row that is looked for near a place is written as it is formed.

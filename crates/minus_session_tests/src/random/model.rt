@@ -50,6 +50,8 @@ pub struct Model {
     pub mark: usize,
     pub left: usize,
     pub is_wrapped: bool,
+    /// Whether rows are ended, so that they leave no style open.
+    pub is_styled: bool,
     pub numbers: LineNumbers,
     pub follow: bool,
     pub is_shown: bool,
@@ -88,6 +90,7 @@ impl Model {
             mark: 0,
             left: 0,
             is_wrapped: true,
+            is_styled: false,
             numbers: LineNumbers::Disabled,
             follow: false,
             is_shown: true,

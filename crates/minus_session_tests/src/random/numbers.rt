@@ -121,7 +121,7 @@ impl Numbers {
 
     // A command that sets something.
     fn setting(&mut self) -> Asked<'static> {
-        match self.below(12) {
+        match self.below(13) {
             0 => Asked::Prompt(self.one_of(&PROMPTS)),
             1 => Asked::Message(self.one_of(&PROMPTS)),
             2 => Asked::Shown(!self.is_one_of(3)),
@@ -133,6 +133,7 @@ impl Numbers {
             8 => Asked::Removed(Hook::PostPagerExit, 1),
             9 => Asked::Removed(Hook::EofReached, self.below(6)),
             10 => Asked::Told(Event::FocusGained),
+            11 => Asked::Styled(!self.is_one_of(3)),
             _ => Asked::Told(Event::Resize(self.place(26), self.place(9))),
         }
     }

@@ -64,7 +64,12 @@ impl Model {
             to: self.left.saturating_add(width),
         };
         part.show(shown)?;
-        shown.end()
+        shown.end()?;
+        // (the texts have no styles of their own, and nothing is selected under a term)
+        if self.is_styled && term.is_some() && shown.text.contains("\x1b[7m") {
+            shown.text.push_str("\x1b[0m")?;
+        }
+        Ok(())
     }
 
     // Writes the indicators of the prompt row, and answers the columns that are left beside them.

@@ -114,6 +114,10 @@ impl Model {
             Asked::Wrapped(is_wrapped) => {
                 self.do_event(InputEvent::HorizontalScroll(is_wrapped))?
             }
+            Asked::Styled(is_styled) => {
+                self.is_styled = is_styled;
+                self.reform()?;
+            }
             Asked::Follow(follow) => self.do_event(InputEvent::FollowOutput(follow))?,
             Asked::Does(event) => self.do_event(event)?,
             Asked::Io(IoCommand::SetUpperMark(row)) => self.move_to(row),

@@ -3,7 +3,7 @@ use super::{ENTER, ESC, F_ROW, FOUR, M_ROW, NEXT, ONE_OF_TWO, OPEN, SUMMARY, TEN
 use crate::helps::HELP_ROW;
 use crate::sessions::Asked::{
     Does, Follow, Io, Key, Left, Mark, Message, Numbers, Pressed, Push, Restored, Set, Size, Start,
-    Told, Typed, Update, Wrapped,
+    Styled, Told, Typed, Update, Wrapped,
 };
 use crate::sessions::{PROMPT_ROW, Worked, assert_shown};
 use minus::InputEvent::Search;
@@ -14,6 +14,9 @@ use minus::{Event, KeyCode};
 
 // The third row of help on 20 columns.
 const KEYS: &str = "  Key(s)            ";
+
+// The prompt row of 10 columns.
+const TEN_COLUMNS: &str = "\x1b[2;40;37mminus     \x1b[0m";
 
 // What is set in help, and what is left by it.
 const HELPED: &[&Worked<'static>] = worked! {
@@ -62,6 +65,20 @@ const SHOWN: &[&Worked<'static>] = worked! {
     20 x 4: TEN, Start(0, 0), Update(0, 2) => "\x1b[7ml0\x1b[27m", "\x1b[7ml1\x1b[27m", "\x1b[7ml\x1b[27m2", PROMPT_ROW;
     // a left mark goes back past its limit
     4 x 2: Wrapped(false), Push("abcdefghij"), Left(6), Size(9, 2), Left(5) => "fghij", "\x1b[2;40;37mminus    \x1b[0m";
+    // a row begins with the style that holds there, and leaves none open
+    10 x 3: Styled(true), Push("\x1b[31mred red red red\x1b[0m x") =>
+        "\x1b[31mred red\x1b[0m", "\x1b[31mred red\x1b[0m x", TEN_COLUMNS;
+    10 x 3: Styled(true), Push("\x1b[31mred red "), Push("red red\x1b[0m x") =>
+        "\x1b[31mred red\x1b[0m", "\x1b[31mred red\x1b[0m x", TEN_COLUMNS;
+    10 x 3: Push("\x1b[31mred red red red\x1b[0m x"), Styled(true), Styled(false) =>
+        "\x1b[31mred red", "red red\x1b[0m x", TEN_COLUMNS;
+    10 x 3: Push("\x1b[31mred red red red"), OPEN, Styled(true), OPEN =>
+        "\x1b[31mred red\x1b[0m", "\x1b[31mred red\x1b[0m", TEN_COLUMNS;
+    4 x 3: Styled(true), Push("\x1b[31maaaa bbbb"), Start(1, 1) =>
+        "\x1b[31maaaa\x1b[0m", "\x1b[31mb\x1b[7mb\x1b[27mbb\x1b[0m", FOUR;
+    4 x 2: Styled(true), Wrapped(false), Push("\x1b[31mreddish"), Left(3) => "\x1b[31mdish\x1b[0m", FOUR;
+    20 x 3: Styled(true), Push("ab"), Key('/'), Key('b'), ENTER =>
+        "a\x1b[7mb\x1b[27m\x1b[0m", "", "\x1b[2;40;37mminus          \x1b[30;44m 1/1 \x1b[0m";
     // the mark is clamped where fewer rows are left
     4 x 3: Push("aa bb cc dd ee"), Mark(3), Wrapped(false) => "aa b", "", FOUR;
     12 x 3: Numbers(Enabled), Push("aaa bbb ccc"), Mark(1), Numbers(AlwaysOff) =>
