@@ -152,18 +152,17 @@ impl Store {
 }
 
 impl FormedPush {
-    ghost use Rattle.std.specs.Prelude.{◌≡◌, ◌-◌, ◌≤◌, true, ◌++◌, length, take, slice_get, option_map};
+    ghost use Rattle.std.specs.Prelude.{◌≡◌, ◌≤◌, true, length, option_map};
     ghost use Rattle.std.specs.Str.{IsUtf8};
     ghost use Rattle.minus_text.specs.CarriedStyles.{style_before};
-    ghost use Rattle.minus_text.specs.PushedPlaces.{formed_from, tail_places};
+    ghost use Rattle.minus_text.specs.PushedPlaces.{formed_from};
     ghost use Rattle.minus_text.specs.RowText.{IsUnescapedFrom};
-    ghost use Rattle.minus_text.specs.StyleSources.{source_style};
+    ghost use Rattle.minus_text.specs.StyleSources.{source_style, formed_place, formed_before, text_with};
 
     // What stands before a row that is formed, counted from 0, in what is formed.
     fn bytes_before(&self, i: usize) -> Option<&[u8]>
         ensures before { option_map (λ b. b.now) result
-            ≡ option_map (λ s. take (s.start - formed_from self.now.start) self.now.tail.text)
-            (slice_get (tail_places self.now.start self.now.tail) i) }
+            ≡ option_map (formed_before self.now) (formed_place self.now i) }
         ensures text { IsUtf8 self.now.tail.text }
     {
         let at = self.start.finished.bytes + self.start.bytes;
@@ -178,9 +177,8 @@ impl FormedPush {
     fn style_source<'s>(&'s self, text: &'s str, unescaped: bool, i: usize) -> StyleSource<'s>
         requires place { formed_from self.now.start ≤ length text.now }
         requires known { unescaped ≡ true → IsUnescapedFrom 0 text.now }
-        ensures { source_style result ≡ style_before
-            (take (formed_from self.now.start) text.now ++ self.now.tail.text)
-            (slice_get (tail_places self.now.start self.now.tail) i) }
+        ensures { source_style result
+            ≡ style_before (text_with text.now self.now) (formed_place self.now i) }
     {
         let Some(formed) = self.bytes_before(i) else {
             return StyleSource::NONE;
