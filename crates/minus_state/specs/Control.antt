@@ -93,6 +93,10 @@ search_mark_anew term d mark = first_match (found_by term 0 (rows_of d)) mark
 abbrev pub reformed : Control → Control
 reformed c = record c { search_mark = search_mark_anew c.term (document_of c) c.mark }
 
+-- rows are laid out as a layout says, but for its columns and numbers
+abbrev pub laid_as : Control → Layout → Control
+laid_as c layout = record c { wrapping = layout.wrapping; carry_style = layout.carry_style }
+
 -- another text in another layout, whose rows are formed anew, with the mark at a row
 abbrev pub anew_at : Control → List ℕ → Layout → ℕ → Control
 anew_at c text layout mark = reformed (record c {

@@ -11,7 +11,7 @@ impl PagerState {
     ghost use Rattle.minus_text.specs.Document.{rows_of};
     ghost use Rattle.minus_state.specs.Appending.{append_style, lengthened};
     ghost use Rattle.minus_state.specs.Aside.{aside_of};
-    ghost use Rattle.minus_state.specs.Control.{reformed};
+    ghost use Rattle.minus_state.specs.Control.{reformed, laid_as};
     ghost use Rattle.minus_state.specs.States.{control_of, IsFormed};
 
     /// Makes room for this number of bytes of text more: in the text on show, or, while help is open, in the one that
@@ -76,10 +76,7 @@ impl PagerState {
         requires cols { layout.cols ≡ self.old.cols }
         requires numbers { layout.numbers ≡ self.old.line_numbers }
         ensures control { OnOk result (control_of self.new
-            ≡ reformed (record (control_of self.old) {
-              wrapping = layout.wrapping;
-              carry_style = layout.carry_style;
-            })) }
+            ≡ reformed (laid_as (control_of self.old) layout)) }
         ensures formed { OnOk result (IsFormed self.new) }
         ensures err { OnErr result (self.new ≡ self.old) }
         ensures memory { IfErr result (λ e. e ≡ MinusError.Memory) }
