@@ -26,8 +26,9 @@ use Rattle.minus_text.specs.Highlight.{line_matches}
 use Rattle.minus_text.specs.Found.{RowMatches, found_in_row, found_in_rows, found_by}
 use Rattle.minus_text.specs.FoundBy.{found_in_some}
 use Rattle.minus_text.specs.Pending.{Pending}
-use Rattle.minus_text.specs.Searched.{shown_for, stored_lines_for}
-use Rattle.minus_text.specs.Blocks.{Block, all_lines, fragment_of, block_rows, matching_rows, TellsBlock, IsBlockFormed, IsPrefixIn, one, keys_noted, keys_with}
+use Rattle.minus_text.specs.Searched.{shown_for}
+use Rattle.minus_text.specs.Blocks.{Block, stored_lines_for, all_lines, fragment_of, block_rows, matching_rows, TellsBlock, IsBlockFormed, IsPrefixIn, one, keys_noted, keys_with}
+use Rattle.minus_text.proofs.LineLaws.{told_rows}
 use Rattle.minus_text.proofs.ScreenLaws.{restart_anew, form-unfinished}
 use Rattle.minus_text.proofs.FormatResultLaws.{same_part}
 use Rattle.minus_text.proofs.PendingLaws.{get_behind}
@@ -186,7 +187,7 @@ tells_block p layout before unfinished longest r term clean d h v el er eu es em
       lines_told = el ∙ ap length map_is ∙ length-first_rows (fragment_of b).wrap p.kept_rows (lines p.tail.text);
       rows_told = er ∙ ap (λ f. length (rows_in f)) tail;
       unfinished_told = eu ∙ h.its_unfinished ∙ ap (λ w. length (open_rows w (unfinished_line p.tail.text))) h.its_wrap;
-      matches_told = subst (λ (x : Block). r.append_search_idx.keys ≡ matching_rows term x) (sym v) es;
+      matches_told = subst (λ (x : Block). r.append_search_idx.keys ≡ matching_rows term x) (sym v) es ∙ sym (told_rows term p.kept_rows (fragment_of b));
       map_told = em ∙ map_is;
       longest_told = ew ∙ h.its_longest;
       clean_told = ec;

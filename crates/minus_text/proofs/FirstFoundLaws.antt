@@ -1,5 +1,5 @@
 -- The first row in which something is found.
-use Rattle.std.proofs.Common.{inl, inr, ◌≡◌, ℕ, zero, suc, ◌+◌, ◌-◌, ◌<◌, ◌≤◌, Bool, true, false, nat_le, nat_lt, eqb, List, [], ◌∷◌, ◌++◌, length, take, drop, Option, None, Some, option_map, refl, sym, ap, ◌∙◌, append_assoc, arith}
+use Rattle.std.proofs.Common.{inl, inr, ◌≡◌, ℕ, zero, suc, ◌+◌, ◌-◌, ◌<◌, ◌≤◌, Bool, true, false, nat_le, nat_lt, eqb, List, [], ◌∷◌, ◌++◌, length, map, take, drop, Option, None, Some, option_map, refl, sym, ap, ◌∙◌, append_assoc, arith}
 use Rattle.std.specs.List.{slice_get, position_or_len}
 use Rattle.std.specs.Option.{unwrap_or, is_some}
 use Rattle.std.proofs.lemmas.Bool.{cases_Bool, ne_eqb}
@@ -8,11 +8,19 @@ use Rattle.std.proofs.lemmas.List.{append-nil, take_all, length-drop}
 use Rattle.std.proofs.lemmas.Option.{slice_get_within}
 use Rattle.regex.specs.Patterns.{Re}
 use Rattle.minus_text.specs.Highlight.{line_matches}
-use Rattle.minus_text.specs.Found.{RowMatches, found_in_row, found_in_rows, row_numbers, Ascend}
+use Rattle.minus_text.specs.Found.{RowMatches, found_in_row, found_in_rows, jump_rows, Ascend}
 use Rattle.minus_text.specs.FoundBy.{found_in_some}
 use Rattle.minus_text.specs.Matches.{counts_first, match_at}
 use Rattle.minus_text.proofs.FoundInLaws.{rows_ascend}
+use Rattle.minus_text.proofs.LineLaws.{all_jumps}
 use Rattle.minus_text.proofs.FoundRangeLaws.{get_dropped, one_more_from}
+
+-- the rows that were found: of a search in rows jumps go to all of them
+abbrev row_numbers : List RowMatches → List ℕ
+row_numbers found = map (λ f. f.row) found
+
+of_jumps : (re : Re) (n : ℕ) (rows : List (List ℕ)) → slice_get (row_numbers (found_in_rows re n rows)) 0 ≡ slice_get (jump_rows (found_in_rows re n rows)) 0
+of_jumps re n rows = ap (λ l. slice_get l 0) (sym (all_jumps re n rows))
 
 -- ---- the first of some rows
 
@@ -33,11 +41,12 @@ hit_at re (suc k) n (suc m) (x ∷ xs) row none e lt hit =
     ]
 
 pub first_hit : (re : Re) (start end i : ℕ) (rows : List (List ℕ)) (row : List ℕ) → start ≤ i → i < end → [] ≡ found_in_rows re start (take (i - start) (drop start rows)) → slice_get rows i ≡ Some row → line_matches re row ≡ true →
-    Some i ≡ slice_get (row_numbers (found_in_rows re start (take (end - start) (drop start rows)))) 0
+    Some i ≡ slice_get (jump_rows (found_in_rows re start (take (end - start) (drop start rows)))) 0
 first_hit re start end i rows row from to none here hit =
     let at : i ≡ start + (i - start) = omega (arith, from) in
     let within : i - start < end - start = omega (arith, from, to) in
     ap (λ k. Some k) at ∙ hit_at re (i - start) start (end - start) (drop start rows) row none (get_dropped rows start i from ∙ here) within hit
+    ∙ of_jumps re start (take (end - start) (drop start rows))
 
 -- a row more that does not match
 pub still_none : (re : Re) (start i : ℕ) (rows : List (List ℕ)) (row : List ℕ) → start ≤ i → i < length rows → [] ≡ found_in_rows re start (take (i - start) (drop start rows)) → slice_get rows i ≡ Some row → line_matches re row ≡ false →
@@ -85,12 +94,12 @@ size_of [] = refl
 size_of (f ∷ fs) = ap (λ n. suc n) (size_of fs)
 
 -- where none counts the search goes to the first of all
-none_counts : (ns : List ℕ) (mark : ℕ) → position_or_len (counts_first mark 0) ns ≡ length ns → match_at ns mark ≡ slice_get ns 0
+pub none_counts : (ns : List ℕ) (mark : ℕ) → position_or_len (counts_first mark 0) ns ≡ length ns → match_at ns mark ≡ slice_get ns 0
 none_counts ns mark e =
     let past : nat_lt (position_or_len (counts_first mark 0) ns) (length ns) ≡ false = grind (arith, nat_tests, e) in
     elim (cases_Bool (eqb (length ns) 0)) [ inl z ↦ rw (past, z) refl | inr s ↦ rw (past, s) refl ]
 
-one_counts : (ns : List ℕ) (mark k n : ℕ) → position_or_len (counts_first mark 0) ns ≡ k → slice_get ns k ≡ Some n → match_at ns mark ≡ Some n
+pub one_counts : (ns : List ℕ) (mark k n : ℕ) → position_or_len (counts_first mark 0) ns ≡ k → slice_get ns k ≡ Some n → match_at ns mark ≡ Some n
 one_counts ns mark k n e here =
     let lt = slice_get_within ns k n here in
     let within : nat_lt (position_or_len (counts_first mark 0) ns) (length ns) ≡ true = grind (arith, nat_tests, e, lt) in
@@ -139,15 +148,19 @@ module _ (re : Re) (mark size : ℕ) (rows : List (List ℕ)) (all : size ≡ le
       ∙ ap (λ l. match_at (row_numbers l) mark) (sym its_split)
 
 -- a search goes to the first row behind the mark that matches, if there is one
-pub where_behind : (re : Re) (mark size : ℕ) (rows : List (List ℕ)) (behind : Option ℕ) → size ≡ length rows → behind ≡ slice_get (row_numbers (found_in_rows re mark (take (size - mark) (drop mark rows)))) 0 → is_some behind ≡ true →
-    behind ≡ match_at (row_numbers (found_in_rows re 0 rows)) mark
+pub where_behind : (re : Re) (mark size : ℕ) (rows : List (List ℕ)) (behind : Option ℕ) → size ≡ length rows → behind ≡ slice_get (jump_rows (found_in_rows re mark (take (size - mark) (drop mark rows)))) 0 → is_some behind ≡ true →
+    behind ≡ match_at (jump_rows (found_in_rows re 0 rows)) mark
 where_behind re mark size rows None all is some = absurd cc
-where_behind re mark size rows (Some n) all is some = to_behind re mark size rows all (Some n) is n refl
+where_behind re mark size rows (Some n) all is some =
+    to_behind re mark size rows all (Some n) (is ∙ sym (of_jumps re mark (take (size - mark) (drop mark rows)))) n refl
+    ∙ ap (λ l. match_at l mark) (sym (all_jumps re 0 rows))
 
 -- and else to the first of those above the mark
-pub where_above : (re : Re) (mark size : ℕ) (rows : List (List ℕ)) (behind above : Option ℕ) → size ≡ length rows → behind ≡ slice_get (row_numbers (found_in_rows re mark (take (size - mark) (drop mark rows)))) 0 → is_some behind ≡ false
-    → above ≡ slice_get (row_numbers (found_in_rows re 0 (take (mark - 0) (drop 0 rows)))) 0 → above ≡ match_at (row_numbers (found_in_rows re 0 rows)) mark
-where_above re mark size rows None above all is none first = to_above re mark size rows all None is above refl first
+pub where_above : (re : Re) (mark size : ℕ) (rows : List (List ℕ)) (behind above : Option ℕ) → size ≡ length rows → behind ≡ slice_get (jump_rows (found_in_rows re mark (take (size - mark) (drop mark rows)))) 0 → is_some behind ≡ false
+    → above ≡ slice_get (jump_rows (found_in_rows re 0 (take (mark - 0) (drop 0 rows)))) 0 → above ≡ match_at (jump_rows (found_in_rows re 0 rows)) mark
+where_above re mark size rows None above all is none first =
+    to_above re mark size rows all None (is ∙ sym (of_jumps re mark (take (size - mark) (drop mark rows)))) above refl (first ∙ sym (of_jumps re 0 (take (mark - 0) (drop 0 rows))))
+    ∙ ap (λ l. match_at l mark) (sym (all_jumps re 0 rows))
 where_above re mark size rows (Some n) above all is none first = absurd cc
 
 -- what a row that there is is told to be

@@ -20,31 +20,19 @@ use Rattle.minus_text.specs.Layouts.{own_rows, wrap_of}
 use Rattle.minus_text.specs.Lines.{cut, unfinished_line, finished_lines}
 use Rattle.minus_text.specs.declared.formed.Plan.{Plan}
 use Rattle.minus_text.specs.declared.layout.Wrap.{Wrap}
-use Rattle.minus_text.specs.Document.{Document, rows_of_lines, first_rows, open_rows, longest_of, rows_of, unfinished_rows, wrap_in, pushed, plan_of}
+use Rattle.minus_text.specs.Document.{Document, rows_of_lines, first_rows, open_rows, longest_of, rows_of, unfinished_rows, wrap_in, pushed, plan_of, first_formed}
 use Rattle.minus_text.specs.Fragments.{Fragment, rows_in}
-use Rattle.minus_text.specs.Found.{RowMatches, found_by, found_from, row_numbers}
+use Rattle.minus_text.specs.Found.{RowMatches, found_from, jump_rows}
+use Rattle.minus_text.specs.Finds.{found_in, finds, whole}
 use Rattle.minus_text.specs.Kept.{bytes_of, IsFormOf, IsFormed, IsRestartOf, line_going_on, piece_behind}
 use Rattle.minus_text.specs.Searched.{Searched, IsFoundBy}
-use Rattle.minus_text.specs.FormatResults.{Tells, TellsWith, TellsPush, TellsFound, formed_by, first_formed, is_clean}
+use Rattle.minus_text.specs.FormatResults.{Tells, TellsWith, TellsAll, TellsPush, TellsFound, formed_by, is_clean}
 use Rattle.minus_text.proofs.LinesLaws.{open_at}
+use Rattle.minus_text.proofs.PendingLaws.{first_is}
 use Rattle.minus_text.proofs.PushedLaws.{lines_pushed, keeps_wrap}
-use Rattle.minus_text.proofs.FoundFromLaws.{from_behind}
+use Rattle.minus_text.proofs.FindsGoOnLaws.{formed_from, in_document, in_fragment}
 use Rattle.minus_text.proofs.DocumentLaws.{length-rows_of_lines, length-first_rows}
 use Rattle.minus_text.proofs.ScreenLaws.{form-unfinished, from_start}
-
--- the rows behind which a push forms
-pub first_is : (d : Document) (plan : Plan) (start : Restart) → (plan.keeps ≡ true → plan.wrap ≡ wrap_in d) → IsRestartOf d.text plan start → start.finished.rows ≡ first_formed d plan
-unfolding rows_of unfinished_rows
-first_is d plan start w k = elim (cases_Bool plan.keeps) [
-  | inl t ↦
-      let same : plan.wrap ≡ wrap_in d = w t in
-      let reach = rw same at (rw t at k.reaches) in
-      let all = length-rows_of_lines d.text (wrap_in d) in
-      rw t (omega (arith, reach.by_rows, all))
-  | inr f ↦
-      let reach = rw f at k.reaches in
-      rw f (omega (arith, reach.by_rows))
-]
 
 -- the text that a push forms
 joined_is : (text piece : List ℕ) (plan : Plan) → (formed_by text piece plan).text ≡ line_going_on text plan ++ piece_behind text plan piece
@@ -72,7 +60,7 @@ pub tells_push : (text piece : List ℕ) (wrap : Wrap) (rows : List Span) (first
     → text ≡ d.text → IsFormed text wrap rows firsts finished n b → (plan.keeps ≡ true → plan.wrap ≡ wrap_in d) → IsRestartOf d.text plan start → IsFormOf plan.wrap (line_going_on d.text plan) (piece_behind d.text plan piece) start f
     → r.lines_formatted ≡ length f.first_rows → r.rows_formatted ≡ start.rows + length f.rows.items → r.num_unterminated ≡ (start.finished.rows + (start.rows + length f.rows.items)) - f.finished.rows → r.append_search_idx.keys ≡ [] → r.lines_to_row_map ≡ f.first_rows → r.max_line_length ≡ f.longest
     → r.clean_append ≡ cond plan.keeps (eqb finished.bytes (length text)) true
-    → Tells r None (formed_by d.text piece plan) (first_formed d plan) (is_clean d.text plan)
+    → Tells r None d.layout.match_lines (formed_by d.text piece plan) (first_formed d plan) (is_clean d.text plan)
 unfolding rows_in
 tells_push text piece wrap rows firsts finished n b start f r d plan v h w k is el er eu es em ew ec =
     let joined : List ℕ = line_going_on d.text plan ++ piece_behind d.text plan piece in
@@ -89,9 +77,9 @@ tells_push text piece wrap rows firsts finished n b start f r d plan v h w k is 
 
 -- what forming a whole text tells
 pub tells_whole : (text : List ℕ) (wrap : Wrap) (f : Formed) (r : FormatResult) → IsFormOf wrap [] text from_start f → r.lines_formatted ≡ length f.first_rows → r.rows_formatted ≡ length f.rows.items → r.num_unterminated ≡ length f.rows.items - f.finished.rows
-    → r.append_search_idx.keys ≡ [] → r.lines_to_row_map ≡ f.first_rows → r.max_line_length ≡ f.longest → r.clean_append ≡ true → Tells r None (record { text = text; wrap = wrap }) 0 true
+    → r.append_search_idx.keys ≡ [] → r.lines_to_row_map ≡ f.first_rows → r.max_line_length ≡ f.longest → r.clean_append ≡ true → (by_lines : Bool) → Tells r None by_lines (record { text = text; wrap = wrap }) 0 true
 unfolding rows_in
-tells_whole text wrap f r is el er eu es em ew ec = record {
+tells_whole text wrap f r is el er eu es em ew ec by_lines = record {
   lines_told = el ∙ ap length is.its_map ∙ length-first_rows wrap 0 (lines text);
   rows_told = omega (arith, er, is.its_count);
   unfinished_told = omega (arith, eu, (form-unfinished wrap [] text from_start f is).1);
@@ -104,8 +92,8 @@ tells_whole text wrap f r is el er eu es em ew ec = record {
 -- ---- the rows that match
 
 -- what tells no row that matches, with some told
-pub tells_matches : (r : FormatResult) (rows : BTreeSet ℕ) (formed : Fragment) (n : ℕ) (clean : Bool) → Tells r None formed n clean → TellsWith (record r { append_search_idx = rows }) rows.keys formed n clean
-tells_matches r rows formed n clean h = record {
+pub tells_matches : (r : FormatResult) (rows : BTreeSet ℕ) (by_lines : Bool) (formed : Fragment) (n : ℕ) (clean : Bool) → Tells r None by_lines formed n clean → TellsWith (record r { append_search_idx = rows }) rows.keys formed n clean
+tells_matches r rows by_lines formed n clean h = record {
   lines_told = h.lines_told;
   rows_told = h.rows_told;
   unfinished_told = h.unfinished_told;
@@ -115,56 +103,36 @@ tells_matches r rows formed n clean h = record {
   clean_told = h.clean_told;
 }
 
--- the rows of the text that a push forms follow the others
-rows_behind : (d : Document) (piece : List ℕ) (numbers : LineNumbers) (cols : ℕ) → (front : List (List ℕ)) × (rows_of (pushed d piece numbers cols) ≡ front ++ rows_in (formed_by d.text piece (plan_of d piece numbers cols))) × (length front ≡ first_formed d (plan_of d piece numbers cols))
-unfolding rows_of rows_in unfinished_rows
-rows_behind d piece numbers cols =
-    let plan = plan_of d piece numbers cols in
-    elim (cases_Bool plan.keeps) [
-      | inl t ↦
-          let front : List (List ℕ) = rows_of_lines plan.wrap (finished_lines d.text) in
-          let same : plan.wrap ≡ wrap_in d = keeps_wrap d piece numbers cols t in
-          let all = length-rows_of_lines d.text (wrap_in d) in (
-            front,
-            ap (rows_of_lines plan.wrap) (lines_pushed d.text piece) ∙ flat_map-append (own_rows plan.wrap) (finished_lines d.text) (lines (unfinished_line d.text ++ piece)) ∙ rw t refl,
-            ap (λ w. length (rows_of_lines w (finished_lines d.text))) same ∙ rw t (omega (arith, all)),
-          )
-      | inr f ↦ ([], rw f refl, rw f refl)
-    ]
-
 -- the rows told are those that are kept as found
-pub tells_found : (r told : FormatResult) (rows : BTreeSet ℕ) (n : ℕ) (found : List RowMatches) (d : Document) (piece : List ℕ) (numbers : LineNumbers) (cols : ℕ) → r ≡ record told { append_search_idx = rows } → rows.keys ≡ row_numbers (found_from n found)
+pub tells_found : (r told : FormatResult) (rows : BTreeSet ℕ) (n : ℕ) (found : List RowMatches) (d : Document) (piece : List ℕ) (numbers : LineNumbers) (cols : ℕ) → r ≡ record told { append_search_idx = rows } → rows.keys ≡ jump_rows (found_from n found)
     → n ≡ first_formed d (plan_of d piece numbers cols) → TellsPush told None d piece numbers cols → TellsFound r found d piece numbers cols
 tells_found r told rows n found d piece numbers cols is keys at h =
     let plan = plan_of d piece numbers cols in
     let f : Fragment = formed_by d.text piece plan in
     let m : ℕ = first_formed d plan in
     let clean : Bool = is_clean d.text plan in
-    subst (λ x. TellsWith x (row_numbers (found_from m found)) f m clean) (sym is)
-    (subst (λ ks. TellsWith (record told { append_search_idx = rows }) ks f m clean) (keys ∙ ap (λ k. row_numbers (found_from k found)) at) (tells_matches told rows f m clean h))
+    subst (λ x. TellsWith x (jump_rows (found_from m found)) f m clean) (sym is)
+    (subst (λ ks. TellsWith (record told { append_search_idx = rows }) ks f m clean) (keys ∙ ap (λ k. jump_rows (found_from k found)) at) (tells_matches told rows d.layout.match_lines f m clean h))
 
 -- what is told of all rows, formed anew
-pub tells_formed : (r told : FormatResult) (rows : BTreeSet ℕ) (term : Option Re) (found : List RowMatches) (d : Document) (text : List ℕ) (layout : Layout) → r ≡ record told { append_search_idx = rows } → rows.keys ≡ row_numbers found
-    → found ≡ found_by term 0 (rows_of d) → d ≡ record { text = text; layout = layout } → Tells told None (record { text = text; wrap = wrap_of layout (length (lines text)) }) 0 true → Tells r term (record { text = text; wrap = wrap_of layout (length (lines text)) }) 0 true
-unfolding rows_of rows_in
-tells_formed r told rows term found d text layout is keys by same h =
-    let f : Fragment = record { text = text; wrap = wrap_of layout (length (lines text)) } in
-    let all : rows.keys ≡ row_numbers (found_by term 0 (rows_in f)) = keys ∙ ap row_numbers (by ∙ ap (λ (e : Document). found_by term 0 (rows_of e)) same) in
-    subst (λ x. TellsWith x (row_numbers (found_by term 0 (rows_in f))) f 0 true) (sym is)
-    (subst (λ ks. TellsWith (record told { append_search_idx = rows }) ks f 0 true) all (tells_matches told rows f 0 true h))
+pub tells_formed : (r told : FormatResult) (rows : BTreeSet ℕ) (term : Option Re) (found : List RowMatches) (d e : Document) → r ≡ record told { append_search_idx = rows } → rows.keys ≡ jump_rows found
+    → found ≡ finds term d → d ≡ e → TellsAll told None e → TellsAll r term e
+tells_formed r told rows term found d e is keys by same h =
+    let all : rows.keys ≡ jump_rows (found_in term e.layout.match_lines 0 (whole e)) = keys ∙ ap jump_rows (by ∙ ap (finds term) same ∙ in_document term e ∙ sym (in_fragment term e.layout.match_lines 0 (whole e))) in
+    subst (λ x. TellsWith x (jump_rows (found_in term e.layout.match_lines 0 (whole e))) (whole e) 0 true) (sym is)
+    (subst (λ ks. TellsWith (record told { append_search_idx = rows }) ks (whole e) 0 true) all (tells_matches told rows e.layout.match_lines (whole e) 0 true h))
 
 -- what is kept as found is what a term finds, and so is what is told
 pub tells_pushed : (r : FormatResult) (term : Option Re) (s : Searched) (d : Document) (piece : List ℕ) (numbers : LineNumbers) (cols : ℕ) → IsFoundBy term s → s.document ≡ pushed d piece numbers cols
     → TellsFound r s.found d piece numbers cols → TellsPush r term d piece numbers cols
 tells_pushed r term s d piece numbers cols is left h =
     let plan = plan_of d piece numbers cols in
-    let behind = rows_behind d piece numbers cols in
-    let same : found_from (first_formed d plan) s.found ≡ found_by term (first_formed d plan) (rows_in (formed_by d.text piece plan)) =
-    ap (found_from (first_formed d plan)) (is ∙ ap (λ (e : Document). found_by term 0 (rows_of e)) left ∙ ap (found_by term 0) behind.1) ∙ from_behind term (first_formed d plan) behind.0 (rows_in (formed_by d.text piece plan)) behind.2 in
-    subst (λ l. TellsWith r (row_numbers l) (formed_by d.text piece plan) (first_formed d plan) (is_clean d.text plan)) same h
+    let same : found_from (first_formed d plan) s.found ≡ found_in term d.layout.match_lines (first_formed d plan) (formed_by d.text piece plan) =
+    ap (found_from (first_formed d plan)) (is ∙ ap (finds term) left) ∙ formed_from term d piece numbers cols in
+    subst (λ l. TellsWith r (jump_rows l) (formed_by d.text piece plan) (first_formed d plan) (is_clean d.text plan)) same h
 
 -- where nothing is kept as found, none is told
 pub tells_none : (r : FormatResult) (found : List RowMatches) (d : Document) (piece : List ℕ) (numbers : LineNumbers) (cols : ℕ) → found ≡ [] → TellsPush r None d piece numbers cols → TellsFound r found d piece numbers cols
 tells_none r found d piece numbers cols is h =
     let plan = plan_of d piece numbers cols in
-    subst (λ l. TellsWith r (row_numbers (found_from (first_formed d plan) l)) (formed_by d.text piece plan) (first_formed d plan) (is_clean d.text plan)) (sym is) h
+    subst (λ l. TellsWith r (jump_rows (found_from (first_formed d plan) l)) (formed_by d.text piece plan) (first_formed d plan) (is_clean d.text plan)) (sym is) h

@@ -7,15 +7,13 @@ use Rattle.std.proofs.lemmas.List.{append-nil, take_more, length-take-le}
 use Rattle.std.proofs.lemmas.Option.{slice_get-get_or}
 use Rattle.regex.specs.Patterns.{Re}
 use Rattle.minus_text.specs.declared.search.found.FoundRow.{FoundRow}
-use Rattle.minus_text.specs.Document.{rows_of}
-use Rattle.minus_text.specs.Fragments.{rows_in}
 use Rattle.minus_text.specs.Escapes.{escape_places}
 use Rattle.minus_text.specs.Highlight.{line_matches, line_match_places}
-use Rattle.minus_text.specs.Found.{RowMatches, found_in_row, found_in_rows, found_by, found_above}
+use Rattle.minus_text.specs.Found.{RowMatches, found_in_row, found_in_rows, found_above}
 use Rattle.minus_text.specs.FoundRows.{matches_of}
-use Rattle.minus_text.specs.FoundBy.{found_in_some, FoundGoesOn}
+use Rattle.minus_text.specs.FoundBy.{found_in_some}
 
-found_append : (re : Re) (n : ℕ) (xs ys : List (List ℕ)) → found_in_rows re n (xs ++ ys) ≡ found_in_rows re n xs ++ found_in_rows re (n + length xs) ys
+pub found_append : (re : Re) (n : ℕ) (xs ys : List (List ℕ)) → found_in_rows re n (xs ++ ys) ≡ found_in_rows re n xs ++ found_in_rows re (n + length xs) ys
 found_append re n [] ys = let z : n + 0 ≡ n = omega arith in ap (λ k. found_in_rows re k ys) (sym z)
 found_append re n (x ∷ xs) ys =
     let e : (n + 1) + length xs ≡ n + length (x ∷ xs) = omega arith in
@@ -42,12 +40,12 @@ none_above re n m (row ∷ rows) le = elim (cases_Bool (line_matches re row)) [
   | inr miss ↦ rw miss (none_above re n (m + 1) rows (omega (arith, le)))
 ]
 
-above_is_front : (re : Re) (k m n : ℕ) (rows : List (List ℕ)) → n ≡ m + k → found_above n (found_in_rows re m rows) ≡ found_in_rows re m (take k rows)
+pub above_is_front : (re : Re) (k m n : ℕ) (rows : List (List ℕ)) → n ≡ m + k → found_above n (found_in_rows re m rows) ≡ found_in_rows re m (take k rows)
 above_is_front re zero m n rows e = none_above re n m rows (omega (arith, e))
 above_is_front re (suc k) m n [] e = refl
 above_is_front re (suc k) m n (row ∷ rows) e =
     let later = above_is_front re k (m + 1) n rows (omega (arith, e)) in
-    let here : RowMatches = record { row = m; escapes = escape_places row; matches = line_match_places re row } in
+    let here : RowMatches = record { row = m; escapes = escape_places row; matches = line_match_places re row; begins = length (line_match_places re row) } in
     elim (cases_Bool (line_matches re row)) [
       | inl hit ↦
           let f : nat_le n m ≡ false = grind (arith, e) in
@@ -56,20 +54,15 @@ above_is_front re (suc k) m n (row ∷ rows) e =
       | inr miss ↦ rw miss later
     ]
 
-goes_on : (term : Option Re) (n : ℕ) (rows fresh : List (List ℕ)) → n ≤ length rows →
-    found_above n (found_by term 0 rows) ++ found_by term n fresh ≡ found_by term 0 (take n rows ++ fresh)
-goes_on None n rows fresh le = refl
-goes_on (Some re) n rows fresh le =
+pub goes_on : (re : Re) (n : ℕ) (rows fresh : List (List ℕ)) → n ≤ length rows →
+    found_above n (found_in_rows re 0 rows) ++ found_in_rows re n fresh ≡ found_in_rows re 0 (take n rows ++ fresh)
+goes_on re n rows fresh le =
     let zero_n : n ≡ 0 + n = omega arith in
     let size = length-take-le n rows le in
     let at : n ≡ 0 + length (take n rows) = omega (arith, size) in
     ap (λ l. l ++ found_in_rows re n fresh) (above_is_front re n 0 n rows zero_n)
     ∙ ap (λ k. found_in_rows re 0 (take n rows) ++ found_in_rows re k fresh) at
     ∙ sym (found_append re 0 (take n rows) fresh)
-
-pub found_goes_on : FoundGoesOn
-found_goes_on term d piece numbers cols p is =
-    goes_on term p.kept_rows (rows_of d) (rows_in p.tail) is.few ∙ ap (found_by term 0) (sym is.rows)
 
 count_mapped : (row : ℕ) (fs : List FoundRow) → position_or_len (λ (f : FoundRow). nat_le row f.row) fs ≡ position_or_len (λ (f : RowMatches). nat_le row f.row) (map matches_of fs)
 count_mapped row [] = refl

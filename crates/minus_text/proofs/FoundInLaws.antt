@@ -130,7 +130,7 @@ row_found n fs at h e = ap (if_numbered n) (sym (slice_get-map matches_of fs at)
 
 -- what a pattern finds in the row with a number
 pub found_of : (re : Re) (m : ℕ) (rows : List (List ℕ)) (i n : ℕ) (row : List ℕ) → n ≡ m + i → slice_get rows i ≡ Some row
-    → found_of_row n (found_in_rows re m rows) ≡ cond (line_matches re row) (Some (record { row = n; escapes = escape_places row; matches = line_match_places re row })) None
+    → found_of_row n (found_in_rows re m rows) ≡ cond (line_matches re row) (Some (record { row = n; escapes = escape_places row; matches = line_match_places re row; begins = length (line_match_places re row) })) None
 found_of re m [] i n row is e = absurd cc
 found_of re m (x ∷ xs) zero n row is e =
     let same : x ≡ row = cc in

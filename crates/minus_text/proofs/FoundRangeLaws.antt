@@ -57,7 +57,7 @@ of_front re zero m i rows lt = sym (none_later i m (found_in_rows re m rows) (om
 of_front re (suc k) m i [] lt = refl
 of_front re (suc k) m i (row ∷ rows) lt =
     let later = of_front re k (m + 1) i rows (omega (arith, lt)) in
-    let here : RowMatches = record { row = m; escapes = escape_places row; matches = line_match_places re row } in
+    let here : RowMatches = record { row = m; escapes = escape_places row; matches = line_match_places re row; begins = length (line_match_places re row) } in
     elim (cases_Bool (line_matches re row)) [
       | inl hit ↦ rw hit (ap (λ o. cond (eqb m i) (Some here) o) later)
       | inr miss ↦ rw miss later

@@ -73,3 +73,14 @@ pub mod StylesLaws
 pub mod StyleSourceLaws
 pub mod CarriedStyleLaws
 pub mod PushedPlacesLaws
+pub mod LineFindsLaws
+pub mod FindsLaws
+pub mod LineSplitLaws
+pub mod PlacedFindsLaws
+pub mod LineLaws
+pub mod TextFindsLaws
+pub mod PartsPlacedLaws
+pub mod JumpLaws
+pub mod FindsGoOnLaws
+pub mod StoredLineLaws
+pub mod LineRangeLaws

@@ -34,10 +34,10 @@ no_newline b h = elim (cases_Bool (eqb b 10)) [
 ]
 
 -- where the first newline is
-position_no : (b : ℕ) (bs : List ℕ) → eqb b 10 ≡ false → position_or_len nl (b ∷ bs) ≡ suc (position_or_len nl bs)
+pub position_no : (b : ℕ) (bs : List ℕ) → eqb b 10 ≡ false → position_or_len nl (b ∷ bs) ≡ suc (position_or_len nl bs)
 position_no b bs e = rw e (omega arith)
 
-position_yes : (b : ℕ) (bs : List ℕ) → eqb b 10 ≡ true → position_or_len nl (b ∷ bs) ≡ 0
+pub position_yes : (b : ℕ) (bs : List ℕ) → eqb b 10 ≡ true → position_or_len nl (b ∷ bs) ≡ 0
 position_yes b bs e = rw e refl
 
 -- the first line of a text that has a newline

@@ -1,5 +1,5 @@
 -- The rows that a push would leave.
-use Rattle.std.proofs.Common.{◌≡◌, ℕ, ◌+◌, ◌-◌, ◌≤◌, ◌<◌, zero, suc, true, cond, eqb, List, [], ◌∷◌, ◌++◌, length, map, take, drop, refl, sym, ap, ◌∙◌, arith, append_assoc, inl, inr}
+use Rattle.std.proofs.Common.{◌≡◌, ℕ, ◌+◌, ◌-◌, ◌≤◌, ◌<◌, zero, suc, Bool, true, cond, eqb, List, [], ◌∷◌, ◌++◌, length, map, take, drop, refl, sym, ap, ◌∙◌, arith, append_assoc, inl, inr}
 use Rattle.std.specs.List.{slice_get}
 use Rattle.std.specs.Str.{IsUtf8}
 use Rattle.std.specs.Str.Lines.{lines, strip_carriage_return}
@@ -14,13 +14,13 @@ use Rattle.minus_text.specs.declared.line_numbers.LineNumbers.{LineNumbers}
 use Rattle.minus_text.specs.declared.formed.Plan.{Plan}
 use Rattle.minus_text.specs.Layouts.{own_rows}
 use Rattle.minus_text.specs.Lines.{Cut, cut, whole, behind, finished_lines, unfinished_line}
-use Rattle.minus_text.specs.Document.{Document, first_rows, line_map, line_count, rows_of, rows_of_lines, open_rows, pushed, wrap_in, plan_of}
+use Rattle.minus_text.specs.Document.{Document, first_rows, line_map, line_count, rows_of, rows_of_lines, open_rows, unfinished_rows, pushed, wrap_in, plan_of, formed_text, first_formed}
 use Rattle.minus_text.specs.Fragments.{rows_in}
 use Rattle.minus_text.specs.Kept.{Reaches, IsFormOf, IsRestart, IsRestartOf, at_start, line_going_on, piece_behind}
 use Rattle.minus_text.specs.PushedPlaces.{PlacesGoOn}
-use Rattle.minus_text.specs.Pending.{Pending, IsPending}
+use Rattle.minus_text.specs.Pending.{Pending, IsPending, IsAtLine, BeginsWithLine}
 use Rattle.minus_text.proofs.LinesLaws.{lines-cut}
-use Rattle.minus_text.proofs.DocumentLaws.{length-first_rows, first_rows-append}
+use Rattle.minus_text.proofs.DocumentLaws.{length-rows_of_lines, length-first_rows, first_rows-append}
 use Rattle.minus_text.proofs.PlacesLaws.{joined, cut_joined, sides}
 use Rattle.minus_text.proofs.PreparedLaws.{front_cut, whole_append, whole_drop}
 use Rattle.minus_text.proofs.PushedLaws.{lines_pushed, keeps_wrap}
@@ -122,14 +122,49 @@ map_after : (d : Document) (piece : List ℕ) (numbers : LineNumbers) (cols : �
 unfolding line_map
 map_after d piece numbers cols plan entries is m = ap (λ (p : Plan). first_rows p.wrap 0 (lines (d.text ++ piece))) (sym is) ∙ sym m
 
+-- the rows behind which a push forms
+pub first_is : (d : Document) (plan : Plan) (start : Restart) → (plan.keeps ≡ true → plan.wrap ≡ wrap_in d) → IsRestartOf d.text plan start → start.finished.rows ≡ first_formed d plan
+unfolding rows_of unfinished_rows
+first_is d plan start w k = elim (cases_Bool plan.keeps) [
+  | inl t ↦
+      let same : plan.wrap ≡ wrap_in d = w t in
+      let reach = rw same at (rw t at k.reaches) in
+      let all = length-rows_of_lines d.text (wrap_in d) in
+      rw t (omega (arith, reach.by_rows, all))
+  | inr f ↦
+      let reach = rw f at k.reaches in
+      rw f (omega (arith, reach.by_rows))
+]
+
+-- where forming goes on at a line's start, what is formed is whole lines
+module _ (d : Document) (piece tail : List ℕ) (numbers : LineNumbers) (cols : ℕ) (start : Restart) (plan : Plan) (is : plan ≡ plan_of d piece numbers cols) (k : IsRestartOf d.text plan start)
+  (t : tail ≡ drop start.bytes (line_going_on d.text plan) ++ piece_behind d.text plan piece) (at : IsAtLine start) where
+  from_line_text : tail ≡ formed_text d.text piece plan
+  from_line_text = t ∙ ap (λ n. drop n (line_going_on d.text plan) ++ piece_behind d.text plan piece) at.no_bytes ∙ elim (cases_Bool plan.keeps) [
+    | inl e ↦ rw e refl
+    | inr f ↦ rw f refl
+  ]
+
+  from_line_first : start.finished.rows + start.rows ≡ first_formed d plan
+  from_line_first = let first = first_is d plan start (plan_keeps d piece numbers cols plan is) k in omega (arith, at.no_rows, first)
+
+  begins_with_line : (p : Pending) → p.kept_rows ≡ start.finished.rows + start.rows → p.tail.text ≡ tail → p.tail.wrap ≡ plan.wrap → BeginsWithLine d (plan_of d piece numbers cols) piece p
+  begins_with_line p a b c = record {
+    first = a ∙ from_line_first ∙ ap (first_formed d) is;
+    its_text = b ∙ from_line_text ∙ ap (formed_text d.text piece) is;
+    its_wrap = c ∙ ap (λ (q : Plan). q.wrap) is;
+  }
+
 -- what is formed beside a document is pending
-pub prepared_pending : (d : Document) (piece tail : List ℕ) (numbers : LineNumbers) (cols : ℕ) (start : Restart) (plan : Plan) → plan ≡ plan_of d piece numbers cols → IsRestartOf d.text plan start
+pub prepared_pending : (d : Document) (piece tail : List ℕ) (numbers : LineNumbers) (cols : ℕ) (by_lines : Bool) (start : Restart) (plan : Plan) → plan ≡ plan_of d piece numbers cols → IsRestartOf d.text plan start
     → IsUtf8 (line_going_on d.text plan ++ piece_behind d.text plan piece) → tail ≡ drop start.bytes (line_going_on d.text plan) ++ piece_behind d.text plan piece
     → (f : Formed) → IsFormOf plan.wrap (line_going_on d.text plan) (piece_behind d.text plan piece) start f
     → PlacesGoOn d (pushed d piece numbers cols) piece (start.finished.rows + start.rows) start (record { text = tail; wrap = plan.wrap })
-    → IsPending d piece numbers cols (record { kept_rows = start.finished.rows + start.rows; kept_lines = start.finished.lines; first_rows = f.first_rows; start = start; tail = record { text = tail; wrap = plan.wrap }; numbers = numbers; cols = cols })
+    → (by_lines ≡ true → IsAtLine start)
+    → IsPending d piece numbers cols (record { kept_rows = start.finished.rows + start.rows; kept_lines = start.finished.lines; first_rows = f.first_rows; start = start; tail = record { text = tail; wrap = plan.wrap }; numbers = numbers; cols = cols; match_lines = by_lines })
 unfolding rows_of rows_in
-prepared_pending d piece tail numbers cols start plan is k u t f formed places =
+prepared_pending d piece tail numbers cols by_lines start plan is k u t f formed places line_start =
+    let p : Pending = record { kept_rows = start.finished.rows + start.rows; kept_lines = start.finished.lines; first_rows = f.first_rows; start = start; tail = record { text = tail; wrap = plan.wrap }; numbers = numbers; cols = cols; match_lines = by_lines } in
     let entries = entries_after d piece plan start f (plan_keeps d piece numbers cols plan is) k formed in
     elim (cases_Bool plan.keeps) [
       | inl e ↦
@@ -147,6 +182,7 @@ prepared_pending d piece tail numbers cols start plan is k u t f formed places =
             places = places;
             its_numbers = refl;
             its_cols = refl;
+            its_lines = λ on. begins_with_line d piece tail numbers cols start plan is k t (line_start on) p refl refl refl;
           }
       | inr f0 ↦
           let reach : Reaches plan.wrap at_start [] start.finished = rw f0 at k.reaches in
@@ -165,6 +201,7 @@ prepared_pending d piece tail numbers cols start plan is k u t f formed places =
             places = places;
             its_numbers = refl;
             its_cols = refl;
+            its_lines = λ on. begins_with_line d piece tail numbers cols start plan is k t (line_start on) p refl refl refl;
           }
     ]
 

@@ -4,16 +4,17 @@ use Rattle.std.proofs.Math.Nat.{add-mod-mod, mod-eq_of_lt}
 use Rattle.std.specs.List.{position_or_len, slice_get}
 use Rattle.std.proofs.lemmas.Bool.{cases_Bool, cases_lt, ne_eqb}
 use Rattle.std.proofs.lemmas.Bool.Decides.{nat_tests}
-use Rattle.minus_text.specs.declared.search.found.FoundRow.{FoundRow}
+use Rattle.std.proofs.lemmas.List.{take-append-drop}
+use Rattle.minus_text.specs.declared.search.jumps.Jump.{Jump}
 use Rattle.minus_text.specs.declared.line_numbers.LineNumbers.{LineNumbers}
 use Rattle.minus_text.specs.Document.{Document, rows_of, pushed}
 use Rattle.minus_text.specs.Pending.{Pending, IsPending}
 use Rattle.minus_text.specs.Fragments.{rows_in}
-use Rattle.minus_text.specs.Found.{RowMatches, found_above, found_of_row, row_numbers, Ascend, IsPlaced, ArePlaced}
-use Rattle.minus_text.specs.FoundRows.{matches_of}
+use Rattle.minus_text.specs.Found.{RowMatches, found_above, found_from, found_of_row, jump_rows, Ascend, IsPlaced, ArePlaced}
 use Rattle.minus_text.specs.Matches.{counts_first}
 use Rattle.minus_text.proofs.FoundInLaws.{none_later, placed_of}
 use Rattle.minus_text.proofs.PendingLaws.{row_staying, row_forming}
+use Rattle.minus_text.proofs.JumpLaws.{row_of, jumps_both}
 
 -- what was formed for some numbers and columns was formed for its own
 pub own_pending : (d : Document) (piece : List ℕ) (numbers : LineNumbers) (cols : ℕ) (p : Pending) → IsPending d piece numbers cols p → IsPending d piece p.numbers p.cols p
@@ -66,53 +67,59 @@ module _ (d : Document) (piece : List ℕ) (numbers : LineNumbers) (cols : ℕ) 
 
 -- ---- the first row that counts
 
+split_jumps : (kept : ℕ) (found : List RowMatches) → jump_rows found ≡ jump_rows (found_above kept found) ++ jump_rows (found_from kept found)
+split_jumps kept found =
+    ap jump_rows (sym (take-append-drop (position_or_len (λ (f : RowMatches). nat_le kept f.row) found) found)) ∙ jumps_both (found_above kept found) (found_from kept found)
+
 module _ (test : ℕ → Bool) where
   -- it stays
-  pub counts_staying : (kept : ℕ) (found fresh : List RowMatches) → position_or_len test (row_numbers found) < length (found_above kept found)
-      → position_or_len test (row_numbers found) ≡ position_or_len test (row_numbers (found_above kept found ++ fresh))
-  counts_staying kept [] fresh lt = absurd (omega (arith, lt))
-  counts_staying kept (r ∷ rs) fresh lt = elim (cases_Bool (nat_le kept r.row)) [
-    | inl t ↦ let none : position_or_len test (row_numbers (r ∷ rs)) < 0 = rw t at lt in absurd (omega (arith, none))
-    | inr f ↦
-        let one : 1 + position_or_len (λ x. nat_le kept x.row) rs ≡ suc (position_or_len (λ x. nat_le kept x.row) rs) = omega arith in
-        elim (cases_Bool (test r.row)) [
-          | inl hit ↦ rw (f, one, hit) refl
-          | inr miss ↦
-              let less : 1 + position_or_len test (row_numbers rs) < suc (length (found_above kept rs)) = rw (f, one, miss) at lt in
-              rw (f, one, miss) (ap (λ n. 1 + n) (counts_staying kept rs fresh (omega (arith, less))))
-        ]
+  in_front : (xs ys zs : List ℕ) → position_or_len test (xs ++ ys) < length xs → position_or_len test (xs ++ ys) ≡ position_or_len test (xs ++ zs)
+  in_front [] ys zs lt = absurd (omega (arith, lt))
+  in_front (x ∷ xs) ys zs lt = elim (cases_Bool (test x)) [
+    | inl hit ↦ rw hit refl
+    | inr miss ↦
+        let less : 1 + position_or_len test (xs ++ ys) < suc (length xs) = rw miss at lt in
+        rw miss (ap (λ n. 1 + n) (in_front xs ys zs (omega (arith, less))))
   ]
 
   -- it is formed
-  pub counts_forming : (kept : ℕ) (found fresh : List RowMatches) → length (found_above kept found) ≤ position_or_len test (row_numbers found)
-      → length (found_above kept found) + position_or_len test (row_numbers fresh) ≡ position_or_len test (row_numbers (found_above kept found ++ fresh))
-  counts_forming kept [] fresh le = omega arith
-  counts_forming kept (r ∷ rs) fresh le = elim (cases_Bool (nat_le kept r.row)) [
-    | inl t ↦ rw t (omega arith)
-    | inr f ↦
-        let one : 1 + position_or_len (λ x. nat_le kept x.row) rs ≡ suc (position_or_len (λ x. nat_le kept x.row) rs) = omega arith in
-        elim (cases_Bool (test r.row)) [
-          | inl hit ↦
-              let none : suc (length (found_above kept rs)) ≤ 0 = rw (f, one, hit) at le in
-              absurd (omega (arith, none))
-          | inr miss ↦
-              let less : suc (length (found_above kept rs)) ≤ 1 + position_or_len test (row_numbers rs) = rw (f, one, miss) at le in
-              let later = counts_forming kept rs fresh (omega (arith, less)) in
-              rw (f, one, miss) (omega (arith, later))
-        ]
+  past_front : (xs ys zs : List ℕ) → length xs ≤ position_or_len test (xs ++ ys) → length xs + position_or_len test zs ≡ position_or_len test (xs ++ zs)
+  past_front [] ys zs le = omega arith
+  past_front (x ∷ xs) ys zs le = elim (cases_Bool (test x)) [
+    | inl hit ↦ let none : suc (length xs) ≤ 0 = rw hit at le in absurd (omega (arith, none))
+    | inr miss ↦
+        let less : suc (length xs) ≤ 1 + position_or_len test (xs ++ ys) = rw miss at le in
+        let later = past_front xs ys zs (omega (arith, less)) in
+        rw miss (omega (arith, later))
   ]
 
+  pub counts_staying : (kept : ℕ) (found fresh : List RowMatches) → position_or_len test (jump_rows found) < length (jump_rows (found_above kept found))
+      → position_or_len test (jump_rows found) ≡ position_or_len test (jump_rows (found_above kept found ++ fresh))
+  counts_staying kept found fresh lt =
+      let xs = jump_rows (found_above kept found) in
+      let split = split_jumps kept found in
+      let before : position_or_len test (xs ++ jump_rows (found_from kept found)) < length xs = omega (arith, lt, ap (position_or_len test) split) in
+      ap (position_or_len test) split ∙ in_front xs (jump_rows (found_from kept found)) (jump_rows fresh) before
+      ∙ ap (position_or_len test) (sym (jumps_both (found_above kept found) fresh))
+
+  pub counts_forming : (kept : ℕ) (found fresh : List RowMatches) → length (jump_rows (found_above kept found)) ≤ position_or_len test (jump_rows found)
+      → length (jump_rows (found_above kept found)) + position_or_len test (jump_rows fresh) ≡ position_or_len test (jump_rows (found_above kept found ++ fresh))
+  counts_forming kept found fresh le =
+      let xs = jump_rows (found_above kept found) in
+      let past : length xs ≤ position_or_len test (xs ++ jump_rows (found_from kept found)) = omega (arith, le, ap (position_or_len test) (split_jumps kept found)) in
+      past_front xs (jump_rows (found_from kept found)) (jump_rows fresh) past ∙ ap (position_or_len test) (sym (jumps_both (found_above kept found) fresh))
+
   -- a place before which none counts, and behind which each does
-  pub first_counts : (fs : List FoundRow) (n : ℕ) → n ≤ length fs → ((k : ℕ) (d : FoundRow) → k < n → not (test (get_or fs k d).row) ≡ true)
-      → ((k : ℕ) (d : FoundRow) → n ≤ k → k < length fs → not (test (get_or fs k d).row) ≡ false) → n ≡ position_or_len test (row_numbers (map matches_of fs))
+  pub first_counts : (js : List Jump) (n : ℕ) → n ≤ length js → ((k : ℕ) (d : Jump) → k < n → not (test (get_or js k d).row) ≡ true)
+      → ((k : ℕ) (d : Jump) → n ≤ k → k < length js → not (test (get_or js k d).row) ≡ false) → n ≡ position_or_len test (map row_of js)
   first_counts [] n le h k = omega (arith, le)
-  first_counts (f ∷ fs) zero le h k =
-      let b : not (test f.row) ≡ false = k 0 f (omega arith) (omega arith) in
+  first_counts (j ∷ js) zero le h k =
+      let b : not (test j.row) ≡ false = k 0 j (omega arith) (omega arith) in
       rw b refl
-  first_counts (f ∷ fs) (suc n) le h k =
-      let b : not (test f.row) ≡ true = h 0 f (omega arith) in
+  first_counts (j ∷ js) (suc n) le h k =
+      let b : not (test j.row) ≡ true = h 0 j (omega arith) in
       let one : suc n ≡ 1 + n = omega arith in
-      rw b (one ∙ ap (λ m. 1 + m) (first_counts fs n (omega (arith, le)) (λ i d l. h (suc i) d (omega (arith, l))) (λ i d l m. k (suc i) d (omega (arith, l)) (omega (arith, m)))))
+      rw b (one ∙ ap (λ m. 1 + m) (first_counts js n (omega (arith, le)) (λ i d l. h (suc i) d (omega (arith, l))) (λ i d l m. k (suc i) d (omega (arith, l)) (omega (arith, m)))))
 
 -- rows that come later count too
 pub counts_on : (mark jump low high : ℕ) → low ≤ high → not (counts_first mark jump high) ≡ true → not (counts_first mark jump low) ≡ true

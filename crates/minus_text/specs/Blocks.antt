@@ -1,5 +1,5 @@
 -- A block: a text that is formed by itself, behind other lines and rows.
-use Rattle.std.specs.Prelude.{◌≡◌, ℕ, ◌+◌, ◌<◌, ◌^◌, Bool, List, [], ◌∷◌, ◌++◌, length, map, Option, None, Some, slice_get, if◌then◌else◌}
+use Rattle.std.specs.Prelude.{◌≡◌, ℕ, ◌+◌, ◌<◌, ◌^◌, Bool, false, List, [], ◌∷◌, ◌++◌, length, map, Option, None, Some, slice_get, if◌then◌else◌}
 use Rattle.std.specs.Str.Lines.{lines}
 use Rattle.std.specs.Ordering.{nat_cmp}
 use Rattle.std.specs.BTreeSet.{insert_key}
@@ -9,14 +9,15 @@ use Rattle.minus_text.specs.declared.formatted.FormattedRow.{FormattedRow}
 use Rattle.minus_text.specs.declared.screen.FormatResult.{FormatResult}
 use Rattle.minus_text.specs.Prefixes.{is_on}
 use Rattle.minus_text.specs.Lines.{unfinished_line}
-use Rattle.minus_text.specs.Layouts.{wrap_of}
-use Rattle.minus_text.specs.Document.{first_rows, open_rows, longest_of}
+use Rattle.minus_text.specs.Layouts.{own_rows, wrap_of}
+use Rattle.minus_text.specs.declared.layout.Wrap.{Wrap}
+use Rattle.minus_text.specs.Document.{first_rows, open_rows, longest_of, stored_line}
 use Rattle.minus_text.specs.Fragments.{Fragment, rows_in}
 use Rattle.minus_text.specs.Pending.{Pending}
 use Rattle.minus_text.specs.Found.{found_by}
 use Rattle.minus_text.specs.FormatResults.{Tells}
 use Rattle.minus_text.specs.Formatted.{row_matches, prefix_of}
-use Rattle.minus_text.specs.Searched.{shown_for, stored_lines_for}
+use Rattle.minus_text.specs.Searched.{shown_for}
 
 -- a text, the layout of its rows, how many lines stand before it, and the number of its first row
 pub record Block : Type 0 where
@@ -33,6 +34,12 @@ all_lines b = b.lines_before + length (lines b.text)
 abbrev pub fragment_of : Block → Fragment
 fragment_of b = record { text = b.text; wrap = wrap_of b.layout (all_lines b) }
 
+-- the stored rows of lines under a term that is searched for in each row by itself; the first line has a number
+abbrev pub stored_lines_for : Option Re → Wrap → Bool → ℕ → ℕ → List (List ℕ) → List (List ℕ)
+stored_lines_for term wrap numbers count line [] = []
+stored_lines_for term wrap numbers count line (x ∷ xs) =
+    stored_line numbers count line (map (shown_for term) (own_rows wrap x)) ++ stored_lines_for term wrap numbers count (line + 1) xs
+
 -- its rows as they are stored, under a term
 unfoldable pub block_rows : Option Re → Block → List (List ℕ)
 block_rows term b = stored_lines_for term (fragment_of b).wrap (is_on b.layout.numbers) (all_lines b) (b.lines_before + 1) (lines b.text)
@@ -43,7 +50,7 @@ matching_rows term b = map (λ f. f.row) (found_by term b.first_row (rows_in (fr
 
 -- a result tells of a block
 abbrev pub TellsBlock : FormatResult → Option Re → Block → Bool → Type 0
-TellsBlock result term b clean = Tells result term (fragment_of b) b.first_row clean
+TellsBlock result term b clean = Tells result term false (fragment_of b) b.first_row clean
 
 -- what is formed of a block
 pub record IsBlockFormed (p : Pending) (layout : Layout) (lines_before unfinished longest : ℕ) : Type 0 where

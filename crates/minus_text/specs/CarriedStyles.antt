@@ -1,5 +1,5 @@
 -- The style that a row is put with.
-use Rattle.std.specs.Prelude.{◌≡◌, ℕ, Bool, true, List, [], ◌∷◌, ◌++◌, Option, None, Some, map, take, slice_get, if◌then◌else◌}
+use Rattle.std.specs.Prelude.{◌≡◌, ℕ, Bool, true, List, [], Option, None, Some, map, take, slice_get, if◌then◌else◌}
 use Rattle.std.specs.List.{flat_map}
 use Rattle.std.specs.Option.{unwrap_or}
 use Rattle.std.specs.Str.{IsUtf8}
@@ -27,12 +27,6 @@ style_with styles i = unwrap_or (slice_get styles i) []
 -- the style that is put before the row of a document with a number
 abbrev pub carried_style : Document → ℕ → List ℕ
 carried_style d i = style_with (carried_styles d) i
-
--- rows with a style before each of them, as far as there are styles
-abbrev pub styled : List (List ℕ) → List (List ℕ) → List (List ℕ)
-styled [] rows = rows
-styled (style ∷ styles) [] = []
-styled (style ∷ styles) (row ∷ rows) = (style ++ row) ∷ styled styles rows
 
 -- the style behind what stands before a place of a text in the place's line
 abbrev pub style_before : List ℕ → Option Span → List ℕ

@@ -1,5 +1,5 @@
 -- A document: a text and the layout of its rows, and what follows from them.
-use Rattle.std.specs.Prelude.{◌≡◌, ℕ, ◌+◌, ◌<◌, ◌==◌, ◌&&◌, Bool, true, false, List, [], ◌∷◌, ◌++◌, length, map, max, Some, slice_get, if◌then◌else◌}
+use Rattle.std.specs.Prelude.{◌≡◌, ℕ, ◌+◌, ◌-◌, ◌<◌, ◌==◌, ◌&&◌, Bool, true, false, List, [], ◌∷◌, ◌++◌, length, map, max, Some, slice_get, if◌then◌else◌}
 use Rattle.std.specs.List.{flat_map, concat}
 use Rattle.std.specs.List.Sorted.{IsStrictlyIncreasing}
 use Rattle.std.specs.Str.Lines.{lines}
@@ -88,6 +88,14 @@ keeps_rows d piece numbers cols = (cols == d.layout.cols) && (margin_in (pushed 
 -- how a push forms
 abbrev pub plan_of : Document → List ℕ → LineNumbers → ℕ → Plan
 plan_of d piece numbers cols = record { keeps = keeps_rows d piece numbers cols; wrap = wrap_in (pushed d piece numbers cols) }
+
+-- the text that a push forms: the unfinished line and the piece, or the whole text and the piece where all is formed anew
+abbrev pub formed_text : List ℕ → List ℕ → Plan → List ℕ
+formed_text text piece plan = (if plan.keeps then unfinished_line text else text) ++ piece
+
+-- the number of the first row of that: the number of rows of the finished lines, or 0 where all is formed anew
+abbrev pub first_formed : Document → Plan → ℕ
+first_formed d plan = if plan.keeps then length (rows_of d) - unfinished_rows d else 0
 
 -- two documents look the same: their rows, as they are and as they are stored, the first row of each line, their number of lines and their longest line
 pub record LooksTheSame (d e : Document) : Type 0 where

@@ -6,9 +6,10 @@ use Rattle.minus_text.specs.declared.screen.FormatResult.{FormatResult}
 use Rattle.minus_text.specs.declared.formed.Plan.{Plan}
 use Rattle.minus_text.specs.declared.line_numbers.LineNumbers.{LineNumbers}
 use Rattle.minus_text.specs.Lines.{unfinished_line}
-use Rattle.minus_text.specs.Document.{Document, rows_of, wrap_in, first_rows, open_rows, longest_of, unfinished_rows, plan_of}
+use Rattle.minus_text.specs.Document.{Document, first_rows, open_rows, longest_of, plan_of, formed_text, first_formed}
 use Rattle.minus_text.specs.Fragments.{Fragment, rows_in}
-use Rattle.minus_text.specs.Found.{RowMatches, found_by, found_from, row_numbers}
+use Rattle.minus_text.specs.Found.{RowMatches, found_from, jump_rows}
+use Rattle.minus_text.specs.Finds.{found_in, whole}
 use Rattle.minus_text.specs.Searched.{Searched, SearchedPush, IsFoundBy, IsFoundInPush}
 
 -- a result tells of a fragment formed: its counts of lines and rows, its unfinished rows, these rows as those that match, the first row
@@ -22,21 +23,18 @@ pub record TellsWith (result : FormatResult) (matches : List ℕ) (formed : Frag
   pub longest_told : result.max_line_length ≡ longest_of (lines formed.text)
   pub clean_told : result.clean_append ≡ clean
 
--- a result tells of a formed fragment, and its matches are the rows in which a term is found
-abbrev pub Tells : FormatResult → Option Re → Fragment → ℕ → Bool → Type 0
-Tells result term formed first_row clean = TellsWith result (row_numbers (found_by term first_row (rows_in formed))) formed first_row clean
+-- a result tells of a formed fragment, and its matches are the rows in which matches of a term begin
+abbrev pub Tells : FormatResult → Option Re → Bool → Fragment → ℕ → Bool → Type 0
+Tells result term match_lines formed first_row clean =
+    TellsWith result (jump_rows (found_in term match_lines first_row formed)) formed first_row clean
 
 -- a result tells of a document that was formed whole
 abbrev pub TellsAll : FormatResult → Option Re → Document → Type 0
-TellsAll result term d = Tells result term (record { text = d.text; wrap = wrap_in d }) 0 true
+TellsAll result term d = Tells result term d.layout.match_lines (whole d) 0 true
 
--- what a push forms: the unfinished line and the piece, or the whole text and the piece where all is formed anew
+-- what a push forms
 abbrev pub formed_by : List ℕ → List ℕ → Plan → Fragment
-formed_by text piece plan = record { text = (if plan.keeps then unfinished_line text else text) ++ piece; wrap = plan.wrap }
-
--- the number of the first row that a push forms: the number of rows of the finished lines, or 0 where all is formed anew
-abbrev pub first_formed : Document → Plan → ℕ
-first_formed d plan = if plan.keeps then length (rows_of d) - unfinished_rows d else 0
+formed_by text piece plan = record { text = formed_text text piece plan; wrap = plan.wrap }
 
 -- whether a push attaches nothing to the piece: there is no unfinished line, or the whole is formed anew
 abbrev pub is_clean : List ℕ → Plan → Bool
@@ -44,7 +42,8 @@ is_clean text plan = if plan.keeps then length (unfinished_line text) == 0 else 
 
 -- a result tells of a push that forms by a plan
 abbrev pub TellsPlan : FormatResult → Option Re → Document → List ℕ → Plan → Type 0
-TellsPlan result term d piece plan = Tells result term (formed_by d.text piece plan) (first_formed d plan) (is_clean d.text plan)
+TellsPlan result term d piece plan =
+    Tells result term d.layout.match_lines (formed_by d.text piece plan) (first_formed d plan) (is_clean d.text plan)
 
 -- a result tells of a push
 abbrev pub TellsPush : FormatResult → Option Re → Document → List ℕ → LineNumbers → ℕ → Type 0
@@ -61,5 +60,5 @@ TellsPrepared result term s piece p =
 -- a result tells of a push, and of the rows that it forms those in which something was found
 abbrev pub TellsFound : FormatResult → List RowMatches → Document → List ℕ → LineNumbers → ℕ → Type 0
 TellsFound result found d piece numbers cols =
-    (let plan = plan_of d piece numbers cols in TellsWith result (row_numbers (found_from (first_formed d plan) found))
+    (let plan = plan_of d piece numbers cols in TellsWith result (jump_rows (found_from (first_formed d plan) found))
     (formed_by d.text piece plan) (first_formed d plan) (is_clean d.text plan))

@@ -23,6 +23,7 @@ block_of opts =
       cols = opts.cols;
       wrapping = opts.line_wrapping;
       numbers = opts.line_numbers;
+      match_lines = false;
       carry_style = false;
     } in
     block_with (option_map (λ a. a.now) opts.attachment) opts.text.now layout (counted_before opts.lines_count)

@@ -1,22 +1,25 @@
 -- What a term finds in rows.
-use Rattle.std.specs.Prelude.{◌≡◌, ℕ, ◌+◌, ◌-◌, ◌≤◌, ◌==◌, false, List, [], ◌∷◌, ◌++◌, map, Option, None, Some, IfSome, take, drop, slice_get, nat_le}
+use Rattle.std.specs.Prelude.{◌≡◌, ℕ, ◌+◌, ◌-◌, ◌≤◌, ◌==◌, false, List, [], ◌∷◌, ◌++◌, length, Option, None, Some, IfSome, take, drop, slice_get, nat_le}
 use Rattle.std.specs.Prelude.{if◌then◌else◌}
-use Rattle.std.specs.List.{position_or_len}
+use Rattle.std.specs.List.{position_or_len, sum_by}
 use Rattle.std.specs.Coded.{le_prop}
 use Rattle.regex.specs.Patterns.{Re}
 use Rattle.minus_text.specs.Escapes.{escape_places, outside, inside, CutsText, CutsText-prop}
 use Rattle.minus_text.specs.Highlight.{line_matches, line_match_places, ordered, put_in}
 
--- a row that matches: its number, where its escape sequences stand in it, and where its matches stand in the row without these
+-- a row that shows some of matches: its number, where escape sequences stand in it, where matches stand in the row without these,
+-- and how many matches begin in it
 pub record RowMatches : Type 0 where
   pub row : ℕ
   pub escapes : List (ℕ × ℕ)
   pub matches : List (ℕ × ℕ)
+  pub begins : ℕ
 
 -- what a pattern finds in a row with a number: nothing where it does not match
 abbrev pub found_in_row : Re → ℕ → List ℕ → List RowMatches
 found_in_row pattern n row =
-    if line_matches pattern row then record { row = n; escapes = escape_places row; matches = line_match_places pattern row } ∷ [] else []
+    let ms = line_match_places pattern row in
+    if line_matches pattern row then record { row = n; escapes = escape_places row; matches = ms; begins = length ms } ∷ [] else []
 
 -- what it finds in rows, of which the first has a number
 abbrev pub found_in_rows : Re → ℕ → List (List ℕ) → List RowMatches
@@ -40,9 +43,17 @@ found_above n found = take (position_or_len (λ f. nat_le n f.row) found) found
 abbrev pub found_from : ℕ → List RowMatches → List RowMatches
 found_from n found = drop (position_or_len (λ f. nat_le n f.row) found) found
 
--- the numbers of rows that match
-abbrev pub row_numbers : List RowMatches → List ℕ
-row_numbers found = map (λ f. f.row) found
+-- the rows in which matches begin: jumps go to these
+abbrev pub jump_rows : List RowMatches → List ℕ
+jump_rows [] = []
+jump_rows (r ∷ rs) = if r.begins == 0 then jump_rows rs else r.row ∷ jump_rows rs
+
+-- how many matches there are, and how many begin in the rows above one
+abbrev pub match_total : List RowMatches → ℕ
+match_total found = sum_by (λ r. r.begins) found
+
+abbrev pub matches_above : ℕ → List RowMatches → ℕ
+matches_above n found = match_total (found_above n found)
 
 -- what was found in the row with a number, if that is a row that matches
 abbrev pub found_of_row : ℕ → List RowMatches → Option RowMatches
@@ -74,10 +85,6 @@ ArePlaced first rows (r ∷ rs) = IsPlacedIn first rows r × ArePlaced first row
 -- what was found in the row at a place of these rows, if something was, stands in it
 abbrev pub ArePlacedAt : List (List ℕ) → ℕ → List RowMatches → Type 0
 ArePlacedAt rows i found = (row : List ℕ) → slice_get rows i ≡ Some row → IfSome (found_of_row i found) (λ r. IsPlaced row r)
-
--- where the first of these is what a term finds in rows, so is the second
-abbrev pub StaysFound : Option Re → List (List ℕ) → (old new : List RowMatches) → Type 0
-StaysFound term rows old new = old ≡ found_by term 0 rows → new ≡ found_by term 0 rows
 
 -- their numbers ascend, from one on
 abbrev pub Ascend : ℕ → List RowMatches → Type 0

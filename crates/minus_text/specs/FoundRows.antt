@@ -8,7 +8,7 @@ use Rattle.minus_text.specs.declared.search.term.Term.{Term}
 use Rattle.minus_text.specs.Found.{RowMatches, ArePlaced}
 
 abbrev pub matches_of : FoundRow → RowMatches
-matches_of f = record { row = f.row; escapes = f.escapes.items; matches = f.matches.items }
+matches_of f = record { row = f.row; escapes = f.escapes.items; matches = f.matches.items; begins = f.begins }
 
 -- this was found, and stands behind what was found before
 abbrev pub AddsFound : (old new : List FoundRow) → List RowMatches → Type 0

@@ -33,7 +33,7 @@ wrap_of layout line_count = wrapped layout.wrapping (layout.cols - margin layout
 
 -- the layout of so many columns in which lines are wrapped and have no numbers
 abbrev pub plain : ℕ → Layout
-plain cols = record { cols = cols; wrapping = true; numbers = Disabled; carry_style = false }
+plain cols = record { cols = cols; wrapping = true; numbers = Disabled; match_lines = false; carry_style = false }
 
 -- a layout with other numbers and columns
 abbrev pub relaid : Layout → LineNumbers → ℕ → Layout

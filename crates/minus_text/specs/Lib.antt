@@ -23,9 +23,16 @@ pub mod Highlight
 pub mod Shown
 pub mod Singles
 pub mod Found
+pub mod LineFinds
+pub mod LineSplits
+pub mod LineLaws
+pub mod FindsStand
+pub mod WorkedLines
 pub mod Styles
 pub mod WorkedStyles
 pub mod FoundRows
+pub mod Jumps
+pub mod Finds
 pub mod Layouts
 pub mod Document
 pub mod Fragments
@@ -47,6 +54,7 @@ pub mod CarriedStyles
 pub mod StyleSources
 pub mod StylesStay
 pub mod Searched
+pub mod StoredLines
 pub mod Words
 pub mod NextPushes
 pub mod Views

@@ -2,6 +2,8 @@
 use Rattle.std.specs.Prelude.{ℕ, List, ◌++◌, Option, None, Some}
 use Rattle.std.specs.Coded.{le_prop, Coded-set, coded_list, coded_ℕ}
 use Rattle.minus_text.specs.contracts.line_numbers.LineNumbers as line_numbers
+use Rattle.minus_text.specs.contracts.layout.Wrap as wrap
+use Rattle.minus_text.specs.declared.layout.Wrap.{Wrap}
 use Rattle.minus_text.specs.declared.line_numbers.LineNumbers.{LineNumbers}
 use Rattle.minus_text.specs.declared.view.NextPush.{NextPush}
 use Rattle.minus_text.specs.Document.{Document, pushed}
@@ -37,8 +39,11 @@ number_set = Coded-set coded_ℕ
 numbers_set : IsSet LineNumbers
 numbers_set = Coded-set line_numbers.the_row.coded
 
+wraps_set : IsSet Wrap
+wraps_set = Coded-set wrap.the_row.coded
+
 IsPending-prop : (d : Document) (piece : List ℕ) (numbers : LineNumbers) (cols : ℕ) (p : Pending) → IsProp (IsPending d piece numbers cols p)
-IsPending-prop d piece numbers cols p = hlevel (le_prop, PlacesGoOn-prop, rows_set, entries_set, number_set, numbers_set)
+IsPending-prop d piece numbers cols p = hlevel (le_prop, PlacesGoOn-prop, rows_set, entries_set, number_set, numbers_set, wraps_set)
 
 pub IsPendingBehind-prop : (d : Document) (next : Option NextPush) → IsProp (IsPendingBehind d next)
 IsPendingBehind-prop d None = hlevel

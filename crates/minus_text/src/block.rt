@@ -135,6 +135,7 @@ impl FormattedBlock {
                 numbers: layout.numbers,
                 cols: layout.cols,
                 escapes_end,
+                match_lines: false,
             },
             layout,
             lines_before,

@@ -102,6 +102,7 @@ pub fn format_text_block<B: AppendableBuffer>(
         cols,
         wrapping: line_wrapping,
         numbers: line_numbers,
+        match_lines: false,
         carry_style: false,
     };
     let clean = attachment.is_none();

@@ -1,5 +1,9 @@
 //! What a push forms, before it is made.
-ghost use Rattle.std.specs.Prelude.{◌≡◌, ◌^◌, ◌<◌, ◌≤◌, slice_get, option_map, length};
+ghost use Rattle.std.specs.Prelude.{◌≡◌, true, ◌^◌, ◌<◌, ◌≤◌, slice_get, option_map, map, length, IfOk};
+ghost use Rattle.std.specs.Str.Lines.{lines};
+ghost use Rattle.minus_text.specs.Found.{AreFoundIn};
+ghost use Rattle.minus_text.specs.FoundRows.{finder_pattern, matches_of};
+ghost use Rattle.minus_text.specs.LineFinds.{finds_in_lines};
 ghost use Rattle.minus_text.specs.Fragments.{rows_in};
 ghost use Rattle.minus_text.specs.Layouts.{relaid};
 
@@ -8,6 +12,9 @@ use crate::layout::{Layout, Wrap};
 use crate::line_numbers::LineNumbers;
 use crate::lines_row_map::LinesRowMap;
 use crate::row_text::RowText;
+use crate::search::found::{Finder, FoundRow};
+use crate::search::line_finds::find_in_text;
+use std::alloc::{AllocError, Global};
 use std::marker::Model;
 
 // What a push would form, beside the rows that would stay.
@@ -23,10 +30,14 @@ pub(crate) struct FormedPush {
     pub(crate) cols: usize,
     // A place from which on no byte of the tail is ESC.
     pub(crate) escapes_end: usize,
+    // Whether its lines are searched: then it begins with a line.
+    pub(crate) match_lines: bool,
 }
 
 impl Model for FormedPush {
-    ghost use Rattle.std.specs.Prelude.{◌+◌, string_bytes};
+    ghost use Rattle.std.specs.Prelude.{◌≡◌, true, ◌+◌, string_bytes};
+    ghost use Rattle.std.specs.Str.Lines.{lines};
+    ghost use Rattle.minus_text.specs.Document.{first_rows};
     ghost use Rattle.minus_text.specs.Pending.{Pending};
     ghost use Rattle.minus_text.specs.Kept.{IsPreparedPush};
     ghost use Rattle.minus_text.specs.RowText.{IsUnescapedFrom};
@@ -41,10 +52,13 @@ impl Model for FormedPush {
       tail = record { text = string_bytes p.tail; wrap = p.wrap };
       numbers = p.numbers;
       cols = p.cols;
+      match_lines = p.match_lines;
     } };
 
     ghost invariant = { λ p. IsPreparedPush p.wrap (string_bytes p.tail) p.start p.formed
-        × IsUnescapedFrom p.escapes_end (string_bytes p.tail) };
+        × IsUnescapedFrom p.escapes_end (string_bytes p.tail)
+        × (p.match_lines ≡ true → p.formed.first_rows
+        ≡ first_rows p.wrap (p.start.finished.rows + p.start.rows) (lines (string_bytes p.tail))) };
 }
 
 impl FormedPush {
@@ -82,6 +96,40 @@ impl FormedPush {
         ensures { result ≡ relaid layout self.now.numbers self.now.cols }
     {
         layout.relaid(self.numbers, self.cols)
+    }
+
+    // Whether its lines are searched, and not its rows.
+    pub(crate) fn matches_lines(&self) -> bool
+        ensures { result ≡ self.now.match_lines }
+    {
+        self.match_lines
+    }
+
+    // What a term finds in its lines, with the numbers that their rows have after the push.
+    pub(crate) fn find_in_lines(
+        &self,
+        alloc: Global,
+        finder: &mut Finder<'_>,
+    ) -> Result<Vec<FoundRow>, AllocError>
+        requires { self.now.match_lines ≡ true }
+        ensures found { IfOk result (λ f. map matches_of f.items
+            ≡ finds_in_lines (finder_pattern finder.old) self.now.tail.wrap self.now.kept_rows (lines self.now.tail.text)) }
+        ensures stand { IfOk result (λ f.
+            AreFoundIn self.now.kept_rows (rows_in self.now.tail) (map matches_of f.items)) }
+    {
+        let mut found = Vec::new(alloc);
+        find_in_text(
+            alloc,
+            finder,
+            &mut found,
+            self.kept_rows(),
+            self.start.finished.bytes + self.start.bytes,
+            self.tail.as_str(),
+            self.formed.rows.as_slice(),
+            self.formed.first_rows.as_slice(),
+            self.wrap,
+        )?;
+        Ok(found)
     }
 
     // How many rows stay in front of what is formed.

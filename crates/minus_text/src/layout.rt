@@ -14,6 +14,9 @@ pub struct Layout {
     pub wrapping: bool,
     /// Whether rows begin with the numbers of their lines.
     pub numbers: LineNumbers,
+    /// Whether a term is searched for in each line. Otherwise it is searched for in each row by itself, so that a match does not go
+    /// over the end of a row.
+    pub match_lines: bool,
     /// Whether each row is put with the style that its line carries to it: the style sequences, `ESC[..m`, before the
     /// row in its line since the last reset, `ESC[m` or `ESC[0m`. No style goes on from a line into the next one. Blocks of
     /// rows that stand by themselves carry none.
@@ -29,6 +32,7 @@ impl Layout {
             cols,
             wrapping: true,
             numbers: LineNumbers::Disabled,
+            match_lines: false,
             carry_style: false,
         }
     }
@@ -41,6 +45,7 @@ impl Layout {
             cols,
             wrapping: self.wrapping,
             numbers,
+            match_lines: self.match_lines,
             carry_style: self.carry_style,
         }
     }

@@ -23,6 +23,7 @@ mod seams;
 pub mod search;
 mod spaces;
 mod store;
+mod stored_line;
 pub mod units;
 pub mod view;
 mod viewed_row;

@@ -78,6 +78,13 @@ impl LinesRowMap {
         }
     }
 
+    // Its entries.
+    pub(crate) fn as_slice(&self) -> &[usize]
+        ensures { result.now ≡ self.now }
+    {
+        self.first_rows.as_slice()
+    }
+
     // The map with these entries.
     pub(crate) fn from_first_rows(first_rows: Vec<usize>) -> Self
         requires { IsStrictlyIncreasing first_rows.items }

@@ -14,21 +14,23 @@ pub struct PendingPush {
 impl Model for PendingPush {
     ghost use Rattle.minus_text.specs.Fragments.{rows_in};
     ghost use Rattle.minus_text.specs.Found.{AreFoundIn};
-    ghost use Rattle.minus_text.specs.FoundBy.{found_rows};
+    ghost use Rattle.minus_text.specs.FoundBy.{found_rows, AreJumps};
     ghost use Rattle.minus_text.specs.Searched.{SearchedPush};
 
     ghost Value = { SearchedPush };
 
     ghost view = { λ p. record { push = p.push; found = found_rows p.found } };
 
-    ghost invariant = { λ p. AreFoundIn p.push.kept_rows (rows_in p.push.tail) (found_rows p.found) };
+    ghost invariant = { λ p. AreFoundIn p.push.kept_rows (rows_in p.push.tail) (found_rows p.found)
+        × AreJumps p.found };
 }
 
 impl PendingPush {
     ghost use Rattle.std.specs.Prelude.{◌≡◌, ◌+◌, ◌++◌, length};
     ghost use Rattle.minus_text.specs.Fragments.{rows_in};
-    ghost use Rattle.minus_text.specs.Found.{AreFoundIn, Ascend, found_above};
-    ghost use Rattle.minus_text.specs.FoundBy.{found_rows};
+    ghost use Rattle.minus_text.specs.Found.{AreFoundIn, Ascend, found_above, jump_rows, match_total, matches_above};
+    ghost use Rattle.minus_text.specs.Jumps.{counted};
+    ghost use Rattle.minus_text.specs.FoundBy.{found_rows, AreJumps};
 
     /// The number of rows once it is made: those that stay, and those formed. It takes no memory.
     pub fn row_count(&self) -> usize
@@ -48,15 +50,44 @@ impl PendingPush {
     pub(crate) fn found(&self) -> &FoundRows
         ensures value { found_rows result.now ≡ self.now.found }
         ensures stand { AreFoundIn self.now.push.kept_rows (rows_in self.now.push.tail) (found_rows result.now) }
+        ensures jumps { AreJumps result.now }
     {
         &self.found
     }
 
-    // The number of rows that match once it is made, where these are found before: those that stay, and those formed.
+    // The number of rows in which matches begin once it is made, where these are found before: those that stay, and those
+    // formed.
     pub(crate) fn match_count(&self, found: &FoundRows) -> usize
-        requires { Ascend 0 (found_rows found.now) }
-        ensures { result ≡ length (found_above self.now.push.kept_rows (found_rows found.now) ++ self.now.found) }
+        requires ascend { Ascend 0 (found_rows found.now) }
+        requires jumps { AreJumps found.now }
+        ensures { result
+            ≡ length (jump_rows (found_above self.now.push.kept_rows (found_rows found.now) ++ self.now.found)) }
     {
         found.count_above(self.push.kept_rows()) + self.found.len()
+    }
+
+    // How many matches there are then.
+    pub(crate) fn match_total(&self, found: &FoundRows) -> usize
+        requires ascend { Ascend 0 (found_rows found.now) }
+        requires jumps { AreJumps found.now }
+        ensures { result ≡ counted (match_total (found_above self.now.push.kept_rows (found_rows found.now)
+            ++ self.now.found)) }
+    {
+        found
+            .matches_above(self.push.kept_rows())
+            .saturating_add(self.found.match_total())
+    }
+
+    // How many begin then in the rows above one.
+    pub(crate) fn matches_above(&self, found: &FoundRows, row: usize) -> usize
+        requires ascend { Ascend 0 (found_rows found.now) }
+        requires jumps { AreJumps found.now }
+        ensures { result ≡ counted (matches_above row (found_above self.now.push.kept_rows (found_rows found.now)
+            ++ self.now.found)) }
+    {
+        let kept = self.push.kept_rows();
+        found
+            .matches_above(row.min(kept))
+            .saturating_add(self.found.matches_above(row))
     }
 }

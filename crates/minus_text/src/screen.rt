@@ -5,11 +5,11 @@ ghost use Rattle.minus_text.specs.Layouts.{plain, wrap_of};
 ghost use Rattle.minus_text.specs.Document.{rows_of, line_map, line_count, longest, unfinished_rows, pushed, PushesJoin, LineMapAscends};
 ghost use Rattle.minus_text.specs.Fragments.{rows_in};
 ghost use Rattle.minus_text.specs.LinePlaces.{row_places};
-ghost use Rattle.minus_text.specs.Pending.{IsPending, IsPreparedFor};
-ghost use Rattle.minus_text.specs.FormatResults.{Tells, TellsAll, TellsPush, TellsPrepared, TellsFound};
-ghost use Rattle.minus_text.specs.Found.{AreFoundIn};
+ghost use Rattle.minus_text.specs.Pending.{Pending, IsPending, IsPreparedFor, SearchesAlike};
+ghost use Rattle.minus_text.specs.FormatResults.{TellsAll, TellsPush, TellsPrepared, TellsFound};
+ghost use Rattle.minus_text.specs.Found.{AreFoundIn, jump_rows};
 ghost use Rattle.minus_text.specs.FoundRows.{pattern_of};
-ghost use Rattle.minus_text.specs.FoundBy.{found_rows};
+ghost use Rattle.minus_text.specs.FoundBy.{found_rows, AreJumps};
 ghost use Rattle.minus_text.specs.Searched.{searched, IsFoundBy, IsFoundInPush, FindsOn, IsStoredRow, IsHighlightedRow};
 ghost use Rattle.regex.specs.Patterns.{Re};
 
@@ -94,15 +94,15 @@ impl Drop for Screen {
 
 impl Model for Screen {
     ghost use Rattle.minus_text.specs.Document.{rows_of};
-    ghost use Rattle.minus_text.specs.Found.{AreFoundIn};
-    ghost use Rattle.minus_text.specs.FoundBy.{found_rows};
+    ghost use Rattle.minus_text.specs.Found.{AreFoundIn, jump_rows};
+    ghost use Rattle.minus_text.specs.FoundBy.{found_rows, AreJumps};
     ghost use Rattle.minus_text.specs.Searched.{Searched};
 
     ghost Value = { Searched };
 
     ghost view = { λ s. record { document = s.store; found = found_rows s.found } };
 
-    ghost invariant = { λ s. AreFoundIn 0 (rows_of s.store) (found_rows s.found) };
+    ghost invariant = { λ s. AreFoundIn 0 (rows_of s.store) (found_rows s.found) × AreJumps s.found };
 }
 
 // A copy of a text in a layout, with what a term finds in it.
@@ -114,8 +114,8 @@ fn formed(
 ) -> Result<(Screen, FormatResult), AllocError>
     ensures ok { IfOk result (λ r. r.0
         ≡ searched (pattern_of term.entry) (record { text = text.now; layout = layout })) }
-    ensures told { IfOk result (λ r. Tells r.1 (pattern_of term.entry)
-        (record { text = text.now; wrap = wrap_of layout (length (lines text.now)) }) 0 true) }
+    ensures told { IfOk result (λ r.
+        TellsAll r.1 (pattern_of term.entry) (record { text = text.now; layout = layout })) }
 {
     Screen::of_text(alloc, String::from_str(alloc, text)?, layout, term)
 }
@@ -234,16 +234,16 @@ impl Screen {
         self.store.row_place(i)
     }
 
-    /// How many rows match.
+    /// In how many rows matches begin.
     pub fn match_count(&self) -> usize
-        ensures { result ≡ length self.now.found }
+        ensures { result ≡ length (jump_rows self.now.found) }
     {
         self.found.len()
     }
 
-    /// The number of a row that matches. Such rows are counted from 0 in their order.
+    /// The number of a row in which matches begin. Such rows are counted from 0 in their order.
     pub fn match_row(&self, i: usize) -> Option<usize>
-        ensures { result ≡ option_map (λ f. f.row) (slice_get self.now.found i) }
+        ensures { result ≡ slice_get (jump_rows self.now.found) i }
     {
         self.found.row(i)
     }
@@ -296,9 +296,18 @@ impl Screen {
             self.found.clear();
             return Ok(told);
         }
-        let push = self.store.prepare_push(alloc, text, numbers, cols)?;
+        let lines = self.matches_lines(&term);
+        let push = self.store.prepare_push(alloc, text, numbers, cols, lines)?;
         let found = FoundRows::of_push(alloc, term, &push)?;
         Ok(self.put(alloc, text, push, found)?)
+    }
+
+    // Whether a push is searched for a term in its lines.
+    fn matches_lines(&self, term: &Option<Term<'_>>) -> bool
+        ensures { (p : Pending) → p.match_lines ≡ result →
+            SearchesAlike (pattern_of term.now) self.now.document p }
+    {
+        term.is_some() && self.store.layout().match_lines
     }
 
     // Puts a text, what was formed of it, and what was found in that, behind what stays. An `Err` changes
@@ -312,8 +321,9 @@ impl Screen {
     ) -> Result<FormatResult, AllocError>
         requires prepared { IsPreparedFor self.old.document text.now push }
         requires stand { AreFoundIn push.kept_rows (rows_in push.tail) (found_rows found) }
+        requires jumps { AreJumps found }
         ensures ok { OnOk result (self.new.document ≡ pushed self.old.document text.now push.numbers push.cols) }
-        ensures found { OnOk result ((term : Option Re) →
+        ensures found { OnOk result ((term : Option Re) → SearchesAlike term self.old.document push →
             FindsOn term self.old (record { push = push; found = found_rows found }) self.new) }
         ensures told { IfOk result (λ r.
             TellsFound r self.new.found self.old.document text.now push.numbers push.cols) }
@@ -346,9 +356,11 @@ impl Screen {
         ensures ok { IfOk result (λ p. IsPending self.now.document text.now numbers cols p.push) }
         ensures own { IfOk result (λ p. IsPending self.now.document text.now p.push.numbers p.push.cols p.push) }
         ensures found { IfOk result (IsFoundInPush (pattern_of term.entry)) }
+        ensures alike { IfOk result (λ p. SearchesAlike (pattern_of term.entry) self.now.document p.push) }
         ensures memory { IfErr result (λ e. e ≡ MinusError.Memory) }
     {
-        let push = self.store.prepare_push(alloc, text, numbers, cols)?;
+        let lines = self.matches_lines(&term);
+        let push = self.store.prepare_push(alloc, text, numbers, cols, lines)?;
         let found = FoundRows::of_push(alloc, term, &push)?;
         Ok(PendingPush { push, found })
     }
@@ -377,7 +389,8 @@ impl Screen {
         ensures memory { IfErr result (λ e. e ≡ MinusError.Memory) }
     {
         let PendingPush { push, found } = pending;
-        if self.store.is_prepared(text, &push) {
+        let lines = self.matches_lines(&term);
+        if self.store.is_prepared(text, &push, lines) {
             return Ok(self.put(alloc, text, push, found)?);
         }
         let (numbers, cols) = (push.numbers, push.cols);
@@ -428,8 +441,8 @@ impl Screen {
     ) -> Result<FormatResult, MinusError>
         ensures ok { OnOk result (self.new ≡ searched (pattern_of term.entry)
             (record { text = text.now; layout = layout })) }
-        ensures told { IfOk result (λ r. Tells r (pattern_of term.entry)
-            (record { text = text.now; wrap = wrap_of layout (length (lines text.now)) }) 0 true) }
+        ensures told { IfOk result (λ r.
+            TellsAll r (pattern_of term.entry) (record { text = text.now; layout = layout })) }
         ensures err { OnErr result (self.new ≡ self.old) }
         ensures memory { IfErr result (λ e. e ≡ MinusError.Memory) }
     {

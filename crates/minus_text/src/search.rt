@@ -1,8 +1,11 @@
 //! Search in texts.
 pub mod escapes;
+pub(crate) mod finding;
 pub(crate) mod found;
 pub(crate) mod found_rows;
 pub mod highlight;
+pub(crate) mod jumps;
+pub mod line_finds;
 pub mod matches;
 pub mod patterns;
 pub(crate) mod shown_matches;

@@ -1,5 +1,5 @@
 //! A text with its rows.
-ghost use Rattle.std.specs.Prelude.{◌≡◌, ◌+◌, ◌-◌, ◌^◌, ◌<◌, ◌≤◌, [], ◌++◌, length, take, drop, true, ◌==◌, ◌&&◌, if◌then◌else◌, IsTrue, None, IfOk, OnOk, OnErr, false, slice_get, option_map, string_bytes, vec_len, vec_capacity};
+ghost use Rattle.std.specs.Prelude.{◌≡◌, ◌+◌, ◌-◌, ◌^◌, ◌<◌, ◌≤◌, [], ◌++◌, length, map, take, drop, true, ◌==◌, ◌&&◌, if◌then◌else◌, IsTrue, None, IfOk, OnOk, OnErr, false, slice_get, option_map, string_bytes, vec_len, vec_capacity};
 ghost use Rattle.std.specs.List.Sorted.{IsStrictlyIncreasing};
 ghost use Rattle.std.specs.Str.{IsUtf8, IsCharBoundary};
 ghost use Rattle.std.specs.Str.Lines.{lines};
@@ -8,10 +8,13 @@ ghost use Rattle.minus_text.specs.Layouts.{margin, plain, wrap_of};
 ghost use Rattle.minus_text.specs.Document.{rows_of, IsPrefixOf, line_map, line_count, longest, unfinished_rows, pushed, wrap_in, plan_of};
 ghost use Rattle.minus_text.specs.Kept.{IsFormOf, IsPrepared, IsRestartOf, GoesOnInSome, AscendsBehind, line_going_on, piece_behind};
 ghost use Rattle.minus_text.specs.LinePlaces.{row_places};
-ghost use Rattle.minus_text.specs.Pending.{IsPending, IsPreparedFor};
-ghost use Rattle.minus_text.specs.FormatResults.{Tells, TellsPlan, TellsPush};
+ghost use Rattle.minus_text.specs.Pending.{IsPending, IsPreparedFor, IsAtLine};
+ghost use Rattle.minus_text.specs.FormatResults.{TellsAll, TellsPlan, TellsPush};
 ghost use Rattle.minus_text.specs.Formatted.{prefix_of};
 ghost use Rattle.minus_text.specs.RowText.{IsUnescapedFrom};
+ghost use Rattle.minus_text.specs.FoundRows.{finder_pattern, matches_of};
+ghost use Rattle.minus_text.specs.Found.{ArePlaced};
+ghost use Rattle.minus_text.specs.StoredLines.{IsStoredLine, finds_in_line_at};
 
 use crate::formatted::RowPrefix;
 use crate::formed::{Border, Finished, Formed, Plan, Restart, form};
@@ -23,6 +26,9 @@ use crate::lines_row_map::LinesRowMap;
 use crate::row_text::{RowText, escapes_end};
 use crate::screen::FormatResult;
 use crate::seams::last_seam;
+use crate::search::found::{Finder, FoundRow};
+use crate::search::line_finds::{find_in_line, rows_end};
+use crate::stored_line::{StoredLine, first_line};
 use crate::wrap::Span;
 use std::alloc::{AllocError, Global};
 use std::collections::BTreeSet;
@@ -221,8 +227,7 @@ impl Store {
         layout: Layout,
     ) -> Result<(Store, FormatResult), AllocError>
         ensures ok { IfOk result (λ r. r.0 ≡ record { text = string_bytes text; layout = layout }) }
-        ensures told { IfOk result (λ r. Tells r.1 None
-            (record { text = string_bytes text; wrap = wrap_of layout (length (lines (string_bytes text))) }) 0 true) }
+        ensures told { IfOk result (λ r. TellsAll r.1 None (record { text = string_bytes text; layout = layout })) }
     {
         let wrap = wrap_for(alloc, &text, layout);
         let mut rows = Vec::new(alloc);
@@ -304,6 +309,46 @@ impl Store {
         ensures { result.now ≡ line_map self.now }
     {
         &self.first_rows
+    }
+
+    // A line, counted from 0, with its rows.
+    fn line(&self, k: usize) -> StoredLine<'_>
+        requires { k < line_count self.now }
+        ensures stored { IsStoredLine self.now k result }
+        ensures few { result.first + length result.rows.now < 2 ^ 64 }
+        ensures utf8 { IsUtf8 result.text.now }
+    {
+        let rows = self.rows.as_slice();
+        let firsts = self.first_rows.as_slice();
+        let first = firsts[k];
+        let base = rows[first].start;
+        let rest = &self.text[base..];
+        let end = rows_end(firsts, k + 1, 0, rows.len());
+        StoredLine {
+            first,
+            base,
+            text: first_line(rest),
+            rows: &rows[first..end],
+        }
+    }
+
+    // Adds what a term finds in a line, counted from 0.
+    pub(crate) fn find_in_line(
+        &self,
+        alloc: Global,
+        finder: &mut Finder<'_>,
+        found: &mut Vec<FoundRow>,
+        k: usize,
+    ) -> Result<(), AllocError>
+        requires { k < line_count self.now }
+        ensures found { OnOk result (map matches_of found.new.items ≡ map matches_of found.old.items
+            ++ finds_in_line_at (finder_pattern finder.old) self.now k) }
+        ensures stands { OnOk result (ArePlaced 0 (rows_of self.now) (finds_in_line_at (finder_pattern finder.old) self.now k)) }
+        ensures same { finder_pattern finder.new ≡ finder_pattern finder.old }
+    {
+        let line = self.line(k);
+        find_in_line(alloc, finder, found, line.first, line.base, line.text, line.rows)?;
+        Ok(())
     }
 
     // The text of a row, counted from 0, without what stands before it. It takes no memory.
@@ -438,6 +483,46 @@ impl Store {
         }
     }
 
+    // Where a push begins to form that is searched in lines: where the unfinished line begins.
+    fn line_restart(&self, plan: Plan) -> Restart
+        requires { plan.keeps ≡ true → plan.wrap ≡ wrap_in self.now }
+        ensures start { IsRestartOf self.now.text plan result }
+        ensures text { IsUtf8 self.now.text }
+        ensures small { length self.now.text < 2 ^ 63 }
+        ensures place { IsCharBoundary self.now.text (result.finished.bytes + result.bytes) }
+        ensures lines { result.finished.lines ≤ length self.now.text }
+        ensures rows { result.finished.rows + result.rows < 2 ^ 63 }
+        ensures at_line { IsAtLine result }
+    {
+        let finished = self.finished;
+        if !plan.keeps {
+            return Restart::START;
+        }
+        Restart {
+            finished,
+            rows: 0,
+            bytes: 0,
+            border: self.border,
+        }
+    }
+
+    // Where a push begins to form, whether it is searched in lines or not.
+    fn restart_for(&self, plan: Plan, match_lines: bool) -> Restart
+        requires { plan.keeps ≡ true → plan.wrap ≡ wrap_in self.now }
+        ensures start { IsRestartOf self.now.text plan result }
+        ensures text { IsUtf8 self.now.text }
+        ensures small { length self.now.text < 2 ^ 63 }
+        ensures place { IsCharBoundary self.now.text (result.finished.bytes + result.bytes) }
+        ensures lines { result.finished.lines ≤ length self.now.text }
+        ensures rows { result.finished.rows + result.rows < 2 ^ 63 }
+        ensures at_line { match_lines ≡ true → IsAtLine result }
+    {
+        if match_lines {
+            return self.line_restart(plan);
+        }
+        self.restart(plan)
+    }
+
     // What stands in the text from a place on, and a piece behind it.
     fn tail(&self, alloc: Global, at: usize, piece: &str) -> Result<String, AllocError>
         requires { IsCharBoundary self.now.text at }
@@ -523,15 +608,24 @@ impl Store {
     }
 
     // Whether a push of this piece begins there, and forms this text so.
-    fn forms(&self, start: Restart, tail: &str, wrap: Wrap, piece: &str, plan: Plan) -> bool
+    fn forms(
+        &self,
+        start: Restart,
+        tail: &str,
+        wrap: Wrap,
+        match_lines: bool,
+        piece: &str,
+        plan: Plan,
+    ) -> bool
         requires { plan.keeps ≡ true → plan.wrap ≡ wrap_in self.now }
         ensures text { IsUtf8 self.now.text }
         ensures start { IsTrue result → IsRestartOf self.now.text plan start }
         ensures wrap { IsTrue result → wrap ≡ plan.wrap }
         ensures tail { IsTrue result → tail.now
             ≡ drop (start.finished.bytes + start.bytes) self.now.text ++ piece.now }
+        ensures at_line { IsTrue result → match_lines ≡ true → IsAtLine start }
     {
-        let own = self.restart(plan);
+        let own = self.restart_for(plan, match_lines);
         if !start.is_same(own) {
             return false;
         }
@@ -561,19 +655,22 @@ impl Store {
         Ok(self.push_by(alloc, text, layout, plan)?)
     }
 
-    // Forms what a push of this text would form, beside the rows that would stay.
+    // Forms what a push of this text would form, beside the rows that would stay: from the start of the unfinished line
+    // on where its lines are to be searched.
     pub(crate) fn prepare_push(
         &self,
         alloc: Global,
         text: &str,
         numbers: LineNumbers,
         cols: usize,
+        match_lines: bool,
     ) -> Result<FormedPush, AllocError>
         ensures pending { IfOk result (λ p. IsPending self.now text.now numbers cols p) }
         ensures prepared { IfOk result (λ p. IsPreparedFor self.now text.now p) }
+        ensures lines { IfOk result (λ p. p.match_lines ≡ match_lines) }
     {
         let plan = self.plan(text, numbers, cols);
-        let start = self.restart(plan);
+        let start = self.restart_for(plan, match_lines);
         let tail = self.tail(alloc, start.finished.bytes + start.bytes, text)?;
         let formed = form(alloc, &tail, start, plan.wrap)?;
         let escapes_end = escapes_end(0, 0, &tail);
@@ -585,15 +682,27 @@ impl Store {
             numbers,
             cols,
             escapes_end,
+            match_lines,
         })
     }
 
-    // Whether a push of this text forms what was formed.
-    pub(crate) fn is_prepared(&self, text: &str, pending: &FormedPush) -> bool
-        ensures { IsTrue result → IsPreparedFor self.now text.now pending.now }
+    // Whether a push of this text forms what was formed, and its lines are to be searched, or its rows, as they were.
+    pub(crate) fn is_prepared(&self, text: &str, pending: &FormedPush, match_lines: bool) -> bool
+        ensures prepared { IsTrue result → IsPreparedFor self.now text.now pending.now }
+        ensures lines { IsTrue result → pending.now.match_lines ≡ match_lines }
     {
+        if pending.match_lines != match_lines {
+            return false;
+        }
         let plan = self.plan(text, pending.numbers, pending.cols);
-        self.forms(pending.start, &pending.tail, pending.wrap, text, plan)
+        self.forms(
+            pending.start,
+            &pending.tail,
+            pending.wrap,
+            match_lines,
+            text,
+            plan,
+        )
     }
 
     // Pushes a text of which this is formed. An `Err` changes nothing.
@@ -617,6 +726,7 @@ impl Store {
             numbers,
             cols,
             escapes_end: _,
+            match_lines: _,
         } = pending;
         drop(tail);
         let plan = self.plan(text, numbers, cols);
@@ -631,8 +741,7 @@ impl Store {
         layout: Layout,
     ) -> Result<FormatResult, AllocError>
         ensures ok { OnOk result (self.new ≡ record self.old { layout = layout }) }
-        ensures told { IfOk result (λ r. Tells r None
-            (record { text = self.old.text; wrap = wrap_of layout (line_count self.old) }) 0 true) }
+        ensures told { IfOk result (λ r. TellsAll r None (record self.old { layout = layout })) }
         ensures err { OnErr result (self.new ≡ self.old) }
     {
         let plan = self.plan_anew("", layout);

@@ -2,7 +2,7 @@
 ghost use Rattle.std.specs.Prelude.{◌≡◌, option_map, string_bytes, IfOk};
 ghost use Rattle.minus_text.specs.Document.{rows_of};
 ghost use Rattle.minus_text.specs.Found.{ArePlaced, Ascend, ArePlaced-prop, Ascend-prop};
-ghost use Rattle.minus_text.specs.FoundBy.{found_rows};
+ghost use Rattle.minus_text.specs.FoundBy.{found_rows, AreJumps, AreJumps-prop};
 ghost use Rattle.minus_text.specs.NextPushes.{IsPendingBehind, IsPendingBehind-prop};
 ghost use Rattle.minus_text.specs.ViewedRows.{viewed_text};
 
@@ -33,6 +33,7 @@ pub struct RowsView<'s> {
     pub(crate) next: Option<NextPush<'s>>,
     pub(crate) ghost placed: { ArePlaced 0 (rows_of store.now) (found_rows found.now) } by { ArePlaced-prop 0 (rows_of store.now) (found_rows found.now) },
     pub(crate) ghost ascend: { Ascend 0 (found_rows found.now) } by { Ascend-prop 0 (found_rows found.now) },
+    pub(crate) ghost jumps: { AreJumps found.now } by { AreJumps-prop found.now },
     pub(crate) ghost pending: { IsPendingBehind store.now next } by { IsPendingBehind-prop store.now next },
 }
 
@@ -51,7 +52,8 @@ impl<'s> RowsView<'s> {
     ghost use Rattle.std.specs.List.{position_or_len};
     ghost use Rattle.minus_text.specs.Document.{rows_of, line_count, IsPrefixOf};
     ghost use Rattle.minus_text.specs.Formatted.{prefix_of};
-    ghost use Rattle.minus_text.specs.Found.{Ascend, ArePlacedAt, found_of_row, row_numbers};
+    ghost use Rattle.minus_text.specs.Found.{Ascend, ArePlacedAt, found_of_row, jump_rows, match_total, matches_above};
+    ghost use Rattle.minus_text.specs.Jumps.{counted};
     ghost use Rattle.minus_text.specs.MatchedTexts.{IsMatchedRow};
     ghost use Rattle.minus_text.specs.Matches.{counts_first, nearest, nth_match};
     ghost use Rattle.minus_text.specs.Searched.{IsRowBehind, IsStoredRow, IsHighlightedRow};
@@ -273,9 +275,9 @@ impl<'s> RowsView<'s> {
         Some(row)
     }
 
-    /// The number of rows that match. It takes no memory.
+    /// The number of rows in which matches begin. It takes no memory.
     pub fn match_count(self) -> usize
-        ensures { result ≡ length (viewed self.entry).found }
+        ensures { result ≡ length (jump_rows (viewed self.entry).found) }
     {
         match self.next {
             Some(next) => next.pending.match_count(self.found),
@@ -283,10 +285,10 @@ impl<'s> RowsView<'s> {
         }
     }
 
-    /// The number, counted from 0, of a row that matches. Such rows are counted from 0 in their order. It takes no
-    /// memory.
+    /// The number, counted from 0, of a row in which matches begin. Such rows are counted from 0 in their order. It takes
+    /// no memory.
     pub fn match_row(self, i: usize) -> Option<usize>
-        ensures { result ≡ option_map (λ f. f.row) (slice_get (viewed self.entry).found i) }
+        ensures { result ≡ slice_get (jump_rows (viewed self.entry).found) i }
     {
         let Some(next) = self.next else {
             return self.found.row(i);
@@ -298,9 +300,30 @@ impl<'s> RowsView<'s> {
         next.pending.found().row(i - kept)
     }
 
-    // The number of rows that match before the first that a jump by this number of matches from a mark may count.
+    /// How many matches there are. It takes no memory.
+    pub fn match_total(self) -> usize
+        ensures { result ≡ counted (match_total (viewed self.entry).found) }
+    {
+        match self.next {
+            Some(next) => next.pending.match_total(self.found),
+            None => self.found.match_total(),
+        }
+    }
+
+    /// How many matches begin in the rows above one, counted from 0. It takes no memory, and halves the rows in which
+    /// matches begin.
+    pub fn matches_above(self, row: usize) -> usize
+        ensures { result ≡ counted (matches_above row (viewed self.entry).found) }
+    {
+        match self.next {
+            Some(next) => next.pending.matches_above(self.found, row),
+            None => self.found.matches_above(row),
+        }
+    }
+
+    // The number of rows in which matches begin before the first that a jump by this number of matches from a mark may count.
     fn matches_before(self, mark: usize, jump: usize) -> usize
-        ensures { result ≡ position_or_len (counts_first mark jump) (row_numbers (viewed self.entry).found) }
+        ensures { result ≡ position_or_len (counts_first mark jump) (jump_rows (viewed self.entry).found) }
     {
         let before = self.found.count_before(mark, jump);
         let Some(next) = self.next else {
@@ -313,9 +336,9 @@ impl<'s> RowsView<'s> {
         kept + next.pending.found().count_before(mark, jump)
     }
 
-    // The place of the first row that matches and that a jump may count, or 0.
+    // The place of the first row in which matches begin and that a jump may count, or 0.
     fn nearest(self, mark: usize, jump: usize) -> usize
-        ensures { result ≡ nearest (row_numbers (viewed self.entry).found) mark jump }
+        ensures { result ≡ nearest (jump_rows (viewed self.entry).found) mark jump }
     {
         let before = self.matches_before(mark, jump);
         if before < self.match_count() {
@@ -324,11 +347,11 @@ impl<'s> RowsView<'s> {
         0
     }
 
-    /// The place, counted from 0, of the row that matches and that a jump by this number of matches from a row goes
-    /// to; a jump by 0 stays at a match that is right there. Past the last match the jump goes on at the first. `None`
-    /// where no row matches. It takes no memory, and halves the rows that match.
+    /// The place, counted from 0 among the rows in which matches begin, of the one that a jump by this number of them from
+    /// a row goes to; a jump by 0 stays at a match that begins right there. Past the last the jump goes on at the first.
+    /// `None` where there is none. It takes no memory, and halves these rows.
     pub fn nth_match(self, mark: usize, jump: usize) -> Option<usize>
-        ensures { result ≡ nth_match (row_numbers (viewed self.entry).found) mark jump }
+        ensures { result ≡ nth_match (jump_rows (viewed self.entry).found) mark jump }
     {
         let count = self.match_count();
         if count == 0 {

@@ -2,7 +2,8 @@
 ghost use Rattle.std.specs.Prelude.{◌≡◌, ◌<◌, IfOk, IfErr, OnOk, OnErr, Some};
 ghost use Rattle.minus_text.specs.Document.{rows_of};
 ghost use Rattle.minus_text.specs.Pending.{IsPending};
-ghost use Rattle.minus_text.specs.Found.{AreFoundIn, found_by, row_numbers};
+ghost use Rattle.minus_text.specs.Found.{AreFoundIn, jump_rows};
+ghost use Rattle.minus_text.specs.Finds.{finds};
 ghost use Rattle.minus_text.specs.Matches.{match_at};
 ghost use Rattle.regex.specs.Strings.{regex_pattern};
 ghost use Rattle.minus_text.specs.FoundRows.{pattern_of};
@@ -11,7 +12,8 @@ ghost use Rattle.minus_text.specs.Views.{viewed};
 
 use crate::pending::PendingPush;
 use crate::screen::{Screen, TextBlock};
-use crate::search::found_rows::{FoundRows, first_match};
+use crate::search::finding::first_match;
+use crate::search::found_rows::FoundRows;
 use crate::search::term::Term;
 use crate::view::{NextPush, RowsView};
 use minus_term::error::MinusError;
@@ -28,21 +30,22 @@ pub struct Findings {
 impl Model for Findings {
     ghost use Rattle.std.specs.Prelude.{List};
     ghost use Rattle.minus_text.specs.Found.{RowMatches, Ascend};
-    ghost use Rattle.minus_text.specs.FoundBy.{found_rows};
+    ghost use Rattle.minus_text.specs.FoundBy.{found_rows, AreJumps};
 
     ghost Value = { List RowMatches };
 
     ghost view = { λ f. found_rows f.rows };
 
-    ghost invariant = { λ f. Ascend 0 (found_rows f.rows) };
+    ghost invariant = { λ f. Ascend 0 (found_rows f.rows) × AreJumps f.rows };
 }
 
 impl Findings {
     ghost use Rattle.std.specs.Prelude.{◌≡◌, length};
+    ghost use Rattle.minus_text.specs.Found.{jump_rows};
 
-    /// The number of rows that match.
+    /// The number of rows in which matches begin.
     pub fn match_count(&self) -> usize
-        ensures { result ≡ length self.now }
+        ensures { result ≡ length (jump_rows self.now) }
     {
         self.rows.len()
     }
@@ -80,7 +83,7 @@ pub fn view_after<'s>(
 
 impl Screen {
     ghost use Rattle.std.specs.Prelude.{◌++◌, length};
-    ghost use Rattle.minus_text.specs.Found.{found_above};
+    ghost use Rattle.minus_text.specs.Found.{found_above, jump_rows};
     ghost use Rattle.minus_text.specs.Views.{viewed};
 
     /// Its rows, with what is kept as found in them.
@@ -94,21 +97,22 @@ impl Screen {
         }
     }
 
-    /// The number of rows that match once a push is made, whichever text it was prepared for: those that are kept as
-    /// found above the rows that it forms, and those that were found in these. It takes no memory.
+    /// The number of rows in which matches begin once a push is made, whichever text it was prepared for: those that are
+    /// kept as found above the rows that it forms, and those that were found in these. It takes no memory.
     pub fn match_count_after(&self, pending: &PendingPush) -> usize
-        ensures { result ≡ length (found_above pending.now.push.kept_rows self.now.found ++ pending.now.found) }
+        ensures { result
+            ≡ length (jump_rows (found_above pending.now.push.kept_rows self.now.found ++ pending.now.found)) }
     {
         pending.match_count(&self.found)
     }
 
-    /// Searches the rows for a term, and leaves what is kept as found.
+    /// Searches the rows for a term, or the lines where the layout says so, and leaves what is kept as found.
     ///
     /// # Errors
     ///
     /// [`AllocError`] where there is no memory for what is found.
     pub fn search(&self, alloc: Global, term: Option<Term<'_>>) -> Result<Findings, AllocError>
-        ensures found { IfOk result (λ f. f ≡ found_by (pattern_of term.entry) 0 (rows_of self.now.document)) }
+        ensures found { IfOk result (λ f. f ≡ finds (pattern_of term.entry) self.now.document) }
         ensures stand { IfOk result (λ f. AreFoundIn 0 (rows_of self.now.document) f) }
     {
         Ok(Findings {
@@ -117,7 +121,8 @@ impl Screen {
     }
 
     /// What a term finds in the rows from `start` on up to but without `end`, counted from 0, as far as there are rows:
-    /// [`view_of`] shows these rows with their matches. No other row is searched, and what is kept as found stays.
+    /// [`view_of`] shows these rows with their matches. No other row is searched, or no other line than those of these
+    /// rows where a term is searched for in lines; and what is kept as found stays.
     ///
     /// # Errors
     ///
@@ -138,10 +143,11 @@ impl Screen {
         })
     }
 
-    /// The row that a search for a term from a mark goes to, counted from 0: the first row that matches at the mark or
-    /// behind it, or else the first of all rows that match; `None` where no row matches. The search reads the rows from
-    /// the mark on and then those above it, each at most once, and reads no row further than the one that it answers.
-    /// What is kept as found stays.
+    /// The row that a search for a term from a mark goes to, counted from 0: the first row in which a match begins, at the
+    /// mark or behind it, or else the first of all such rows; `None` where there is none. The search reads the rows from
+    /// the mark on and then those above it, each at most once, and reads no row further than the one that it answers;
+    /// where a term is searched for in lines, it reads lines so, and the mark's own line twice. What is kept as found
+    /// stays.
     ///
     /// # Errors
     ///
@@ -152,8 +158,8 @@ impl Screen {
         term: Term<'_>,
         mark: usize,
     ) -> Result<Option<usize>, AllocError>
-        ensures { IfOk result (λ row. row ≡ match_at (row_numbers (found_by (Some (regex_pattern
-            term.entry.pattern.now)) 0 (rows_of self.now.document))) mark) }
+        ensures { IfOk result (λ row. row
+            ≡ match_at (jump_rows (finds (Some (regex_pattern term.entry.pattern.now)) self.now.document)) mark) }
     {
         first_match(alloc, term, &self.store, mark)
     }
@@ -174,7 +180,7 @@ impl Screen {
         term: Option<Term<'_>>,
     ) -> Result<(), MinusError>
         ensures document { OnOk result (self.new.document ≡ self.old.document) }
-        ensures found { OnOk result (findings ≡ found_by (pattern_of term.entry) 0 (rows_of self.old.document) →
+        ensures found { OnOk result (findings ≡ finds (pattern_of term.entry) self.old.document →
             IsFoundBy (pattern_of term.entry) self.new) }
         ensures err { OnErr result (self.new ≡ self.old) }
         ensures memory { IfErr result (λ e. e ≡ MinusError.Memory) }

@@ -1,5 +1,5 @@
 //! What a term finds in rows.
-ghost use Rattle.std.specs.Prelude.{◌≡◌, Some, IfOk, OnOk};
+ghost use Rattle.std.specs.Prelude.{◌≡◌, Some, length, IfOk, OnOk};
 ghost use Rattle.std.specs.Option.{ForSome};
 ghost use Rattle.regex.specs.Strings.{regex_pattern, matcher_pattern};
 ghost use Rattle.minus_text.specs.Escapes.{escape_places, outside, CutsText};
@@ -12,12 +12,13 @@ use crate::search::term::Term;
 use regex::Matcher;
 use std::alloc::{AllocError, Global};
 
-// A row, the places of its escape sequences, and those of matches in the row without these.
+// A row, the places of its escape sequences, those of matches in the row without these, and how many matches begin in it.
 #[derive(Debug, Drop)]
 pub(crate) struct FoundRow {
     pub(crate) row: usize,
     pub(crate) escapes: Vec<(usize, usize)>,
     pub(crate) matches: Vec<(usize, usize)>,
+    pub(crate) begins: usize,
 }
 
 // What searches rows for a term: made once for all of them. Its escape matcher waits for a row that may need it.
@@ -40,7 +41,7 @@ impl Drop for Finder<'_> {
 }
 
 // Where a matcher's pattern matches in what is outside of these places of a row.
-fn outside_matches(
+pub(crate) fn outside_matches(
     alloc: Global,
     matcher: &mut Matcher<'_>,
     row: &str,
@@ -135,15 +136,18 @@ impl<'p> Finder<'p> {
         ensures row { IfOk result (λ f. f.row ≡ n) }
         ensures escapes { IfOk result (λ f. f.escapes.items ≡ escape_places row.now) }
         ensures matches { IfOk result (λ f. f.matches.items ≡ line_match_places (finder_pattern self.old) row.now) }
+        ensures begins { IfOk result (λ f. f.begins ≡ length (line_match_places (finder_pattern self.old) row.now)) }
         ensures placed { IfOk result (λ f. IsPlaced row.now (matches_of f)) }
         ensures same { finder_pattern self.new ≡ finder_pattern self.old }
     {
         let escapes = self.escape_places(alloc, row)?;
         let matches = outside_matches(alloc, &mut self.term, row, &escapes)?;
+        let begins = matches.len();
         Ok(FoundRow {
             row: n,
             escapes,
             matches,
+            begins,
         })
     }
 

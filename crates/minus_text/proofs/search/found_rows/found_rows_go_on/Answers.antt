@@ -1,4 +1,4 @@
-use Rattle.minus_text.proofs.FoundByLaws.{found_goes_on}
+use Rattle.minus_text.proofs.FindsGoOnLaws.{found_goes_on}
 use Rattle.minus_text.proofs.search.found_rows.found_rows_go_on.Goals as goal
 
 pub returns : goal.returns

@@ -40,8 +40,8 @@ returns-clause-pending c =
     let formed : IsPrepared plan.wrap (string_bytes c.pending.inside.tail) c.pending.inside.start c.pending.inside.formed = subst (λ w. IsPrepared w (string_bytes c.pending.inside.tail) c.pending.inside.start c.pending.inside.formed) same c.pending.invariant.0.0 in
     let form = formed.its_form (line_going_on d.text plan) (piece_behind d.text plan c.args.text.now) start.restarts h.0 (ready.follows ∙ h.1) in
     let places = prepared_places d c.args.text.now (string_bytes c.pending.inside.tail) c.pending.inside.numbers c.pending.inside.cols c.pending.inside.start plan c.pending.inside.formed c.plan-plan.ensures start ready.text ready.follows formed.its_rows form in
-    let is = prepared_pending d c.args.text.now (string_bytes c.pending.inside.tail) c.pending.inside.numbers c.pending.inside.cols c.pending.inside.start plan c.plan-plan.ensures start h.0 (ready.follows ∙ h.1) c.pending.inside.formed form places in
-    let here = subst (λ w. IsPending d c.args.text.now c.pending.inside.numbers c.pending.inside.cols (record { kept_rows = c.pending.inside.start.finished.rows + c.pending.inside.start.rows; kept_lines = c.pending.inside.start.finished.lines; first_rows = c.pending.inside.formed.first_rows; start = c.pending.inside.start; tail = record { text = string_bytes c.pending.inside.tail; wrap = w }; numbers = c.pending.inside.numbers; cols = c.pending.inside.cols })) (sym same) is in
+    let is = prepared_pending d c.args.text.now (string_bytes c.pending.inside.tail) c.pending.inside.numbers c.pending.inside.cols c.pending.inside.match_lines c.pending.inside.start plan c.plan-plan.ensures start h.0 (ready.follows ∙ h.1) c.pending.inside.formed form places ready.from_line in
+    let here = subst (λ w. IsPending d c.args.text.now c.pending.inside.numbers c.pending.inside.cols (record { kept_rows = c.pending.inside.start.finished.rows + c.pending.inside.start.rows; kept_lines = c.pending.inside.start.finished.lines; first_rows = c.pending.inside.formed.first_rows; start = c.pending.inside.start; tail = record { text = string_bytes c.pending.inside.tail; wrap = w }; numbers = c.pending.inside.numbers; cols = c.pending.inside.cols; match_lines = c.pending.inside.match_lines })) (sym same) is in
     subst (λ (q : Pending). IsPending d c.args.text.now q.numbers q.cols q) c.pending.view_is here
 
 pub returns-in_err-place_formed-clause-pending : goal.returns-in_err-place_formed-clause-pending
