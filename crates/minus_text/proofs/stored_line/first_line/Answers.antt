@@ -10,4 +10,4 @@ returns-in-Some c = c.without_return.ensures ∙ sym (ap (λ q. get_or (lines_of
 pub returns-in-None : goal.returns-in-None
 returns-in-None c =
     let full = full_text c.args.text.now (rw c.in-None.ensures.cut at c.requires) in
-    sym (ap (λ q. get_or (lines_of q) 0 []) c.in-None.ensures ∙ rw full refl)
+    sym (ap (λ q. get_or (lines_of q) 0 []) c.in-None.ensures.cut ∙ rw full refl)
