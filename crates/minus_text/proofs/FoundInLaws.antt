@@ -151,7 +151,7 @@ found_of re m (x ∷ xs) (suc i) n row is e =
 
 -- ---- places stand
 
-placed_append : (first : ℕ) (rows : List (List ℕ)) (xs ys : List RowMatches) → ArePlaced first rows xs → ArePlaced first rows ys → ArePlaced first rows (xs ++ ys)
+pub placed_append : (first : ℕ) (rows : List (List ℕ)) (xs ys : List RowMatches) → ArePlaced first rows xs → ArePlaced first rows ys → ArePlaced first rows (xs ++ ys)
 placed_append first rows [] ys h k = k
 placed_append first rows (x ∷ xs) ys h k = (h.0, placed_append first rows xs ys h.1 k)
 

@@ -1,6 +1,7 @@
 -- The rows that jumps go to: those of what was found, from a row on, before it, and counted with their matches.
-use Rattle.std.proofs.Common.{inl, inr, ◌≡◌, ℕ, zero, suc, ◌+◌, ◌-◌, ◌<◌, ◌≤◌, ◌==◌, min, set, true, false, nat_le, List, [], ◌∷◌, ◌++◌, map, length, take, drop, get_or, refl, sym, ap, ap₂, ◌∙◌, arith}
-use Rattle.std.specs.List.{position_or_len, sum_by}
+use Rattle.std.proofs.Common.{inl, inr, ◌≡◌, ℕ, zero, suc, ◌+◌, ◌-◌, ◌^◌, ◌<◌, ◌≤◌, ◌==◌, min, set, true, false, nat_le, List, [], ◌∷◌, ◌++◌, map, length, take, drop, get_or, refl, sym, ap, ap₂, subst, ◌∙◌, arith}
+use Rattle.std.specs.List.{slice_get, position_or_len, sum_by}
+use Rattle.std.proofs.Math.Nat.{min-eq_left, min-eq_right}
 use Rattle.std.specs.Cmp.{nat_cmp_is}
 use Rattle.std.specs.Ordering.{nat_cmp}
 use Rattle.std.specs.declared.cmp.Ordering.TheVariants.{Greater}
@@ -14,6 +15,8 @@ use Rattle.minus_text.specs.declared.search.jumps.Jump.{Jump}
 use Rattle.minus_text.specs.Found.{RowMatches, found_above, found_from, jump_rows, match_total, matches_above, Ascend}
 use Rattle.minus_text.specs.FoundRows.{matches_of}
 use Rattle.minus_text.specs.Jumps.{counted, jumps_behind, jump_behind, ended_at, Rise, numbers_with}
+use Rattle.minus_text.proofs.PendingLaws.{get_behind}
+use Rattle.minus_text.proofs.StoredLaws.{at_front}
 use Rattle.minus_text.proofs.FoundInLaws.{weaker, put_ascend}
 
 -- the row of a jump
@@ -151,6 +154,11 @@ one_more_moved m js now next i d lt is put =
     dropped_one k [] e l = absurd (omega (arith, l))
     dropped_one zero (x ∷ xs) e l = refl
     dropped_one (suc k) (x ∷ xs) e l = let one : suc k + 1 ≡ suc (k + 1) = omega arith in rw one (dropped_one k xs e (omega (arith, l)))
+
+pub moved_size : (m : ℕ) (js now : List Jump) (i : ℕ) → i ≤ length js → now ≡ map (jump_behind m) (take i js) ++ drop i js → length now ≡ length js
+moved_size m js now i le is =
+    let front = map (jump_behind m) (take i js) in
+    omega (arith, ap length is, length-append front (drop i js), length-map (take i js) (jump_behind m), length-take-le i js le, length-drop i js, le)
 
 -- ---- before a row, and from it on
 
@@ -356,3 +364,87 @@ numbers_between m n a b old fresh le h k ea eb =
     let rising : Rise 0 (drop (below m ns) (take (below n ns) ns) ++ jump_rows fresh) = rw (sym all) (rise_dropped m whole up) in
     ap (λ l. numbers_with (jump_rows fresh) (numbers_with l [])) mid ∙ sym (with_both (drop (below m ns) (take (below n ns) ns)) (jump_rows fresh) [])
     ∙ rising_numbers 0 (drop (below m ns) (take (below n ns) ns) ++ jump_rows fresh) rising ∙ sym all
+
+-- ---- jumps that are those of what was found
+
+pub rows_are : (js : List Jump) (f : List RowMatches) → js ≡ jumps_behind 0 f → map row_of js ≡ jump_rows f
+rows_are js f is = ap (map row_of) is ∙ rows_of_jumps 0 f
+
+pub count_is : (js : List Jump) (f : List RowMatches) → js ≡ jumps_behind 0 f → length js ≡ length (jump_rows f)
+count_is js f is = sym (length-map js row_of) ∙ ap length (rows_are js f is)
+
+pub rise_of : (js : List Jump) (f : List RowMatches) → js ≡ jumps_behind 0 f → Ascend 0 f → Rise 0 (map row_of js)
+rise_of js f is h = subst (Rise 0) (sym (rows_are js f is)) (jumps_rise 0 f h)
+
+pub above_count : (n : ℕ) (f : List RowMatches) → Ascend 0 f → below n (jump_rows f) ≡ length (jump_rows (found_above n f))
+above_count n f h = sym (length-take-le (below n (jump_rows f)) (jump_rows f) (below_within n (jump_rows f))) ∙ ap length (above_numbers n 0 f h)
+
+-- ---- what was found above a row, where others stand behind those above another row
+
+above_stop : (n m : ℕ) (f : List RowMatches) → n ≤ m → Ascend m f → found_above n f ≡ []
+above_stop n m [] le h = refl
+above_stop n m (r ∷ rs) le h = let t : nat_le n r.row ≡ true = grind (arith, le, h.0) in rw t refl
+
+above_staying : (row kept m : ℕ) (f g : List RowMatches) → row ≤ kept → Ascend m f → Ascend kept g → found_above row (found_above kept f ++ g) ≡ found_above row f
+above_staying row kept m [] g le h k = above_stop row kept g le k
+above_staying row kept m (r ∷ rs) g le h k = elim (cases_lt r.row kept) [
+  | inl low ↦
+      let f : nat_le kept r.row ≡ false = grind (arith, low) in
+      let one : 1 + position_or_len (λ (x : RowMatches). nat_le kept x.row) rs ≡ suc (position_or_len (λ (x : RowMatches). nat_le kept x.row) rs) = omega arith in
+      elim (cases_lt r.row row) [
+        | inl over ↦
+            let d : nat_le row r.row ≡ false = grind (arith, over) in
+            let rest = found_above kept rs ++ g in
+            let two : 1 + position_or_len (λ (x : RowMatches). nat_le row x.row) rest ≡ suc (position_or_len (λ (x : RowMatches). nat_le row x.row) rest) = omega arith in
+            let three : 1 + position_or_len (λ (x : RowMatches). nat_le row x.row) rs ≡ suc (position_or_len (λ (x : RowMatches). nat_le row x.row) rs) = omega arith in
+            rw (f, one, d, two, three) (ap (λ l. r ∷ l) (above_staying row kept (r.row + 1) rs g le h.1 k))
+        | inr at ↦ let t : nat_le row r.row ≡ true = grind (arith, at) in rw (f, one, t) refl
+      ]
+  | inr ge ↦
+      let t : nat_le kept r.row ≡ true = grind (arith, ge) in
+      let u : nat_le row r.row ≡ true = grind (arith, ge, le) in
+      rw (t, u) (above_stop row kept g le k)
+]
+
+above_forming : (row kept m : ℕ) (f g : List RowMatches) → kept ≤ row → Ascend m f → found_above row (found_above kept f ++ g) ≡ found_above kept f ++ found_above row g
+above_forming row kept m [] g le h = refl
+above_forming row kept m (r ∷ rs) g le h = elim (cases_lt r.row kept) [
+  | inl low ↦
+      let f : nat_le kept r.row ≡ false = grind (arith, low) in
+      let one : 1 + position_or_len (λ (x : RowMatches). nat_le kept x.row) rs ≡ suc (position_or_len (λ (x : RowMatches). nat_le kept x.row) rs) = omega arith in
+      let d : nat_le row r.row ≡ false = grind (arith, low, le) in
+      let rest = found_above kept rs ++ g in
+      let two : 1 + position_or_len (λ (x : RowMatches). nat_le row x.row) rest ≡ suc (position_or_len (λ (x : RowMatches). nat_le row x.row) rest) = omega arith in
+      rw (f, one, d, two) (ap (λ l. r ∷ l) (above_forming row kept (r.row + 1) rs g le h.1))
+  | inr ge ↦ let t : nat_le kept r.row ≡ true = grind (arith, ge) in rw t refl
+]
+
+pub above_sum : (row kept : ℕ) (f g : List RowMatches) → Ascend 0 f → Ascend kept g → matches_above row (found_above kept f ++ g) ≡ matches_above (min row kept) f + matches_above row g
+above_sum row kept f g h k = elim (cases_lt row kept) [
+  | inl low ↦
+      let m : min row kept ≡ row = min-eq_left (omega (arith, low)) in
+      let none : match_total (found_above row g) ≡ 0 = ap match_total (above_stop row kept g (omega (arith, low)) k) in
+      let here = ap match_total (above_staying row kept 0 f g (omega (arith, low)) h k) in
+      rw m (omega (arith, here, none))
+  | inr ge ↦
+      let m : min row kept ≡ kept = min-eq_right ge in
+      let here = ap match_total (above_forming row kept 0 f g ge h) in
+      let sum = total_both (found_above kept f) (found_above row g) in
+      rw m (omega (arith, here, sum))
+]
+
+pub counted_sum : (m n : ℕ) → min (counted m + counted n) (2 ^ 64 - 1) ≡ counted (m + n)
+counted_sum m n = omega arith
+
+-- ---- a jump by its place, where others stand behind those above a row
+
+pub place_staying : (kept i : ℕ) (f g : List RowMatches) → Ascend 0 f → i < length (jump_rows (found_above kept f)) → slice_get (jump_rows f) i ≡ slice_get (jump_rows (found_above kept f ++ g)) i
+place_staying kept i f g h lt =
+    let ns = jump_rows f in
+    let above = jump_rows (found_above kept f) in
+    let count : below kept ns ≡ length above = above_count kept f h in
+    let split : ns ≡ above ++ drop (below kept ns) ns = sym (take-append-drop (below kept ns) ns) ∙ ap (λ l. l ++ drop (below kept ns) ns) (above_numbers kept 0 f h) in
+    ap (λ l. slice_get l i) split ∙ at_front above (drop (below kept ns) ns) i lt ∙ sym (at_front above (jump_rows g) i lt) ∙ ap (λ l. slice_get l i) (sym (jumps_both (found_above kept f) g))
+
+pub place_forming : (kept i : ℕ) (f g : List RowMatches) → length (jump_rows (found_above kept f)) ≤ i → slice_get (jump_rows g) (i - length (jump_rows (found_above kept f))) ≡ slice_get (jump_rows (found_above kept f ++ g)) i
+place_forming kept i f g le = sym (get_behind (jump_rows (found_above kept f)) (jump_rows g) i le) ∙ ap (λ l. slice_get l i) (sym (jumps_both (found_above kept f) g))

@@ -1,25 +1,33 @@
 -- What is found in some of the lines of a text.
-use Rattle.std.proofs.Common.{inl, inr, ◌≡◌, ℕ, zero, suc, ◌+◌, ◌-◌, ◌<◌, ◌≤◌, ◌==◌, true, false, nat_le, nat_lt, min, List, [], ◌∷◌, ◌++◌, length, take, drop, get_or, Option, None, Some, refl, sym, ap, ap₂, ◌∙◌, arith, append_assoc, length-append}
+use Rattle.std.proofs.Common.{inl, inr, ◌≡◌, ℕ, zero, suc, ◌+◌, ◌-◌, ◌<◌, ◌≤◌, ◌==◌, true, false, nat_le, nat_lt, min, List, [], ◌∷◌, ◌++◌, length, map, take, drop, get_or, Option, None, Some, refl, sym, ap, ap₂, subst, subst₂, ◌∙◌, arith, append_assoc, length-append}
 use Rattle.std.specs.List.{slice_get, position_or_len}
 use Rattle.std.specs.Option.{is_some}
+use Rattle.std.specs.Str.Lines.{lines}
 use Rattle.std.proofs.Math.Nat.{min-eq_left, min-eq_right}
-use Rattle.std.proofs.lemmas.Bool.{cases_Bool, cases_lt, ne_eqb}
+use Rattle.std.proofs.lemmas.Bool.{cases_Bool, cases_lt, eq-eqb, ne_eqb}
 use Rattle.std.proofs.lemmas.Bool.Decides.{nat_tests}
-use Rattle.std.proofs.lemmas.List.{append-nil, take_all, length-drop, length-take-le, take_more, get_or-drop, take-append-drop, drop-drop}
+use Rattle.std.proofs.lemmas.List.{append-nil, map-append, take_all, length-drop, length-take-le, take_more, get_or-drop, take-append-drop, drop-drop}
 use Rattle.std.proofs.lemmas.List.Concat.{flat_map-append}
 use Rattle.regex.specs.Patterns.{Re}
 use Rattle.minus_text.specs.declared.layout.Wrap.{Wrap}
+use Rattle.minus_text.specs.declared.search.found.FoundRow.{FoundRow}
+use Rattle.minus_text.specs.FoundRows.{matches_of}
 use Rattle.minus_text.specs.Layouts.{own_rows}
 use Rattle.minus_text.specs.Document.{first_rows, rows_of_lines}
-use Rattle.minus_text.specs.Found.{RowMatches, found_of_row, jump_rows, Ascend}
+use Rattle.minus_text.specs.Lines.{cut}
+use Rattle.minus_text.specs.LineSplits.{lines_of}
+use Rattle.minus_text.specs.Found.{RowMatches, found_of_row, jump_rows, Ascend, AreFoundIn}
 use Rattle.minus_text.specs.LineFinds.{finds_in_line, finds_in_lines}
 use Rattle.minus_text.specs.LineMaps.{IsLineOfRow}
 use Rattle.minus_text.specs.Matches.{counts_first, match_at}
 use Rattle.minus_text.specs.StoredLines.{first_from}
-use Rattle.minus_text.proofs.DocumentLaws.{length-first_rows}
+use Rattle.minus_text.proofs.DocumentLaws.{length-first_rows, first_rows-ascend}
+use Rattle.minus_text.proofs.LayoutLaws.{own_rows-some}
+use Rattle.minus_text.proofs.LineMapLaws.{ascends_to}
 use Rattle.minus_text.proofs.FoundInLaws.{none_later}
 use Rattle.minus_text.proofs.FirstFoundLaws.{none_counts, one_counts}
 use Rattle.minus_text.proofs.JumpLaws.{jumps_both}
+use Rattle.minus_text.proofs.LinesLaws.{lines-cut}
 use Rattle.minus_text.proofs.StoredLineLaws.{first_is}
 use Rattle.minus_text.proofs.FindsLaws.{Below, lines_below, finds_append, lines_ascend}
 
@@ -30,11 +38,14 @@ between re wrap ls start end = finds_in_lines re wrap (get_or (first_rows wrap 0
 rows_both : (wrap : Wrap) (xs ys : List (List ℕ)) → rows_of_lines wrap (xs ++ ys) ≡ rows_of_lines wrap xs ++ rows_of_lines wrap ys
 rows_both wrap xs ys = flat_map-append (own_rows wrap) xs ys
 
+take_none : {X : Type 0} (n : ℕ) → take {A = X} n [] ≡ []
+take_none zero = refl
+take_none (suc n) = refl
+
 take_on : {X : Type 0} (a b : ℕ) (xs : List X) → take (a + b) xs ≡ take a xs ++ take b (drop a xs)
-take_on zero b xs = refl
-take_on (suc a) zero [] = refl
-take_on (suc a) (suc b) [] = refl
-take_on (suc a) b (x ∷ xs) = ap (λ l. x ∷ l) (take_on a b xs)
+take_on zero b xs = let z : 0 + b ≡ b = omega arith in ap (λ k. take k xs) z
+take_on (suc a) b [] = take_none (suc a + b) ∙ sym (take_none b)
+take_on (suc a) b (x ∷ xs) = let one : suc a + b ≡ suc (a + b) = omega arith in rw one (ap (λ l. x ∷ l) (take_on a b xs))
 
 -- the first row of a line, counted from that of another above it
 first_on : (wrap : Wrap) (ls : List (List ℕ)) (start i : ℕ) → start ≤ i → i < length ls
@@ -73,26 +84,26 @@ up_to_last re wrap ls start end i le past to =
     ap (finds_in_lines re wrap n) (take_all (i - start) (drop start ls) (omega (arith, size, past)) ∙ sym (take_all (end - start) (drop start ls) (omega (arith, size, past, to))))
 
 pub all_between : (re : Re) (wrap : Wrap) (ls : List (List ℕ)) (count : ℕ) → length ls ≤ count → between re wrap ls 0 count ≡ finds_in_lines re wrap 0 ls
-all_between re wrap [] count le = let z : count - 0 ≡ count = omega arith in rw z refl
+all_between re wrap [] count le = ap (finds_in_lines re wrap 0) (take_none (count - 0))
 all_between re wrap (l ∷ ls) count le = ap (finds_in_lines re wrap 0) (take_all (count - 0) (l ∷ ls) (omega (arith, le)))
 
 -- ---- those above, these, and those below
 
 -- what is found in lines parts into what is found above a line, in some from it on, and in those behind them
 module _ (re : Re) (wrap : Wrap) (ls : List (List ℕ)) (a b : ℕ) (le : a ≤ b) (lt : a < length ls) where
-  upper : List (List ℕ)
+  abbrev pub upper : List (List ℕ)
   upper = take a ls
 
-  middle : List (List ℕ)
+  abbrev pub middle : List (List ℕ)
   middle = take (b - a) (drop a ls)
 
-  lower : List (List ℕ)
+  abbrev pub lower : List (List ℕ)
   lower = drop b ls
 
-  first_a : ℕ
+  abbrev pub first_a : ℕ
   first_a = get_or (first_rows wrap 0 ls) a 0
 
-  first_b : ℕ
+  abbrev pub first_b : ℕ
   first_b = first_a + length (rows_of_lines wrap middle)
 
   parts_of : ls ≡ upper ++ (middle ++ lower)
@@ -213,7 +224,7 @@ goes_first row ns e = none_counts ns row (none_at row ns e)
 
 from_none : (ns : List ℕ) → first_from 0 ns ≡ slice_get ns 0
 from_none [] = refl
-from_none (n ∷ ns) = refl
+from_none (n ∷ ns) = let t : nat_le 0 n ≡ true = grind (arith, nat_tests) in rw t refl
 
 below_none : (m row : ℕ) (f : List RowMatches) → m ≤ row → Below m f → first_from row (jump_rows f) ≡ None
 below_none m row [] le h = refl
@@ -251,7 +262,7 @@ more_between re wrap ls start i end from to =
 -- ---- the row that a search in lines from a mark goes to
 
 module _ (re : Re) (wrap : Wrap) (ls : List (List ℕ)) (mark a count : ℕ) (is : IsLineOfRow (first_rows wrap 0 ls) mark a) (all : length ls ≤ count) where
-  found_all : List RowMatches
+  abbrev pub found_all : List RowMatches
   found_all = finds_in_lines re wrap 0 ls
 
   mark_line : a < length ls
@@ -302,9 +313,37 @@ module _ (re : Re) (wrap : Wrap) (ls : List (List ℕ)) (mark a count : ℕ) (is
       goes_first mark (jump_rows found_all) (from_mark ∙ e)
       ∙ ap (λ l. slice_get l 0) (jumps ∙ ap (λ l. jump_rows front ++ l) empty ∙ append-nil (jump_rows front)) ∙ sym (from_none (jump_rows front))
 
-pub no_lines : (re : Re) (wrap : Wrap) (ls : List (List ℕ)) → first_rows wrap 0 ls ≡ [] → ls ≡ []
-no_lines re wrap [] e = refl
-no_lines re wrap (l ∷ ls) e = absurd cc
+pub no_lines : (wrap : Wrap) (ls : List (List ℕ)) → first_rows wrap 0 ls ≡ [] → ls ≡ []
+no_lines wrap [] e = refl
+no_lines wrap (l ∷ ls) e = absurd cc
+
+-- ---- a line stands not behind its row
+
+each_a_row : (wrap : Wrap) (ls : List (List ℕ)) → length ls ≤ length (rows_of_lines wrap ls)
+each_a_row wrap [] = omega arith
+each_a_row wrap (l ∷ ls) = omega (arith, own_rows-some wrap l, each_a_row wrap ls, length-append (own_rows wrap l) (rows_of_lines wrap ls))
+
+pub line_up_to : (wrap : Wrap) (ls : List (List ℕ)) (row line : ℕ) → IsLineOfRow (first_rows wrap 0 ls) row line → line ≤ row
+line_up_to wrap ls row line is = elim (cases_lt 0 line) [
+  | inl down ↦
+      let within = is.within in
+      let lt : line < length ls = omega (arith, within, length-first_rows wrap 0 ls) in
+      let begins = is.begins down in
+      omega (arith, begins, first_is wrap 0 line ls lt, each_a_row wrap (take line ls), length-take-le line ls (omega (arith, lt)))
+  | inr top ↦ omega (arith, top)
+]
+
+pub lines_in_order : (wrap : Wrap) (ls : List (List ℕ)) (start end a b : ℕ) → start ≤ end → IsLineOfRow (first_rows wrap 0 ls) start a → IsLineOfRow (first_rows wrap 0 ls) end b → a ≤ b
+lines_in_order wrap ls start end a b le is_a is_b = elim (cases_lt b a) [
+  | inl over ↦
+      let firsts = first_rows wrap 0 ls in
+      let in_a = is_a.within in
+      let begins = is_a.begins (omega (arith, over)) in
+      let ends = is_b.ends (omega (arith, over, in_a)) in
+      let up = ascends_to firsts (first_rows-ascend wrap 0 ls) (b + 1) a (omega (arith, over)) in_a in
+      absurd (omega (arith, begins, ends, up, le))
+  | inr good ↦ omega (arith, good)
+]
 
 -- ---- what loops over lines end with
 
@@ -336,3 +375,60 @@ early re wrap ls start line end row (Some n) from there to is some =
     let above = between re wrap ls start (line + 1) in
     let more = more_between re wrap ls start (line + 1) end (omega (arith, from)) (omega (arith, to)) in
     sym (ap (λ l. first_from row (jump_rows l)) more.1 ∙ ap (first_from row) (jumps_both above more.0) ∙ first_front row n (jump_rows above) (jump_rows more.0) (sym is))
+
+-- ---- alike lines
+
+pub found_alike : (re : Re) (w v : Wrap) (n m : ℕ) (t s : List ℕ) → w ≡ v → n ≡ m → t ≡ s → finds_in_lines re w n (lines_of (cut t)) ≡ finds_in_lines re v m (lines s)
+found_alike re w v n m t s a b e = ap₂ (λ x k. finds_in_lines re x k (lines_of (cut t))) a b ∙ ap (finds_in_lines re v m) (ap (λ x. lines_of (cut x)) e ∙ sym (lines-cut s))
+
+pub stands_alike : (re : Re) (w v : Wrap) (n m : ℕ) (t s : List ℕ) → w ≡ v → n ≡ m → t ≡ s → AreFoundIn n (rows_of_lines w (lines_of (cut t))) (finds_in_lines re w n (lines_of (cut t)))
+    → AreFoundIn m (rows_of_lines v (lines s)) (finds_in_lines re v m (lines s))
+stands_alike re w v n m t s a b e h =
+    let same : lines_of (cut t) ≡ lines s = ap (λ x. lines_of (cut x)) e ∙ sym (lines-cut s) in
+    subst (λ x. AreFoundIn m (rows_of_lines v x) (finds_in_lines re v m x)) same (subst₂ (λ x k. AreFoundIn k (rows_of_lines x (lines_of (cut t))) (finds_in_lines re x k (lines_of (cut t)))) a b h)
+
+pub goes_behind : (re : Re) (wrap : Wrap) (ls : List (List ℕ)) (mark a count : ℕ) → IsLineOfRow (first_rows wrap 0 ls) mark a → length ls ≤ count → (behind : Option ℕ) → behind ≡ first_from mark (jump_rows (between re wrap ls a count)) → is_some behind ≡ true
+    → behind ≡ match_at (jump_rows (finds_in_lines re wrap 0 ls)) mark
+goes_behind re wrap ls mark a count is all None first some = absurd cc
+goes_behind re wrap ls mark a count is all (Some n) first some = sym (line_behind re wrap ls mark a count is all n (sym first))
+
+pub goes_above : (re : Re) (wrap : Wrap) (ls : List (List ℕ)) (mark a count : ℕ) → IsLineOfRow (first_rows wrap 0 ls) mark a → length ls ≤ count → (behind above : Option ℕ) → behind ≡ first_from mark (jump_rows (between re wrap ls a count)) → is_some behind ≡ false
+    → above ≡ first_from 0 (jump_rows (between re wrap ls 0 (a + 1))) → above ≡ match_at (jump_rows (finds_in_lines re wrap 0 ls)) mark
+goes_above re wrap ls mark a count is all None above first none up = up ∙ sym (line_above re wrap ls mark a count is all (sym first))
+goes_above re wrap ls mark a count is all (Some n) above first none up = absurd cc
+
+-- ---- the first jump of what was found
+
+module _ (fs : List FoundRow) (i : ℕ) (f : FoundRow) (lt : i < length fs) (here : f ≡ get_or fs i f) (row : ℕ) (none : None ≡ first_from row (jump_rows (map matches_of (take i fs)))) where
+  one_found : map matches_of (take (i + 1) fs) ≡ map matches_of (take i fs) ++ matches_of f ∷ []
+  one_found = ap (map matches_of) (take_more fs i f lt ∙ ap (λ g. take i fs ++ g ∷ []) (sym here)) ∙ map-append matches_of (take i fs) (f ∷ [])
+
+  past_one : first_from row (jump_rows (map matches_of (take (i + 1) fs))) ≡ first_from row (jump_rows (matches_of f ∷ []))
+  past_one =
+      ap (λ l. first_from row (jump_rows l)) one_found ∙ ap (first_from row) (jumps_both (map matches_of (take i fs)) (matches_of f ∷ []))
+      ∙ first_past row (jump_rows (map matches_of (take i fs))) (jump_rows (matches_of f ∷ [])) (sym none)
+
+  pub no_jump : f.begins ≡ 0 → None ≡ first_from row (jump_rows (map matches_of (take (i + 1) fs)))
+  no_jump e =
+      let it : (f.begins == 0) ≡ true = eq-eqb f.begins 0 e in
+      let end : first_from row (jump_rows (matches_of f ∷ [])) ≡ None = rw it refl in
+      sym (past_one ∙ end)
+
+  pub jump_above : f.row < row → None ≡ first_from row (jump_rows (map matches_of (take (i + 1) fs)))
+  jump_above low =
+      let under : nat_le row f.row ≡ false = grind (arith, nat_tests, low) in
+      let end : first_from row (jump_rows (matches_of f ∷ [])) ≡ None = elim (cases_Bool (f.begins == 0)) [
+        | inl it ↦ rw it refl
+        | inr some ↦ rw (some, under) refl
+      ] in
+      sym (past_one ∙ end)
+
+  pub jump_here : 0 < f.begins → row ≤ f.row → Some f.row ≡ first_from row (jump_rows (map matches_of fs))
+  jump_here some le =
+      let it : (f.begins == 0) ≡ false = grind (arith, nat_tests, some) in
+      let over : nat_le row f.row ≡ true = grind (arith, nat_tests, le) in
+      let end : first_from row (jump_rows (matches_of f ∷ [])) ≡ Some f.row = rw (it, over) refl in
+      let front = map matches_of (take (i + 1) fs) in
+      let rest = map matches_of (drop (i + 1) fs) in
+      let all : map matches_of fs ≡ front ++ rest = ap (map matches_of) (sym (take-append-drop (i + 1) fs)) ∙ map-append matches_of (take (i + 1) fs) (drop (i + 1) fs) in
+      sym (ap (λ l. first_from row (jump_rows l)) all ∙ ap (first_from row) (jumps_both front rest) ∙ first_front row f.row (jump_rows front) (jump_rows rest) (past_one ∙ end))

@@ -112,18 +112,18 @@ put_alike f g d e n (x ∷ xs) h = ap₂ (λ a b. a ∷ b) (h n x (omega arith))
 
 -- the stored rows of the first lines, of which these are the rows
 module _ (wrap : Wrap) (on : Bool) (count n : ℕ) (found : List RowMatches) (d : Document) (text piece : List ℕ) (is : n ≡ length (rows_of_lines wrap (finished_lines text))) where
-  closed : List (List ℕ)
+  abbrev closed : List (List ℕ)
   closed = finished_lines text
 
   stored_front : take n (stored_with wrap on count 1 (lines (text ++ piece)) (put_rows found d 0 (rows_of_lines wrap (lines (text ++ piece))))) ≡ stored_with wrap on count 1 closed (put_rows found d 0 (rows_of_lines wrap closed))
   stored_front =
-      let open : List (List ℕ) = lines (unfinished_line text ++ piece) in
+      let later : List (List ℕ) = lines (unfinished_line text ++ piece) in
       let front = rows_of_lines wrap closed in
-      let rest = put_rows found d (0 + length front) (rows_of_lines wrap open) in
+      let rest = put_rows found d (0 + length front) (rows_of_lines wrap later) in
       let rows : put_rows found d 0 (rows_of_lines wrap (lines (text ++ piece))) ≡ put_rows found d 0 front ++ rest =
-      ap (λ ls. put_rows found d 0 (rows_of_lines wrap ls)) (lines_pushed text piece) ∙ ap (put_rows found d 0) (flat_map-append (own_rows wrap) closed open) ∙ put_both found d 0 front (rows_of_lines wrap open) in
+      ap (λ ls. put_rows found d 0 (rows_of_lines wrap ls)) (lines_pushed text piece) ∙ ap (put_rows found d 0) (flat_map-append (own_rows wrap) closed later) ∙ put_both found d 0 front (rows_of_lines wrap later) in
       let size = length-put found d 0 front in
-      let split = lines_front wrap on count 1 closed open (put_rows found d 0 front ++ rest) in
+      let split = lines_front wrap on count 1 closed later (put_rows found d 0 front ++ rest) in
       let alone = rows_alone wrap on count 1 closed (put_rows found d 0 front) rest (omega (arith, size)) in
       let long : length (stored_with wrap on count 1 closed (put_rows found d 0 front)) ≡ n = length-with wrap on count 1 closed (put_rows found d 0 front) (omega (arith, size)) ∙ sym is in
       ap₂ (λ ls rs. take n (stored_with wrap on count 1 ls rs)) (lines_pushed text piece) rows ∙ ap (take n) (split.1 ∙ ap (λ l. l ++ split.0) alone)
@@ -131,6 +131,7 @@ module _ (wrap : Wrap) (on : Bool) (count n : ℕ) (found : List RowMatches) (d 
 
 -- what is found in the rows that stay
 finds_ascend : (term : Option Re) (d : Document) → Ascend 0 (finds term d)
+unfolding rows_of
 finds_ascend None d = tt
 finds_ascend (Some re) d = elim (cases_Bool d.layout.match_lines) [
   | inl t ↦ rw t (lines_ascend re (wrap_in d) 0 (lines d.text))
@@ -207,7 +208,7 @@ stored_kept term d piece e =
     let front = rows_of_lines w (finished_lines d.text) in
     let same_put : put_rows f d 0 front ≡ put_rows g after 0 front =
     put_alike f g d after 0 front (λ i row lt.
-        ap₂ (λ s o. s ++ marked o row) (style_stays d piece d.layout.numbers d.layout.cols i e lt) (found_stays term d piece d.layout.numbers d.layout.cols i (omega (arith, at, first, lt)))) in
+        ap₂ (λ s o. s ++ marked o row) (style_stays d piece d.layout.numbers d.layout.cols i e (omega (arith, lt))) (found_stays term d piece d.layout.numbers d.layout.cols i (omega (arith, at, first, lt)))) in
     let alike = lines_alike w on (line_count d) (line_count after) 1 (finished_lines d.text) (put_rows g after 0 front) (λ line h. prefix_alike d.layout.numbers (line_count d) (line_count after) line h (sym margins)) in
     ap (λ t. take n (stored_with w on (line_count d) 1 (lines t) (put_rows f d 0 (rows_of_lines w (lines t))))) (sym (append-nil d.text))
     ∙ stored_front w on (line_count d) n f d d.text [] first

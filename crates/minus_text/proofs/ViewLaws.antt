@@ -1,6 +1,6 @@
 -- What was found in the rows that a push leaves, looked up by a row's number and counted.
-use Rattle.std.proofs.Common.{inl, inr, ◌≡◌, ℕ, suc, zero, ◌+◌, ◌-◌, ◌<◌, ◌≤◌, ◌%◌, Bool, true, false, not, nat_le, nat_lt, eqb, List, [], ◌∷◌, ◌++◌, length, map, get_or, Some, IfSome, refl, sym, ap, ◌∙◌, subst, arith}
-use Rattle.std.proofs.Math.Nat.{add-mod-mod, mod-eq_of_lt}
+use Rattle.std.proofs.Common.{inl, inr, ◌≡◌, ℕ, suc, zero, ◌+◌, ◌-◌, ◌<◌, ◌≤◌, ◌*◌, ◌%◌, Bool, true, false, not, nat_le, nat_lt, eqb, List, [], ◌∷◌, ◌++◌, length, map, get_or, Some, IfSome, refl, sym, ap, ◌∙◌, subst, arith}
+use Rattle.std.proofs.Math.Nat.{add-mod-mod, add-mul-mod_self_left, mod-eq_of_lt}
 use Rattle.std.specs.List.{position_or_len, slice_get}
 use Rattle.std.proofs.lemmas.Bool.{cases_Bool, cases_lt, ne_eqb}
 use Rattle.std.proofs.lemmas.Bool.Decides.{nat_tests}
@@ -11,7 +11,7 @@ use Rattle.minus_text.specs.Document.{Document, rows_of, pushed}
 use Rattle.minus_text.specs.Pending.{Pending, IsPending}
 use Rattle.minus_text.specs.Fragments.{rows_in}
 use Rattle.minus_text.specs.Found.{RowMatches, found_above, found_from, found_of_row, jump_rows, Ascend, IsPlaced, ArePlaced}
-use Rattle.minus_text.specs.Matches.{counts_first}
+use Rattle.minus_text.specs.Matches.{counts_first, nearest}
 use Rattle.minus_text.proofs.FoundInLaws.{none_later, placed_of}
 use Rattle.minus_text.proofs.PendingLaws.{row_staying, row_forming}
 use Rattle.minus_text.proofs.JumpLaws.{row_of, jumps_both}
@@ -133,3 +133,18 @@ counts_on mark jump low high le h = elim (cases_Bool (eqb jump 0)) [
 -- a step that stays before the end
 pub steps_on : (first jump count : ℕ) → first + jump % count < count → first + jump % count ≡ (first + jump) % count
 steps_on first jump count m = sym (mod-eq_of_lt m) ∙ add-mod-mod first jump count
+
+-- and one that goes on at the first
+pub steps_over : (first step count : ℕ) → first < count → step < count → count ≤ first + step → step - (count - first) ≡ (first + step) % count
+steps_over first step count lt small over =
+    let past = (first + step) - count in
+    let sum : first + step ≡ past + count * 1 = omega (arith, over) in
+    let low : past < count = omega (arith, lt, small) in
+    let here : step - (count - first) ≡ past = omega (arith, lt, over) in
+    here ∙ sym (ap (λ n. n % count) sum ∙ add-mul-mod_self_left past count 1 ∙ mod-eq_of_lt low)
+
+pub near_within : (ns : List ℕ) (mark jump : ℕ) → 0 < length ns → nearest ns mark jump < length ns
+near_within ns mark jump some = elim (cases_Bool (nat_lt (position_or_len (counts_first mark jump) ns) (length ns))) [
+  | inl t ↦ rw t (grind (arith, nat_tests, t))
+  | inr f ↦ rw f some
+]

@@ -6,7 +6,7 @@ ghost use Rattle.minus_text.specs.Matches.{match_at};
 ghost use Rattle.std.specs.Option.{unwrap_or};
 ghost use Rattle.minus_text.specs.Highlight.{line_matches};
 ghost use Rattle.minus_text.specs.Fragments.{rows_in};
-ghost use Rattle.minus_text.specs.Found.{found_in_rows, found_between, jump_rows, AreFoundIn, ArePlaced};
+ghost use Rattle.minus_text.specs.Found.{found_in_rows, found_between, jump_rows, AreFoundIn};
 ghost use Rattle.minus_text.specs.Finds.{finds, found_in};
 ghost use Rattle.minus_text.specs.FoundRows.{finder_pattern, matches_of, AddsFound, StaysPlaced};
 ghost use Rattle.minus_text.specs.FoundBy.{found_in_some};
@@ -49,7 +49,7 @@ fn find_in_rows(
 ) -> Result<Vec<FoundRow>, AllocError>
     ensures found { IfOk result (λ f. map matches_of f.items
         ≡ found_between (regex_pattern term.entry.pattern.now) (rows_of store.now) start end) }
-    ensures placed { IfOk result (λ f. ArePlaced 0 (rows_of store.now) (map matches_of f.items)) }
+    ensures stand { IfOk result (λ f. AreFoundIn 0 (rows_of store.now) (map matches_of f.items)) }
 {
     let mut finder = Finder::new(alloc, term)?;
     let mut rows = Vec::new(alloc);
@@ -67,8 +67,8 @@ fn find_in_push(
 ) -> Result<Vec<FoundRow>, AllocError>
     ensures found { IfOk result (λ f. map matches_of f.items
         ≡ found_in_rows (regex_pattern term.entry.pattern.now) pending.now.kept_rows (rows_in pending.now.tail)) }
-    ensures placed { IfOk result (λ f.
-        ArePlaced pending.now.kept_rows (rows_in pending.now.tail) (map matches_of f.items)) }
+    ensures stand { IfOk result (λ f.
+        AreFoundIn pending.now.kept_rows (rows_in pending.now.tail) (map matches_of f.items)) }
 {
     let mut finder = Finder::new(alloc, term)?;
     let mut rows = Vec::new(alloc);

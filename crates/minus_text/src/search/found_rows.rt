@@ -276,7 +276,8 @@ impl FoundRows {
     // In how many rows matches begin.
     pub(crate) fn len(&self) -> usize
         requires { AreJumps self.now }
-        ensures { result ≡ length (jump_rows (found_rows self.now)) }
+        ensures value { result ≡ length (jump_rows (found_rows self.now)) }
+        ensures few { result < 2 ^ 63 }
     {
         self.jumps.len()
     }

@@ -11,5 +11,6 @@ returns-clause-ok c = search rules
 
 pub returns-clause-told : goal.returns-clause-told
 returns-clause-told c =
-    tells_formed c.with_matches.result c.in_ok-store.told c.in_ok-matches.matches (pattern_of c.args.term) (found_rows c.in_ok-found.found) c.in_ok-store.store (string_bytes c.args.text) c.args.layout
+    tells_formed c.with_matches.result c.in_ok-store.told c.in_ok-matches.matches (pattern_of c.args.term) (found_rows c.in_ok-found.found) c.in_ok-store.store
+    (record { text = string_bytes c.args.text; layout = c.args.layout })
     c.with_matches.ensures c.in_ok-matches.ensures c.in_ok-found.ensures.found c.in_ok-store.ensures.ok c.in_ok-store.ensures.told

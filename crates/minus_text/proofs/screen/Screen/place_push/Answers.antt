@@ -18,7 +18,7 @@ returns-then-is_prepared-clause-told c = λ h k.
     let p = c.pending.inside.push in
     let its = subst (λ (s : SearchedPush). IsFoundInPush term s) (sym c.pending.view_is) k in
     subst (λ (s : SearchedPush). TellsPush r term d text s.push.numbers s.push.cols) c.pending.view_is
-    (tells_pushed r term c.put.new.self d text p.numbers p.cols (c.in_ok-put.ensures.found term h its) c.in_ok-put.ensures.ok c.in_ok-put.ensures.told)
+    (tells_pushed r term c.put.new.self d text p.numbers p.cols (c.in_ok-put.ensures.found term (c.matches_lines-lines.ensures p (c.is_prepared.ensures.lines c.if-is_prepared.true)) h its) c.in_ok-put.ensures.ok c.in_ok-put.ensures.told)
 
 pub returns-clause-ok : goal.returns-clause-ok
 returns-clause-ok c = search rules
@@ -54,10 +54,10 @@ pub returns-in_err-put-clause-memory : goal.returns-in_err-put-clause-memory
 returns-in_err-put-clause-memory c = let p = err_from_is_err_and c.from_residual.result c.from_residual.ensures.1 in rw p.1 p.2
 
 pub put-requires-clause-prepared : goal.put-requires-clause-prepared
-put-requires-clause-prepared c = subst (λ (s : Searched). IsPreparedFor s.document c.args.text.now c.pending.inside.push) c.self.view_is (c.is_prepared.ensures c.if-is_prepared.true)
+put-requires-clause-prepared c = subst (λ (s : Searched). IsPreparedFor s.document c.args.text.now c.pending.inside.push) c.self.view_is (c.is_prepared.ensures.prepared c.if-is_prepared.true)
 
 pub put-requires-clause-stand : goal.put-requires-clause-stand
-put-requires-clause-stand c = c.pending.invariant
+put-requires-clause-stand c = c.pending.invariant.0
 
 pub returns-then-is_prepared-clause-ok : goal.returns-then-is_prepared-clause-ok
 returns-then-is_prepared-clause-ok c =
@@ -66,7 +66,7 @@ returns-then-is_prepared-clause-ok c =
 pub returns-then-is_prepared-clause-found : goal.returns-then-is_prepared-clause-found
 returns-then-is_prepared-clause-found c = λ h k.
     let term = pattern_of c.args.term in
-    c.in_ok-put.ensures.found term h (subst (λ (s : SearchedPush). IsFoundInPush term s) (sym c.pending.view_is) k)
+    c.in_ok-put.ensures.found term (c.matches_lines-lines.ensures c.pending.inside.push (c.is_prepared.ensures.lines c.if-is_prepared.true)) h (subst (λ (s : SearchedPush). IsFoundInPush term s) (sym c.pending.view_is) k)
 
 pub returns-then-is_prepared-clause-kept : goal.returns-then-is_prepared-clause-kept
 returns-then-is_prepared-clause-kept c =

@@ -10,4 +10,4 @@ pub invariant_of-result : goal.invariant_of-result
 invariant_of-result c =
     let stand = subst (λ (s : Searched). AreFoundIn 0 (rows_of s.document) (found_rows c.findings.inside.rows)) (sym c.screen.view_is)
     (subst (λ (rs : List RowMatches). AreFoundIn 0 (rows_of c.args.screen.now.document) rs) (sym c.findings.view_is) c.requires) in
-    record { placed = stand.placed; ascend = stand.ascend; pending = tt }
+    record { placed = stand.placed; ascend = stand.ascend; jumps = c.findings.invariant.1; pending = tt }

@@ -1,10 +1,11 @@
-use Rattle.std.proofs.Common.{◌+◌, ◌++◌, ◌<◌, ◌≤◌, length, option_map, map, refl, ap, ap₂, ◌∙◌, arith}
+use Rattle.std.proofs.Common.{◌+◌, ◌++◌, ◌<◌, ◌≤◌, length, option_map, map, take, refl, sym, ap, ap₂, subst, ◌∙◌, arith}
 use Rattle.std.proofs.lemmas.List.{take_all}
 use Rattle.regex.specs.Strings.{regex_pattern}
 use Rattle.minus_text.specs.Fragments.{rows_in}
-use Rattle.minus_text.specs.Found.{found_in_rows}
+use Rattle.minus_text.specs.Found.{found_in_rows, Ascend}
 use Rattle.minus_text.specs.FoundRows.{matches_of}
 use Rattle.minus_text.specs.FoundBy.{found_in_some}
+use Rattle.minus_text.proofs.FoundInLaws.{rows_ascend}
 use Rattle.minus_text.proofs.FoundByLaws.{one_more_row}
 use Rattle.minus_text.proofs.search.finding.find_in_push.Goals as goal
 
@@ -29,3 +30,10 @@ returns-clause-found c =
     let rows = rows_in c.args.pending.now.tail in
     let past : length rows ≤ c.loop-i.i = omega (arith, c.formed_rows-i-end.ensures.value, c.loop-i-test.false) in
     c.loop-i.invariant.found ∙ ap (found_in_rows (regex_pattern c.args.term.pattern.now) c.args.pending.now.kept_rows) (take_all c.loop-i.i rows past)
+
+pub returns-clause-stand : goal.returns-clause-stand
+returns-clause-stand c =
+    let inv = c.loop-i.invariant in
+    let first = c.args.pending.now.kept_rows in
+    let some = take c.loop-i.i (rows_in c.args.pending.now.tail) in
+    record { placed = inv.placed; ascend = subst (Ascend first) (sym inv.found) (rows_ascend (regex_pattern c.args.term.pattern.now) first some) }

@@ -1,12 +1,12 @@
 -- One row more, until the end or the last of all.
-use Rattle.std.proofs.Common.{◌++◌, ◌<◌, length, option_map, map, ap, ◌∙◌, arith, rules}
+use Rattle.std.proofs.Common.{◌++◌, ◌-◌, ◌<◌, length, option_map, map, take, drop, Some, sym, ap, subst, ◌∙◌, arith, rules}
 use Rattle.std.proofs.Math.Nat.{min-le_left, min-le_right}
 use Rattle.regex.specs.Strings.{regex_pattern}
 use Rattle.minus_text.specs.Document.{rows_of}
-use Rattle.minus_text.specs.Found.{found_in_rows}
+use Rattle.minus_text.specs.Found.{found_in_rows, Ascend}
 use Rattle.minus_text.specs.FoundRows.{matches_of}
 use Rattle.minus_text.specs.FoundBy.{found_in_some}
-use Rattle.minus_text.proofs.FoundRangeLaws.{one_more_from, all_of_some, nothing_from}
+use Rattle.minus_text.proofs.FoundRangeLaws.{one_more_from, all_of_some, nothing_from, some_ascend}
 use Rattle.minus_text.proofs.search.finding.find_in_rows.Goals as goal
 
 pub loop-i-init : goal.loop-i-init
@@ -44,3 +44,10 @@ pub returns-clause-found : goal.returns-clause-found
 returns-clause-found c =
     let all = all_of_some (rows_of c.args.store.now) c.args.start c.args.end c.loop-i.i c.min-i-end.result c.formatted_lines_count.result c.min-i-end.ensures c.formatted_lines_count.ensures.value c.loop-i.auto.i c.loop-i-test.false c.loop-i.invariant.within in
     c.loop-i.invariant.found ∙ ap (found_in_rows (regex_pattern c.args.term.pattern.now) c.args.start) all
+
+pub returns-clause-stand : goal.returns-clause-stand
+returns-clause-stand c =
+    let inv = c.loop-i.invariant in
+    let re = regex_pattern c.args.term.pattern.now in
+    let some = take (c.loop-i.i - c.args.start) (drop c.args.start (rows_of c.args.store.now)) in
+    record { placed = inv.placed; ascend = subst (Ascend 0) (sym inv.found) (some_ascend (Some re) c.args.start some) }

@@ -3,7 +3,7 @@ use Rattle.std.proofs.Common.{◌≡◌, ◌+◌, ◌++◌, ◌∷◌, map, leng
 use Rattle.std.specs.Str.Lines.{lines}
 use Rattle.minus_text.specs.declared.wrap.Span.{Span}
 use Rattle.minus_text.specs.Layouts.{own_rows}
-use Rattle.minus_text.specs.Document.{rows_of, rows_of_lines, wrap_in}
+use Rattle.minus_text.specs.Document.{rows_of, rows_of_lines, line_map, wrap_in}
 use Rattle.minus_text.specs.Kept.{line_stored}
 use Rattle.minus_text.specs.Found.{ArePlaced}
 use Rattle.minus_text.specs.FoundRows.{finder_pattern, matches_of}
@@ -31,7 +31,7 @@ returns-clause-found c =
     c.in_ok-find_in_line.ensures.found ∙ ap (λ f. old ++ f) same
 
 pub returns-clause-stands : goal.returns-clause-stands
-unfolding rows_of
+unfolding rows_of line_map
 returns-clause-stands c =
     let d = c.args.self.now in
     let l = c.line-line.result in

@@ -6,10 +6,10 @@ use Rattle.std.proofs.lemmas.Str.{IsUtf8-string_bytes}
 use Rattle.minus_text.specs.declared.wrap.Span.{Span}
 use Rattle.minus_text.specs.Layouts.{wrap_of}
 use Rattle.minus_text.specs.Lines.{cut}
-use Rattle.minus_text.specs.Document.{Document}
+use Rattle.minus_text.specs.Document.{Document, line_map, wrap_in}
 use Rattle.minus_text.specs.Kept.{line_stored}
 use Rattle.minus_text.specs.LineSplits.{lines_of}
-use Rattle.minus_text.specs.StoredLines.{IsStoredLine}
+use Rattle.minus_text.specs.StoredLines.{first_of, line_of}
 use Rattle.minus_text.proofs.DocumentLaws.{length-first_rows}
 use Rattle.minus_text.proofs.StoredLineLaws.{line_at, rows_at}
 use Rattle.minus_text.proofs.store.Store.line.Goals as goal
@@ -174,6 +174,7 @@ slice_bounds-result-end c =
     ends.1
 
 pub returns-clause-stored : goal.returns-clause-stored
+unfolding line_map
 returns-clause-stored c =
     let text : List ℕ = (string_bytes c.self.inside.text) in
     let wrap = (wrap_of c.self.inside.layout (length (lines (string_bytes c.self.inside.text)))) in
@@ -189,8 +190,8 @@ returns-clause-stored c =
     let rest : c.range_from-rest.result.now ≡ drop base text = c.range_from-rest.ensures.value ∙ ap (drop base) c.deref.ensures in
     let ends = rows_at wrap text rs fs c.args.k first base c.rows_end-end.result at c.rows_end-end.ensures in
     let line : c.first_line.result.now ≡ get_or (lines_of (cut (drop base text))) 0 [] = c.first_line.ensures ∙ ap (λ t. get_or (lines_of (cut t)) 0 []) rest in
-    subst (λ (x : Document). IsStoredLine x c.args.k _) c.self.view_is (record {
-      its_first = ap (λ l. get_or l c.args.k 0) (c.as_slice-firsts.ensures ∙ inv.its_map);
-      its_text = line ∙ sym at.its_line;
-      its_rows = ? ∙ ends.2 ∙ ap (line_stored wrap base) (sym line);
-    })
+    record {
+      its_first = ap (λ l. get_or l c.args.k 0) (c.as_slice-firsts.ensures ∙ inv.its_map) ∙ ap (λ (x : Document). first_of x c.args.k) c.self.view_is;
+      its_text = line ∙ sym at.its_line ∙ ap (λ (x : Document). line_of x c.args.k) c.self.view_is;
+      its_rows = ends.2 ∙ ap (line_stored wrap base) (sym line) ∙ ap (λ (x : Document). line_stored (wrap_in x) base c.first_line.result.now) c.self.view_is;
+    }

@@ -44,4 +44,4 @@ returns-clause-told c =
     let wrap : c.wrap_for-wrap.result ≡ wrap_of c.args.layout (length (lines text)) = c.wrap_for-wrap.ensures ∙ ap (λ t. wrap_of c.args.layout (length (lines t))) c.deref.ensures in
     let form : IsFormOf c.wrap_for-wrap.result [] c.deref-2.result.now from_start formed = whole_form c.deref-2.result.now c.wrap_for-wrap.result formed c.deref-2.utf8 c.in_ok-formed.ensures.formed in
     let t = c.told.ensures in
-    tells_whole text _ formed _ (rw (← wrap, ← c.deref-2.ensures) form) t.lines (omega (arith, t.rows)) (omega (arith, t.unfinished)) t.matches t.map t.longest t.clean
+    tells_whole text _ formed _ (rw (← wrap, ← c.deref-2.ensures) form) t.lines (omega (arith, t.rows)) (omega (arith, t.unfinished)) t.matches t.map t.longest t.clean c.args.layout.match_lines
