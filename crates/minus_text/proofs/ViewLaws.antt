@@ -1,5 +1,5 @@
 -- What was found in the rows that a push leaves, looked up by a row's number and counted.
-use Rattle.std.proofs.Common.{inl, inr, ◌≡◌, ℕ, suc, zero, ◌+◌, ◌-◌, ◌<◌, ◌≤◌, ◌*◌, ◌%◌, Bool, true, false, not, nat_le, nat_lt, eqb, List, [], ◌∷◌, ◌++◌, length, map, get_or, Some, IfSome, refl, sym, ap, ◌∙◌, subst, arith}
+use Rattle.std.proofs.Common.{inl, inr, ◌≡◌, ℕ, suc, zero, ◌+◌, ◌-◌, ◌<◌, ◌≤◌, ◌*◌, ◌%◌, Bool, true, false, not, nat_le, nat_lt, eqb, List, [], ◌∷◌, ◌++◌, length, map, get_or, None, Some, IfSome, if◌then◌else◌, refl, sym, ap, ap₂, ◌∙◌, subst, arith}
 use Rattle.std.proofs.Math.Nat.{add-mod-mod, add-mul-mod_self_left, mod-eq_of_lt}
 use Rattle.std.specs.List.{position_or_len, slice_get}
 use Rattle.std.proofs.lemmas.Bool.{cases_Bool, cases_lt, ne_eqb}
@@ -11,7 +11,7 @@ use Rattle.minus_text.specs.Document.{Document, rows_of, pushed}
 use Rattle.minus_text.specs.Pending.{Pending, IsPending}
 use Rattle.minus_text.specs.Fragments.{rows_in}
 use Rattle.minus_text.specs.Found.{RowMatches, found_above, found_from, found_of_row, jump_rows, Ascend, IsPlaced, ArePlaced}
-use Rattle.minus_text.specs.Matches.{counts_first, nearest}
+use Rattle.minus_text.specs.Matches.{counts_first, nearest, nth_match}
 use Rattle.minus_text.proofs.FoundInLaws.{none_later, placed_of}
 use Rattle.minus_text.proofs.PendingLaws.{row_staying, row_forming}
 use Rattle.minus_text.proofs.JumpLaws.{row_of, jumps_both}
@@ -148,3 +148,7 @@ near_within ns mark jump some = elim (cases_Bool (nat_lt (position_or_len (count
   | inl t ↦ rw t (grind (arith, nat_tests, t))
   | inr f ↦ rw f some
 ]
+
+pub nth_is : (ns : List ℕ) (mark jump : ℕ) → eqb (length ns) 0 ≡ false → eqb jump 0 ≡ false → nth_match ns mark jump ≡ Some ((nearest ns mark jump + (jump - 1)) % length ns)
+nth_is ns mark jump some more =
+    ap₂ (λ (none zero : Bool). if none then None else Some (if zero then nearest ns mark jump else (nearest ns mark jump + (jump - 1)) % length ns)) some more

@@ -5,7 +5,7 @@ use Rattle.std.proofs.lemmas.Bool.{ne_eqb}
 use Rattle.minus_text.specs.Matches.{nearest}
 use Rattle.minus_text.specs.Found.{jump_rows}
 use Rattle.minus_text.specs.Views.{viewed}
-use Rattle.minus_text.proofs.ViewLaws.{steps_on, steps_over, near_within}
+use Rattle.minus_text.proofs.ViewLaws.{steps_on, steps_over, near_within, nth_is}
 use Rattle.minus_text.proofs.view.RowsView.nth_match.Goals as goal
 
 pub returns-then-step-left : goal.returns-then-step-left
@@ -31,4 +31,5 @@ returns-else-step-left c =
     let few : first < count = omega (arith, near, near_within ns c.args.mark c.args.jump (omega (arith, size, full)), size) in
     let step : j % count < count = mod-lt j full in
     let over : count ≤ first + j % count = omega (arith, c.if-step-left.false, few) in
-    rw (some, more) (ap (λ n. Some n) (steps_over first (j % count) count few step over ∙ add-mod-mod first j count ∙ ap₂ (λ f n. (f + j) % n) near (sym size)))
+    ap (λ n. Some n) (steps_over first (j % count) count few step over ∙ add-mod-mod first j count ∙ ap₂ (λ f n. (f + j) % n) near (sym size))
+    ∙ sym (nth_is ns c.args.mark c.args.jump some more)
