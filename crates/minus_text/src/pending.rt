@@ -26,7 +26,7 @@ impl Model for PendingPush {
 }
 
 impl PendingPush {
-    ghost use Rattle.std.specs.Prelude.{◌≡◌, ◌+◌, ◌++◌, length};
+    ghost use Rattle.std.specs.Prelude.{◌≡◌, ◌+◌, ◌++◌, length, slice_get};
     ghost use Rattle.minus_text.specs.Fragments.{rows_in};
     ghost use Rattle.minus_text.specs.Found.{AreFoundIn, Ascend, found_above, jump_rows, match_total, matches_above};
     ghost use Rattle.minus_text.specs.Jumps.{counted};
@@ -64,6 +64,20 @@ impl PendingPush {
             ≡ length (jump_rows (found_above self.now.push.kept_rows (found_rows found.now) ++ self.now.found)) }
     {
         found.count_above(self.push.kept_rows()) + self.found.len()
+    }
+
+    // The number of a row in which matches begin then. Such rows are counted from 0 in their order.
+    pub(crate) fn match_row(&self, found: &FoundRows, i: usize) -> Option<usize>
+        requires ascend { Ascend 0 (found_rows found.now) }
+        requires jumps { AreJumps found.now }
+        ensures { result ≡ slice_get (jump_rows (found_above self.now.push.kept_rows (found_rows found.now)
+            ++ self.now.found)) i }
+    {
+        let kept = found.count_above(self.push.kept_rows());
+        if i < kept {
+            return found.row(i);
+        }
+        self.found.row(i - kept)
     }
 
     // How many matches there are then.

@@ -290,14 +290,10 @@ impl<'s> RowsView<'s> {
     pub fn match_row(self, i: usize) -> Option<usize>
         ensures { result ≡ slice_get (jump_rows (viewed self.entry).found) i }
     {
-        let Some(next) = self.next else {
-            return self.found.row(i);
-        };
-        let kept = self.found.count_above(next.pending.push().kept_rows());
-        if i < kept {
-            return self.found.row(i);
+        match self.next {
+            Some(next) => next.pending.match_row(self.found, i),
+            None => self.found.row(i),
         }
-        next.pending.found().row(i - kept)
     }
 
     /// How many matches there are. It takes no memory.

@@ -40,14 +40,36 @@ impl Model for Findings {
 }
 
 impl Findings {
-    ghost use Rattle.std.specs.Prelude.{◌≡◌, length};
-    ghost use Rattle.minus_text.specs.Found.{jump_rows};
+    ghost use Rattle.std.specs.Prelude.{◌≡◌, length, slice_get};
+    ghost use Rattle.minus_text.specs.Found.{jump_rows, match_total, matches_above};
+    ghost use Rattle.minus_text.specs.Jumps.{counted};
 
     /// The number of rows in which matches begin.
     pub fn match_count(&self) -> usize
         ensures { result ≡ length (jump_rows self.now) }
     {
         self.rows.len()
+    }
+
+    /// The number of a row in which matches begin. Such rows are counted from 0 in their order.
+    pub fn match_row(&self, i: usize) -> Option<usize>
+        ensures { result ≡ slice_get (jump_rows self.now) i }
+    {
+        self.rows.row(i)
+    }
+
+    /// How many matches there are.
+    pub fn match_total(&self) -> usize
+        ensures { result ≡ counted (match_total self.now) }
+    {
+        self.rows.match_total()
+    }
+
+    /// How many matches begin in the rows above one, counted from 0. It halves the rows in which matches begin.
+    pub fn matches_above(&self, row: usize) -> usize
+        ensures { result ≡ counted (matches_above row self.now) }
+    {
+        self.rows.matches_above(row)
     }
 }
 
@@ -82,8 +104,9 @@ pub fn view_after<'s>(
 }
 
 impl Screen {
-    ghost use Rattle.std.specs.Prelude.{◌++◌, length};
-    ghost use Rattle.minus_text.specs.Found.{found_above, jump_rows};
+    ghost use Rattle.std.specs.Prelude.{◌++◌, length, slice_get};
+    ghost use Rattle.minus_text.specs.Found.{found_above, jump_rows, match_total, matches_above};
+    ghost use Rattle.minus_text.specs.Jumps.{counted};
     ghost use Rattle.minus_text.specs.Views.{viewed};
 
     /// Its rows, with what is kept as found in them.
@@ -104,6 +127,31 @@ impl Screen {
             ≡ length (jump_rows (found_above pending.now.push.kept_rows self.now.found ++ pending.now.found)) }
     {
         pending.match_count(&self.found)
+    }
+
+    /// The number of a row in which matches begin then. Such rows are counted from 0 in their order. It takes no memory.
+    pub fn match_row_after(&self, pending: &PendingPush, i: usize) -> Option<usize>
+        ensures { result ≡ slice_get (jump_rows (found_above pending.now.push.kept_rows self.now.found
+            ++ pending.now.found)) i }
+    {
+        pending.match_row(&self.found, i)
+    }
+
+    /// How many matches there are then. It takes no memory.
+    pub fn match_total_after(&self, pending: &PendingPush) -> usize
+        ensures { result ≡ counted
+            (match_total (found_above pending.now.push.kept_rows self.now.found ++ pending.now.found)) }
+    {
+        pending.match_total(&self.found)
+    }
+
+    /// How many matches begin then in the rows above one, counted from 0. It takes no memory, and halves the rows in which
+    /// matches begin.
+    pub fn matches_above_after(&self, pending: &PendingPush, row: usize) -> usize
+        ensures { result ≡ counted
+            (matches_above row (found_above pending.now.push.kept_rows self.now.found ++ pending.now.found)) }
+    {
+        pending.matches_above(&self.found, row)
     }
 
     /// Searches the rows for a term, or the lines where the layout says so, and leaves what is kept as found.
