@@ -59,6 +59,11 @@ const TOLD: [&Told<'static>; 15] = [
         text: "LineWrapping(false)",
     },
     &Told {
+        asked: Asked::InLines(true),
+        other: Asked::InLines(false),
+        text: "SetMatchLines(true)",
+    },
+    &Told {
         asked: Asked::Styled(true),
         other: Asked::Styled(false),
         text: "SetCarryStyle(true)",
