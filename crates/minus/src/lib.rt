@@ -233,6 +233,7 @@ pub use minus_text::search::line_finds::line_finds_stand;
 pub use minus_text::search::line_finds::lines_form_again;
 pub use minus_text::search::line_finds::match_total_is_of_lines;
 pub use minus_text::search::line_finds::unwrapped_lines_are_rows;
+pub use minus_text::search::line_finds::worked_lines;
 pub use minus_text::search::styles::closing;
 pub use minus_text::search::styles::ended_texts_are_closed;
 pub use minus_text::search::styles::readings_begin_anew;
