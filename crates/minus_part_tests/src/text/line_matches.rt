@@ -140,10 +140,10 @@ fn a_match_goes_over_the_ends_of_rows(rt: HostRuntime) {
             "<ab>|<>\x1b[m|<cd> 0:0 of 1",
         ),
         (
-            4,
+            3,
             "ab",
-            "a\u{9b}[31mbc",
-            "<a>\u{9b}[3|<b>1mc 0:0 of 1",
+            "a\u{9b}[31mb",
+            "<a>\u{9b}[3|<b>1m 0:0 of 1",
         ),
         (4, "界世", "\t世界世界", "\t世<界>|<世>界 0:0 of 1"),
         // a match that an append brings
