@@ -59,7 +59,7 @@ pub record Control : Type 0 where
 abbrev pub document_of : Control → Document
 document_of c =
     let layout : Layout =
-        record { cols = c.cols; wrapping = c.wrapping; numbers = c.numbers; match_lines = c.match_lines; carry_style = c.carry_style } in
+    record { cols = c.cols; wrapping = c.wrapping; numbers = c.numbers; match_lines = c.match_lines; carry_style = c.carry_style } in
     record { text = c.text; layout = layout }
 
 -- the texts of its rows

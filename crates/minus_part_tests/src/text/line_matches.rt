@@ -118,7 +118,12 @@ fn is_found(alloc: Global, case: &Case<'_>) -> bool {
 fn a_match_goes_over_the_ends_of_rows(rt: HostRuntime) {
     // columns, a pattern, a line, and what is told of it
     let cases: &[(usize, &str, &str, &str)] = &[
-        (9, "bbbb cccc", "aaaa bbbb cccc", "aaaa <bbbb>|<cccc> 0:0 of 1"),
+        (
+            9,
+            "bbbb cccc",
+            "aaaa bbbb cccc",
+            "aaaa <bbbb>|<cccc> 0:0 of 1",
+        ),
         // one of two goes on
         (6, "ab( dd)?", "ab cab dd", "<ab> c<ab>|<dd> 0:0 of 2"),
         (4, "ab+c", "aaaabbbbcccc", "aaa<a>|<bbbb>|<c>ccc 0:0 of 1"),
@@ -133,18 +138,8 @@ fn a_match_goes_over_the_ends_of_rows(rt: HostRuntime) {
             "aa \x1b[31mbb \x1b[mcc",
             "a<a bb>\x1b[31m|<c>\x1b[mc 0:0 of 1",
         ),
-        (
-            2,
-            "ab +cd",
-            "ab \x1b[m cd",
-            "<ab>|<>\x1b[m|<cd> 0:0 of 1",
-        ),
-        (
-            3,
-            "ab",
-            "a\u{9b}[31mb",
-            "<a>\u{9b}[3|<b>1m 0:0 of 1",
-        ),
+        (2, "ab +cd", "ab \x1b[m cd", "<ab>|<>\x1b[m|<cd> 0:0 of 1"),
+        (3, "ab", "a\u{9b}[31mb", "<a>\u{9b}[3|<b>1m 0:0 of 1"),
         (4, "界世", "\t世界世界", "\t世<界>|<世>界 0:0 of 1"),
         // a match that an append brings
         (9, "bbbb c", "aaaa bbbb", "aaaa bbbb of 0"),
@@ -179,7 +174,10 @@ fn a_match_that_goes_on_stands_behind_the_number_and_the_style(rt: HostRuntime) 
     let mut layout = searched(13);
     layout.numbers = LineNumbers::Enabled;
     let numbered = "     \x1b[1m1.\x1b[0m aaa<a>|        <b>bbb 0:0 of 1";
-    assert_holds(&rt, is_found(rt.alloc(), &(layout, "a b", "aaaa bbbb", numbered)));
+    assert_holds(
+        &rt,
+        is_found(rt.alloc(), &(layout, "a b", "aaaa bbbb", numbered)),
+    );
     let mut styled = searched(4);
     styled.carry_style = true;
     let carried = "\x1b[31maaa<a>|\x1b[31m<b>bbb 0:0 of 1";
@@ -205,7 +203,10 @@ fn lines_that_are_not_wrapped_are_their_rows(rt: HostRuntime) {
     let mut layout = searched(4);
     layout.wrapping = false;
     let told = "<aa bb><aa bb>|<aa bb> 0:0 1:2 of 3";
-    assert_holds(&rt, is_found(rt.alloc(), &(layout, "a+ b+", "aa bbaa bb\naa bb", told)));
+    assert_holds(
+        &rt,
+        is_found(rt.alloc(), &(layout, "a+ b+", "aa bbaa bb\naa bb", told)),
+    );
 }
 
 // Whether a search for a term from each of these rows goes to the row at its place.

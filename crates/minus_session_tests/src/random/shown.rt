@@ -1,7 +1,7 @@
 //! What the rows of the page show.
 use crate::random::marking::{Part, Shown};
-use crate::random::model::{Model, Query};
 use crate::random::matching::{Mark, count_above, marks_in, rows_with};
+use crate::random::model::{Model, Query};
 use crate::random::places::{count_digits, nth_of};
 use minus::{Page, SearchMode};
 use std::alloc::AllocError;

@@ -128,7 +128,13 @@ fn searches_in_lines_draw_what_their_lines_say(rt: HostRuntime) {
 
 // Whether a match that goes over the end of a row is shown before its query is taken.
 fn is_shown_before(alloc: Global) -> bool {
-    let asked = [InLines(true), Push("aaaaaaaaabcd"), Key('/'), Key('b'), Key('c')];
+    let asked = [
+        InLines(true),
+        Push("aaaaaaaaabcd"),
+        Key('/'),
+        Key('b'),
+        Key('c'),
+    ];
     let Some(mut session) = session_on(alloc, terminal(alloc), 10, 3) else {
         return false;
     };
