@@ -27,7 +27,7 @@ fn is_told(alloc: Global, case: &Told<'_>) -> bool {
     }
 }
 
-const TOLD: [&Told<'static>; 15] = [
+const TOLD: [&Told<'static>; 16] = [
     &Told {
         asked: Asked::Push("a"),
         other: Asked::Push("b"),
