@@ -276,7 +276,7 @@ pub struct Change {
     pub cols: usize,
     /// The rows of the terminal, the prompt's among them, from 1 to 65,535.
     pub rows: usize,
-    /// The place, counted from 0, of the match that the prompt row tells of.
+    /// The place, counted from 0 among the rows that match, of the one that the prompt row tells of.
     pub search_mark: usize,
     /// The columns that are cut off at the left where lines are not wrapped.
     pub left: usize,

@@ -1,4 +1,4 @@
-//! The term that rows are searched for, and the rows that match it.
+//! The term that is searched for, and the rows that match it.
 ghost use Rattle.std.specs.Prelude.{◌≡◌, option_map};
 ghost use Rattle.regex.specs.Strings.{regex_pattern};
 ghost use Rattle.minus_state.specs.States.{pattern_kept};
