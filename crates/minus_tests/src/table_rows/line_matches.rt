@@ -71,7 +71,7 @@ const PAGES: &[&Worked<'static>] = worked! {
     10 x 3: Push("aaaaaaaaabcd"), Key('/'), Key('b'), Key('c'), ENTER, OPEN, InLines(true), OPEN =>
         BEGUN, GONE_ON, ONE_OF_ONE;
     // what is selected, what is cropped, and what a style is carried to
-    10 x 3: InLines(true), Push("aaaaaaaaabcd"), Key('/'), Key('b'), Key('c'), ENTER, Start(1, 0), Update(3, 0) =>
+    10 x 3: InLines(true), Push("aaaaaaaaabcd"), Start(1, 0), Update(3, 0), Key('/'), Key('b'), Key('c'), ENTER =>
         "a\x1b[7maaa\x1b[27maaaaa\x1b[7mb\x1b[27m", GONE_ON, ONE_OF_ONE;
     10 x 2: InLines(true), Wrapped(false), Push("aaaaaaaaabcd"), Key('/'), Key('b'), Key('c'), ENTER, Left(2) =>
         "aaaaaaa\x1b[7mbc\x1b[27md", ONE_OF_ONE;
