@@ -20,6 +20,9 @@ FAULTS = [
 
 # the script, and the first rows of its page of 10 columns and 6 rows
 PAGES = [
+    ("matchlines on\npush aaaaaaaNEEDLE bbb\\nccc\ntype /NEEDLE\nkey enter\n",
+     ["aaaaaaa\\e[7mNEE\\e[27m", "\\e[7mDLE\\e[27m bbb"]),
+    ("push aaaaaaaNEEDLE bbb\\nccc\ntype /NEEDLE\nkey enter\n", ["aaaaaaaNEE", "DLE bbb"]),
     ("carrystyle on\npush \\e[31mred red red red\\e[0m x\n", ["\\e[31mred red\\e[0m", "\\e[31mred red\\e[0m x"]),
     ("push \\e[31mred red red red\\e[0m x\ncarrystyle on\ncarrystyle off\n", ["\\e[31mred red", "red red\\e[0m x"]),
 ]

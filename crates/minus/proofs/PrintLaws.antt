@@ -7,8 +7,9 @@ use Rattle.std.proofs.lemmas.Option.{get_or_from_slice_get, slice_get-get_or, sl
 use Rattle.minus_term.specs.FullRedraw.{row_ops}
 use Rattle.minus_term.specs.Written.{written_all}
 use Rattle.minus_term.proofs.WrittenLaws.{written_all-nil}
-use Rattle.minus_text.specs.Document.{Document, rows_of}
-use Rattle.minus_text.specs.Found.{found_of_row, found_by}
+use Rattle.minus_text.specs.Document.{Document}
+use Rattle.minus_text.specs.Found.{found_of_row}
+use Rattle.minus_text.specs.Finds.{finds}
 use Rattle.minus_text.specs.Searched.{Searched, IsStoredRow, IsFoundAt, stored_rows_for}
 use Rattle.minus_text.proofs.StoredKeptLaws.{length-stored_for}
 use Rattle.minus_state.specs.Control.{Control, document_of, text_rows}
@@ -34,7 +35,7 @@ use Rattle.minus.proofs.DrawingLaws.{row_added}
 
 -- a stored row of a formed state
 found_at : (s : PagerState) (i : ℕ) → IsFormed s → IsFoundAt (term_of s) s.screen i
-found_at s i formed = ap (λ (x : Searched). found_of_row i x.found) formed.screen ∙ sym (ap (λ (d : Document). found_of_row i (found_by (term_of s) 0 (rows_of d))) (document_is s formed))
+found_at s i formed = ap (λ (x : Searched). found_of_row i x.found) formed.screen ∙ sym (ap (λ (d : Document). found_of_row i (finds (term_of s) d)) (document_is s formed))
 
 -- and it ended where styles are carried
 pub ended_at : (s : PagerState) (i : ℕ) (row : Option (List ℕ)) → IsFormed s → IsStoredRow s.screen i row → option_map (ended_in (document_of (control_of s))) row ≡ slice_get (ended_rows (control_of s)) i

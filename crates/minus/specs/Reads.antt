@@ -3,7 +3,7 @@ use Rattle.std.specs.Prelude.{string_bytes, length, Option, None, Some}
 use Rattle.std.specs.Option.{option_map}
 use Rattle.minus_term.specs.declared.event.Event.{Event}
 use Rattle.minus.specs.declared.commands.CommandOf.{CommandOf}
-use Rattle.minus.specs.declared.commands.CommandOf.TheVariants.{SetData, AppendData, SetPrompt, SendMessage, ShowPrompt, SetLineNumbers, LineWrapping, SetCarryStyle}
+use Rattle.minus.specs.declared.commands.CommandOf.TheVariants.{SetData, AppendData, SetPrompt, SendMessage, ShowPrompt, SetLineNumbers, LineWrapping, SetMatchLines, SetCarryStyle}
 use Rattle.minus.specs.declared.commands.CommandOf.TheVariants.{FollowOutput, UserInput, Io, SetExitStrategy, SetRunNoOverflow, AddExitCallback, AddHook}
 use Rattle.minus.specs.declared.commands.CommandOf.TheVariants.{RemoveHook, IncrementalSearchCondition, SetInputClassifier}
 use Rattle.minus.specs.declared.handed.Handed.{Handed}
@@ -22,7 +22,7 @@ use Rattle.minus.specs.declared.request.Request.{Request}
 use Rattle.minus.specs.declared.request.Request.TheVariants as request
 use Rattle.minus.specs.Table.{Wanted, sets_data, appends_data, moves_mark, resizes, exits, ignores, sets_prompt}
 use Rattle.minus.specs.Table.{sends_message, shows_prompt, follows, types, restores_prompt, redraws_prompt, redraws_page}
-use Rattle.minus.specs.Table.{hands_over, sets_numbers, sets_wrapping, sets_carry_style, shifts, starts_selection, updates_selection}
+use Rattle.minus.specs.Table.{hands_over, sets_numbers, sets_wrapping, sets_match_lines, sets_carry_style, shifts, starts_selection, updates_selection}
 use Rattle.minus.specs.Table.{clears_selection, copies_selection, shows_help, moves_to_next_match, moves_to_prev_match, searches, fetches_query}
 
 -- what an event of the pager asks for
@@ -70,6 +70,7 @@ wanted_of (SendMessage text) = sends_message (string_bytes text)
 wanted_of (ShowPrompt is_shown) = shows_prompt is_shown
 wanted_of (SetLineNumbers numbers) = sets_numbers numbers
 wanted_of (LineWrapping wrapping) = sets_wrapping wrapping
+wanted_of (SetMatchLines match_lines) = sets_match_lines match_lines
 wanted_of (SetCarryStyle carry_style) = sets_carry_style carry_style
 wanted_of (FollowOutput follow) = follows follow
 wanted_of (UserInput event) = event_wanted event
@@ -138,6 +139,7 @@ wanted_by request.RedrawPage = redraws_page
 wanted_by (request.HandOver handed) = hands_over (handing_of handed)
 wanted_by (request.SetNumbers numbers) = sets_numbers numbers
 wanted_by (request.SetWrapping wrapping) = sets_wrapping wrapping
+wanted_by (request.SetMatchLines match_lines) = sets_match_lines match_lines
 wanted_by (request.SetCarryStyle carry_style) = sets_carry_style carry_style
 wanted_by (request.ShiftLeft left) = shifts left
 wanted_by (request.StartSelection x y) = starts_selection x y

@@ -43,6 +43,7 @@ pub data Wanted (Q K : Type 0) : Type 0 where
   hands_over : Handing Q K → Wanted Q K
   sets_numbers : LineNumbers → Wanted Q K
   sets_wrapping : Bool → Wanted Q K
+  sets_match_lines : Bool → Wanted Q K
   sets_carry_style : Bool → Wanted Q K
   shifts : ℕ → Wanted Q K
   starts_selection : (x y : ℕ) → Wanted Q K
@@ -74,6 +75,7 @@ shape c redraws_page = shows c true None
 shape c (hands_over handing) = registers handing
 shape c (sets_numbers numbers) = shows (reformed (record c { numbers = numbers })) true None
 shape c (sets_wrapping wrapping) = shows (reformed (record c { wrapping = wrapping })) true None
+shape c (sets_match_lines match_lines) = shows (reformed (record c { match_lines = match_lines })) true None
 shape c (sets_carry_style carry_style) = shows (reformed (record c { carry_style = carry_style })) true None
 shape c (shifts left) = shows (record c { left = left_after c left }) (may_shift c left) None
 shape c (starts_selection x y) = shows (record c { ends = ends_begun c.ends (end_at c x y) }) (is_some (end_at c x y)) None

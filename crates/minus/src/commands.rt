@@ -41,6 +41,8 @@ pub enum CommandOf<P: Parts> {
     SetLineNumbers(LineNumbers),
     /// Wrap lines that are too long for the columns, or let each be one row.
     LineWrapping(bool),
+    /// Search for the term in each line, so that a match goes over the ends of rows, or in each row by itself.
+    SetMatchLines(bool),
     /// Put each row with the style that its line carries to it, and end it with a reset where it leaves a style open, or
     /// put rows as their texts are.
     SetCarryStyle(bool),

@@ -270,6 +270,7 @@ fn form_any<P: Parts>(
         Request::HandOver(_) => Ok(Outcome::of(state.redrawn(Redraw::Stays))),
         Request::SetNumbers(numbers) => Ok(Outcome::of(state.renumbered(alloc, numbers)?)),
         Request::SetWrapping(wrapping) => Ok(Outcome::of(state.rewrapped(alloc, wrapping)?)),
+        Request::SetMatchLines(on) => Ok(Outcome::of(state.rematched(alloc, on)?)),
         Request::SetCarryStyle(carry_style) => Ok(Outcome::of(state.restyled(alloc, carry_style)?)),
         Request::ShiftLeft(left) => Ok(Outcome::of(state.shifted(left))),
         Request::StartSelection { x, y } => Ok(Outcome::of(state.selected(x, y))),

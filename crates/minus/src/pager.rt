@@ -164,6 +164,22 @@ impl<P: Parts> PagerOf<P> {
         Ok(())
     }
 
+    /// Searches for a term in each line, so that a match goes over the ends of rows, or in each row by itself, as the original
+    /// does. Jumps go to the rows in which a match begins, and the prompt row counts the matches.
+    ///
+    /// # Errors
+    ///
+    /// [`MinusError::Memory`] where there is no memory, and nothing has changed.
+    pub fn set_match_lines(&mut self, on: bool) -> Result<(), MinusError>
+        ensures ok { OnOk result (self.new.queue.items
+            ≡ self.old.queue.items ++ CommandOf.SetMatchLines on ∷ []) }
+        ensures err { OnErr result (self.new.queue.items ≡ self.old.queue.items) }
+        ensures memory { IfErr result (λ e. e ≡ MinusError.Memory) }
+    {
+        self.queue(CommandOf::SetMatchLines(on))?;
+        Ok(())
+    }
+
     /// Puts each row with the style that its line carries to it, and ends it with a reset where it leaves a style open, or
     /// puts rows as their texts are, as the original does. A style does not go on from line to line.
     ///

@@ -148,7 +148,8 @@ fn pager_of(
     if paging.chops {
         pager.horizontal_scroll(true)?;
     }
-    // (a colour goes on over the rows of its line)
+    // (a match and a colour go on over the rows of their line)
+    pager.set_match_lines(true)?;
     pager.set_carry_style(true)?;
     pager.push_str(beginning)?;
     Ok(pager)

@@ -4,6 +4,7 @@ mod formats;
 mod found;
 mod highlights;
 mod layouts;
+mod line_matches;
 mod pieces;
 mod places;
 mod rows;

@@ -15,7 +15,7 @@ use Rattle.minus_state.specs.declared.search.condition.NeverShows.{NeverShows}
 use Rattle.minus_script.specs.declared.keys.DefaultKeys.{DefaultKeys}
 use Rattle.minus.specs.Reads.{Told, a_command, an_event}
 use Rattle.minus.specs.Table.{Wanted, sets_data, appends_data, moves_mark, resizes, sets_prompt, sends_message, follows, shows_prompt, sets_numbers}
-use Rattle.minus.specs.Table.{sets_wrapping, sets_carry_style}
+use Rattle.minus.specs.Table.{sets_wrapping, sets_match_lines, sets_carry_style}
 use Rattle.minus_input.specs.Number.{usize_of}
 use Rattle.minus_script.specs.DescribedEvents.{key_described, mouse_said}
 use Rattle.minus_script.specs.Escapes.{unescaped}
@@ -77,6 +77,7 @@ setting_asked word argument =
     else if bytes_eq word (codes "follow") then option_map follows (switch_of argument)
     else if bytes_eq word (codes "showprompt") then option_map shows_prompt (switch_of argument)
     else if bytes_eq word (codes "wrap") then option_map sets_wrapping (switch_of argument)
+    else if bytes_eq word (codes "matchlines") then option_map sets_match_lines (switch_of argument)
     else if bytes_eq word (codes "carrystyle") then option_map sets_carry_style (switch_of argument)
     else if bytes_eq word (codes "numbers") then option_map sets_numbers (numbers_of argument)
     else None

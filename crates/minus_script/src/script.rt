@@ -8,7 +8,7 @@ ghost use Rattle.minus_script.specs.Escapes.{unescaped, escape_byte, split_escap
 ghost use Rattle.minus_script.specs.ScriptLines.{told_by};
 ghost use Rattle.minus_script.specs.ScriptFaults.{IsScriptFault};
 ghost use Rattle.minus.specs.Reads.{told_of, wanted_of};
-ghost use Rattle.minus.specs.Table.{sets_data, appends_data, moves_mark, sets_prompt, sends_message, follows, shows_prompt, sets_numbers, sets_wrapping, sets_carry_style};
+ghost use Rattle.minus.specs.Table.{sets_data, appends_data, moves_mark, sets_prompt, sends_message, follows, shows_prompt, sets_numbers, sets_wrapping, sets_match_lines, sets_carry_style};
 
 use crate::described_events::{parse_key, parse_mouse};
 use crate::fault::ScriptFault;
@@ -148,6 +148,13 @@ fn wrap(wrapping: bool) -> Command
     Command::LineWrapping(wrapping)
 }
 
+/// The command that searches for a term in lines, or in rows.
+fn match_lines(match_lines: bool) -> Command
+    ensures { wanted_of result ≡ sets_match_lines match_lines }
+{
+    Command::SetMatchLines(match_lines)
+}
+
 /// The command that puts rows with the styles that their lines carry to them, or not.
 fn carry_style(carry_style: bool) -> Command
     ensures { wanted_of result ≡ sets_carry_style carry_style }
@@ -206,6 +213,7 @@ fn parse_setting(alloc: Global, word: &str, argument: &str) -> Result<Option<Com
         "follow" => parse_switch(argument).map(follow),
         "showprompt" => parse_switch(argument).map(show_prompt),
         "wrap" => parse_switch(argument).map(wrap),
+        "matchlines" => parse_switch(argument).map(match_lines),
         "carrystyle" => parse_switch(argument).map(carry_style),
         "numbers" => parse_numbers(argument).map(set_numbers),
         _ => None,

@@ -3,6 +3,7 @@
 mod helping;
 mod keys;
 mod marking;
+mod matching;
 mod model;
 mod numbers;
 mod places;

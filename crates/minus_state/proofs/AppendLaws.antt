@@ -2,14 +2,14 @@
 use Rattle.std.proofs.Common.{◌≡◌, ℕ, ◌+◌, ◌-◌, ◌==◌, ◌&&◌, ◌++◌, min, Bool, true, false, List, length, inl, inr, if◌then◌else◌, arith, Option, refl, sym, ap, ap₂, subst, ◌∙◌}
 use Rattle.regex.specs.Patterns.{Re}
 use Rattle.std.specs.Option.{unwrap_or}
-use Rattle.std.proofs.lemmas.List.{length-map}
 use Rattle.std.proofs.lemmas.Bool.{eq-eqb, ne_eqb}
 use Rattle.std.proofs.lemmas.Bool.Decides.{eqb_tells}
 use Rattle.minus_text.specs.declared.line_numbers.LineNumbers.{LineNumbers}
 use Rattle.minus_text.specs.Prefixes.{is_on, prefix_columns}
 use Rattle.minus_text.specs.Layouts.{margin}
 use Rattle.minus_text.specs.Document.{Document, rows_of, line_count, margin_in, pushed}
-use Rattle.minus_text.specs.Found.{RowMatches, found_by, row_numbers}
+use Rattle.minus_text.specs.Found.{RowMatches, jump_rows}
+use Rattle.minus_text.specs.Finds.{finds}
 use Rattle.minus_text.specs.Matches.{nth_match}
 use Rattle.minus_text.specs.Searched.{Searched, IsFoundBy}
 use Rattle.minus_text.proofs.StoredKeptLaws.{columns_alike}
@@ -70,20 +70,18 @@ pub prefixes_alike : (a b : LineNumbers) (m n : ℕ) → (prefix_columns (is_on 
 prefixes_alike a b m n = same_test (prefix_columns (is_on a) m) (prefix_columns (is_on b) n) (margin a m) (margin b n) (margins_alike a b m n) (columns_back (is_on a) (is_on b) m n)
 
 -- the search mark, by what is found then
-pub search_mark_is : (c : Control) (text : List ℕ) (keeps : Bool) (result : ℕ) (found : List RowMatches) → keeps ≡ keeps_rows_with c text → found ≡ found_by c.term 0 (rows_of (document_of (record c { text = c.text ++ text })))
-    → result ≡ (if keeps then min c.search_mark (length found - 1) else unwrap_or (nth_match (row_numbers found) c.mark 0) 0) → result ≡ search_mark_behind c text
+pub search_mark_is : (c : Control) (text : List ℕ) (keeps : Bool) (result : ℕ) (found : List RowMatches) → keeps ≡ keeps_rows_with c text → found ≡ finds c.term (document_of (record c { text = c.text ++ text }))
+    → result ≡ (if keeps then min c.search_mark (length (jump_rows found) - 1) else unwrap_or (nth_match (jump_rows found) c.mark 0) 0) → result ≡ search_mark_behind c text
 search_mark_is c text keeps result found same is e =
-    let new : List RowMatches = found_by c.term 0 (rows_of (document_of (record c { text = c.text ++ text }))) in
     e
-    ∙ ap (λ (b : Bool). if b then min c.search_mark (length found - 1) else unwrap_or (nth_match (row_numbers found) c.mark 0) 0) same
-    ∙ ap (λ (fs : List RowMatches). if keeps_rows_with c text then min c.search_mark (length fs - 1) else unwrap_or (nth_match (row_numbers fs) c.mark 0) 0) is
-    ∙ sym (ap (λ (n : ℕ). if keeps_rows_with c text then min c.search_mark (n - 1) else unwrap_or (nth_match (row_numbers new) c.mark 0) 0) (length-map new (λ (r : RowMatches). r.row)))
+    ∙ ap (λ (b : Bool). if b then min c.search_mark (length (jump_rows found) - 1) else unwrap_or (nth_match (jump_rows found) c.mark 0) 0) same
+    ∙ ap (λ (fs : List RowMatches). if keeps_rows_with c text then min c.search_mark (length (jump_rows fs) - 1) else unwrap_or (nth_match (jump_rows fs) c.mark 0) 0) is
 
 -- what is found after a push is what the term finds in the document that it leaves
-pub found_pushed : (s : PagerState) (next : Searched) (d : Document) (pattern : Option Re) → IsFormed s → pattern ≡ term_of s → (IsFoundBy pattern s.screen → IsFoundBy pattern next) → next.document ≡ d → next.found ≡ found_by (term_of s) 0 (rows_of d)
+pub found_pushed : (s : PagerState) (next : Searched) (d : Document) (pattern : Option Re) → IsFormed s → pattern ≡ term_of s → (IsFoundBy pattern s.screen → IsFoundBy pattern next) → next.document ≡ d → next.found ≡ finds (term_of s) d
 found_pushed s next d pattern f term searched is =
     let old : IsFoundBy pattern s.screen = subst (λ (t : Option Re). IsFoundBy t s.screen) (sym term) (subst (λ (x : Searched). IsFoundBy (term_of s) x) (sym f.screen) refl) in
-    searched old ∙ ap₂ (λ (t : Option Re) (x : Document). found_by t 0 (rows_of x)) term is
+    searched old ∙ ap₂ finds term is
 
 -- how it was appended
 pub style_is : (s : PagerState) (text : List ℕ) (next : Document) (first : ℕ) (keeps : Bool) → IsFormed s → next ≡ pushed s.screen.document text s.line_numbers s.cols → keeps ≡ keeps_rows_with (control_of s) text → first ≡ first_changed (control_of s)

@@ -1,19 +1,19 @@
 -- Where a query leads.
-use Rattle.std.proofs.Common.{◌≡◌, ℕ, ◌==◌, ◌<◌, List, [], ◌∷◌, length, ltb, Bool, true, false, inl, inr, Option, Some, None, option_map, if◌then◌else◌, refl, sym, ap, ◌∙◌, arith}
+use Rattle.std.proofs.Common.{◌≡◌, ℕ, ◌==◌, ◌<◌, List, [], ◌∷◌, length, ltb, Bool, true, false, inl, inr, Option, Some, None, if◌then◌else◌, refl, sym, ap, ◌∙◌, arith}
 use Rattle.std.specs.List.{slice_get, position, position_or_len}
 use Rattle.std.specs.Option.{unwrap_or}
 use Rattle.std.proofs.lemmas.Bool.{cases_Bool, ltb-true, ne_eqb}
-use Rattle.std.proofs.lemmas.Option.{slice_get-map}
 use Rattle.regex.specs.Patterns.{Re}
-use Rattle.minus_text.specs.Document.{Document, rows_of}
-use Rattle.minus_text.specs.Found.{RowMatches, found_by, row_numbers}
+use Rattle.minus_text.specs.Document.{Document}
+use Rattle.minus_text.specs.Found.{RowMatches, jump_rows}
+use Rattle.minus_text.specs.Finds.{finds}
 use Rattle.minus_text.specs.Matches.{counts_first, nearest, nth_match, match_at}
 use Rattle.minus_state.specs.Control.{matches_in}
 use Rattle.minus_state.proofs.ShownLaws.{row_there}
 
 -- the row of a match, by what was found
-pub match_row_is : (query : Re) (d : Document) (found : List RowMatches) (place : ℕ) (row : Option ℕ) → found ≡ found_by (Some query) 0 (rows_of d) → row ≡ option_map (λ (f : RowMatches). f.row) (slice_get found place) → row ≡ slice_get (matches_in (Some query) d) place
-match_row_is query d found place row is e = e ∙ sym (slice_get-map (λ (f : RowMatches). f.row) found place) ∙ ap (λ (fs : List RowMatches). slice_get (row_numbers fs) place) is
+pub match_row_is : (query : Re) (d : Document) (found : List RowMatches) (place : ℕ) (row : Option ℕ) → found ≡ finds (Some query) d → row ≡ slice_get (jump_rows found) place → row ≡ slice_get (matches_in (Some query) d) place
+match_row_is query d found place row is e = e ∙ ap (λ (fs : List RowMatches). slice_get (jump_rows fs) place) is
 
 position_within : (test : ℕ → Bool) (rows : List ℕ) → 0 < length rows → unwrap_or (position test rows) 0 < length rows
 position_within test rows some =

@@ -6,7 +6,9 @@ use Rattle.minus_text.specs.Crop.{cropped, shown_units, columns_of}
 use Rattle.minus_text.specs.TextUnits.{text_units}
 use Rattle.regex.specs.Patterns.{Re}
 use Rattle.minus_text.specs.Document.{Document, rows_of}
-use Rattle.minus_text.specs.ShownMatches.{shown_within}
+use Rattle.minus_text.specs.Found.{found_of_row}
+use Rattle.minus_text.specs.Finds.{finds}
+use Rattle.minus_text.specs.ShownMatches.{marked_within}
 use Rattle.minus_text.proofs.ShownColumnsLaws.{shown_columns_fit}
 use Rattle.minus_state.specs.declared.selection.Selection.{Selection}
 use Rattle.minus_state.specs.ShownRow.{columns_for_text, line_prefix, cropped_line, cropped_row, laid_row, ended_in, unmarked_row, selected_range, with_marks, shown_row, before_rows, rows_from, ShownRowsFit, ShownRowsAreClosed, SelectionAddsMarkersAlone}
@@ -44,7 +46,7 @@ fits d left i row (Some text) e =
 pub rows_fit : ShownRowsFit
 rows_fit term d left i row off e =
     let cropped_is : laid_row term d left i ≡ cropped_row term d left i = rw off refl in
-    fits d left i row (option_map (shown_within term left (columns_for_text d)) (slice_get (rows_of d) i)) (sym (ap (λ o. option_map (with_marks None) (option_map (ended_in d) o)) cropped_is) ∙ e)
+    fits d left i row (option_map (marked_within left (columns_for_text d) (found_of_row i (finds term d))) (slice_get (rows_of d) i)) (sym (ap (λ o. option_map (with_marks None) (option_map (ended_in d) o)) cropped_is) ∙ e)
 
 -- ---- shown rows leave no style open
 

@@ -6,10 +6,12 @@ use Rattle.std.proofs.lemmas.Bool.{cases_Bool}
 use Rattle.std.proofs.lemmas.List.{length-take}
 use Rattle.regex.specs.Patterns.{Re}
 use Rattle.minus_text.specs.Crop.{cropped}
-use Rattle.minus_text.specs.Document.{Document, rows_of, line_count, unfinished_rows, pushed, keeps_rows, margin_in}
+use Rattle.minus_text.specs.Document.{Document, rows_of, line_count, unfinished_rows, pushed, keeps_rows, margin_in, plan_of, first_formed}
 use Rattle.minus_text.specs.Searched.{stored_rows_for}
-use Rattle.minus_text.specs.ShownMatches.{shown_within}
-use Rattle.minus_text.proofs.StoredKeptLaws.{prefix_alike, columns_alike, stored_kept, rows_stay, margin_kept, length-stored_for}
+use Rattle.minus_text.specs.Found.{RowMatches, found_of_row}
+use Rattle.minus_text.specs.Finds.{finds}
+use Rattle.minus_text.specs.ShownMatches.{marked_within}
+use Rattle.minus_text.proofs.StoredKeptLaws.{prefix_alike, columns_alike, stored_kept, found_stays, rows_stay, margin_kept, length-stored_for}
 use Rattle.minus_state.specs.declared.selection.Selection.{Selection}
 use Rattle.minus_state.specs.Selection.{marked_range}
 use Rattle.minus_state.specs.View.{prefix_in, cut_in}
@@ -36,7 +38,8 @@ laid_there term d left i l = elim (cases_Bool d.layout.wrapping) [
       (row.0, laid_on term d left i on ∙ row.1)
   | inr off ↦
       let row = some_at (rows_of d) i l in
-      (cropped_line d left i (shown_within term left (columns_for_text d) row.0), laid_off term d left i off ∙ ap (λ (o : Option (List ℕ)). option_map (cropped_line d left i) (option_map (shown_within term left (columns_for_text d)) o)) row.1)
+      let shown = marked_within left (columns_for_text d) (found_of_row i (finds term d)) in
+      (cropped_line d left i (shown row.0), laid_off term d left i off ∙ ap (λ (o : Option (List ℕ)). option_map (cropped_line d left i) (option_map shown o)) row.1)
 ]
 
 shown_there : (term : Option Re) (d : Document) (left : ℕ) (ends : Option (Selection × Selection)) (i : ℕ) → i < length (rows_of d) → (row : List ℕ) × (shown_row term d left ends i ≡ Some row)
@@ -155,16 +158,25 @@ below xs ys n i e l = sym (front_of xs n i l) ∙ ap (λ zs. slice_get zs i) e �
     front_of (z ∷ zs) (suc m) zero w = refl
     front_of (z ∷ zs) (suc m) (suc j) w = front_of zs m j (omega (arith, w))
 
-cropped_alike : (term : Option Re) (d : Document) (piece : List ℕ) (left i : ℕ) (o : Option (List ℕ)) → keeps_rows d piece d.layout.numbers d.layout.cols ≡ true → (let e : Document = pushed d piece d.layout.numbers d.layout.cols in
-    option_map (cropped_line d left i) (option_map (shown_within term left (columns_for_text d)) o) ≡ option_map (cropped_line e left i) (option_map (shown_within term left (columns_for_text e)) o))
-cropped_alike term d piece left i None keeps = refl
-cropped_alike term d piece left i (Some text) keeps =
+found_alike : (term : Option Re) (d : Document) (piece : List ℕ) (i : ℕ) → keeps_rows d piece d.layout.numbers d.layout.cols ≡ true → i < length (rows_of d) - unfinished_rows d
+    → found_of_row i (finds term d) ≡ found_of_row i (finds term (pushed d piece d.layout.numbers d.layout.cols))
+found_alike term d piece i keeps l =
+    let first : first_formed d (plan_of d piece d.layout.numbers d.layout.cols) ≡ length (rows_of d) - unfinished_rows d = rw keeps refl in
+    found_stays term d piece d.layout.numbers d.layout.cols i (omega (arith, l, first))
+
+cropped_alike : (term : Option Re) (d : Document) (piece : List ℕ) (left i : ℕ) (o : Option (List ℕ)) → keeps_rows d piece d.layout.numbers d.layout.cols ≡ true → i < length (rows_of d) - unfinished_rows d → (let e : Document = pushed d piece d.layout.numbers d.layout.cols in
+    option_map (cropped_line d left i) (option_map (marked_within left (columns_for_text d) (found_of_row i (finds term d))) o)
+    ≡ option_map (cropped_line e left i) (option_map (marked_within left (columns_for_text e) (found_of_row i (finds term e))) o))
+cropped_alike term d piece left i None keeps l = refl
+cropped_alike term d piece left i (Some text) keeps l =
     let e : Document = pushed d piece d.layout.numbers d.layout.cols in
     let margins : margin_in e ≡ margin_in d = margin_kept d piece keeps in
     let before : line_prefix d i ≡ line_prefix e i = prefix_alike d.layout.numbers (line_count d) (line_count e) (i + 1) true (sym margins) in
     let columns : prefix_in d ≡ prefix_in e = columns_alike d.layout.numbers (line_count d) (line_count e) (sym margins) in
-    let shown : ℕ → List ℕ = λ n. cropped left (d.layout.cols - n) (shown_within term left (d.layout.cols - n) text) in
-    ap (λ (p : List ℕ). Some (p ++ shown (prefix_in d))) before ∙ ap (λ (n : ℕ). Some (line_prefix e i ++ shown n)) columns
+    let shown : ℕ → Option RowMatches → List ℕ = λ n found. cropped left (d.layout.cols - n) (marked_within left (d.layout.cols - n) found text) in
+    ap (λ (p : List ℕ). Some (p ++ shown (prefix_in d) (found_of_row i (finds term d)))) before
+    ∙ ap (λ (n : ℕ). Some (line_prefix e i ++ shown n (found_of_row i (finds term d)))) columns
+    ∙ ap (λ (r : Option RowMatches). Some (line_prefix e i ++ shown (prefix_in e) r)) (found_alike term d piece i keeps l)
 
 range_alike : (d : Document) (piece : List ℕ) (left : ℕ) (ends : Option (Selection × Selection)) (i : ℕ) → keeps_rows d piece d.layout.numbers d.layout.cols ≡ true → (let e : Document = pushed d piece d.layout.numbers d.layout.cols in selected_range d left ends i ≡ selected_range e left ends i)
 range_alike d piece left None i keeps = refl
@@ -183,8 +195,8 @@ laid_alike term d piece left i keeps l =
     elim (cases_Bool d.layout.wrapping) [
       | inl on ↦ laid_on term d left i on ∙ stored ∙ sym (laid_on term e left i on)
       | inr off ↦
-          laid_off term d left i off ∙ ap (λ (o : Option (List ℕ)). option_map (cropped_line d left i) (option_map (shown_within term left (columns_for_text d)) o)) own
-          ∙ cropped_alike term d piece left i (slice_get (rows_of e) i) keeps ∙ sym (laid_off term e left i off)
+          laid_off term d left i off ∙ ap (λ (o : Option (List ℕ)). option_map (cropped_line d left i) (option_map (marked_within left (columns_for_text d) (found_of_row i (finds term d))) o)) own
+          ∙ cropped_alike term d piece left i (slice_get (rows_of e) i) keeps l ∙ sym (laid_off term e left i off)
     ]
 
 -- the shown rows before the first that it changes stay

@@ -128,10 +128,12 @@ pub record IsPlaced (s : PagerState) (change : Change) (t : PagerState) : Type 0
 
 -- what the prompt row of a state is formed of, and what it is formed of after a change
 abbrev pub shown_prompt : PagerState → PromptRow
-shown_prompt s = shown_in s.cols (settings_of s) s.search_mark (length s.screen.found)
+shown_prompt s = shown_in s.cols (settings_of s) s.screen.document.layout.match_lines s.screen.found s.search_mark
 
 abbrev pub prompt_after : PagerState → Change → PromptRow
-prompt_after s change = shown_in change.cols (settings_after (settings_of s) change) change.search_mark (length (next_found s.screen.found change.text))
+prompt_after s change =
+    shown_in change.cols (settings_after (settings_of s) change) (next_document s.screen.document change.text).layout.match_lines
+    (next_found s.screen.found change.text) change.search_mark
 
 -- the prompt row of a state, and the one after a change
 abbrev pub displayed_prompt : PagerState → List ℕ

@@ -5,7 +5,8 @@ use Rattle.minus_term.specs.Marks.{top_of}
 use Rattle.minus_text.specs.declared.layout.Layout.{Layout}
 use Rattle.minus_text.specs.declared.line_numbers.LineNumbers.{LineNumbers}
 use Rattle.minus_text.specs.Document.{Document, rows_of, unfinished_rows, keeps_rows}
-use Rattle.minus_text.specs.Found.{RowMatches, found_by, row_numbers}
+use Rattle.minus_text.specs.Found.{RowMatches, jump_rows}
+use Rattle.minus_text.specs.Finds.{finds}
 use Rattle.minus_text.specs.Matches.{nth_match}
 use Rattle.minus_state.specs.declared.selection.SelectionEnds.{SelectionEnds}
 use Rattle.minus_state.specs.declared.search.SearchMode.{SearchMode}
@@ -31,16 +32,18 @@ pub record Saved : Type 0 where
   pub prompt : List ℕ
   pub follow : Bool
 
--- the text, the size, whether lines have numbers and are wrapped, whether rows are put with the styles that their lines carry to them,
--- the first row on the page, the columns that are cut off at the left where lines are not wrapped, the ends of a selection, the term
--- that rows are searched for, if there is one, and which of the rows that match is told of, counted from 0; what is set beside them;
--- while help is open, what is put aside; the direction of the last search; and, while a search prompt is open, that
+-- the text, the size, whether lines have numbers and are wrapped, whether a term is searched for in lines, and not in rows, whether rows are
+-- put with the styles that their lines carry to them, the first row on the page, the columns that are cut off at the left where lines are
+-- not wrapped, the ends of a selection, the term that is searched for, if there is one, and which of the rows that match is told of, counted
+-- from 0; what is set beside them; while help is open, what is put aside; the direction of the last search; and, while a search prompt is
+-- open, that
 pub record Control : Type 0 where
   pub text : List ℕ
   pub cols : ℕ
   pub rows : ℕ
   pub numbers : LineNumbers
   pub wrapping : Bool
+  pub match_lines : Bool
   pub carry_style : Bool
   pub mark : ℕ
   pub left : ℕ
@@ -55,7 +58,9 @@ pub record Control : Type 0 where
 -- the document of the text on show
 abbrev pub document_of : Control → Document
 document_of c =
-    record { text = c.text; layout = record { cols = c.cols; wrapping = c.wrapping; numbers = c.numbers; carry_style = c.carry_style } }
+    let layout : Layout =
+    record { cols = c.cols; wrapping = c.wrapping; numbers = c.numbers; match_lines = c.match_lines; carry_style = c.carry_style } in
+    record { text = c.text; layout = layout }
 
 -- the texts of its rows
 abbrev pub text_rows : Control → List (List ℕ)
@@ -69,25 +74,26 @@ first_changed c = length (text_rows c) - unfinished_rows (document_of c)
 abbrev pub keeps_rows_with : Control → List ℕ → Bool
 keeps_rows_with c text = keeps_rows (document_of c) text c.numbers c.cols
 
--- the numbers of the rows of a document that match a term, if there is one
+-- the numbers of the rows of a document that match a term, if there is one: those in which a match begins
 abbrev pub matches_in : Option Re → Document → List ℕ
-matches_in term d = row_numbers (found_by term 0 (rows_of d))
+matches_in term d = jump_rows (finds term d)
 
 -- the numbers of the rows that match
 abbrev pub matches_of : Control → List ℕ
 matches_of c = matches_in c.term (document_of c)
 
--- the place, among what was found, of the first match at a mark or behind it, or else of the first one; 0 where nothing was found
+-- the place, among the rows in which matches were found to begin, of the first one at a mark or behind it, or else of the first; 0 where
+-- there is none
 abbrev pub first_match : List RowMatches → ℕ → ℕ
-first_match found mark = unwrap_or (nth_match (row_numbers found) mark 0) 0
+first_match found mark = unwrap_or (nth_match (jump_rows found) mark 0) 0
 
 -- the search mark after an append: at most at the last match, where the rows before it stay, and else at the first match
 abbrev pub search_mark_after : Bool → List RowMatches → (mark search_mark : ℕ) → ℕ
-search_mark_after keeps_rows found mark search_mark = if keeps_rows then min search_mark (length found - 1) else first_match found mark
+search_mark_after keeps_rows found mark search_mark = if keeps_rows then min search_mark (length (jump_rows found) - 1) else first_match found mark
 
 -- the search mark where rows are formed anew: the first match at a mark or behind it, or else the first one
 abbrev pub search_mark_anew : Option Re → Document → ℕ → ℕ
-search_mark_anew term d mark = first_match (found_by term 0 (rows_of d)) mark
+search_mark_anew term d mark = first_match (finds term d) mark
 
 -- the rows are formed anew, which sets the search mark
 abbrev pub reformed : Control → Control
@@ -95,7 +101,7 @@ reformed c = record c { search_mark = search_mark_anew c.term (document_of c) c.
 
 -- rows are laid out as a layout says, but for its columns and numbers
 abbrev pub laid_as : Control → Layout → Control
-laid_as c layout = record c { wrapping = layout.wrapping; carry_style = layout.carry_style }
+laid_as c layout = record c { wrapping = layout.wrapping; match_lines = layout.match_lines; carry_style = layout.carry_style }
 
 -- another text in another layout, whose rows are formed anew, with the mark at a row
 abbrev pub anew_at : Control → List ℕ → Layout → ℕ → Control
@@ -103,11 +109,12 @@ anew_at c text layout mark = reformed (record c {
   text = text;
   numbers = layout.numbers;
   wrapping = layout.wrapping;
+  match_lines = layout.match_lines;
   carry_style = layout.carry_style;
   mark = mark;
 })
 
--- the rows are searched for another term, or for none
+-- another term is searched for, or none
 abbrev pub searched_for : Control → Option Re → Control
 searched_for c term = reformed (record c { term = term })
 

@@ -3,8 +3,9 @@ use Rattle.std.specs.Prelude.{◌≡◌, Option, Some, List, ◌++◌, string_by
 use Rattle.regex.specs.Patterns.{Re}
 use Rattle.regex.specs.Strings.{regex_pattern}
 use Rattle.minus_text.specs.Document.{Document, rows_of, pushed}
-use Rattle.minus_text.specs.Found.{RowMatches, AreFoundIn, found_by, found_above}
-use Rattle.minus_text.specs.Pending.{IsPending}
+use Rattle.minus_text.specs.Found.{RowMatches, AreFoundIn, found_above}
+use Rattle.minus_text.specs.Finds.{finds}
+use Rattle.minus_text.specs.Pending.{IsPending, SearchesAlike}
 use Rattle.minus_text.specs.Searched.{Searched, IsFoundBy, IsFoundInPush}
 use Rattle.minus_state.specs.Control.{Saved}
 use Rattle.minus_state.specs.Help.{text_aside, more_aside}
@@ -61,7 +62,7 @@ abbrev pub IsSearchedFor : Option Re → Searched → NextText → Type 0
 IsSearchedFor term s Same = IsFoundBy term s
 IsSearchedFor term s (Whole screen) = IsFoundBy term screen.value
 IsSearchedFor term s (Pushed text pending) = IsFoundBy term s × IsFoundInPush term pending.value
-IsSearchedFor term s (Found pattern findings) = findings ≡ found_by term 0 (rows_of s.document)
+IsSearchedFor term s (Found pattern findings) = findings ≡ finds term s.document
 IsSearchedFor term s (SavedWhole text) = IsFoundBy term s
 IsSearchedFor term s (SavedMore text) = IsFoundBy term s
 
@@ -69,6 +70,15 @@ IsSearchedFor term s (SavedMore text) = IsFoundBy term s
 abbrev pub FindsNext : Option Re → (old : Searched) → NextText → (new : Searched) → Type 0
 FindsNext term old text new = IsSearchedFor (next_term term text) old text → IsFoundBy (next_term term text) new
 
--- what is formed beside a document is formed for it, and searched for a term
+-- what is formed beside a document is searched for a term as that is, in lines or in rows
+abbrev pub IsSearchedAlike : Option Re → Document → NextText → Type 0
+IsSearchedAlike term d Same = Unit {0}
+IsSearchedAlike term d (Whole screen) = Unit {0}
+IsSearchedAlike term d (Pushed text pending) = SearchesAlike term d pending.value.push
+IsSearchedAlike term d (Found pattern findings) = Unit {0}
+IsSearchedAlike term d (SavedWhole text) = Unit {0}
+IsSearchedAlike term d (SavedMore text) = Unit {0}
+
+-- what is formed beside a document is formed for it, and searched for a term as that is
 abbrev pub IsNext : Option Re → Searched → NextText → Type 0
-IsNext term s next = Belongs s.document next × IsSearchedFor term s next
+IsNext term s next = Belongs s.document next × IsSearchedFor term s next × IsSearchedAlike term s.document next

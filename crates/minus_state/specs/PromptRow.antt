@@ -8,7 +8,7 @@ use Rattle.minus_text.specs.Crop.{fitted, fitted_units, columns_of}
 use Rattle.minus_state.specs.declared.prompt.PromptRow as code
 
 -- what the prompt row is formed of: whether it is shown, the prompt, the message if there is one, the prefix that was typed,
--- the search mark and how many rows match, whether the pager follows its text, and the columns
+-- which match is told of, counted from 0, and of how many, whether the pager follows its text, and the columns
 pub record PromptRow : Type 0 where
   pub is_shown : Bool
   pub prompt : List ℕ

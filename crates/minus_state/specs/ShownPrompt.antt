@@ -1,30 +1,43 @@
 -- The prompt row of a control.
-use Rattle.std.specs.Prelude.{◌≡◌, ℕ, ◌==◌, List, length, Bool, true, Option}
+use Rattle.std.specs.Prelude.{◌≡◌, ℕ, ◌==◌, List, length, Bool, true, Option, option_map, slice_get, if◌then◌else◌}
 use Rattle.std.specs.List.{list_any}
 use Rattle.std.specs.Option.{unwrap_or}
 use Rattle.minus_term.specs.declared.error.MinusError.{MinusError}
 use Rattle.minus_term.specs.declared.error.MinusError.TheVariants.{NewlineInPrompt}
+use Rattle.minus_text.specs.Found.{RowMatches, jump_rows, match_total, matches_above}
+use Rattle.minus_text.specs.Finds.{finds}
+use Rattle.minus_text.specs.Jumps.{counted}
 use Rattle.minus_state.specs.PromptRow.{PromptRow, prompt_row as row_text}
-use Rattle.minus_state.specs.Control.{Control, Settings, matches_of}
+use Rattle.minus_state.specs.Control.{Control, Settings, document_of}
 
--- what the prompt row of so many columns is formed of, where a search mark is told of this number of rows that match
-abbrev pub shown_in : ℕ → Settings → ℕ → ℕ → PromptRow
-shown_in cols s search_mark match_count = record {
+-- how many matches begin above the row that is told of; without such a row its place
+abbrev pub told_above : List RowMatches → ℕ → ℕ
+told_above found search_mark = unwrap_or (option_map (λ row. counted (matches_above row found)) (slice_get (jump_rows found) search_mark)) search_mark
+
+-- which match the prompt row tells of, counted from 0: where lines are searched, the first of all that begins in the row that is told of, and
+-- else that row, among those that match
+abbrev pub told_match : Bool → List RowMatches → ℕ → ℕ
+told_match match_lines found search_mark = if match_lines then told_above found search_mark else search_mark
+
+-- of how many: where lines are searched, of all matches, and else of the rows that match
+abbrev pub told_count : Bool → List RowMatches → ℕ
+told_count match_lines found = if match_lines then counted (match_total found) else length (jump_rows found)
+
+-- what the prompt row of so many columns is formed of, where this was found in lines or in rows, and a row at this place is told of
+abbrev pub shown_in : ℕ → Settings → Bool → List RowMatches → ℕ → PromptRow
+shown_in cols s match_lines found search_mark = record {
   is_shown = s.is_shown;
   prompt = s.prompt;
   message = s.message;
   prefix = s.prefix;
-  search_mark = search_mark;
-  match_count = match_count;
+  search_mark = told_match match_lines found search_mark;
+  match_count = told_count match_lines found;
   follow = s.follow;
   cols = cols;
 }
 
-abbrev pub prompt_row_of : ℕ → Settings → ℕ → ℕ → List ℕ
-prompt_row_of cols s search_mark match_count = row_text (shown_in cols s search_mark match_count)
-
 abbrev pub prompt_row : Control → List ℕ
-prompt_row c = prompt_row_of c.cols c.settings c.search_mark (length (matches_of c))
+prompt_row c = row_text (shown_in c.cols c.settings c.match_lines (finds c.term (document_of c)) c.search_mark)
 
 -- a prompt row, if there is one, or else that of a control
 abbrev pub row_or : Control → Option (List ℕ) → List ℕ

@@ -8,7 +8,9 @@ use Rattle.minus_text.specs.Prefixes.{is_on, prefix}
 use Rattle.regex.specs.Patterns.{Re}
 use Rattle.minus_text.specs.Document.{Document, rows_of, line_count}
 use Rattle.minus_text.specs.Searched.{stored_rows_for}
-use Rattle.minus_text.specs.ShownMatches.{shown_within}
+use Rattle.minus_text.specs.Found.{found_of_row}
+use Rattle.minus_text.specs.Finds.{finds}
+use Rattle.minus_text.specs.ShownMatches.{marked_within}
 use Rattle.minus_text.specs.Styles.{ended, IsClosed}
 use Rattle.minus_state.specs.declared.selection.Selection.{Selection}
 use Rattle.minus_state.specs.Selection.{marked_range}
@@ -29,7 +31,8 @@ cropped_line d left i text = line_prefix d i ++ cropped left (columns_for_text d
 
 -- what is shown of it under a term, with the markers of those of its matches that take some of these columns
 abbrev pub cropped_row : Option Re → Document → ℕ → ℕ → Option (List ℕ)
-cropped_row term d left i = option_map (cropped_line d left i) (option_map (shown_within term left (columns_for_text d)) (slice_get (rows_of d) i))
+cropped_row term d left i =
+    option_map (cropped_line d left i) (option_map (marked_within left (columns_for_text d) (found_of_row i (finds term d))) (slice_get (rows_of d) i))
 
 -- a row as it is laid out: as it is stored, or, where lines are not wrapped, what is shown of its line
 abbrev pub laid_row : Option Re → Document → ℕ → ℕ → Option (List ℕ)

@@ -33,7 +33,7 @@ abbrev pub pattern_kept : KeptTerm → Re
 pattern_kept (Own pattern) = regex_pattern pattern
 pattern_kept (Shown pattern) = regex_pattern pattern.value
 
--- the term that rows are searched for, if there is one
+-- the term that is searched for, if there is one
 abbrev pub term_of : PagerState → Option Re
 term_of s = option_map pattern_kept s.term
 
@@ -49,6 +49,7 @@ control_of s = record {
   rows = s.rows;
   numbers = s.line_numbers;
   wrapping = s.screen.document.layout.wrapping;
+  match_lines = s.screen.document.layout.match_lines;
   carry_style = s.screen.document.layout.carry_style;
   mark = s.upper_mark;
   left = s.left_mark;
@@ -71,7 +72,8 @@ pub record IsFormed (s : PagerState) : Type 0 where
 abbrev pub first_settings : Settings
 first_settings = record { prompt = codes "minus"; message = None; prefix = []; is_shown = true; follow = false }
 
--- no text, lines without numbers and wrapped, no styles carried, the marks at the first row and column, nothing selected, no term, and no prompt open
+-- no text, lines without numbers and wrapped, searches in rows, no styles carried, the marks at the first row and column, nothing selected,
+-- no term, and no prompt open
 abbrev pub at_start : ℕ → ℕ → Control
 at_start cols rows = record {
   text = [];
@@ -79,6 +81,7 @@ at_start cols rows = record {
   rows = rows;
   numbers = Disabled;
   wrapping = true;
+  match_lines = false;
   carry_style = false;
   mark = 0;
   left = 0;

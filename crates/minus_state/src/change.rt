@@ -46,6 +46,13 @@ pub enum AppendStyle {
     FullRedraw,
 }
 
+// What the prompt row tells of matches: the place of one, counted from 0, and how many there are.
+#[derive(Clone, Copy, PartialEq, Eq)]
+pub(crate) struct Told {
+    pub(crate) place: usize,
+    pub(crate) count: usize,
+}
+
 /// The text that there will be: as it is, another one, or as a push leaves it; or as it is, where another one is put
 /// aside while help is open, or more is added to that.
 #[derive(Drop)]
@@ -66,9 +73,12 @@ pub enum NextText {
 }
 
 impl NextText {
-    ghost use Rattle.std.specs.Prelude.{◌≡◌, length};
+    ghost use Rattle.std.specs.Prelude.{◌≡◌, length, slice_get};
     ghost use Rattle.minus_text.specs.Views.{viewed};
     ghost use Rattle.minus_text.specs.Document.{rows_of};
+    ghost use Rattle.minus_text.specs.Found.{jump_rows, match_total, matches_above};
+    ghost use Rattle.minus_text.specs.Jumps.{counted};
+    ghost use Rattle.minus_state.specs.ShownPrompt.{told_above, told_match, told_count};
     ghost use Rattle.minus_state.specs.NextTexts.{next_document, next_found, next_searched, Belongs};
 
     // The rows that there will be, where the text on show stands in a screen.
@@ -99,9 +109,23 @@ impl NextText {
         }
     }
 
+    // Whether lines will be searched, and not rows, where the text on show stands in a screen.
+    fn match_lines(&self, screen: &Screen) -> bool
+        ensures { result ≡ (next_document screen.now.document self.now).layout.match_lines }
+    {
+        match self {
+            NextText::Whole(next) => next.as_ref().layout().match_lines,
+            NextText::Same
+            | NextText::Pushed(_, _)
+            | NextText::Found(_, _)
+            | NextText::SavedWhole(_)
+            | NextText::SavedMore(_) => screen.layout().match_lines,
+        }
+    }
+
     // The number of rows that will match, where the text on show stands in a screen.
-    pub(crate) fn match_count(&self, screen: &Screen) -> usize
-        ensures { result ≡ length (next_found screen.now.found self.now) }
+    fn match_count(&self, screen: &Screen) -> usize
+        ensures { result ≡ length (jump_rows (next_found screen.now.found self.now)) }
     {
         match self {
             NextText::Whole(next) => next.as_ref().match_count(),
@@ -110,6 +134,77 @@ impl NextText {
             NextText::Same | NextText::SavedWhole(_) | NextText::SavedMore(_) => {
                 screen.match_count()
             }
+        }
+    }
+
+    // The row at a place among those that will match.
+    fn match_row(&self, screen: &Screen, place: usize) -> Option<usize>
+        ensures { result ≡ slice_get (jump_rows (next_found screen.now.found self.now)) place }
+    {
+        match self {
+            NextText::Whole(next) => next.as_ref().match_row(place),
+            NextText::Pushed(_, pending) => screen.match_row_after(pending.as_ref(), place),
+            NextText::Found(_, findings) => findings.match_row(place),
+            NextText::Same | NextText::SavedWhole(_) | NextText::SavedMore(_) => {
+                screen.match_row(place)
+            }
+        }
+    }
+
+    // How many matches there will be.
+    fn match_total(&self, screen: &Screen) -> usize
+        ensures { result ≡ counted (match_total (next_found screen.now.found self.now)) }
+    {
+        match self {
+            NextText::Whole(next) => next.as_ref().view().match_total(),
+            NextText::Pushed(_, pending) => screen.match_total_after(pending.as_ref()),
+            NextText::Found(_, findings) => findings.match_total(),
+            NextText::Same | NextText::SavedWhole(_) | NextText::SavedMore(_) => {
+                screen.view().match_total()
+            }
+        }
+    }
+
+    // How many matches will begin above a row.
+    fn matches_above(&self, screen: &Screen, row: usize) -> usize
+        ensures { result ≡ counted (matches_above row (next_found screen.now.found self.now)) }
+    {
+        match self {
+            NextText::Whole(next) => next.as_ref().view().matches_above(row),
+            NextText::Pushed(_, pending) => screen.matches_above_after(pending.as_ref(), row),
+            NextText::Found(_, findings) => findings.matches_above(row),
+            NextText::Same | NextText::SavedWhole(_) | NextText::SavedMore(_) => {
+                screen.view().matches_above(row)
+            }
+        }
+    }
+
+    // How many matches will begin above the row that the prompt row tells of.
+    fn told_above(&self, screen: &Screen, search_mark: usize) -> usize
+        ensures { result ≡ told_above (next_found screen.now.found self.now) search_mark }
+    {
+        match self.match_row(screen, search_mark) {
+            Some(row) => self.matches_above(screen, row),
+            None => search_mark,
+        }
+    }
+
+    // What the prompt row will tell of matches, where the text on show stands in a screen.
+    pub(crate) fn told(&self, screen: &Screen, search_mark: usize) -> Told
+        ensures place { result.place ≡ told_match (next_document screen.now.document self.now).layout.match_lines
+            (next_found screen.now.found self.now) search_mark }
+        ensures count { result.count ≡ told_count (next_document screen.now.document self.now).layout.match_lines
+            (next_found screen.now.found self.now) }
+    {
+        if self.match_lines(screen) {
+            return Told {
+                place: self.told_above(screen, search_mark),
+                count: self.match_total(screen),
+            };
+        }
+        Told {
+            place: search_mark,
+            count: self.match_count(screen),
         }
     }
 }
@@ -181,7 +276,7 @@ pub struct Change {
     pub cols: usize,
     /// The rows of the terminal, the prompt's among them, from 1 to 65,535.
     pub rows: usize,
-    /// The place, counted from 0, of the match that the prompt row tells of.
+    /// The place, counted from 0 among the rows that match, of the one that the prompt row tells of.
     pub search_mark: usize,
     /// The columns that are cut off at the left where lines are not wrapped.
     pub left: usize,

@@ -231,6 +231,13 @@ impl PagerState {
         self.screen.layout().wrapping
     }
 
+    /// Whether a term is searched for in lines, and not in rows.
+    pub fn match_lines(&self) -> bool
+        ensures { result ≡ (control_of self.now).match_lines }
+    {
+        self.screen.layout().match_lines
+    }
+
     /// Whether rows are put with the styles that their lines carry to them.
     pub fn carry_style(&self) -> bool
         ensures { result ≡ (control_of self.now).carry_style }
@@ -246,6 +253,7 @@ impl PagerState {
             cols: self.cols,
             wrapping: self.line_wrapping(),
             numbers: self.line_numbers,
+            match_lines: self.match_lines(),
             carry_style: self.carry_style(),
         }
     }

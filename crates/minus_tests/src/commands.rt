@@ -27,7 +27,7 @@ fn is_told(alloc: Global, case: &Told<'_>) -> bool {
     }
 }
 
-const TOLD: [&Told<'static>; 15] = [
+const TOLD: [&Told<'static>; 16] = [
     &Told {
         asked: Asked::Push("a"),
         other: Asked::Push("b"),
@@ -57,6 +57,11 @@ const TOLD: [&Told<'static>; 15] = [
         asked: Asked::Wrapped(false),
         other: Asked::Wrapped(true),
         text: "LineWrapping(false)",
+    },
+    &Told {
+        asked: Asked::InLines(true),
+        other: Asked::InLines(false),
+        text: "SetMatchLines(true)",
     },
     &Told {
         asked: Asked::Styled(true),

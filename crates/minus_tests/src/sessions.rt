@@ -48,6 +48,7 @@ pub enum Asked<'a> {
     Typed(char),
     Numbers(LineNumbers),
     Wrapped(bool),
+    InLines(bool),
     Styled(bool),
     Left(usize),
     /// The place, a column and a row, at which a selection starts.
@@ -87,6 +88,7 @@ pub fn input<P: Calls>(alloc: Global, asked: Asked<'_>) -> Result<InputOf<P>, Al
         Asked::Typed(character) => CommandOf::UserInput(InputEvent::Number(character)),
         Asked::Numbers(numbers) => CommandOf::SetLineNumbers(numbers),
         Asked::Wrapped(wrapping) => CommandOf::LineWrapping(wrapping),
+        Asked::InLines(match_lines) => CommandOf::SetMatchLines(match_lines),
         Asked::Styled(carry_style) => CommandOf::SetCarryStyle(carry_style),
         Asked::Left(mark) => CommandOf::UserInput(InputEvent::UpdateLeftMark(mark)),
         Asked::Start(x, y) => CommandOf::UserInput(InputEvent::StartSelection { x, y }),

@@ -30,6 +30,7 @@ mod by_hand;
 mod drawings;
 mod ends;
 mod handed;
+mod line_matches;
 mod marks;
 mod pages;
 mod refusals;

@@ -143,7 +143,7 @@ fragment_ascends None by_lines n f = tt
 fragment_ascends (Some re) true n f = lines_ascend re f.wrap n (lines f.text)
 fragment_ascends (Some re) false n f = rows_ascend re n (rows_in f)
 
-found_stays : (term : Option Re) (d : Document) (piece : List ℕ) (numbers : LineNumbers) (cols i : ℕ) → i < first_formed d (plan_of d piece numbers cols) → found_of_row i (finds term d) ≡ found_of_row i (finds term (pushed d piece numbers cols))
+pub found_stays : (term : Option Re) (d : Document) (piece : List ℕ) (numbers : LineNumbers) (cols i : ℕ) → i < first_formed d (plan_of d piece numbers cols) → found_of_row i (finds term d) ≡ found_of_row i (finds term (pushed d piece numbers cols))
 found_stays term d piece numbers cols i lt =
     let plan = plan_of d piece numbers cols in
     let n = first_formed d plan in

@@ -57,6 +57,7 @@ const UNWRAPPED: Layout = Layout {
     cols: 4,
     wrapping: false,
     numbers: LineNumbers::Disabled,
+    match_lines: false,
     carry_style: false,
 };
 

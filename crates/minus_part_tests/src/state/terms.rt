@@ -256,3 +256,72 @@ fn a_term_stays_for_other_texts_until_it_is_taken_away(rt: HostRuntime) {
     assert_holds(&rt, is_taken_away(rt.alloc()));
     assert_holds(&rt, is_searched_for(rt.alloc()));
 }
+
+// Prompt rows of 20 columns that tell of the first and of the last of five matches.
+const FIRST_OF_FIVE: &str = "\x1b[2;40;37mminus          \x1b[30;44m 1/5 \x1b[0m";
+
+const FOURTH_OF_FIVE: &str = "\x1b[2;40;37mminus          \x1b[30;44m 4/5 \x1b[0m";
+
+// The rows of a text of 20 columns that a term is searched for in lines: three matches begin in the first one, the last
+// of which goes on in the second, and two in the third.
+const IN_LINES: [&str; 3] = [
+    "\x1b[7mab\x1b[27mx\x1b[7mab\x1b[27mxaaaaaaaaaaaaa\x1b[7ma\x1b[27m",
+    "\x1b[7mb\x1b[27mc",
+    "\x1b[7mab\x1b[27m\x1b[7mab\x1b[27m",
+];
+
+// Whether a state is searched in lines from then on, and in rows again.
+fn is_searched_in_lines(alloc: Global) -> bool {
+    let Some(mut state) = state_of(alloc, "abxabxaaaaaaaaaaaaaabc\nabab") else {
+        return false;
+    };
+    let is_set = !state.match_lines() && set_term(alloc, &mut state, "ab");
+    let are_rows = has_matches(&state, &[0, 2]);
+    let are_lines = state.set_match_lines(alloc, true).is_ok()
+        && state.match_lines()
+        && has_matches(&state, &[0, 2])
+        && has_page(alloc, &state, &IN_LINES)
+        && has_prompt_row(alloc, &state, FIRST_OF_FIVE);
+    state.set_search_mark(1);
+    is_set
+        && are_rows
+        && are_lines
+        && has_prompt_row(alloc, &state, FOURTH_OF_FIVE)
+        && state.set_match_lines(alloc, false).is_ok()
+        && has_page(
+            alloc,
+            &state,
+            &[
+                "\x1b[7mab\x1b[27mx\x1b[7mab\x1b[27mxaaaaaaaaaaaaaa",
+                "bc",
+                "\x1b[7mab\x1b[27m\x1b[7mab\x1b[27m",
+            ],
+        )
+}
+
+// Whether an append brings a match over the old end, and leaves the others as they are.
+fn is_found_over_the_end(alloc: Global) -> bool {
+    let Some(mut state) = state_of(alloc, "ab\nxaaaaaaaaaaaaaaaaaaa") else {
+        return false;
+    };
+    state.set_match_lines(alloc, true).is_ok()
+        && set_term(alloc, &mut state, "ab")
+        && has_matches(&state, &[0])
+        && state.append_str(alloc, "bc\nab").is_ok()
+        && has_matches(&state, &[0, 1, 3])
+        && has_page(
+            alloc,
+            &state,
+            &[
+                "\x1b[7mab\x1b[27m",
+                "xaaaaaaaaaaaaaaaaaa\x1b[7ma\x1b[27m",
+                "\x1b[7mb\x1b[27mc",
+            ],
+        )
+}
+
+#[test]
+fn a_term_is_found_in_each_line_where_lines_are_searched(rt: HostRuntime) {
+    assert_holds(&rt, is_searched_in_lines(rt.alloc()));
+    assert_holds(&rt, is_found_over_the_end(rt.alloc()));
+}

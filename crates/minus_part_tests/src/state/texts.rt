@@ -45,6 +45,7 @@ pub(crate) const PLAIN: Layout = Layout {
     cols: 20,
     wrapping: true,
     numbers: LineNumbers::Disabled,
+    match_lines: false,
     carry_style: false,
 };
 
@@ -53,5 +54,6 @@ pub(crate) const NUMBERED: Layout = Layout {
     cols: 11,
     wrapping: false,
     numbers: LineNumbers::Enabled,
+    match_lines: false,
     carry_style: false,
 };

@@ -140,6 +140,7 @@ fn is_formatted_alone(alloc: Global, case: &Case<'_>) -> bool {
         cols: 1,
         wrapping: true,
         numbers: LineNumbers::Enabled,
+        match_lines: false,
         carry_style: false,
     };
     let mut rows = Rows::new(alloc);

@@ -11,6 +11,7 @@ const LAYOUT: Layout = Layout {
     cols: 16,
     wrapping: true,
     numbers: LineNumbers::Enabled,
+    match_lines: false,
     carry_style: false,
 };
 

@@ -1,4 +1,5 @@
 //! A row as it is put together, with what is selected and what matches in reverse.
+use crate::random::matching::Mark;
 use std::alloc::{AllocError, Global};
 
 /// A row that is put together, in which so many characters stand so far, and the ones that are selected.
@@ -72,44 +73,32 @@ impl Shown {
     }
 }
 
-/// What a row of text shows: its columns from one up to another; each match, or, if it is cropped, each with one of
-/// these columns, in reverse.
+/// What a row of text shows: its columns from one up to another; of each match what the row shows, or, if it is cropped,
+/// of each with one of these columns, in reverse.
 #[derive(Clone, Copy)]
 pub struct Part<'a> {
     pub text: &'a str,
-    pub term: Option<&'a str>,
+    pub marks: &'a [Mark],
     pub is_cropped: bool,
     pub from: usize,
     pub to: usize,
 }
 
 impl<'a> Part<'a> {
-    // The end of the match that begins at a place, if one does.
-    fn match_at(&self, at: usize) -> Option<usize> {
-        let term = self.term?;
-        let rest = self.text.get(at..)?;
-        rest.starts_with(term)
-            .then_some(at.saturating_add(term.len()))
-    }
-
     fn is_marked(&self, start: usize, end: usize) -> bool {
         !self.is_cropped || start.max(self.from) < end.min(self.to)
     }
 
-    // Marks the beginning of a match, if it is shown; a match of no characters ends at once.
-    fn begin_match(&self, row: &mut Shown, at: usize, end: usize) -> Result<(), AllocError> {
-        if self.is_marked(at, end) {
-            row.text.push_str("\x1b[7m")?;
-        }
-        if end == at {
-            self.end_match(row, at, end)?;
-        }
-        Ok(())
-    }
-
-    fn end_match(&self, row: &mut Shown, start: usize, end: usize) -> Result<(), AllocError> {
-        if self.is_marked(start, end) {
-            row.text.push_str("\x1b[27m")?;
+    // Ends the match that ends at a place, and begins those that begin there; a match of no characters ends at once.
+    fn mark_at(&self, row: &mut Shown, at: usize) -> Result<(), AllocError> {
+        for mark in self.marks {
+            let is_marked = self.is_marked(mark.start, mark.end);
+            if is_marked && mark.start == at {
+                row.text.push_str("\x1b[7m")?;
+            }
+            if is_marked && mark.end == at {
+                row.text.push_str("\x1b[27m")?;
+            }
         }
         Ok(())
     }
@@ -123,18 +112,8 @@ impl<'a> Part<'a> {
 
     /// Adds it to a row.
     pub fn show(&self, row: &mut Shown) -> Result<(), AllocError> {
-        let mut begun: Option<(usize, usize)> = None;
         for at in 0..self.text.len().saturating_add(1) {
-            if let Some((start, end)) = begun {
-                if at == end {
-                    self.end_match(row, start, end)?;
-                    begun = None;
-                }
-            }
-            if let (None, Some(end)) = (begun, self.match_at(at)) {
-                self.begin_match(row, at, end)?;
-                begun = (end > at).then_some((at, end));
-            }
+            self.mark_at(row, at)?;
             self.show_at(row, at)?;
         }
         Ok(())

@@ -1,5 +1,6 @@
 //! A pager kept in the plainest way: a text, its rows, which are formed anew at each change, and what is set beside it.
-use crate::random::places::{count_digits, nth_of, rows_with};
+use crate::random::matching::{Mark, marks_of, rows_with};
+use crate::random::places::{count_digits, nth_of};
 use crate::random::steps::{HELP, Step};
 use crate::random::text_rows::{Row, TextRows, count_lines};
 use minus::{ExitStrategy, LineNumbers, SearchMode};
@@ -43,13 +44,17 @@ pub struct Model {
     pub alloc: Global,
     pub text: String,
     pub formed: TextRows,
-    /// The rows that match, in their order.
+    /// What rows show of the term's matches.
+    pub marks: Vec<Mark>,
+    /// The rows in which matches begin, in their order.
     pub found: Vec<usize>,
     pub cols: usize,
     pub height: usize,
     pub mark: usize,
     pub left: usize,
     pub is_wrapped: bool,
+    /// Whether a word is searched for in lines, and not in rows.
+    pub in_lines: bool,
     /// Whether rows are ended, so that they leave no style open.
     pub is_styled: bool,
     pub numbers: LineNumbers,
@@ -84,12 +89,14 @@ impl Model {
             alloc,
             text: String::new(alloc),
             formed: TextRows::new(alloc),
+            marks: Vec::new(alloc),
             found: Vec::new(alloc),
             cols,
             height,
             mark: 0,
             left: 0,
             is_wrapped: true,
+            in_lines: false,
             is_styled: false,
             numbers: LineNumbers::Disabled,
             follow: false,
@@ -168,17 +175,19 @@ impl Model {
         self.find()
     }
 
-    /// Finds the term in the rows.
+    /// What rows show of a word.
+    pub fn marks_of(&self, word: &str) -> Result<Vec<Mark>, AllocError> {
+        let rows = &self.formed.rows;
+        marks_of(self.alloc, self.text.as_str(), rows, word, self.in_lines)
+    }
+
+    /// Finds the term.
     pub fn find(&mut self) -> Result<(), AllocError> {
-        self.found = match &self.term {
-            Some(term) => rows_with(
-                self.alloc,
-                self.text.as_str(),
-                &self.formed.rows,
-                term.as_str(),
-            )?,
+        self.marks = match &self.term {
+            Some(term) => self.marks_of(term.as_str())?,
             None => Vec::new(self.alloc),
         };
+        self.found = rows_with(self.alloc, &self.marks)?;
         Ok(())
     }
 

@@ -121,7 +121,7 @@ impl Numbers {
 
     // A command that sets something.
     fn setting(&mut self) -> Asked<'static> {
-        match self.below(13) {
+        match self.below(14) {
             0 => Asked::Prompt(self.one_of(&PROMPTS)),
             1 => Asked::Message(self.one_of(&PROMPTS)),
             2 => Asked::Shown(!self.is_one_of(3)),
@@ -134,6 +134,7 @@ impl Numbers {
             9 => Asked::Removed(Hook::EofReached, self.below(6)),
             10 => Asked::Told(Event::FocusGained),
             11 => Asked::Styled(!self.is_one_of(3)),
+            12 => Asked::InLines(!self.is_one_of(3)),
             _ => Asked::Told(Event::Resize(self.place(26), self.place(9))),
         }
     }

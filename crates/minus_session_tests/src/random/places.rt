@@ -1,7 +1,4 @@
 //! Digits of numbers, and places in lists of rows.
-use crate::random::text_rows::Row;
-use std::alloc::{AllocError, Global};
-
 /// The decimal digits of a number.
 pub fn count_digits(number: usize) -> usize {
     let mut bound: usize = 10;
@@ -12,22 +9,6 @@ pub fn count_digits(number: usize) -> usize {
         bound = bound.saturating_mul(10);
     }
     20
-}
-
-/// The rows of a text in which a word stands.
-pub fn rows_with(
-    alloc: Global,
-    text: &str,
-    rows: &[Row],
-    word: &str,
-) -> Result<Vec<usize>, AllocError> {
-    let mut found = Vec::new(alloc);
-    for (at, row) in rows.iter().enumerate() {
-        if text.get(row.start..row.end).unwrap_or("").contains(word) {
-            found.push(at)?;
-        }
-    }
-    Ok(found)
 }
 
 /// The place, in a list of rows, that a jump by so many from a row goes to.

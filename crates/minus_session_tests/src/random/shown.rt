@@ -1,7 +1,8 @@
 //! What the rows of the page show.
 use crate::random::marking::{Part, Shown};
+use crate::random::matching::{Mark, count_above, marks_in, rows_with};
 use crate::random::model::{Model, Query};
-use crate::random::places::{count_digits, nth_of, rows_with};
+use crate::random::places::{count_digits, nth_of};
 use minus::{Page, SearchMode};
 use std::alloc::AllocError;
 
@@ -39,12 +40,12 @@ impl Model {
         shown.show(b' ')
     }
 
-    // Writes what a row of the text shows under a term; nothing past the last one.
+    // Writes what a row of the text shows with these marks, if a word is searched for; nothing past the last one.
     fn write_row(
         &self,
         shown: &mut Shown,
         at: usize,
-        term: Option<&str>,
+        marks: Option<&[Mark]>,
     ) -> Result<(), AllocError> {
         shown.begin(self.range_in(at));
         let Some(row) = self.formed.rows.get(at) else {
@@ -58,7 +59,7 @@ impl Model {
         let width = self.cols.saturating_sub(self.prefix_columns());
         let part = Part {
             text: self.row_text(row),
-            term,
+            marks: marks_in(marks.unwrap_or(&[]), at),
             is_cropped: !self.is_wrapped,
             from: self.left,
             to: self.left.saturating_add(width),
@@ -66,10 +67,23 @@ impl Model {
         part.show(shown)?;
         shown.end()?;
         // (the texts have no styles of their own, and nothing is selected under a term)
-        if self.is_styled && term.is_some() && shown.text.contains("\x1b[7m") {
+        if self.is_styled && marks.is_some() && shown.text.contains("\x1b[7m") {
             shown.text.push_str("\x1b[0m")?;
         }
         Ok(())
+    }
+
+    // Which match the prompt row tells of, and of how many: of all matches, the first in the row that is told of, where
+    // lines are searched, and else that row.
+    fn told(&self) -> (usize, usize) {
+        if !self.in_lines {
+            return (self.search_mark.saturating_add(1), self.found.len());
+        }
+        let row = self.found.get(self.search_mark).copied().unwrap_or(0);
+        (
+            count_above(&self.marks, row).saturating_add(1),
+            count_above(&self.marks, usize::MAX),
+        )
     }
 
     // Writes the indicators of the prompt row, and answers the columns that are left beside them.
@@ -81,7 +95,7 @@ impl Model {
             taken = taken.saturating_add(prefix.len()).saturating_add(2);
         }
         if !self.found.is_empty() {
-            let (place, of) = (self.search_mark.saturating_add(1), self.found.len());
+            let (place, of) = self.told();
             text.push_str(format!(in self.alloc; "\x1b[30;44m {place}/{of} ")?.as_str())?;
             let digits = count_digits(place).saturating_add(count_digits(of));
             taken = taken.saturating_add(digits).saturating_add(3);
@@ -127,26 +141,21 @@ impl Model {
         Ok(wanted.as_str() == row)
     }
 
-    // Where a query leads that is shown while it is typed: its first match, if it has one.
-    fn led_to(&self, query: &Query) -> Result<Option<usize>, AllocError> {
-        if !query.is_edited || query.text.len() < self.shown_from {
-            return Ok(None);
-        }
-        let word = query.text.as_str();
-        let found = rows_with(self.alloc, self.text.as_str(), &self.formed.rows, word)?;
-        Ok(found.get(nth_of(&found, self.mark, 0)).copied())
+    // Whether the page shows where a query leads while it is typed, if it has a match.
+    fn is_previewed(&self, query: &Query) -> bool {
+        query.is_edited && query.text.len() >= self.shown_from
     }
 
-    // Whether these are the rows of the text, from a row on, under a term.
+    // Whether these are the rows of the text, from a row on, with these marks.
     fn are_rows(
         &self,
         rows: &[String],
         mark: usize,
-        term: Option<&str>,
+        marks: Option<&[Mark]>,
     ) -> Result<bool, AllocError> {
         let mut shown = Shown::new(self.alloc);
         for (at, row) in rows.iter().enumerate() {
-            self.write_row(&mut shown, mark.saturating_add(at), term)?;
+            self.write_row(&mut shown, mark.saturating_add(at), marks)?;
             if shown.text.as_str() != row.as_str() {
                 return Ok(false);
             }
@@ -157,14 +166,16 @@ impl Model {
     // Whether these are the rows of the text on the page.
     fn are_text_rows(&self, rows: &[String]) -> Result<bool, AllocError> {
         if let Some(query) = &self.query {
-            if let Some(row) = self.led_to(query)? {
-                return self.are_rows(rows, row.min(self.top()), Some(query.text.as_str()));
+            if self.is_previewed(query) {
+                let marks = self.marks_of(query.text.as_str())?;
+                let found = rows_with(self.alloc, &marks)?;
+                if let Some(row) = found.get(nth_of(&found, self.mark, 0)) {
+                    return self.are_rows(rows, (*row).min(self.top()), Some(&marks));
+                }
             }
         }
-        match &self.term {
-            Some(term) => self.are_rows(rows, self.mark, Some(term.as_str())),
-            None => self.are_rows(rows, self.mark, None),
-        }
+        let marks = self.term.is_some().then_some(self.marks.as_slice());
+        self.are_rows(rows, self.mark, marks)
     }
 
     /// Whether a page is that of the pager.

@@ -114,6 +114,10 @@ impl Model {
             Asked::Wrapped(is_wrapped) => {
                 self.do_event(InputEvent::HorizontalScroll(is_wrapped))?
             }
+            Asked::InLines(in_lines) => {
+                self.in_lines = in_lines;
+                self.reform()?;
+            }
             Asked::Styled(is_styled) => {
                 self.is_styled = is_styled;
                 self.reform()?;

@@ -1,7 +1,8 @@
-//! The rows that match.
+//! The rows that match: those in which a match begins.
 use minus_text::RowsView;
 
-/// The rows that match a term, in their order. Their places in it are counted from 0, and so are the rows.
+/// The rows that match a term, in their order: those in which a match begins. Their places in it are counted from 0, and
+/// so are the rows.
 #[derive(Clone, Copy)]
 pub struct Matches<'s> {
     pub(crate) view: RowsView<'s>,
@@ -33,8 +34,8 @@ impl Matches<'_> {
         self.view.match_row(place)
     }
 
-    /// The place of the match that a jump by this number of matches from a row goes to; a jump by 0 stays at a match
-    /// that is right there. Past the last match the jump goes on at the first. `None` where no row matches. It takes
+    /// The place of the row that matches to which a jump by this number of such rows from a row goes; a jump by 0 stays
+    /// at one that is right there. Past the last the jump goes on at the first. `None` where no row matches. It takes
     /// no memory, and halves the rows that match.
     pub fn nth_match(self, mark: usize, jump: usize) -> Option<usize>
         ensures { result ≡ nth_match (numbers_of self.entry) mark jump }

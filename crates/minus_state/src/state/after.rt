@@ -9,7 +9,7 @@ ghost use Rattle.minus_state.specs.NextTexts.{next_searched, Belongs};
 ghost use Rattle.minus_state.specs.AddsShown.{AddsShown};
 ghost use Rattle.minus_state.specs.Changes.{IsFormedFor, shown_by};
 
-use crate::change::{Change, MessageChange, Redraw};
+use crate::change::{Change, MessageChange, NextText, Redraw, Told};
 use crate::prompt::{PromptRow, format_prompt};
 use crate::showing::{ShownRow, ShownRows};
 use crate::state::PagerState;
@@ -52,13 +52,14 @@ impl PagerState {
     fn prompt_after<'a>(&'a self, change: &'a Change) -> PromptRow<'a>
         ensures { seen_prompt result ≡ prompt_after self.now change.now }
     {
+        let told = change.text.told(&self.screen, change.search_mark);
         PromptRow {
             is_shown: change.is_shown,
             prompt: text_after(&change.prompt, &self.prompt),
             message: change.message.after(self.message_text()),
             prefix: text_after(&change.prefix, &self.prefix_num),
-            search_mark: change.search_mark,
-            match_count: change.text.match_count(&self.screen),
+            search_mark: told.place,
+            match_count: told.count,
             follow: change.follow,
             cols: change.cols,
         }
@@ -85,6 +86,14 @@ impl PagerState {
         self.prompt_row_after(alloc, &stays)
     }
 
+    // What the prompt row tells of matches.
+    fn told(&self) -> Told
+        ensures place { result.place ≡ (shown_prompt self.now).search_mark }
+        ensures count { result.count ≡ (shown_prompt self.now).match_count }
+    {
+        NextText::Same.told(&self.screen, self.search_mark)
+    }
+
     // Whether a change leaves the prompt row as it is: what it says is not set, and all else that it is formed of
     // stays.
     fn keeps_prompt_row(&self, change: &Change) -> bool
@@ -95,8 +104,7 @@ impl PagerState {
                 change.cols == self.cols
                     && change.is_shown == self.prompt_shown
                     && change.follow == self.follow
-                    && change.search_mark == self.search_mark
-                    && change.text.match_count(&self.screen) == self.screen.match_count()
+                    && change.text.told(&self.screen, change.search_mark) == self.told()
                     && text_after(&change.prefix, &self.prefix_num) == self.prefix_num.as_str()
             }
             _ => false,

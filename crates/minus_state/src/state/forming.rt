@@ -214,6 +214,24 @@ impl PagerState {
         self.formed_anew(alloc, self.copied_text(alloc)?, layout, self.upper_mark)
     }
 
+    /// The state with its term searched for in lines, or in rows, for which the text is formed anew.
+    ///
+    /// # Errors
+    ///
+    /// [`MinusError::Memory`] where there is no memory for it.
+    pub fn rematched(&self, alloc: Global, match_lines: bool) -> Result<Change, MinusError>
+        ensures next { IfOk result (λ c. Leads self.now c
+            (reformed (record (control_of self.now) { match_lines = match_lines }))) }
+        ensures redraw { IfOk result (λ c. c.redraw ≡ Redraw.Whole) }
+        ensures memory { IfErr result (λ e. e ≡ MinusError.Memory) }
+    {
+        let layout = Layout {
+            match_lines,
+            ..self.layout()
+        };
+        self.formed_anew(alloc, self.copied_text(alloc)?, layout, self.upper_mark)
+    }
+
     /// The state in another size, columns and rows, for which the text is formed anew.
     ///
     /// # Errors

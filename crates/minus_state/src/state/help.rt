@@ -123,6 +123,7 @@ impl PagerState {
             cols: self.cols,
             wrapping: false,
             numbers: LineNumbers::Disabled,
+            match_lines: self.match_lines(),
             carry_style: self.carry_style(),
         };
         let prompt = String::from_str(alloc, PROMPT)?;
@@ -147,6 +148,7 @@ impl PagerState {
             cols: self.cols,
             wrapping: saved.wrapping,
             numbers: saved.numbers,
+            match_lines: self.match_lines(),
             carry_style: self.carry_style(),
         };
         let text = String::from_str(alloc, &saved.text)?;

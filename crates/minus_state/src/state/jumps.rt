@@ -1,4 +1,4 @@
-//! Jumps among the rows that match, formed beside a state.
+//! Jumps among the rows in which matches begin, each counted once, formed beside a state.
 ghost use Rattle.std.specs.Prelude.{◌≡◌};
 ghost use Rattle.minus_state.specs.MatchJumps.{row_above};
 

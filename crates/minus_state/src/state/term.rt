@@ -1,4 +1,4 @@
-//! The term that rows are searched for, and the rows that match it.
+//! The term that is searched for, and the rows that match it.
 ghost use Rattle.std.specs.Prelude.{◌≡◌, option_map};
 ghost use Rattle.regex.specs.Strings.{regex_pattern};
 ghost use Rattle.minus_state.specs.States.{pattern_kept};
@@ -35,7 +35,8 @@ impl PagerState {
     ghost use Rattle.std.specs.Prelude.{◌≡◌, Some, option_map, OnOk, OnErr, IfOk, IfErr};
     ghost use Rattle.regex.specs.Strings.{regex_pattern};
     ghost use Rattle.minus_text.specs.Document.{rows_of};
-    ghost use Rattle.minus_text.specs.Found.{AreFoundIn, found_by, row_numbers};
+    ghost use Rattle.minus_text.specs.Found.{AreFoundIn, jump_rows};
+    ghost use Rattle.minus_text.specs.Finds.{finds};
     ghost use Rattle.minus_text.specs.FoundRows.{pattern_of};
     ghost use Rattle.minus_state.specs.Changes.{Leads};
     ghost use Rattle.minus_state.specs.Control.{matches_of, searched_for};
@@ -43,16 +44,16 @@ impl PagerState {
     ghost use Rattle.minus_state.specs.Matches.{numbers_of};
     ghost use Rattle.minus_state.specs.States.{control_of, term_of, IsFormed};
 
-    /// The term that rows are searched for, if there is one.
+    /// The term that is searched for, if there is one.
     pub fn term(&self) -> Option<&Regex>
         ensures { option_map (λ t. regex_pattern t.now) result ≡ (control_of self.now).term }
     {
         kept_pattern(&self.term)
     }
 
-    /// The rows that match the term; none without a term.
+    /// The rows that match the term, in which a match begins; none without a term.
     pub fn matches(&self) -> Matches<'_>
-        ensures kept { numbers_of result ≡ row_numbers self.now.screen.found }
+        ensures kept { numbers_of result ≡ jump_rows self.now.screen.found }
         ensures formed { IsFormed self.now → numbers_of result ≡ matches_of (control_of self.now) }
     {
         Matches {
@@ -88,14 +89,14 @@ impl PagerState {
         searching(&self.patterns, kept_pattern(&self.term))
     }
 
-    /// What a pattern finds in the rows. Nothing changes.
+    /// What a pattern finds in the rows, or in the lines where these are searched. Nothing changes.
     ///
     /// # Errors
     ///
     /// [`AllocError`] where there is no memory for it.
     pub fn search(&self, alloc: Global, pattern: &Regex) -> Result<Findings, AllocError>
         ensures found { IfOk result (λ f. f
-            ≡ found_by (Some (regex_pattern pattern.now)) 0 (rows_of self.now.screen.document)) }
+            ≡ finds (Some (regex_pattern pattern.now)) self.now.screen.document) }
         ensures stand { IfOk result (λ f. AreFoundIn 0 (rows_of self.now.screen.document) f) }
     {
         self.screen

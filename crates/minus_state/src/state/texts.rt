@@ -147,6 +147,26 @@ impl PagerState {
         self.reform(alloc, layout)
     }
 
+    /// Searches for the term in each line, so that matches go over the ends of rows, or in each row by itself. The mark stays
+    /// where it is, and the prompt row tells of the first row that matches at it or behind it.
+    ///
+    /// # Errors
+    ///
+    /// [`MinusError::Memory`] where there is no memory, and nothing has changed.
+    pub fn set_match_lines(&mut self, alloc: Global, match_lines: bool) -> Result<(), MinusError>
+        ensures control { OnOk result (control_of self.new
+            ≡ reformed (record (control_of self.old) { match_lines = match_lines })) }
+        ensures formed { OnOk result (IsFormed self.new) }
+        ensures err { OnErr result (self.new ≡ self.old) }
+        ensures memory { IfErr result (λ e. e ≡ MinusError.Memory) }
+    {
+        let layout = Layout {
+            match_lines,
+            ..self.layout()
+        };
+        self.reform(alloc, layout)
+    }
+
     /// Forms the rows anew, for the columns and the numbers that the state has now.
     ///
     /// # Errors

@@ -24,6 +24,7 @@ fn add_command(text: &mut String, command: &Command) -> bool {
         Command::FollowOutput(follow) => add(text, "follow", follow),
         Command::ShowPrompt(is_shown) => add(text, "showprompt", is_shown),
         Command::LineWrapping(wrapping) => add(text, "wrap", wrapping),
+        Command::SetMatchLines(match_lines) => add(text, "matchlines", match_lines),
         Command::SetCarryStyle(carry_style) => add(text, "carrystyle", carry_style),
         Command::SetLineNumbers(numbers) => write!(text, "numbers[{numbers:?}]").is_ok(),
         _ => false,
@@ -94,6 +95,10 @@ fn reads_each_word(rt: HostRuntime) {
             "follow[true]follow[false]showprompt[false]",
         ),
         (b"wrap on\nwrap off", "wrap[true]wrap[false]"),
+        (
+            b"matchlines on\nmatchlines off",
+            "matchlines[true]matchlines[false]",
+        ),
         (
             b"carrystyle on\ncarrystyle off",
             "carrystyle[true]carrystyle[false]",

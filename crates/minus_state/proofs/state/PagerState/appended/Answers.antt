@@ -2,9 +2,9 @@
 use Rattle.std.proofs.Common.{◌≡◌, ℕ, List, Bool, Option, ◌==◌, ◌++◌, string_bytes, if◌then◌else◌, refl, sym, subst, ap, ap₂, ◌∙◌}
 use Rattle.regex.specs.Patterns.{Re}
 use Rattle.minus_text.specs.declared.line_numbers.LineNumbers.{LineNumbers}
-use Rattle.minus_text.specs.Document.{Document, rows_of, margin_in, pushed}
-use Rattle.minus_text.specs.Found.{found_by}
-use Rattle.minus_text.specs.Pending.{IsPending}
+use Rattle.minus_text.specs.Document.{Document, margin_in, pushed}
+use Rattle.minus_text.specs.Finds.{finds}
+use Rattle.minus_text.specs.Pending.{IsPending, SearchesAlike}
 use Rattle.minus_text.specs.Searched.{Searched, SearchedPush, IsFoundBy, IsFoundInPush}
 use Rattle.minus_state.specs.declared.change.NextText.{NextText}
 use Rattle.minus_state.specs.declared.change.NextText.TheVariants.{Pushed}
@@ -33,12 +33,13 @@ returns-clause-next c = λ f.
     let own = subst (λ (p : SearchedPush). IsPending state.screen.document bytes p.push.numbers p.push.cols p.push) (sym is) (subst (λ (b : List ℕ). IsPending state.screen.document b made.push.numbers made.push.cols made.push) c.deref.ensures told.own) in
     let old : IsFoundBy k.term state.screen = subst (λ (x : Searched). IsFoundBy k.term x) (sym f.screen) refl in
     let fresh : IsFoundInPush k.term pending = subst (λ (p : SearchedPush). IsFoundInPush k.term p) (sym is) (subst (λ (t : Option Re). IsFoundInPush t made) c.searching-term.ensures told.found) in
-    let next : IsNext k.term state.screen text = (own, (old, fresh)) in
+    let alike : SearchesAlike k.term state.screen.document pending.push = subst (λ (p : SearchedPush). SearchesAlike k.term state.screen.document p.push) (sym is) (subst (λ (t : Option Re). SearchesAlike t state.screen.document made.push) c.searching-term.ensures told.alike) in
+    let next : IsNext k.term state.screen text = (own, (old, fresh), alike) in
     let after : Document = document_of (record k { text = k.text ++ bytes }) in
     let document : pushed (document_of k) bytes pending.push.numbers pending.push.cols ≡ after = ap (λ (p : SearchedPush). pushed (document_of k) bytes p.push.numbers p.push.cols) is ∙ ap₂ (λ (n : LineNumbers) (m : ℕ). pushed (document_of k) bytes n m) told.ok.its_numbers told.ok.its_cols in
     let here = ap (λ (d : Document). pushed d bytes pending.push.numbers pending.push.cols) (document_is state f) ∙ document in
     let keeps = c.keeps_rows-keeps_rows.ensures ∙ ap₂ (λ (a b : Document). margin_in a == margin_in b) here (document_is state f) ∙ sym (keeps_by_margin k bytes) in
-    let found = ap (λ (x : Searched). x.found) c.view.ensures ∙ found_next k.term state.screen text next ∙ ap (λ (d : Document). found_by k.term 0 (rows_of d)) here in
+    let found = ap (λ (x : Searched). x.found) c.view.ensures ∙ found_next k.term state.screen text next ∙ ap (finds k.term) here in
     let base = c.redrawn-change.ensures.is in
     record {
       belongs = subst (λ (x : Searched). IsNext k.term x text) f.screen next;

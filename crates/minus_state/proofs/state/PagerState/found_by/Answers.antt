@@ -5,7 +5,8 @@ use Rattle.regex.specs.Patterns.{Re}
 use Rattle.regex.specs.Strings.{regex_pattern}
 use Rattle.regex.specs.declared.string.regex.Regex.{Regex}
 use Rattle.minus_text.specs.Document.{Document, rows_of}
-use Rattle.minus_text.specs.Found.{RowMatches, AreFoundIn, found_by}
+use Rattle.minus_text.specs.Found.{RowMatches, AreFoundIn}
+use Rattle.minus_text.specs.Finds.{finds}
 use Rattle.minus_text.specs.Searched.{Searched}
 use Rattle.minus_state.specs.Control.{Control, document_of, first_match, matches_in}
 use Rattle.minus_state.specs.Changes.{settings_after, help_after}
@@ -25,13 +26,13 @@ returns-clause-next c = λ f.
     let d : Document = document_of (control_of s) in
     let told = c.in_ok-findings.ensures in
     let here = document_is s f in
-    let found = told.found ∙ ap (λ (r : Regex). found_by (Some (regex_pattern r)) 0 (rows_of s.screen.document)) c.deref.ensures ∙ ap (λ (x : Document). found_by (Some query) 0 (rows_of x)) here in
+    let found = told.found ∙ ap (λ (r : Regex). finds (Some (regex_pattern r)) s.screen.document) c.deref.ensures ∙ ap (finds (Some query)) here in
     let seen = ap (λ (x : Searched). x.found) c.view_of-view.ensures ∙ found in
     let anew = c.search_mark_anew-search_mark.ensures ∙ ap (λ (fs : List RowMatches). first_match fs s.upper_mark) seen in
     let row = match_row_is query d _ _ _ seen c.match_row.ensures ∙ ap (slice_get (matches_in (Some query) d)) anew in
     let base = c.redrawn-change.ensures.is in
     record {
-      belongs = (subst (λ (x : Document). AreFoundIn 0 (rows_of x) c.in_ok-findings.findings) here told.stand, found);
+      belongs = (subst (λ (x : Document). AreFoundIn 0 (rows_of x) c.in_ok-findings.findings) here told.stand, found, tt);
       document = refl;
       mark_is = c.min.ensures ∙ ap₂ min (c.unwrap_or-mark.ensures ∙ ap (λ (o : Option ℕ). unwrap_or o s.upper_mark) row) (c.top.ensures.value f);
       cols_are = ap (λ (x : Change). x.cols) base;

@@ -15,7 +15,7 @@ pub returns-clause-control : goal.returns-clause-control
 returns-clause-control c =
     let start : Control = at_start c.args.cols c.args.rows in
     let document = ap (λ (s : Searched). s.document) c.in_ok-formed.ensures.ok ∙ ap (λ (t : List ℕ). let d : Document = record { text = t; layout = c.plain.result } in d) c.new.ensures.bytes ∙ ap (λ (l : Layout). let d : Document = record { text = []; layout = l } in d) c.plain.ensures in
-    ap (λ (d : Document). let k : Control = record start { text = d.text; wrapping = d.layout.wrapping; carry_style = d.layout.carry_style; settings = record first_settings { prompt = string_bytes c.in_ok-from_str.field-0; prefix = string_bytes c.new-2.result } } in k) document
+    ap (λ (d : Document). let k : Control = record start { text = d.text; wrapping = d.layout.wrapping; match_lines = d.layout.match_lines; carry_style = d.layout.carry_style; settings = record first_settings { prompt = string_bytes c.in_ok-from_str.field-0; prefix = string_bytes c.new-2.result } } in k) document
     ∙ ap (λ (p : List ℕ). let k : Control = record start { settings = record first_settings { prompt = p; prefix = string_bytes c.new-2.result } } in k) c.in_ok-from_str.ensures.ok
     ∙ ap (λ (p : List ℕ). let k : Control = record start { settings = record first_settings { prefix = p } } in k) c.new-2.ensures.bytes
 

@@ -10,5 +10,5 @@ use Rattle.minus_state.proofs.state.PagerState.renumbered.Goals as goal
 pub returns-clause-next : goal.returns-clause-next
 returns-clause-next c =
     let k : Control = control_of c.args.self.now in
-    let same = ap₂ (λ (t : List ℕ) (l : Layout). reformed (record k { text = t; numbers = c.args.numbers; wrapping = l.wrapping; carry_style = l.carry_style })) c.in_ok-copied_text.ensures c.layout.ensures in
+    let same = ap₂ (λ (t : List ℕ) (l : Layout). reformed (record k { text = t; numbers = c.args.numbers; wrapping = l.wrapping; match_lines = l.match_lines; carry_style = l.carry_style })) c.in_ok-copied_text.ensures c.layout.ensures in
     IfOk-weaker c.formed_anew.result _ _ (λ x h. leads_to c.args.self.now x _ _ same h) c.formed_anew.ensures.next

@@ -17,5 +17,6 @@ returns-clause-next c = λ f.
     let saved : Saved = c.args.saved.now in
     let settings = ap (λ (p : List ℕ). switched (settings_after k.settings c.in_ok-change.change) p saved.follow) (c.in_ok-prompt.ensures.ok ∙ c.deref-2.ensures) ∙ ap (λ (s : Settings). switched s (string_bytes saved.prompt) saved.follow) (c.in_ok-change.ensures.next f).settings_are in
     let text = c.in_ok-text.ensures.ok ∙ c.deref.ensures in
-    let same = ap₂ (λ (t : List ℕ) (b : Bool). reformed (record k { text = t; numbers = saved.numbers; wrapping = saved.wrapping; carry_style = b; mark = saved.upper_mark; left = saved.left_mark; settings = switched k.settings (string_bytes saved.prompt) saved.follow; help = None })) text c.carry_style.ensures in
+    let back : List ℕ → Bool → Bool → Control = λ t m b. reformed (record k { text = t; numbers = saved.numbers; wrapping = saved.wrapping; match_lines = m; carry_style = b; mark = saved.upper_mark; left = saved.left_mark; settings = switched k.settings (string_bytes saved.prompt) saved.follow; help = None }) in
+    let same = ap (λ (t : List ℕ). back t c.match_lines.result c.carry_style.result) text ∙ ap₂ (back (string_bytes saved.text)) c.match_lines.ensures c.carry_style.ensures in
     leads_to state _ _ _ same (λ g. beside_anew k c.in_ok-change.change _ saved.left_mark _ None saved.follow (Some c.in_ok-prompt.prompt) Goes Closes _ (c.in_ok-change.ensures.next g) settings refl) f
