@@ -1,5 +1,5 @@
 -- What a term finds in a text that goes on: what it found in the rows that stay, and what it finds in what is formed.
-use Rattle.std.proofs.Common.{inl, inr, ◌≡◌, ℕ, ◌+◌, ◌-◌, ◌≤◌, Bool, true, false, cond, nat_le, List, [], ◌∷◌, ◌++◌, length, take, Option, None, Some, refl, sym, ap, ap₂, ◌∙◌, arith, length-append}
+use Rattle.std.proofs.Common.{inl, inr, ◌≡◌, ℕ, ◌+◌, ◌≤◌, Bool, true, false, cond, nat_le, List, [], ◌∷◌, ◌++◌, length, take, Option, None, Some, refl, sym, ap, ap₂, ◌∙◌, arith, length-append}
 use Rattle.std.specs.Str.Lines.{lines}
 use Rattle.std.proofs.lemmas.Bool.{cases_Bool}
 use Rattle.std.proofs.lemmas.List.Concat.{flat_map-append}
@@ -19,7 +19,7 @@ use Rattle.minus_text.specs.FoundBy.{FoundGoesOn}
 use Rattle.minus_text.proofs.DocumentLaws.{length-rows_of_lines}
 use Rattle.minus_text.proofs.PushedLaws.{lines_pushed, keeps_wrap}
 use Rattle.std.proofs.lemmas.List.{take_at}
-use Rattle.minus_text.proofs.FoundByLaws.{found_append, goes_on}
+use Rattle.minus_text.proofs.FoundByLaws.{goes_on}
 use Rattle.minus_text.proofs.FoundFromLaws.{behind_all}
 use Rattle.minus_text.proofs.FindsLaws.{finds_append, above_front, from_front, open_part}
 

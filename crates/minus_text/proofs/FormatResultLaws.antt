@@ -7,7 +7,6 @@ use Rattle.regex.specs.Patterns.{Re}
 use Rattle.std.proofs.lemmas.Bool.{cases_Bool, eqb-true, eq-eqb}
 use Rattle.std.proofs.lemmas.Bool.Decides.{nat_tests}
 use Rattle.std.proofs.lemmas.List.{length-drop}
-use Rattle.std.proofs.lemmas.List.Concat.{flat_map-append}
 use Rattle.minus_text.specs.declared.wrap.Span.{Span}
 use Rattle.minus_text.specs.declared.formed.Finished.{Finished}
 use Rattle.minus_text.specs.declared.formed.Border.{Border}
@@ -15,12 +14,10 @@ use Rattle.minus_text.specs.declared.formed.Restart.{Restart}
 use Rattle.minus_text.specs.declared.formed.Formed.{Formed}
 use Rattle.minus_text.specs.declared.screen.FormatResult.{FormatResult}
 use Rattle.minus_text.specs.declared.line_numbers.LineNumbers.{LineNumbers}
-use Rattle.minus_text.specs.declared.layout.Layout.{Layout}
-use Rattle.minus_text.specs.Layouts.{own_rows, wrap_of}
-use Rattle.minus_text.specs.Lines.{cut, unfinished_line, finished_lines}
+use Rattle.minus_text.specs.Lines.{cut, unfinished_line}
 use Rattle.minus_text.specs.declared.formed.Plan.{Plan}
 use Rattle.minus_text.specs.declared.layout.Wrap.{Wrap}
-use Rattle.minus_text.specs.Document.{Document, rows_of_lines, first_rows, open_rows, longest_of, rows_of, unfinished_rows, wrap_in, pushed, plan_of, first_formed}
+use Rattle.minus_text.specs.Document.{Document, rows_of_lines, first_rows, open_rows, longest_of, wrap_in, pushed, plan_of, first_formed}
 use Rattle.minus_text.specs.Fragments.{Fragment, rows_in}
 use Rattle.minus_text.specs.Found.{RowMatches, found_from, jump_rows}
 use Rattle.minus_text.specs.Finds.{found_in, finds, whole}
@@ -29,9 +26,8 @@ use Rattle.minus_text.specs.Searched.{Searched, IsFoundBy}
 use Rattle.minus_text.specs.FormatResults.{Tells, TellsWith, TellsAll, TellsPush, TellsFound, formed_by, is_clean}
 use Rattle.minus_text.proofs.LinesLaws.{open_at}
 use Rattle.minus_text.proofs.PendingLaws.{first_is}
-use Rattle.minus_text.proofs.PushedLaws.{lines_pushed, keeps_wrap}
 use Rattle.minus_text.proofs.FindsGoOnLaws.{formed_from, in_document, in_fragment}
-use Rattle.minus_text.proofs.DocumentLaws.{length-rows_of_lines, length-first_rows}
+use Rattle.minus_text.proofs.DocumentLaws.{length-first_rows}
 use Rattle.minus_text.proofs.ScreenLaws.{form-unfinished, from_start}
 
 -- the text that a push forms

@@ -10,8 +10,8 @@ use Rattle.std.proofs.lemmas.List.Concat.{flat_map-append}
 use Rattle.std.proofs.lemmas.Str.{IsCharBoundary-start, IsCharBoundary-after_ascii}
 use Rattle.minus_text.specs.declared.wrap.Span.{Span}
 use Rattle.minus_text.specs.declared.layout.Wrap.{Wrap}
-use Rattle.minus_text.specs.Lines.{Cut, cut, whole, behind}
-use Rattle.minus_text.specs.Layouts.{own_rows, own_places}
+use Rattle.minus_text.specs.Lines.{cut, whole, behind}
+use Rattle.minus_text.specs.Layouts.{own_rows}
 use Rattle.minus_text.specs.Kept.{moved, line_stored, stored_from}
 use Rattle.minus_text.specs.Document.{first_rows, rows_of_lines}
 use Rattle.regex.specs.Patterns.{Re}
@@ -22,7 +22,7 @@ use Rattle.minus_text.proofs.FindsLaws.{line_below, line_ascends}
 use Rattle.minus_text.proofs.PlacedFindsLaws.{front_placed, back_placed}
 use Rattle.minus_text.proofs.DocumentLaws.{length-first_rows}
 use Rattle.minus_text.proofs.LinesLaws.{nl, position_no, position_yes, cut_at_newline, cut_none, lines-cut}
-use Rattle.minus_text.proofs.LineFindsLaws.{FromStart, from_start}
+use Rattle.minus_text.proofs.LineFindsLaws.{from_start}
 use Rattle.minus_text.proofs.TextFindsLaws.{stored_first, rows_many, open_own, ends, own_is, end_within}
 
 -- ---- a text from one of its lines on

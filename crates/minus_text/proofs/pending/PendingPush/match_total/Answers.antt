@@ -1,4 +1,4 @@
-use Rattle.std.proofs.Common.{◌≡◌, ◌+◌, ◌^◌, ◌-◌, min, ap, ap₂, sym, ◌∙◌}
+use Rattle.std.proofs.Common.{◌+◌, ◌^◌, ◌-◌, min, ap, ap₂, sym, ◌∙◌}
 use Rattle.minus_text.specs.Found.{found_above, match_total, matches_above}
 use Rattle.minus_text.specs.Jumps.{counted}
 use Rattle.minus_text.proofs.LineFindsLaws.{total_both}

@@ -1,5 +1,5 @@
-use Rattle.std.proofs.Common.{◌≡◌, ◌+◌, ◌^◌, ◌-◌, min, ap, ap₂, sym, subst, ◌∙◌, arith}
-use Rattle.minus_text.specs.Found.{Ascend, found_above, matches_above}
+use Rattle.std.proofs.Common.{◌+◌, ◌^◌, ◌-◌, min, ap, ap₂, sym, subst, ◌∙◌, arith}
+use Rattle.minus_text.specs.Found.{Ascend, matches_above}
 use Rattle.minus_text.specs.Jumps.{counted}
 use Rattle.minus_text.proofs.FoundInLaws.{weaker}
 use Rattle.minus_text.specs.FoundBy.{found_rows}

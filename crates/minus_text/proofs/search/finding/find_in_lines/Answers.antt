@@ -1,5 +1,5 @@
 -- One line more, until the end or the last of all.
-use Rattle.std.proofs.Common.{◌≡◌, ◌++◌, ◌-◌, ◌<◌, ◌≤◌, length, map, take, drop, sym, ap, subst, ◌∙◌, arith, rules}
+use Rattle.std.proofs.Common.{◌++◌, ◌-◌, ◌<◌, map, take, drop, sym, ap, subst, ◌∙◌, arith, rules}
 use Rattle.std.proofs.Math.Nat.{min-le_left, min-le_right}
 use Rattle.std.specs.Str.Lines.{lines}
 use Rattle.regex.specs.Strings.{regex_pattern}

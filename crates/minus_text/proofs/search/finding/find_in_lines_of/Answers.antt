@@ -1,6 +1,5 @@
 -- The lines of these rows tell what is found in them.
-use Rattle.std.proofs.Common.{◌≡◌, ◌+◌, ◌-◌, ◌<◌, ◌≤◌, [], map, sym, ap, subst, ◌∙◌, arith, rules}
-use Rattle.std.specs.Prelude.{IfOk}
+use Rattle.std.proofs.Common.{◌≡◌, ◌-◌, [], map, sym, ap, subst, ◌∙◌, arith, rules}
 use Rattle.std.specs.Str.Lines.{lines}
 use Rattle.regex.specs.Strings.{regex_pattern}
 use Rattle.std.proofs.lemmas.Result.{IfOk-weaker}

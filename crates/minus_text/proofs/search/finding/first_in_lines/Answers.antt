@@ -1,12 +1,12 @@
 -- No jump goes to a line above, so the first of these lines with one has it, or there is none.
-use Rattle.std.proofs.Common.{◌≡◌, ℕ, ◌++◌, ◌<◌, [], length, map, Option, None, Some, true, false, refl, sym, ap, ◌∙◌, arith}
+use Rattle.std.proofs.Common.{◌≡◌, ℕ, ◌++◌, ◌<◌, map, Option, None, Some, false, refl, sym, ap, ◌∙◌, arith}
 use Rattle.std.specs.Option.{is_some}
 use Rattle.std.specs.Str.Lines.{lines}
 use Rattle.std.proofs.Math.Nat.{min-le_left, min-le_right}
 use Rattle.minus_text.specs.Document.{line_map, line_count, wrap_in}
 use Rattle.minus_text.specs.Found.{jump_rows}
 use Rattle.minus_text.specs.FoundRows.{finder_pattern, matches_of}
-use Rattle.minus_text.specs.StoredLines.{finds_between, finds_in_line_at, first_from}
+use Rattle.minus_text.specs.StoredLines.{finds_in_line_at, first_from}
 use Rattle.minus_text.proofs.LineRangeLaws.{none_between, up_to_end, still_nothing, early}
 use Rattle.minus_text.proofs.search.finding.first_in_lines.Goals as goal
 

@@ -1,6 +1,5 @@
 -- The first jump from the mark on, in its line or behind it, or else the first of all.
-use Rattle.std.proofs.Common.{◌≡◌, ◌+◌, ◌<◌, ◌≤◌, [], None, Some, true, length, sym, ap, subst, ◌∙◌, arith}
-use Rattle.std.specs.Option.{is_some}
+use Rattle.std.proofs.Common.{◌+◌, sym, ap, subst, ◌∙◌, arith}
 use Rattle.std.specs.Str.Lines.{lines}
 use Rattle.regex.specs.Strings.{regex_pattern}
 use Rattle.minus_text.specs.Document.{line_map, wrap_in}

@@ -1,6 +1,5 @@
 -- The rows of jumps ascend, so those that count stand behind the others.
-use Rattle.std.proofs.Common.{arith, rules, not, map, sym, ap, ◌∙◌}
-use Rattle.std.specs.List.{position_or_len}
+use Rattle.std.proofs.Common.{arith, rules, not}
 use Rattle.std.specs.List.Sorted.{IsPartitionedBy}
 use Rattle.std.proofs.lemmas.List.Sorted.{IsPartitionPoint-from_clause}
 use Rattle.minus_text.specs.declared.search.jumps.Jump.{Jump}

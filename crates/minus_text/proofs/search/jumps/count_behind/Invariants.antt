@@ -1,4 +1,4 @@
-use Rattle.std.proofs.Common.{◌≡◌, ◌++◌, map, take, drop, length}
+use Rattle.std.proofs.Common.{◌≡◌, ◌++◌, map, take, drop}
 use Rattle.minus_text.specs.Jumps.{jump_behind}
 use Rattle.minus_text.proofs.search.jumps.count_behind.Given as goal
 

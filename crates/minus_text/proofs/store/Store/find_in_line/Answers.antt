@@ -1,10 +1,8 @@
 -- What is found in a line by itself is what is found in it as one of the text.
-use Rattle.std.proofs.Common.{◌≡◌, ◌+◌, ◌++◌, ◌∷◌, map, length, take, drop, refl, sym, ap, ap₂, subst, subst₂, ◌∙◌}
+use Rattle.std.proofs.Common.{◌++◌, map, sym, ap, ap₂, subst, subst₂, ◌∙◌}
 use Rattle.std.specs.Str.Lines.{lines}
-use Rattle.minus_text.specs.declared.wrap.Span.{Span}
 use Rattle.minus_text.specs.Layouts.{own_rows}
-use Rattle.minus_text.specs.Document.{rows_of, rows_of_lines, line_map, wrap_in}
-use Rattle.minus_text.specs.Kept.{line_stored}
+use Rattle.minus_text.specs.Document.{rows_of, line_map, wrap_in}
 use Rattle.minus_text.specs.Found.{ArePlaced}
 use Rattle.minus_text.specs.FoundRows.{finder_pattern, matches_of}
 use Rattle.minus_text.specs.LineFinds.{finds_in_line}

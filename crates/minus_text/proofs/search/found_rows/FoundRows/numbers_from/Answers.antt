@@ -1,10 +1,10 @@
 -- The numbers between two rows, and those that follow.
-use Rattle.std.proofs.Common.{◌≡◌, ◌-◌, ◌≤◌, length, map, take, drop, sym, ap, ap₂, ◌∙◌, arith, rules}
+use Rattle.std.proofs.Common.{◌≡◌, ◌-◌, map, take, drop, sym, ap, ap₂, ◌∙◌, arith}
 use Rattle.std.proofs.lemmas.List.{take-map, drop-map}
 use Rattle.minus_text.specs.Found.{jump_rows}
 use Rattle.minus_text.specs.Jumps.{numbers_with}
 use Rattle.minus_text.specs.FoundBy.{found_rows}
-use Rattle.minus_text.proofs.JumpLaws.{row_of, below, rows_are, count_is, rise_of, below_within, below_ordered, numbers_between}
+use Rattle.minus_text.proofs.JumpLaws.{row_of, below, rows_are, rise_of, below_ordered, numbers_between}
 use Rattle.minus_text.proofs.search.found_rows.FoundRows.numbers_from.Goals as goal
 
 pub count_before-from-requires : goal.count_before-from-requires
