@@ -138,7 +138,7 @@ first_is d plan start w k = elim (cases_Bool plan.keeps) [
 
 -- where forming goes on at a line's start, what is formed is whole lines
 module _ (d : Document) (piece tail : List ℕ) (numbers : LineNumbers) (cols : ℕ) (start : Restart) (plan : Plan) (is : plan ≡ plan_of d piece numbers cols) (k : IsRestartOf d.text plan start)
-  (t : tail ≡ drop start.bytes (line_going_on d.text plan) ++ piece_behind d.text plan piece) (at : IsAtLine start) where
+    (t : tail ≡ drop start.bytes (line_going_on d.text plan) ++ piece_behind d.text plan piece) (at : IsAtLine start) where
   from_line_text : tail ≡ formed_text d.text piece plan
   from_line_text = t ∙ ap (λ n. drop n (line_going_on d.text plan) ++ piece_behind d.text plan piece) at.no_bytes ∙ elim (cases_Bool plan.keeps) [
     | inl e ↦ rw e refl

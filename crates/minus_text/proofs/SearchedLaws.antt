@@ -48,10 +48,10 @@ with_row wrap on count k (x ∷ xs) rows i row put size e f =
     let shown : length (stored_line on count k (take n rows)) ≡ n = length-stored_line on count k (take n rows) ∙ length-take-le n rows few in
     elim (cases_lt i n) [
       | inl lt ↦ (
-          prefix on count k (eqb i 0),
-          at_front (stored_line on count k own) (stored_lines wrap on count (k + 1) xs) i (omega (arith, lt, plain)) ∙ row_in_line on count k own i row (sym (at_front own (rows_of_lines wrap xs) i lt) ∙ e),
-          at_front (stored_line on count k (take n rows)) (stored_with wrap on count (k + 1) xs (drop n rows)) i (omega (arith, lt, shown)) ∙ row_in_line on count k (take n rows) i put (taken_at rows n i lt ∙ f),
-        )
+        prefix on count k (eqb i 0),
+        at_front (stored_line on count k own) (stored_lines wrap on count (k + 1) xs) i (omega (arith, lt, plain)) ∙ row_in_line on count k own i row (sym (at_front own (rows_of_lines wrap xs) i lt) ∙ e),
+        at_front (stored_line on count k (take n rows)) (stored_with wrap on count (k + 1) xs (drop n rows)) i (omega (arith, lt, shown)) ∙ row_in_line on count k (take n rows) i put (taken_at rows n i lt ∙ f),
+      )
       | inr ge ↦
           let left : length (drop n rows) ≡ length (rows_of_lines wrap xs) = omega (arith, length-drop n rows, size, all) in
           let later = with_row wrap on count (k + 1) xs (drop n rows) (i - n) row put left (sym (get_behind own (rows_of_lines wrap xs) i ge) ∙ e) (get_dropped rows n i ge ∙ f) in

@@ -184,8 +184,8 @@ style_stays : (d : Document) (piece : List ℕ) (numbers : LineNumbers) (cols i 
 style_stays d piece numbers cols i e lt = elim (cases_Bool d.layout.carry_style) [
   | inl on ↦
       rw on (ap (λ t. style_with (flat_map (line_styles true (wrap_in d)) (lines t)) i) (sym (append-nil d.text))
-        ∙ front_style d (wrap_in d) d.text [] i lt ∙ sym (front_style d (wrap_in d) d.text piece i lt)
-        ∙ ap (λ (w : Wrap). style_with (flat_map (line_styles true w) (lines (d.text ++ piece))) i) (sym (keeps_wrap d piece numbers cols e)))
+      ∙ front_style d (wrap_in d) d.text [] i lt ∙ sym (front_style d (wrap_in d) d.text piece i lt)
+      ∙ ap (λ (w : Wrap). style_with (flat_map (line_styles true w) (lines (d.text ++ piece))) i) (sym (keeps_wrap d piece numbers cols e)))
   | inr off ↦ rw off refl
 ]
 
@@ -208,7 +208,7 @@ stored_kept term d piece e =
     let front = rows_of_lines w (finished_lines d.text) in
     let same_put : put_rows f d 0 front ≡ put_rows g after 0 front =
     put_alike f g d after 0 front (λ i row lt.
-        ap₂ (λ s o. s ++ marked o row) (style_stays d piece d.layout.numbers d.layout.cols i e (omega (arith, lt))) (found_stays term d piece d.layout.numbers d.layout.cols i (omega (arith, at, first, lt)))) in
+    ap₂ (λ s o. s ++ marked o row) (style_stays d piece d.layout.numbers d.layout.cols i e (omega (arith, lt))) (found_stays term d piece d.layout.numbers d.layout.cols i (omega (arith, at, first, lt)))) in
     let alike = lines_alike w on (line_count d) (line_count after) 1 (finished_lines d.text) (put_rows g after 0 front) (λ line h. prefix_alike d.layout.numbers (line_count d) (line_count after) line h (sym margins)) in
     ap (λ t. take n (stored_with w on (line_count d) 1 (lines t) (put_rows f d 0 (rows_of_lines w (lines t))))) (sym (append-nil d.text))
     ∙ stored_front w on (line_count d) n f d d.text [] first

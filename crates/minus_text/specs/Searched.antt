@@ -84,7 +84,7 @@ stored_rows_for term d =
 abbrev pub IsRowBehind : List ℕ → Searched → ℕ → Option (List ℕ) → Type 0
 IsRowBehind before s i row = (term : Option Re) → IsFoundAt term s i
     → row ≡ option_map (λ text. before ++ carried_style s.document i ++ marked (found_of_row i (finds term s.document)) text)
-        (slice_get (rows_of s.document) i)
+    (slice_get (rows_of s.document) i)
 
 -- such a row with nothing before it but the style that is carried to it
 abbrev pub IsHighlightedRow : Searched → ℕ → Option (List ℕ) → Type 0

@@ -347,7 +347,9 @@ impl Store {
         ensures same { finder_pattern finder.new ≡ finder_pattern finder.old }
     {
         let line = self.line(k);
-        find_in_line(alloc, finder, found, line.first, line.base, line.text, line.rows)?;
+        find_in_line(
+            alloc, finder, found, line.first, line.base, line.text, line.rows,
+        )?;
         Ok(())
     }
 

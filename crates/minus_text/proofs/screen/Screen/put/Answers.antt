@@ -18,8 +18,7 @@ invariant_of-self-2 c =
     let d = c.self.inside.store in
     let p = c.args.push in
     let found = c.replace_from.ensures.found ∙ ap₂ (λ n old. found_above n old ++ found_rows c.args.found) c.kept_rows-first.ensures.value c.in_ok-reserve.ensures.same in
-    let stand = put_stands d c.args.text.now p.numbers p.cols p (found_rows c.self.inside.found) (found_rows c.args.found) c.in_ok-told.ensures.pending c.self.invariant.0 c.requires.stand in
-    (
+    let stand = put_stands d c.args.text.now p.numbers p.cols p (found_rows c.self.inside.found) (found_rows c.args.found) c.in_ok-told.ensures.pending c.self.invariant.0 c.requires.stand in (
       subst (λ (e : Document). AreFoundIn 0 (rows_of e) (found_rows c.replace_from.new.self)) (sym c.in_ok-told.ensures.ok)
           (subst (λ f. AreFoundIn 0 (rows_of (pushed d c.args.text.now p.numbers p.cols)) f) (sym found) stand),
       c.replace_from.ensures.jumps,

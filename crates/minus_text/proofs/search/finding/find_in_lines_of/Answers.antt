@@ -50,4 +50,4 @@ returns-clause-found c =
     let is_b : IsLineOfRow (line_map d) (c.args.end - 1) c.in-Some-Some.last = subst (λ m. IsLineOfRow m (c.args.end - 1) c.in-Some-Some.last) c.lines_to_row_map-lines.ensures c.in-Some-Some.ensures' in
     let order = lines_in_order (wrap_in d) (lines d.text) c.args.start (c.args.end - 1) c.in-Some-Some.first c.in-Some-Some.last (omega (arith, c.if-start-end.false)) is_a is_b in
     IfOk-weaker c.find_in_lines.result _ _ (λ f e. λ i from to.
-        ap (found_of_row i) e ∙ found_of_lines re (wrap_in d) (lines d.text) c.args.start c.args.end c.in-Some-Some.first c.in-Some-Some.last (omega (arith, c.if-start-end.false)) is_a is_b order i from to) c.find_in_lines.ensures.found
+    ap (found_of_row i) e ∙ found_of_lines re (wrap_in d) (lines d.text) c.args.start c.args.end c.in-Some-Some.first c.in-Some-Some.last (omega (arith, c.if-start-end.false)) is_a is_b order i from to) c.find_in_lines.ensures.found

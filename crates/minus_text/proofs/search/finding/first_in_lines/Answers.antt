@@ -31,7 +31,7 @@ returns-then-is_some-clause-row c =
     let to : line < c.args.end = omega (arith, c.min-line-end.ensures, left, c.loop-line-test.true) in
     let own = c.as_slice.ensures.value in
     let found = ap (map matches_of) own ∙ c.in_ok-find_in_line.ensures.found ∙ ap (λ l. map matches_of l ++ finds_in_line_at (finder_pattern c.loop-line.finder) d line) c.new-found.ensures.items
-        ∙ ap (λ p. finds_in_line_at p d line) c.loop-line.invariant.same in
+    ∙ ap (λ p. finds_in_line_at p d line) c.loop-line.invariant.same in
     let first = c.first_jump-first.ensures ∙ ap (λ l. first_from c.args.row (jump_rows l)) found in
     let so_far = still_nothing re (wrap_in d) (lines d.text) c.args.start line c.args.row c.first_jump-first.result c.loop-line.auto.line there c.loop-line.invariant.none first in
     early re (wrap_in d) (lines d.text) c.args.start line c.args.end c.args.row c.first_jump-first.result c.loop-line.auto.line there to so_far (sym c.is_some.ensures ∙ c.if-is_some.true)
@@ -48,7 +48,7 @@ loop-line-preserved c =
     let there : line < line_count d = omega (arith, c.line_count.ensures, c.min-line-end.ensures, right, c.loop-line-test.true) in
     let own = c.as_slice.ensures.value in
     let found = ap (map matches_of) own ∙ c.in_ok-find_in_line.ensures.found ∙ ap (λ l. map matches_of l ++ finds_in_line_at (finder_pattern c.loop-line.finder) d line) c.new-found.ensures.items
-        ∙ ap (λ p. finds_in_line_at p d line) c.loop-line.invariant.same in
+    ∙ ap (λ p. finds_in_line_at p d line) c.loop-line.invariant.same in
     let first = c.first_jump-first.ensures ∙ ap (λ l. first_from c.args.row (jump_rows l)) found in
     record {
       same = c.find_in_line.ensures.same ∙ c.loop-line.invariant.same;
