@@ -84,3 +84,4 @@ pub mod JumpLaws
 pub mod FindsGoOnLaws
 pub mod StoredLineLaws
 pub mod LineRangeLaws
+pub mod RowSearchLaws

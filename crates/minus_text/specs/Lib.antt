@@ -55,6 +55,7 @@ pub mod StyleSources
 pub mod StylesStay
 pub mod Searched
 pub mod StoredLines
+pub mod RowSearches
 pub mod Words
 pub mod NextPushes
 pub mod Views

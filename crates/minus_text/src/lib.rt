@@ -51,8 +51,8 @@ pub use screen::{
 pub use seams::rows_go_on;
 pub use search::{
     HighlightMatchesArgs, Patterns, Term, found_rows_go_on, highlight_line_matches,
-    highlights_add_markers_alone, next_nth_match, only_matches_are_highlighted, strip_escapes,
-    word_starts,
+    highlights_add_markers_alone, next_nth_match, only_matches_are_highlighted,
+    parts_show_their_matches, rows_show_their_matches, strip_escapes, word_starts,
 };
 pub use units::{Unit, Units};
 pub use view::RowsView;

@@ -16,7 +16,7 @@ pub mod words;
 
 pub use escapes::strip_escapes;
 pub(crate) use found::Finder;
-pub use found_rows::found_rows_go_on;
+pub use found_rows::{found_rows_go_on, parts_show_their_matches, rows_show_their_matches};
 pub use highlight::{
     HighlightMatchesArgs, highlight_line_matches, highlights_add_markers_alone,
     only_matches_are_highlighted,

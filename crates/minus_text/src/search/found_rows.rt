@@ -12,6 +12,7 @@ ghost use Rattle.minus_text.specs.FoundRows.{matches_of, pattern_of};
 ghost use Rattle.minus_text.specs.declared.search.found.FoundRow.{FoundRow};
 ghost use Rattle.minus_text.specs.FoundBy.{found_rows, AreJumps, HasRoomFor, FoundGoesOn};
 ghost use Rattle.minus_text.specs.Searched.{IsFoundBetween};
+ghost use Rattle.minus_text.specs.RowSearches.{RowsShowTheirMatches, PartsShowTheirMatches};
 
 use crate::formed_push::FormedPush;
 use crate::search::finding::{find_all, find_between, find_formed};
@@ -353,4 +354,15 @@ impl FoundRows {
 /// formed.
 pub fn found_rows_go_on()
     ensures { FoundGoesOn }
+{}
+
+/// Where a term is searched for in each row by itself, a row is put with the matches that are found in it alone.
+pub fn rows_show_their_matches()
+    ensures { RowsShowTheirMatches }
+{}
+
+/// Where a term is searched for in each row by itself, what is shown of a row in some columns is put with the matches
+/// that are found in the row alone.
+pub fn parts_show_their_matches()
+    ensures { PartsShowTheirMatches }
 {}
