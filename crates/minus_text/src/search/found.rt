@@ -40,7 +40,9 @@ impl Drop for Finder<'_> {
     }
 }
 
-// Where a matcher's pattern matches in what is outside of these places of a row.
+// Where a matcher's pattern matches in what is outside of these places of a row. It stands in each of its callers, since a
+// call costs as much as a search in a short row.
+#[inline(always)]
 pub(crate) fn outside_matches(
     alloc: Global,
     matcher: &mut Matcher<'_>,
