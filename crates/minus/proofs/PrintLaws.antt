@@ -11,7 +11,7 @@ use Rattle.minus_text.specs.Document.{Document}
 use Rattle.minus_text.specs.Found.{found_of_row}
 use Rattle.minus_text.specs.Finds.{finds}
 use Rattle.minus_text.specs.Searched.{Searched, IsStoredRow, IsFoundAt, stored_rows_for}
-use Rattle.minus_text.proofs.StoredKeptLaws.{length-stored_for}
+use Rattle.minus_text.proofs.SearchedLaws.{length-stored_for}
 use Rattle.minus_state.specs.Control.{Control, document_of, text_rows}
 use Rattle.minus_state.specs.declared.state.PagerState.{PagerState}
 use Rattle.minus_state.specs.States.{control_of, term_of, IsFormed}

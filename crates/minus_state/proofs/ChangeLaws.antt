@@ -118,7 +118,7 @@ formed_after (Err e) s t change new placed still leads f = still f
 pub change_anew : (s : PagerState) (change : Change) (next : Box Searched Global) (d : Document) (new : Control) → change.text ≡ Whole next → next.value ≡ searched (term_of s) d → d ≡ document_of new → change.mark ≡ new.mark → change.cols ≡ new.cols → change.rows ≡ new.rows → change.left ≡ new.left → change.ends ≡ new.ends → term_of s ≡ new.term → change.search_mark ≡ new.search_mark
     → settings_after (settings_of s) change ≡ new.settings → help_after change.help (aside_of s.saved) ≡ new.help → change.mode ≡ new.mode → search_after change.search (search_of s) ≡ new.search → IsChange (control_of s) change new
 change_anew s change next d new is formed same m c r l e t n q h y z = record {
-  belongs = rw is (tt, subst (λ (x : Option Re). IsFoundBy x next.value) t (subst (λ (x : Searched). IsFoundBy (term_of s) x) (sym formed) refl), tt);
+  belongs = rw is (tt, (subst (λ (x : Option Re). IsFoundBy x next.value) t (subst (λ (x : Searched). IsFoundBy (term_of s) x) (sym formed) refl), tt));
   document = ap (λ (n : NextText). next_document (document_of (control_of s)) n) is ∙ ap (λ (x : Searched). x.document) formed ∙ same;
   mark_is = m;
   cols_are = c;
@@ -146,7 +146,7 @@ shown_is s change new f h =
 -- a change that changes nothing
 pub unchanged : (s : PagerState) (change : Change) (redraw : Redraw) → change ≡ as_is s redraw → IsChange (control_of s) change (control_of s)
 unchanged s change redraw is = subst (λ (c : Change). IsChange (control_of s) c (control_of s)) (sym is) (record {
-  belongs = (tt, refl, tt);
+  belongs = (tt, (refl, tt));
   document = refl;
   mark_is = refl;
   cols_are = refl;

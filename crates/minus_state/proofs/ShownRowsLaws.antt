@@ -11,7 +11,8 @@ use Rattle.minus_text.specs.Searched.{stored_rows_for}
 use Rattle.minus_text.specs.Found.{RowMatches, found_of_row}
 use Rattle.minus_text.specs.Finds.{finds}
 use Rattle.minus_text.specs.ShownMatches.{marked_within}
-use Rattle.minus_text.proofs.StoredKeptLaws.{prefix_alike, columns_alike, stored_kept, found_stays, rows_stay, margin_kept, length-stored_for}
+use Rattle.minus_text.proofs.StoredKeptLaws.{prefix_alike, columns_alike, stored_kept, found_stays, rows_stay, margin_kept}
+use Rattle.minus_text.proofs.SearchedLaws.{length-stored_for}
 use Rattle.minus_state.specs.declared.selection.Selection.{Selection}
 use Rattle.minus_state.specs.Selection.{marked_range}
 use Rattle.minus_state.specs.View.{prefix_in, cut_in}

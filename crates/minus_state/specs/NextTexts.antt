@@ -81,4 +81,4 @@ IsSearchedAlike term d (SavedMore text) = Unit {0}
 
 -- what is formed beside a document is formed for it, and searched for a term as that is
 abbrev pub IsNext : Option Re → Searched → NextText → Type 0
-IsNext term s next = Belongs s.document next × IsSearchedFor term s next × IsSearchedAlike term s.document next
+IsNext term s next = Belongs s.document next × (IsSearchedFor term s next × IsSearchedAlike term s.document next)

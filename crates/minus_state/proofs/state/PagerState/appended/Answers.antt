@@ -34,7 +34,7 @@ returns-clause-next c = λ f.
     let old : IsFoundBy k.term state.screen = subst (λ (x : Searched). IsFoundBy k.term x) (sym f.screen) refl in
     let fresh : IsFoundInPush k.term pending = subst (λ (p : SearchedPush). IsFoundInPush k.term p) (sym is) (subst (λ (t : Option Re). IsFoundInPush t made) c.searching-term.ensures told.found) in
     let alike : SearchesAlike k.term state.screen.document pending.push = subst (λ (p : SearchedPush). SearchesAlike k.term state.screen.document p.push) (sym is) (subst (λ (t : Option Re). SearchesAlike t state.screen.document made.push) c.searching-term.ensures told.alike) in
-    let next : IsNext k.term state.screen text = (own, (old, fresh), alike) in
+    let next : IsNext k.term state.screen text = (own, ((old, fresh), alike)) in
     let after : Document = document_of (record k { text = k.text ++ bytes }) in
     let document : pushed (document_of k) bytes pending.push.numbers pending.push.cols ≡ after = ap (λ (p : SearchedPush). pushed (document_of k) bytes p.push.numbers p.push.cols) is ∙ ap₂ (λ (n : LineNumbers) (m : ℕ). pushed (document_of k) bytes n m) told.ok.its_numbers told.ok.its_cols in
     let here = ap (λ (d : Document). pushed d bytes pending.push.numbers pending.push.cols) (document_is state f) ∙ document in

@@ -32,7 +32,7 @@ returns-clause-next c = λ f.
     let row = match_row_is query d _ _ _ seen c.match_row.ensures ∙ ap (slice_get (matches_in (Some query) d)) anew in
     let base = c.redrawn-change.ensures.is in
     record {
-      belongs = (subst (λ (x : Document). AreFoundIn 0 (rows_of x) c.in_ok-findings.findings) here told.stand, found, tt);
+      belongs = (subst (λ (x : Document). AreFoundIn 0 (rows_of x) c.in_ok-findings.findings) here told.stand, (found, tt));
       document = refl;
       mark_is = c.min.ensures ∙ ap₂ min (c.unwrap_or-mark.ensures ∙ ap (λ (o : Option ℕ). unwrap_or o s.upper_mark) row) (c.top.ensures.value f);
       cols_are = ap (λ (x : Change). x.cols) base;
