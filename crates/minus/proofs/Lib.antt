@@ -17,6 +17,7 @@ pub mod LoopLaws
 pub mod CalledLaws
 pub mod WaitLaws
 pub mod StepLaws
+pub mod UnformedLaws
 pub mod StartLaws
 pub mod PagerLaws
 pub mod JoinedKindsLaws

@@ -4,6 +4,7 @@ use Rattle.minus_term.specs.Refusals.{refusal_of}
 use Rattle.minus_state.proofs.ChangeLaws.{unchanged}
 use Rattle.minus_state.proofs.RefusalLaws.{passed_on}
 use Rattle.minus_state.specs.Control.{Control}
+use Rattle.minus_state.specs.ShownPrompt.{prompt_row}
 use Rattle.minus_state.specs.States.{control_of}
 use Rattle.minus_state.specs.declared.state.PagerState.{PagerState}
 use Rattle.minus_term.specs.Written.{written_all}
@@ -36,7 +37,7 @@ invariant_of-result g c =
     record {
       formed = rw kept c.in_ok-state.ensures.formed;
       clamped = rw kept (first_is_clamped c.args.cols c.args.rows waiting (control_of state) c.in_ok-state.ensures.control);
-      prompted = rw kept (c.in_ok-prompt_row.ensures.prompt (control_of state) c.in_ok-state.ensures.formed same);
+      prompted = c.in_ok-prompt_row.ensures.prompt (control_of state) c.in_ok-state.ensures.formed same ∙ ap (λ (s : PagerState). prompt_row (control_of s)) (sym kept);
       drawn = c.in_ok-prompt_row.ensures.bytes c.in_ok-state.ensures.formed (control_of state) same tt ∙ ap (λ (s : PagerState). written_all (whole_page (control_of s))) (sym kept);
       closed = rw kept (ap is_some closed);
       moved = rw kept c.in_ok-movement.ensures.drawn;

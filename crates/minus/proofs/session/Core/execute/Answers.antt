@@ -11,6 +11,8 @@ use Rattle.minus.specs.Table.{handed, control_after, changed_by, effect_of, hook
 use Rattle.minus.proofs.CalledLaws.{called_on, uncalled_at, end_cleared}
 use Rattle.minus.proofs.RequestLaws.{none_handed, none_kept}
 use Rattle.minus.proofs.StepLaws.{exits_with, worked_by}
+use Rattle.minus.proofs.UnformedLaws.{untaken_unformed}
+use Rattle.minus_state.proofs.RefusalLaws.{passed_on}
 use Rattle.minus.proofs.session.Core.execute.Goals as goal
 
 pub returns-in-HandOver-clause-taken : goal.returns-in-HandOver-clause-taken
@@ -85,3 +87,7 @@ returns-clause-called g c =
 
 pub returns-clause-uncalled : goal.returns-clause-uncalled
 returns-clause-uncalled g c = uncalled_at c.change.result c.args.self.now c.change.new.self c.change.ensures.uncalled
+
+pub returns-in_err-outcome-clause-refused : goal.returns-in_err-outcome-clause-refused
+returns-in_err-outcome-clause-refused g c =
+    passed_on c.from_residual.result _ c.in_err-outcome.field-0.0 c.from_residual.ensures (untaken_unformed _ _ c.args.self.now (wanted_by c.args.request) c.args.clears_prefix c.in_err-outcome.field-0.0 c.requires.closed c.in_err-outcome.ensures.unformed)

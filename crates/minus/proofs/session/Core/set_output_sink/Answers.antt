@@ -1,9 +1,10 @@
 -- The page is drawn on the new sink, or broken off there.
-use Rattle.std.proofs.Common.{ap, ◌∙◌}
+use Rattle.std.proofs.Common.{refl, ap, ◌∙◌}
 use Rattle.minus.specs.Core.{seen_of}
 use Rattle.minus.specs.Seen.{Seen}
 use Rattle.minus.specs.declared.status.Status.TheVariants as status
 use Rattle.minus.proofs.StartLaws.{redrawn, redraw_broken}
+use Rattle.minus.proofs.UnformedLaws.{unexchanged_unformed}
 use Rattle.minus.proofs.session.Core.set_output_sink.Goals as goal
 
 pub returns-clause-exchanged : goal.returns-clause-exchanged
@@ -38,3 +39,8 @@ returns-in-Err-write_drawing-clause-refused g c =
       broken = rw (ap (λ (s : Seen _ _). s.control) broken.fails, ← c.replace-old.ensures.after) begun;
       rises = rw (← c.replace-old.ensures.after) broken.rises;
     })
+
+pub returns-in-Err-resize-clause-refused : goal.returns-in-Err-resize-clause-refused
+returns-in-Err-resize-clause-refused g c =
+    let refused = c.in-Err-resize.ensures in
+    unexchanged_unformed _ _ _ _ c.args.cols c.args.rows c.resize.new.self refused.refused c.in_default.ensures.can (record { seen = refused.err; sink = refused.sink; back = refl })
