@@ -54,12 +54,16 @@ no_sink_fault at_drawing w h f = h
 no_sink_fault for_pattern w h f = f
 no_sink_fault of_no_call w h f = f
 
-pub untaken_unformed : {S P H E Q K : Type 0} (sink : S → SinkSeen) (says : Says Q K) (core : Core S P H E Q K) (w : Wanted Q K) (clears : Bool) (e : MinusError) → (seen_of core).control.search ≡ None → IsUnformed (refusal_of e) w → IsUntakenAs sink says core w clears core e
-untaken_unformed sink says core w clears e closed h = λ told asked. record {
-  fails = fails_so says (refusal_of e) (seen_of core) told w (sink core.sink).bytes (subst (λ o. Wants says (seen_of core) o told w) (sym closed) asked.asks) h;
-  rises = λ fault. absurd (no_sink_fault (refusal_of e) w h fault);
-  untouched = λ none. refl;
-}
+pub untaken_unformed : {S P H E Q K : Type 0} (sink : S → SinkSeen) (says : Says Q K) (core new : Core S P H E Q K) (w : Wanted Q K) (clears : Bool) (e : MinusError) → (seen_of core).control.search ≡ None → seen_of new ≡ seen_of core → new.sink ≡ core.sink → IsUnformed (refusal_of e) w → IsUntakenAs sink says core w clears new e
+untaken_unformed sink says core new w clears e closed seen same h = λ told asked.
+    let wants = subst (λ o. Wants says (seen_of core) o told w) (sym closed) asked.asks in
+    let here = fails_so says (refusal_of e) (seen_of core) told w (sink core.sink).bytes wants h in
+    let there = subst (λ s. Fails says (refusal_of e) (seen_of core) told s (sink core.sink).bytes (sink core.sink).bytes) (sym seen) here in
+    record {
+      fails = subst (λ x. Fails says (refusal_of e) (seen_of core) told (seen_of new) (sink core.sink).bytes (sink x).bytes) (sym same) there;
+      rises = λ fault. absurd (no_sink_fault (refusal_of e) w h fault);
+      untouched = λ none. same;
+    }
 
 -- a size could not be formed for
 pub unexchanged_unformed : {S P H E Q K : Type 0} (refusal : Refusal) (sink : S → SinkSeen) (old : Core S P H E Q K) (given : S) (cols rows : ℕ) (new : Core S P H E Q K) → IsUnformed {Q = Q} {K = K} refusal (resizes cols rows)

@@ -1,5 +1,5 @@
 -- What is handed over is kept; an exit leaves the control, but for the typed prefix; and all else is applied.
-use Rattle.std.proofs.Common.{◌≡◌, ℕ, Bool, Option, None, is_some, sym, ap, subst, arith, ◌∙◌}
+use Rattle.std.proofs.Common.{◌≡◌, ℕ, Bool, Option, None, is_some, refl, sym, ap, subst, arith, ◌∙◌}
 use Rattle.std.proofs.lemmas.Result.{IfOk-weaker, IfErr-weaker}
 use Rattle.minus.specs.Core.{seen_of}
 use Rattle.minus.specs.Outcomes.{IsOutcome}
@@ -90,4 +90,4 @@ returns-clause-uncalled g c = uncalled_at c.change.result c.args.self.now c.chan
 
 pub returns-in_err-outcome-clause-refused : goal.returns-in_err-outcome-clause-refused
 returns-in_err-outcome-clause-refused g c =
-    passed_on c.from_residual.result _ c.in_err-outcome.field-0.0 c.from_residual.ensures (untaken_unformed _ _ c.args.self.now (wanted_by c.args.request) c.args.clears_prefix c.in_err-outcome.field-0.0 c.requires.closed c.in_err-outcome.ensures.unformed)
+    passed_on c.from_residual.result _ c.in_err-outcome.field-0.0 c.from_residual.ensures (untaken_unformed _ _ c.args.self.now _ (wanted_by c.args.request) c.args.clears_prefix c.in_err-outcome.field-0.0 c.requires.closed refl refl c.in_err-outcome.ensures.unformed)
