@@ -27,7 +27,7 @@ import re
 import subprocess
 import sys
 import tempfile
-from dataclasses import dataclass, field
+from dataclasses import dataclass, field, replace
 from typing import Callable
 
 # between two pushes of a text
@@ -150,7 +150,8 @@ MIDDLE = ["mark=2000"]
 
 @dataclass
 class Work:
-    """A work: what it is called, its sizes, the text at a size, and what is done; `each` is what its count is shared by."""
+    """A work: what it is called, its sizes, the text at a size, and what is done; `each` is what its count is shared by.
+    One of our own the original cannot do."""
 
     what: str
     sizes: list
@@ -160,6 +161,7 @@ class Work:
     acts: list = field(default_factory=list)
     turns: int = 0
     each: str = "size"
+    own: bool = False
 
     def words(self):
         return [self.coming, str(self.turns), *self.before, "--", *self.acts]
@@ -230,6 +232,14 @@ WORKS = {
     "drag": of_acts("selection led on", ["drag"], ["select=3,2"]),
     "copy": of_acts("10 rows copied", ["copy"], ["select=3,2", "lead=20,12"], 1, (10_000, 20_000)),
 }
+# what the original cannot do
+OWN = {
+    "push-term-lines": of_pushes("push of a line, under a term searched for in lines", [5000, 10_000], line_pushes, ["matchlines", *TAKEN]),
+    "term-lines": of_lines("line, a term taken and searched for in lines", ["key=enter"], ["matchlines", *keys("needle")]),
+    "redraw-styles": of_acts("page drawn, styles carried", ["redraw"], ["carrystyle", *MIDDLE]),
+    "scroll-styles": of_acts("scroll by a row, by the key `j`, styles carried", ["key=j"], ["carrystyle"], turns=1000),
+}
+WORKS |= {name: replace(work, own=True) for name, work in OWN.items()}
 # greatest sizes of processes: a work, and its size
 MEMORY = {"push": 100_000, "block": 10_000_000, "set": 10_000_000, "tiny": 8000, "pieces": 20_000, "resize": 100_000}
 
@@ -357,7 +367,7 @@ class Measuring:
             profile = os.path.join(self.profiles, f"{name}.{size}.{side}") if self.profiles else None
             return self.pool.submit(measure, self.programs[side], side, WORKS[name], size, profile)
 
-        return {side: one(side) for side in self.programs}
+        return {side: one(side) for side in self.programs if side == "here" or not WORKS[name].own}
 
     def taken(self, runs, name):
         """What the programs took for a work at a size."""

@@ -12,6 +12,10 @@ pub(crate) enum Act {
     Numbers,
     /// Each line is one row.
     Unwrapped,
+    /// A term is searched for in lines.
+    MatchLines,
+    /// Rows are put with the styles that their lines carry to them.
+    CarryStyle,
     /// The page goes on with what is pushed.
     Following,
     /// What is selected is copied.
@@ -59,6 +63,8 @@ fn parse_named(name: &str) -> Option<Act> {
         "help" => Some(Act::Help),
         "numbers" => Some(Act::Numbers),
         "unwrapped" => Some(Act::Unwrapped),
+        "matchlines" => Some(Act::MatchLines),
+        "carrystyle" => Some(Act::CarryStyle),
         "following" => Some(Act::Following),
         "copy" => Some(Act::Copy),
         "next" => Some(Act::Next),
@@ -105,6 +111,8 @@ impl Act {
             Act::Redraw => Input::Command(Command::Io(IoCommand::RedrawDisplay)),
             Act::Numbers => Input::Command(Command::SetLineNumbers(LineNumbers::Enabled)),
             Act::Unwrapped => Input::Command(Command::LineWrapping(false)),
+            Act::MatchLines => Input::Command(Command::SetMatchLines(true)),
+            Act::CarryStyle => Input::Command(Command::SetCarryStyle(true)),
             Act::Following => Input::Command(Command::FollowOutput(true)),
             Act::Key(key) => Input::Event(Event::Key(key)),
             Act::Size(cols, rows) => Input::Event(Event::Resize(cols, rows)),
