@@ -290,6 +290,8 @@ pub use search::highlights_add_markers_alone;
 pub use search::incremental_preview;
 pub use search::next_nth_match;
 pub use search::only_matches_are_highlighted;
+pub use search::parts_show_their_matches;
+pub use search::rows_show_their_matches;
 pub use search::search_opts;
 pub use search::strip_escapes;
 pub use session::Core;

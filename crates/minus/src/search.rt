@@ -9,5 +9,6 @@ pub use minus_state::search::preview::incremental_preview;
 pub use minus_state::search::{InputStatus, SearchMode};
 pub use minus_text::search::{
     HighlightMatchesArgs, Patterns, Term, found_rows_go_on, highlight_line_matches,
-    highlights_add_markers_alone, next_nth_match, only_matches_are_highlighted, strip_escapes,
+    highlights_add_markers_alone, next_nth_match, only_matches_are_highlighted,
+    parts_show_their_matches, rows_show_their_matches, strip_escapes,
 };
