@@ -1,2 +1,5 @@
-pub mod Pagings
-pub mod Statuses
+pub mod Clipboard
+pub mod Following
+pub mod Jumps
+pub mod Prompt
+pub mod Reading

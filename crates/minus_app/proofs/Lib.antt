@@ -1,3 +1,0 @@
-pub mod FeedLaws
-pub mod JumpLaws
-pub mod KeptLaws
