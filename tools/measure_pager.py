@@ -147,7 +147,7 @@ class Run:
 
 
 def set_raw():
-    """What bin/minus asks `stty` for."""
+    """What bin/minus-run asks `stty` for."""
     mode = termios.tcgetattr(0)
     mode[0] = mode[1] = mode[3] = 0
     mode[6][termios.VMIN] = mode[6][termios.VTIME] = 0
@@ -304,11 +304,13 @@ def main():
     print(machine() + '\n')
     with tempfile.TemporaryDirectory() as folder:
         launcher = shutil.copy(os.path.join(TOP, 'bin', 'minus'), folder)
+        shutil.copy(os.path.join(TOP, 'bin', 'minus-run'), folder)
         program = shutil.copy(given.program, os.path.join(folder, 'minus_pager'))
-        alone = program, str(COLS), str(ROWS), os.path.join(folder, 'none')  # (no window changes its size)
+        # (for the program alone; no window changes its size)
+        os.environ['MINUS_TTY'] = f'{COLS} {ROWS}'
         programs = {
             '`less`': lambda *words: Run(['less', *words]),
-            'the program alone': lambda *words: Run([*alone, words[-1], *words], raw=True),
+            'the program alone': lambda *words: Run([program, *words], raw=True),
             '`bin/minus`': lambda *words: Run([launcher, *words]),
         }
         texts = {}

@@ -54,7 +54,7 @@ def page(program):
     """The cells of the page that the pager shows."""
     player = Player(COLS, ROWS)
     with tempfile.TemporaryDirectory() as folder:
-        for file in (os.path.join(TOP, 'bin', 'minus'), program):
+        for file in (*(os.path.join(TOP, 'bin', script) for script in ('minus', 'minus-run')), program):
             shutil.copy(file, folder)
         with open(os.path.join(folder, 'server.log'), 'w') as file:
             file.writelines(log())

@@ -1,9 +1,9 @@
 #!/usr/bin/env python3
-"""Tests of the pager program in a pseudo terminal: test_pager.py PROGRAM [MINUS_SHOW]
+"""Tests of programs on a pseudo terminal, the pager and minus_report: test_pager.py PROGRAM [MINUS_SHOW]
 
-PROGRAM is the built crates/minus_pager/out/minus_pager. It is put beside a copy of bin/minus, and run by a shell with
-job control. What comes out is played on a screen of cells; MINUS_SHOW (or the one in crates/minus_show/out) says which
-page the library defines for the same text, keys and prompt.
+PROGRAM is the built crates/minus_pager/out/minus_pager. It is put beside copies of bin/minus and bin/minus-run, and run
+by a shell with job control. What comes out is played on a screen of cells; MINUS_SHOW (or the one in
+crates/minus_show/out) says which page the library defines for the same text, keys and prompt. minus_report is the one in crates/minus_report/out.
 """
 import base64
 import fcntl
@@ -25,6 +25,7 @@ import unittest
 
 TOP = os.path.dirname(os.path.dirname(os.path.abspath(__file__)))
 PROGRAM = SHOW = None
+REPORT = os.path.join(TOP, 'crates', 'minus_report', 'out', 'minus_report')
 PATIENCE = 60  # seconds: what has to come may take so long; no test waits without need
 UNIT = re.compile(r'\x1b\[([?<]?)([0-9;]*)([@-~])|\x1b\]([^\x07\x1b]*)(?:\x07|\x1b\\)|[\s\S]')
 BEGUN = re.compile(r'\x1b(\[[?<]?[0-9;]*|\][^\x07\x1b]*\x1b?)?\Z')
@@ -149,6 +150,7 @@ class Terminal:
     def __init__(self, folder, cols=40, rows=8, shell=shutil.which('dash')):
         words = [shell, '-i'] if shell else ['bash', '--noediting', '--norc', '--noprofile', '-i']
         self.player = Player(cols, rows)
+        self.program = 'minus_pager'  # whose reads are counted
         self.bytes = b''
         master, slave = pty.openpty()
         self.master, self.slave = master, slave
@@ -218,13 +220,14 @@ class Terminal:
                 words = contents(f'/proc/{pid}/cmdline').split(b'\0')
             except OSError:
                 continue
-            if any(os.path.basename(w).decode(errors='replace') == name for w in words[:3]):
+            # (a script stands behind its shell, and the program that it runs behind the script)
+            if any(os.path.basename(w).decode(errors='replace') == name for w in words[:2]):
                 found.append(pid)
         return found
 
     def counted(self, name):
         """What the system has counted of the program's reads: how many (syscr), or of how many bytes (rchar)."""
-        counts = contents(f'/proc/{self.processes("minus_pager")[0]}/io').decode()
+        counts = contents(f'/proc/{self.processes(self.program)[0]}/io').decode()
         return int(re.search(f'{name}: (\\d+)', counts).group(1))
 
     def send_some(self, keys):
@@ -252,11 +255,14 @@ class Terminal:
         os.waitpid(self.pid, 0)
 
 
-class PagerTests(unittest.TestCase):
+class TerminalTests(unittest.TestCase):
+    """What the tests on a terminal share."""
+
     def setUp(self):
         self.folder = tempfile.mkdtemp(prefix='test_pager.')
         self.addCleanup(shutil.rmtree, self.folder, True)
-        shutil.copy(os.path.join(TOP, 'bin', 'minus'), self.folder)
+        for script in ('minus', 'minus-run'):
+            shutil.copy(os.path.join(TOP, 'bin', script), self.folder)
         shutil.copy(PROGRAM, self.folder)
         self.terminal = None
 
@@ -312,8 +318,41 @@ class PagerTests(unittest.TestCase):
         terminal.wait(lambda: terminal.bytes.count(b'status=') > 1 and terminal.ends_with('ready> '), 'a status')
         self.assertIn(f'status={status}\r'.encode(), terminal.bytes)
         self.assertEqual([n for n in os.listdir(self.folder) if n.startswith('minus.')], [])
-        self.assertEqual(terminal.processes('minus_pager'), [])
+        self.assertEqual([p for name in ('minus_pager', 'minus_report') for p in terminal.processes(name)], [])
 
+    def quit(self):
+        """Ends the pager by its key."""
+        self.press('q')
+        self.assert_back(0)
+
+    def open_pipe(self):
+        """Makes a pipe that `cat to_come` reads, and answers its other end."""
+        path = os.path.join(self.folder, 'to_come')
+        os.mkfifo(path)
+        return os.open(path, os.O_RDWR)
+
+    def end_pipe(self, writer):
+        """The pager ends before the pipe's producer does, and then the shell goes on."""
+        self.press('q')
+        self.terminal.wait(lambda: not self.terminal.player.modes[1049], 'the main screen')
+        os.close(writer)
+        self.assert_back(0)
+
+    def suspend(self, keys='\x1a'):
+        """Presses Ctrl-Z: the shell has its terminal back."""
+        terminal = self.terminal
+        terminal.send(keys)
+        terminal.wait(lambda: terminal.ends_with('ready> '), 'the shell')
+        self.assertEqual(terminal.mode(), terminal.before)
+        for mode in (1049, 1000, 1002, 1003, 1006):
+            self.assertFalse(terminal.player.modes[mode], mode)
+
+    def resume(self):
+        self.terminal.send('fg\n')
+        self.terminal.wait(lambda: self.terminal.player.modes[1049], 'the page')
+
+
+class PagerTests(TerminalTests):
     LINES = ''.join(f'line {n} of the text\n' for n in range(1, 101))
 
     def page_lines(self):
@@ -322,11 +361,6 @@ class PagerTests(unittest.TestCase):
         self.page('./minus notes')
         self.terminal.wait_for('1-7/100')
         return self.terminal
-
-    def quit(self):
-        """Ends the pager by its key."""
-        self.press('q')
-        self.assert_back(0)
 
     def test_keys_do_what_the_library_says(self):
         self.write('notes', self.LINES)
@@ -738,24 +772,11 @@ class PagerTests(unittest.TestCase):
         os.set_blocking(terminal.master, True)
         self.quit()
 
-    def open_pipe(self):
-        """Makes a pipe that `cat to_come` reads, and answers its other end."""
-        path = os.path.join(self.folder, 'to_come')
-        os.mkfifo(path)
-        return os.open(path, os.O_RDWR)
-
     def page_pipe(self, begin, options=''):
         """Pages a pipe whose producer writes what a command says and then what this test writes: to this descriptor."""
         writer = self.open_pipe()
         self.page(f'({begin}; cat to_come) | ./minus {options}')
         return writer
-
-    def end_pipe(self, writer):
-        """The pager ends before the pipe's producer does, and then the shell goes on."""
-        self.press('q')
-        self.terminal.wait(lambda: not self.terminal.player.modes[1049], 'the main screen')
-        os.close(writer)
-        self.assert_back(0)
 
     def test_a_slow_pipe_leaves_the_keys_awake(self):
         writer = self.page_pipe('seq 20')
@@ -902,19 +923,6 @@ class PagerTests(unittest.TestCase):
     def test_the_program_is_told_to_end(self):
         self.end_by('minus_pager', signal.SIGTERM, 143)
 
-    def suspend(self, keys='\x1a'):
-        """Presses Ctrl-Z: the shell has its terminal back."""
-        terminal = self.terminal
-        terminal.send(keys)
-        terminal.wait(lambda: terminal.ends_with('ready> '), 'the shell')
-        self.assertEqual(terminal.mode(), terminal.before)
-        for mode in (1049, 1000, 1002, 1003, 1006):
-            self.assertFalse(terminal.player.modes[mode], mode)
-
-    def resume(self):
-        self.terminal.send('fg\n')
-        self.terminal.wait(lambda: self.terminal.player.modes[1049], 'the page')
-
     def test_ctrl_z_suspends_and_fg_comes_back(self):
         terminal = self.page_lines()
         self.press('4j')
@@ -970,18 +978,40 @@ class PagerTests(unittest.TestCase):
         ('notes notes', 'refused'), ('- -', 'refused'), ('notes - --version', 'refused'),
     )
 
-    def test_the_launcher_and_the_program_read_words_alike(self):
+    def test_the_words(self):
         self.write('notes', self.LINES)
         launcher, how = os.path.join(self.folder, 'minus'), dict(cwd=self.folder, input=b'', capture_output=True)
         for words, what in self.WORDS:
             launched = subprocess.run([launcher, *words.split()], **how)
             self.assertEqual(launched.returncode, 2 if what == 'refused' else 0, words)
             self.assertEqual(launched.stderr.count(b'\n'), what == 'refused', words)
+            self.assertEqual(launched.stderr.startswith(b'minus: '), what == 'refused', words)
             if what == 'page':
                 self.assertEqual(launched.stdout, self.LINES.encode() if 'notes' in words else b'', words)
-            # (the program alone: it says its usage where it is to page nothing, and else misses its text)
-            said = subprocess.run([PROGRAM, '80', '24', 'no_size', 'no_text', *words.split()], **how).stderr
-            self.assertEqual(said.startswith(b'usage: '), what != 'page', words)
+            elif what == 'other':
+                self.assertNotEqual(launched.stdout, b'', words)
+
+    def test_help_on_a_terminal(self):
+        self.terminal = terminal = Terminal(self.folder, 120, 24)
+        terminal.send('./minus --help\n')
+        terminal.wait(lambda: terminal.bytes.count(b'ready> ') > 1 and terminal.ends_with('ready> '), 'the shell')
+        shown = terminal.player.texts()
+        self.assertTrue(shown[1].startswith('usage: minus '), shown)
+        self.assertEqual(shown[3], 'Pages FILE on the terminal, or standard input.')
+        self.assertEqual(terminal.mode(), terminal.before)
+
+    def test_a_pipe_with_a_name(self):
+        os.mkfifo(os.path.join(self.folder, 'pipe'))
+        self.page('(seq 3 >pipe &); ./minus pipe')
+        self.assert_page('1\n2\n3\n', 'pipe  1-3/3  100%')
+        self.quit()
+
+    def test_a_file_leaves_standard_input_to_others(self):
+        self.write('notes', self.LINES)
+        self.page('seq 3 | { ./minus notes; cat; }')
+        self.terminal.wait_for('1-7/100')
+        self.press('q')
+        self.terminal.wait(lambda: self.terminal.bytes.endswith(b'1\r\n2\r\n3\r\nready> '), 'what others read')
 
     def test_no_terminal_hands_the_text_on(self):
         raw = b'a\tb\x1b[31m\xff\r\n'
@@ -990,6 +1020,64 @@ class PagerTests(unittest.TestCase):
         self.assertEqual(subprocess.run([launcher, path], stdout=subprocess.PIPE).stdout, raw)
         self.assertEqual(subprocess.run([launcher], input=raw, stdout=subprocess.PIPE).stdout, raw)
         self.assertEqual(subprocess.run([launcher, '-'], input=raw, stdout=subprocess.PIPE).stdout, raw)
+
+
+class ReportTests(TerminalTests):
+    """A program with a key of its own, run by minus-run."""
+
+    TEXT = ''.join(f'error {n}\n' if n % 20 == 7 else f'line {n}\n' for n in range(100))
+
+    def setUp(self):
+        super().setUp()
+        shutil.copy(REPORT, self.folder)
+
+    def test_a_key_of_its_own(self):
+        self.write('report', self.TEXT)
+        self.page('./minus-run minus_report <report', cols=60)
+        self.assert_page(self.TEXT, 'report  94-100/100  100%', 'follow on')
+        # (the first error of all, since none is behind the last page: a move up, which ends following)
+        for keys, mark in (('e', 7), ('e', 27), ('12j', 39), ('e', 47), ('G', 93), ('e', 7)):
+            self.press(keys)
+            self.assert_page(self.TEXT, f'report  {mark + 1}-{mark + 7}/100  {mark + 7}%', f'mark {mark}')
+        # (while the search prompt is open the key is a letter of the query)
+        self.press('/error 4\r')
+        self.assert_page(self.TEXT, 'report  48-54/100  54%', 'mark 7', 'type /error 4', 'key enter')
+        self.press('M')
+        self.terminal.wait_for('COMMAND SUMMARY')
+        self.press('G')
+        self.terminal.wait_for('go to the next error')
+        self.press('e')
+        self.terminal.program = 'minus_report'
+        self.terminal.wait_for_turns()
+        self.terminal.wait_for('go to the next error')
+        self.press('q')
+        self.terminal.wait_for('48-54/100')
+        self.quit()
+
+    def test_a_report_is_followed(self):
+        writer = self.open_pipe()
+        self.page('(seq 20; cat to_come) | ./minus-run minus_report')
+        self.terminal.wait_for('14-20/20')
+        os.write(writer, b'error: late\n')
+        self.terminal.wait_for('15-21/21')
+        self.press('g')
+        self.terminal.wait_for('1-7/21')
+        self.suspend()
+        self.terminal.resize(30, 12)
+        self.resume()
+        self.terminal.wait_for('1-11/21')
+        self.press('e')
+        self.terminal.wait_for('11-21/21')
+        self.end_pipe(writer)
+
+    def test_its_words_are_its_own(self):
+        report = os.path.join(self.folder, 'minus-run'), 'minus_report', '-x', 'two words'
+        run = subprocess.run(report, input=b'a\tb\n', capture_output=True)
+        self.assertEqual((run.returncode, run.stdout, run.stderr), (0, b'a       b\n', b''))
+
+    def test_no_such_program(self):
+        run = subprocess.run([os.path.join(self.folder, 'minus-run'), 'none'], capture_output=True)
+        self.assertEqual((run.returncode, run.stderr.count(b'\n')), (127, 1))
 
 
 if __name__ == '__main__':

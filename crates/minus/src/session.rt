@@ -95,10 +95,18 @@ impl<S, P: Parts> Core<S, P> {
 
     /// The state: what its screen answers is the document of the text on show.
     pub fn state(&self) -> &PagerState
+        ensures same { result.now ≡ self.now.parts.state }
         ensures control { control_of result.now ≡ (seen_of self.now).control }
         ensures formed { IsFormed result.now }
     {
         &self.parts.state
+    }
+
+    /// What decides about its events.
+    pub fn classifier(&self) -> &P::Classifier
+        ensures { result.now ≡ self.now.parts.classifier }
+    {
+        &self.parts.classifier
     }
 
     /// The mode that the session was started in; `Uninitialized` after an exit or a failure.

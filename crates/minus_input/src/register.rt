@@ -130,8 +130,8 @@ impl<S: BuildHasher + Drop, C: Drop> EventTable<S, C> {
         }
     }
 
-    // What is done at an event.
-    pub(crate) fn find(&self, event: &Event) -> Option<ActionOf<&C>>
+    /// What is done at an event.
+    pub fn find(&self, event: &Event) -> Option<ActionOf<&C>>
         ensures { option_map seen_action result
             ≡ action_at same_event (register_of self.now) (ExactMatchEvent event.now) }
     {

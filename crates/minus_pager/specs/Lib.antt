@@ -1,5 +1,2 @@
-pub mod Clipboard
-pub mod Following
-pub mod Jumps
-pub mod Prompt
-pub mod Reading
+pub mod Pagings
+pub mod Statuses

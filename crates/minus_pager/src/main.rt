@@ -1,41 +1,53 @@
-//! Pages a text on the terminal. The launcher `bin/minus` sets the terminal's mode, runs this program, and hands the
-//! terminal back.
+//! Pages a file or standard input on the terminal, as `less` does; `bin/minus` runs it.
 #![tactic(auto)]
 
-mod clipboard;
-mod fault;
-mod keyboard;
-mod keys;
-mod launch;
-mod program;
-mod prompt;
-mod size;
-mod text;
-mod viewer;
+mod paging;
+mod refusal;
+mod words;
 
-use crate::fault::Fault;
-use crate::launch::Launch;
-use crate::program::Program;
+use crate::paging::page;
+use crate::refusal::Refusal;
+use crate::words::{read_words, texts};
+use minus_app::print;
+use minus_view::{Arguments, parse_arguments};
 use std::process::ExitCode;
 
-// Pages the text that the launcher names, from its first page to the key that ends the session, unless it was printed.
-fn page(rt: &HostRuntime) -> Result<(), Fault> {
-    let launch = Launch::read(rt)?;
-    let Some(mut program) = Program::start(rt, &launch)? else {
-        return Ok(());
-    };
-    let served = program.serve(rt);
-    let cleaned = program.finish();
-    served?;
-    cleaned
+/// How the program is called.
+const USAGE: &str = "\
+usage: minus [-N] [-S] [-F] [+F] [+LINE] [--no-mouse] [-h | --help] [--version] [FILE | -]
+
+Pages FILE on the terminal, or standard input.
+
+  -N          number the lines
+  -S          cut long lines at the screen's edge, and do not wrap them
+  -F          print a text that fits the screen, and do not page it
+  +F          follow the end of the text
+  +LINE       begin at this line, counted from 1
+  --no-mouse  leave the mouse to the terminal
+
+Keys: j k scroll, Space f b page, g < go to the top, G > to the end, F follows the end, / ? search on and back,
+n N go to the next match and the one before, q ends; M lists all.
+";
+
+// Does what the words ask for.
+fn answer(rt: &HostRuntime) -> Result<(), Refusal> {
+    let words = read_words(rt)?;
+    let words = texts(rt.alloc(), &words)?;
+    match parse_arguments(&words) {
+        Ok(Arguments::Page(paging)) => page(rt, &paging)?,
+        Ok(Arguments::Help) => print(rt, USAGE)?,
+        Ok(Arguments::Version) => print(rt, "minus 0.1.0\n")?,
+        Err(fault) => return Err(Refusal::of_words(rt.alloc(), &fault)?),
+    }
+    Ok(())
 }
 
 fn main(rt: HostRuntime) -> ExitCode {
-    match page(&rt) {
+    match answer(&rt) {
         Ok(()) => ExitCode::SUCCESS,
-        Err(fault) => {
-            let _ = rt.eprintln(fault);
-            ExitCode::from(1)
+        Err(refusal) => {
+            let _ = eprintln!(&rt; "minus: {refusal}");
+            ExitCode::from(refusal.status())
         }
     }
 }

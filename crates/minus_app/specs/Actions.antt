@@ -1,0 +1,41 @@
+-- What a key of an application asks the session for, and which of the application's actions is done.
+use Rattle.std.specs.Prelude.{ℕ, Option, None, Some, Bool, true, false}
+use Rattle.minus_term.specs.declared.event.Event.{Event}
+use Rattle.minus_state.specs.declared.input.InputEvent.{InputEvent}
+use Rattle.minus_state.specs.declared.input.InputEvent.TheVariants.{Ignore}
+use Rattle.minus_state.specs.declared.state.PagerState.{PagerState}
+use Rattle.minus_input.specs.DefaultAnswers.{default_answer}
+use Rattle.minus_input.specs.declared.default_action.DefaultAction.{DefaultAction}
+use Rattle.minus_input.specs.declared.default_action.DefaultAction.TheVariants.{Quit}
+use Rattle.minus_input.specs.declared.bound.ActionOf.{ActionOf}
+use Rattle.minus_input.specs.declared.bound.ActionOf.TheVariants.{Default, Callback}
+use Rattle.minus_app.specs.declared.keys.KeyAction.{KeyAction}
+use Rattle.minus_app.specs.declared.keys.KeyAction.TheVariants.{Pager, Own}
+
+-- an action of the pager's as the default register has it, and nothing where the action is the application's
+abbrev pub key_answer : KeyAction → Event → PagerState → InputEvent
+key_answer (Pager action) event state = default_answer action event state
+key_answer (Own number) event state = Ignore
+
+-- the number of the application's action, where that is what is done
+abbrev pub own_number : Option (ActionOf KeyAction) → Option ℕ
+own_number None = None
+own_number (Some (Default action)) = None
+own_number (Some (Callback (Pager action))) = None
+own_number (Some (Callback (Own number))) = Some number
+
+-- the action of the pager's, where that is what is done
+abbrev pub pager_action : Option (ActionOf KeyAction) → Option DefaultAction
+pager_action None = None
+pager_action (Some (Default action)) = Some action
+pager_action (Some (Callback (Pager action))) = Some action
+pager_action (Some (Callback (Own number))) = None
+
+-- whether that ends the program
+abbrev pub is_quit : Option DefaultAction → Bool
+is_quit None = false
+is_quit (Some Quit) = true
+is_quit (Some action) = false
+
+abbrev pub ends_program : Option (ActionOf KeyAction) → Bool
+ends_program action = is_quit (pager_action action)

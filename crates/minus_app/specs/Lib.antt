@@ -1,0 +1,11 @@
+pub mod Actions
+pub mod Clipboard
+pub mod Feeds
+pub mod Following
+pub mod Jumps
+pub mod Keys
+pub mod Lines
+pub mod Prompt
+pub mod Reading
+pub mod Sizes
+pub mod Texts

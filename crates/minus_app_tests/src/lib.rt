@@ -1,0 +1,6 @@
+//! The tests of programs that page on a terminal: over a fake keyboard, and over a sink that keeps what it is sent.
+#![tactic(auto)]
+
+mod lines;
+mod session;
+mod typed;

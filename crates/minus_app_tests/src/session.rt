@@ -1,0 +1,290 @@
+//! What is typed to a program, and what is found then.
+use crate::lines::{Act, Lines, keys};
+use crate::typed::{READS, Typed};
+use minus::{DefaultAction, MinusError, WithTty};
+use minus_app::{AppKeys, Fault, Keyboard, Launch, Options, Program, Size, Terminal};
+use std::fs::File;
+use std::io::Write;
+
+type Fake = Program<Lines, WithTty<Vec<u8>>, Typed>;
+
+// A terminal of 40 columns and 5 rows, on which these pieces are typed.
+fn terminal(
+    rt: &HostRuntime,
+    pieces: &'static [&'static [u8]],
+    waits: u32,
+    sizes: Option<String>,
+) -> Result<Terminal<WithTty<Vec<u8>>, Typed>, Fault> {
+    let (rows, cols, resumes) = (5, 40, 0);
+    Ok(Terminal {
+        pages: WithTty::new(Vec::new(rt.alloc()), true),
+        beside: WithTty::new(Vec::new(rt.alloc()), true),
+        keyboard: Keyboard::new(rt, Typed::new(pieces, waits))?,
+        launch: Launch {
+            size: Size {
+                rows,
+                cols,
+                resumes,
+            },
+            sizes,
+        },
+    })
+}
+
+// What is found after some turns.
+#[derive(Drop)]
+struct Found {
+    // Whether the program goes on.
+    on: bool,
+    // The line at the top of the page, counted from 0.
+    line: usize,
+    size: (usize, usize),
+    counted: usize,
+    is_help: bool,
+    is_searching: bool,
+    prompt: String,
+    message: Option<String>,
+    text: String,
+}
+
+fn found_after(rt: &HostRuntime, program: &Fake, on: bool) -> Result<Found, Fault> {
+    let (view, alloc) = (program.view(), rt.alloc());
+    let state = view.state();
+    Ok(Found {
+        on,
+        line: view.top_line(),
+        size: view.size(),
+        counted: program.app().counted,
+        is_help: state.help_open(),
+        is_searching: state.open_search().is_some(),
+        prompt: String::from_str(alloc, state.prompt())?,
+        message: match &state.message {
+            Some(text) => Some(String::from_str(alloc, text.as_str())?),
+            None => None,
+        },
+        text: String::from_str(alloc, view.text())?,
+    })
+}
+
+// How many reads pass before something is typed, as many as the feeds of all lines take.
+const READ: u32 = 40;
+
+// Starts a program, and lets it hear what is typed after so many reads.
+fn run(
+    rt: &HostRuntime,
+    app: Lines,
+    keys: AppKeys<Act>,
+    pieces: &'static [&'static [u8]],
+    waits: u32,
+    sizes: Option<String>,
+) -> Result<Found, Fault> {
+    let terminal = terminal(rt, pieces, waits, sizes)?;
+    let Some(mut program) = Program::start(rt, app, keys, &Options::new(), terminal)? else {
+        return Err(Fault::NoEnd);
+    };
+    let mut on = true;
+    let typed = (pieces.len() as u32).saturating_add(1);
+    for _ in 0..typed
+        .saturating_mul(READS.saturating_add(1))
+        .saturating_add(READ)
+    {
+        if !program.turn(rt)? {
+            on = false;
+            break;
+        }
+    }
+    found_after(rt, &program, on)
+}
+
+// Thirty lines, and what is typed to them.
+fn typing(rt: &HostRuntime, pieces: &'static [&'static [u8]]) -> Result<Found, Fault> {
+    run(rt, Lines::new(30), keys(rt.alloc())?, pieces, READ, None)
+}
+
+#[test]
+fn an_own_key_is_the_applications(rt: HostRuntime) {
+    let found = typing(&rt, &[b"e"]).expect(&rt, "typed");
+    assert_eq!(rt; (found.on, found.line), (true, 9));
+    assert!(rt; found.prompt.as_str() == "lines  10-13/30  43%");
+}
+
+#[test]
+fn a_typed_number_is_told_and_goes(rt: HostRuntime) {
+    let found = typing(&rt, &[b"13c", b"j"]).expect(&rt, "typed");
+    assert_eq!(rt; (found.on, found.counted, found.line), (true, 13, 1));
+    // (and the application says in the prompt row what it likes)
+    assert!(rt; found.prompt.as_str() == "counted 13 at 1");
+}
+
+#[test]
+fn a_message_goes_with_the_next_key(rt: HostRuntime) {
+    let said = typing(&rt, &[b"t"]).expect(&rt, "typed");
+    assert!(rt; said.message.as_ref().map(|text| text.as_str()) == Some("said"));
+    let gone = typing(&rt, &[b"t", b"j"]).expect(&rt, "typed");
+    assert!(rt; gone.message.is_none() && gone.line == 1);
+    let gone = typing(&rt, &[b"t", b"c"]).expect(&rt, "typed");
+    assert!(rt; gone.message.is_none() && gone.counted == 1);
+}
+
+#[test]
+fn another_text_is_shown(rt: HostRuntime) {
+    let found = typing(&rt, &[b"x"]).expect(&rt, "typed");
+    assert!(rt; found.on && found.text.as_str() == "another text\nof two lines\n");
+}
+
+#[test]
+fn an_action_ends_the_program(rt: HostRuntime) {
+    assert!(rt; !typing(&rt, &[b"Z"]).expect(&rt, "typed").on);
+}
+
+#[test]
+fn q_and_ctrl_c_end_the_program(rt: HostRuntime) {
+    assert!(rt; !typing(&rt, &[b"q"]).expect(&rt, "typed").on);
+    assert!(rt; !typing(&rt, &[b"\x03"]).expect(&rt, "typed").on);
+}
+
+#[test]
+fn the_search_prompt_keeps_its_keys(rt: HostRuntime) {
+    let open = typing(&rt, &[b"/e"]).expect(&rt, "typed");
+    assert_eq!(rt; (open.on, open.is_searching, open.line), (true, true, 0));
+    let closed = typing(&rt, &[b"/Ze", b"\x1b", b""]).expect(&rt, "typed");
+    assert_eq!(rt;
+        (closed.on, closed.is_searching, closed.line),
+        (true, false, 0)
+    );
+    assert!(rt;
+        !typing(&rt, &[b"/Ze", b"\x1b", b"Z"])
+            .expect(&rt, "typed")
+            .on
+    );
+    // (a query that is taken leads to its match)
+    let found = typing(&rt, &[b"/line 7\r"]).expect(&rt, "typed");
+    assert_eq!(rt; (found.is_searching, found.line), (false, 6));
+}
+
+#[test]
+fn help_lists_both_and_keeps_its_keys(rt: HostRuntime) {
+    let found = typing(&rt, &[b"M", b"eZ"]).expect(&rt, "typed");
+    assert_eq!(rt; (found.on, found.is_help), (true, true));
+    assert!(rt; found.text.contains("go to the tenth line"));
+    assert!(rt; found.text.contains("scroll down"));
+    let left = typing(&rt, &[b"M", b"q", b"c"]).expect(&rt, "typed");
+    assert_eq!(rt; (left.on, left.is_help, left.counted), (true, false, 1));
+}
+
+#[test]
+fn a_followed_text_shows_its_end(rt: HostRuntime) {
+    let found = typing(&rt, &[b"F", b"a"]).expect(&rt, "typed");
+    assert_eq!(rt; (found.on, found.line), (true, 27));
+    // (an action that moves up ends that, as a key of the pager does)
+    let found = typing(&rt, &[b"F", b"e", b"a"]).expect(&rt, "typed");
+    assert_eq!(rt; (found.on, found.line), (true, 9));
+    assert!(rt; found.text.ends_with("line 31\n"));
+}
+
+// Writes what a launcher tells of the size, and answers where.
+fn sizes(rt: &HostRuntime, name: &str, told: &str) -> Result<Option<String>, Fault> {
+    let mut file = File::create(rt, name)?;
+    file.write_all(told.as_bytes())?;
+    Ok(Some(String::from_str(rt.alloc(), name)?))
+}
+
+// Thirty lines on a terminal of which the launcher tells something, and what is typed to them.
+fn told(
+    rt: &HostRuntime,
+    name: &str,
+    told: &str,
+    pieces: &'static [&'static [u8]],
+) -> Result<Found, Fault> {
+    let sizes = sizes(rt, name, told)?;
+    run(rt, Lines::new(30), keys(rt.alloc())?, pieces, 0, sizes)
+}
+
+#[test]
+fn a_new_size_is_taken(rt: HostRuntime) {
+    let found = told(&rt, "a_new_size.txt", "8 30 0\n", &[]).expect(&rt, "told");
+    assert_eq!(rt; (found.on, found.size), (true, (30, 8)));
+    // (one that is none is passed over)
+    let found = told(&rt, "a_new_size.txt", "0 0 0\n", &[]).expect(&rt, "told");
+    assert_eq!(rt; (found.on, found.size), (true, (40, 5)));
+}
+
+#[test]
+fn ctrl_z_suspends_until_the_launcher_resumes(rt: HostRuntime) {
+    let pieces: &[&[u8]] = &[b"\x1a", b"j"];
+    let found = told(&rt, "a_resume.txt", "8 30 1\n", pieces).expect(&rt, "told");
+    assert_eq!(rt; (found.on, found.line, found.size), (true, 1, (30, 8)));
+    // (with no launcher it does nothing)
+    let found = typing(&rt, &[b"\x1a", b"j"]).expect(&rt, "typed");
+    assert_eq!(rt; (found.on, found.line), (true, 1));
+}
+
+#[test]
+fn a_feed_that_fails_ends_the_program(rt: HostRuntime) {
+    let lines = Lines {
+        fails: true,
+        ..Lines::new(3)
+    };
+    let keys = keys(rt.alloc()).expect(&rt, "keys");
+    assert!(rt; matches!(run(&rt, lines, keys, &[], READ, None), Err(Fault::Own(_))));
+}
+
+#[test]
+fn an_action_that_fails_ends_the_program(rt: HostRuntime) {
+    assert!(rt; matches!(typing(&rt, &[b"X"]), Err(Fault::Own(_))));
+}
+
+// The default keys, with this one for an action of the application's too.
+fn bound(rt: &HostRuntime, key: &str) -> Result<AppKeys<Act>, MinusError> {
+    let mut keys = AppKeys::less(rt.alloc())?;
+    keys.bind(&[key], "count", Act::Count)?;
+    Ok(keys)
+}
+
+#[test]
+fn a_key_that_is_bound_is_not_hidden(rt: HostRuntime) {
+    assert!(rt; bound(&rt, "e").is_ok());
+    for key in ["j", "q", "c-c", "b", "f"] {
+        assert!(rt; matches!(bound(&rt, key), Err(MinusError::Bound(0))));
+    }
+    assert!(rt; matches!(bound(&rt, "no key"), Err(MinusError::BadDescription(0, _))));
+}
+
+// The default keys, some of them bound to another action.
+fn rebound(rt: &HostRuntime, ends: &[&str]) -> Result<AppKeys<Act>, MinusError> {
+    let mut keys = AppKeys::less(rt.alloc())?;
+    keys.rebind(ends, "count", Act::Count)?;
+    Ok(keys)
+}
+
+#[test]
+fn a_key_of_the_pager_is_bound_again(rt: HostRuntime) {
+    let keys = rebound(&rt, &["q"]).expect(&rt, "keys");
+    let found = run(&rt, Lines::new(30), keys, &[b"q"], READ, None).expect(&rt, "typed");
+    assert_eq!(rt; (found.on, found.counted), (true, 1));
+    let keys = rebound(&rt, &["q"]).expect(&rt, "keys");
+    let found = run(&rt, Lines::new(30), keys, &[b"q", b"\x03"], READ, None).expect(&rt, "typed");
+    assert_eq!(rt; (found.on, found.counted), (false, 1));
+}
+
+// Keys of which none but this one ends the program.
+fn ended_by(rt: &HostRuntime, key: &str) -> Result<AppKeys<Act>, MinusError> {
+    let mut keys = rebound(rt, &["q", "c-c"])?;
+    keys.bind_default(&[key], DefaultAction::Quit)?;
+    Ok(keys)
+}
+
+#[test]
+fn keys_of_which_none_ends_the_program_are_refused(rt: HostRuntime) {
+    let keys = rebound(&rt, &["q", "c-c"]).expect(&rt, "keys");
+    assert!(rt; !keys.some_end());
+    assert!(rt;
+        matches!(
+            run(&rt, Lines::new(30), keys, &[b"q"], READ, None),
+            Err(Fault::NoEnd)
+        )
+    );
+    let keys = ended_by(&rt, "e").expect(&rt, "keys");
+    let found = run(&rt, Lines::new(30), keys, &[b"q", b"e"], READ, None).expect(&rt, "typed");
+    assert_eq!(rt; (found.on, found.counted), (false, 1));
+}
