@@ -83,7 +83,7 @@ fn run(
         return Err(Fault::NoEnd);
     };
     let mut on = true;
-    let typed = (pieces.len() as u32).saturating_add(1);
+    let typed = u32::try_from(pieces.len()).unwrap_or(0).saturating_add(1);
     for _ in 0..typed
         .saturating_mul(READS.saturating_add(1))
         .saturating_add(READ)

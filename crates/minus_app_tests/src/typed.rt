@@ -10,6 +10,8 @@ pub const READS: u32 = 12;
 #[derive(Drop)]
 pub struct Typed {
     pieces: &'static [&'static [u8]],
+    // The place of the next one.
+    at: usize,
     // How many reads pass before the next piece.
     waits: u32,
 }
@@ -17,7 +19,11 @@ pub struct Typed {
 impl Typed {
     /// These pieces, one after another, the first one after so many reads.
     pub fn new(pieces: &'static [&'static [u8]], waits: u32) -> Typed {
-        Typed { pieces, waits }
+        Typed {
+            pieces,
+            at: 0,
+            waits,
+        }
     }
 }
 
@@ -27,10 +33,11 @@ impl Read for Typed {
             self.waits -= 1;
             return Ok(0);
         }
-        let Some((piece, more)) = self.pieces.split_first() else {
+        let pieces = self.pieces;
+        let Some(piece) = pieces.get(self.at) else {
             return Ok(0);
         };
-        self.pieces = more;
+        self.at = self.at.saturating_add(1);
         self.waits = READS;
         let count = piece.len().min(buf.len());
         buf[..count].copy_from_slice(&piece[..count]);
