@@ -1,5 +1,5 @@
 -- The keys of an application: what an event leads to, which keys stay what they are, and whether one ends the program.
-use Rattle.std.specs.Prelude.{◌≡◌, ℕ, true, List, slice_get, is_some, Option, None, if◌then◌else◌, ◌||◌}
+use Rattle.std.specs.Prelude.{◌≡◌, ℕ, Bool, true, List, slice_get, is_some, Option, None, Some, if◌then◌else◌, ◌||◌, ◌&&◌, not}
 use Rattle.std.specs.Option.{option_and_then}
 use Rattle.minus_term.specs.declared.event.Event.{Event}
 use Rattle.minus_state.specs.Help.{help_open}
@@ -11,9 +11,11 @@ use Rattle.minus_input.specs.declared.event_form.EventWrapper.TheVariants.{Exact
 use Rattle.minus_input.specs.EventForm.{same_event}
 use Rattle.minus_input.specs.EventTables.{register_of}
 use Rattle.minus_input.specs.Register.{Register, action_at, bound_to}
-use Rattle.minus_app.specs.Actions.{ends_program, own_number}
+use Rattle.minus_app.specs.Actions.{ends_program, own_number, view_action}
 use Rattle.minus_app.specs.declared.keys.AppKeys.{AppKeys}
 use Rattle.minus_app.specs.declared.keys.KeyAction.{KeyAction}
+use Rattle.minus_app.specs.declared.view_action.ViewAction.{ViewAction}
+use Rattle.minus_app.specs.Moves.{holds_in_help}
 
 -- what a register does at an event
 abbrev pub done_by : Register EventWrapper (ActionOf KeyAction) → Event → Option (ActionOf KeyAction)
@@ -50,3 +52,11 @@ own_number_at state register event =
 -- the application's action that is done on a page, of those that it has
 abbrev pub own_act_at : {A : Type 0} → List A → PagerState → Register EventWrapper (ActionOf KeyAction) → Event → Option A
 own_act_at acts state register event = option_and_then (slice_get acts) (own_number_at state register event)
+
+-- what the pager does beside the default actions: while help is open, only what moves its page
+abbrev pub held : Bool → Option ViewAction → Option ViewAction
+held help None = None
+held help (Some action) = if help && not (holds_in_help action) then None else Some action
+
+abbrev pub view_action_at : PagerState → Register EventWrapper (ActionOf KeyAction) → Event → Option ViewAction
+view_action_at state register event = held (help_open (control_of state)) (view_action (done_by register event))

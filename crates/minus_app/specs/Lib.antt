@@ -2,9 +2,12 @@ pub mod Actions
 pub mod Clipboard
 pub mod Feeds
 pub mod Following
+pub mod Goals
 pub mod Jumps
 pub mod Keys
 pub mod Lines
+pub mod Moves
+pub mod Places
 pub mod Prompt
 pub mod Reading
 pub mod Sizes

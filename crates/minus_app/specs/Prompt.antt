@@ -1,11 +1,15 @@
 -- What the prompt row of the program says.
-use Rattle.std.specs.Prelude.{ℕ, ◌+◌, List, [], ◌++◌, Option, unwrap_or, codes, length, min}
+use Rattle.std.specs.Prelude.{◌≡◌, ℕ, ◌+◌, ◌-◌, List, [], ◌++◌, ◌⊎◌, Option, None, Some, unwrap_or, codes, length, min, slice_get}
 use Rattle.minus_term.specs.Marks.{page_len}
-use Rattle.minus_text.specs.Document.{rows_of}
+use Rattle.minus_text.specs.declared.wrap.Span.{Span}
+use Rattle.minus_text.specs.Document.{line_map, rows_of}
+use Rattle.minus_text.specs.LineMaps.{IsLineOfRow}
+use Rattle.minus_text.specs.LinePlaces.{row_places}
 use Rattle.minus_state.specs.declared.state.PagerState.{PagerState}
-use Rattle.minus_view.specs.Place.{place_text}
+use Rattle.minus_view.specs.Place.{percent, place_text}
 use Rattle.minus_app.specs.declared.prompt.Notice.{Notice}
-use Rattle.minus_app.specs.declared.prompt.Notice.TheVariants.{Nothing, CutShort, OutOfMemory, NotFound}
+use Rattle.minus_app.specs.declared.prompt.Notice.TheVariants.{Nothing, CutShort, OutOfMemory, NotFound, Reading}
+use Rattle.minus_app.specs.declared.prompt.Place.{Place}
 
 -- what is said of the text besides the place of the page
 abbrev pub notice_text : Notice → List ℕ
@@ -13,22 +17,41 @@ notice_text Nothing = []
 notice_text CutShort = codes "(cut short) "
 notice_text OutOfMemory = codes "(out of memory) "
 notice_text NotFound = codes "(pattern not found) "
+notice_text Reading = codes "(reading on) "
 
--- how many rows the text on show has
-abbrev pub row_count : PagerState → ℕ
-row_count state = length (rows_of state.screen.document)
+-- the number of the line of a row, counted from 1; 0 where there is no line
+abbrev pub IsLineNumber : PagerState → (row number : ℕ) → Type 0
+IsLineNumber state row number =
+    ((line : ℕ) × IsLineOfRow (line_map state.screen.document) row line × (number ≡ line + 1))
+    ⊎ ((line_map state.screen.document ≡ []) × (number ≡ 0))
 
--- the first and the last row on the page, counted from 1; the prompt row is none of the text
-abbrev pub first_row : PagerState → ℕ
-first_row state = min (row_count state) (state.upper_mark + 1)
+-- where a row begins, in bytes of the text; behind all rows, where the text ends
+abbrev pub start_or_end : ℕ → Option Span → ℕ
+start_or_end bytes None = bytes
+start_or_end bytes (Some place) = place.start
 
-abbrev pub last_row : PagerState → ℕ
-last_row state = min (row_count state) (state.upper_mark + page_len state.rows)
+abbrev pub start_of : PagerState → ℕ → ℕ
+start_of state row = start_or_end (length state.screen.document.text) (slice_get (row_places state.screen.document) row)
+
+-- the row behind the page, counted from 0; the prompt row is none of the text
+abbrev pub row_behind : PagerState → ℕ
+row_behind state = min (length (rows_of state.screen.document)) (state.upper_mark + page_len state.rows)
+
+-- where in its text the page is
+pub record IsPlace (state : PagerState) (place : Place) : Type 0 where
+  pub first : IsLineNumber state state.upper_mark place.first
+  pub last : IsLineNumber state (row_behind state - 1) place.last
+  pub lines : place.lines ≡ length (line_map state.screen.document)
+  pub end : place.end ≡ start_of state (row_behind state)
+  pub bytes : place.bytes ≡ length state.screen.document.text
 
 -- the title of a text, and the place of the page in it
-abbrev pub place_of : List ℕ → PagerState → List ℕ
-place_of title state = place_text title (first_row state) (last_row state) (row_count state)
+abbrev pub titled : ℕ → List ℕ → Place → List ℕ
+titled columns title place =
+    place_text columns title place.first place.last place.lines (percent place.end place.bytes)
 
--- what is said of the text, and behind it what the application says, or else the title and the place of the page
-abbrev pub prompt_text : Option (List ℕ) → List ℕ → PagerState → Notice → List ℕ
-prompt_text own title state notice = notice_text notice ++ unwrap_or own (place_of title state)
+-- what is said of the text, and behind it what the application says, or else the title and the place of the page, for
+-- so many columns
+abbrev pub prompt_text : ℕ → Option (List ℕ) → List ℕ → Place → Notice → List ℕ
+prompt_text columns own title place notice =
+    notice_text notice ++ unwrap_or own (titled (columns - length (notice_text notice)) title place)

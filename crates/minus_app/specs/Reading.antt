@@ -7,10 +7,17 @@ use Rattle.minus_state.specs.declared.state.PagerState.{PagerState}
 use Rattle.minus_state.specs.Help.{help_open}
 use Rattle.minus_state.specs.States.{control_of}
 use Rattle.minus_app.specs.declared.options.Options.{Options}
+use Rattle.minus_app.specs.declared.view.reading.Goal.{Goal}
+use Rattle.minus_app.specs.declared.view.reading.Goal.TheVariants.{Line, End}
 
--- the line that is shown first, counted from 0: none where the text is followed, or begins with its own first line
-abbrev pub first_line : Options → Option ℕ
-first_line options = if options.follows || nat_lt options.line 2 then None else Some (options.line - 1)
+-- the line that is shown first, counted from 0: none where the text begins with its own first line
+abbrev pub first_line : ℕ → Option Goal
+first_line line = if nat_lt line 2 then None else Some (Line (line - 1))
+
+-- what the text is read on for at first: nothing where it is followed, and else its end or the line that is shown first
+abbrev pub first_goal : Options → Option Goal
+first_goal options =
+    if options.follows then None else if options.begins_at_end then Some End else first_line options.line
 
 -- the bytes from the start of a row to the end of another
 abbrev pub bytes_from_to : Option Span → Option Span → ℕ
@@ -26,7 +33,7 @@ bytes_below state =
     (slice_get places (length (rows_of state.screen.document) - 1))
 
 -- whether more of a text is wanted: not while help is open, and else where the text is followed, where
--- the line that is shown first is still to come, or where fewer bytes than `most` are there from the page on
+-- what it is read on for is still to come, or where fewer bytes than `most` are there from the page on
 abbrev pub wants_more : PagerState → Bool → ℕ → Bool
 wants_more state waits most =
     not (help_open (control_of state))

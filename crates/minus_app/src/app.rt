@@ -29,6 +29,15 @@ pub enum Flow {
     Ended,
 }
 
+/// Another text of an application.
+#[derive(Clone, Copy, Debug, PartialEq, Eq)]
+pub enum Neighbour {
+    /// The next one.
+    Next,
+    /// The one before.
+    Before,
+}
+
 /// The action of an application that has no keys of its own.
 #[derive(Clone, Copy, Debug, Drop)]
 pub struct NoAct;
@@ -76,6 +85,15 @@ pub trait App: Drop {
         rt: &HostRuntime,
         view: &mut View<S>,
     ) -> Result<Flow, Fault>;
+
+    /// Turns to another text, which `feed` gives from its beginning from then on, and answers whether there is one.
+    ///
+    /// # Errors
+    ///
+    /// Where it fails: the program ends.
+    fn turn_to(&mut self, _rt: &HostRuntime, _neighbour: Neighbour) -> Result<bool, Fault> {
+        Ok(false)
+    }
 
     /// What the prompt row calls the text.
     fn title(&self) -> &str {

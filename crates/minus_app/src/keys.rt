@@ -1,10 +1,11 @@
 //! The keys of an application: the pager's own actions and the application's, in one register.
 ghost use Rattle.std.specs.Prelude.{◌≡◌, IfErr};
 ghost use Rattle.minus_input.specs.EventTables.{register_of};
-ghost use Rattle.minus_app.specs.Actions.{ends_program, own_number, pager_action};
+ghost use Rattle.minus_app.specs.Actions.{ends_program, own_number, pager_action, view_action};
 ghost use Rattle.minus_app.specs.Keys.{done_by};
 
 use crate::fault::Fault;
+use crate::view_action::ViewAction;
 use minus::{
     ActionCall, ActionOf, DefaultAction, Event, EventTable, FixedSeed, InputEvent, MinusError,
     PagerState, parse_key_event,
@@ -16,6 +17,8 @@ use std::alloc::Global;
 pub enum KeyAction {
     /// An action of the pager's.
     Pager(DefaultAction),
+    /// What the pager does that no default action does.
+    View(ViewAction),
     /// The application's action with this number, of those that are kept beside the register.
     Own(usize),
 }
@@ -29,7 +32,7 @@ impl ActionCall for KeyAction {
     fn ask(&self, event: &Event, state: &PagerState) -> InputEvent {
         match self {
             KeyAction::Pager(action) => action.answer(event, state),
-            KeyAction::Own(_) => InputEvent::Ignore,
+            KeyAction::View(_) | KeyAction::Own(_) => InputEvent::Ignore,
         }
     }
 }
@@ -68,12 +71,59 @@ const KEYS_OF_LESS: [(&str, DefaultAction); 5] = [
     (">", DefaultAction::Bottom),
 ];
 
+// The keys of `less` that are bound to something else by default, or to nothing, each with the default action that does
+// what `less` does.
+const DEFAULTS_OF_LESS: [(&[&str], DefaultAction); 6] = [
+    (&["e", "c-e", "c-n", "c-j"], DefaultAction::ScrollDown),
+    (&["y", "c-y", "c-p", "c-k"], DefaultAction::ScrollUp),
+    (&["s-f"], DefaultAction::ToggleFollow),
+    (&["h", "s-h"], DefaultAction::Help),
+    (&["s-q"], DefaultAction::Quit),
+    (&["c-h"], DefaultAction::ScrollLeft),
+];
+
+// The other keys of `less`.
+const VIEWS_OF_LESS: [(&[&str], ViewAction); 19] = [
+    (
+        &["space", "f", "c-f", "c-v", "z", "pagedown"],
+        ViewAction::PageDown,
+    ),
+    (&["b", "c-b", "w", "pageup"], ViewAction::PageUp),
+    (&["d", "c-d"], ViewAction::HalfPageDown),
+    (&["u", "c-u"], ViewAction::HalfPageUp),
+    (&["g", "<", "home"], ViewAction::FirstLine),
+    (&["s-g", ">", "end"], ViewAction::LastLine),
+    (&["p", "%"], ViewAction::Percent),
+    (&["right"], ViewAction::Right),
+    (&["left"], ViewAction::Left),
+    (&["n"], ViewAction::NextMatch),
+    (&["s-n"], ViewAction::PreviousMatch),
+    (&["r", "c-r", "c-l"], ViewAction::Redraw),
+    (&["c-c"], ViewAction::Interrupt),
+    (&["m"], ViewAction::SetMark),
+    (&["'"], ViewAction::GoToMark),
+    (&["=", "c-g"], ViewAction::TellPlace),
+    (&["dash"], ViewAction::SetOption),
+    (&[":"], ViewAction::Command),
+    (&["s-z"], ViewAction::EndTwice),
+];
+
 // The number of the application's action that an event leads to.
 pub fn own_number(table: &Table, event: &Event) -> Option<usize>
     ensures { result ≡ own_number (done_by (register_of table.now) event.now) }
 {
     match table.find(event) {
         Some(ActionOf::Callback(KeyAction::Own(number))) => Some(*number),
+        _ => None,
+    }
+}
+
+// What an event leads to that no default action does.
+pub fn view_action(table: &Table, event: &Event) -> Option<ViewAction>
+    ensures { result ≡ view_action (done_by (register_of table.now) event.now) }
+{
+    match table.find(event) {
+        Some(ActionOf::Callback(KeyAction::View(action))) => Some(*action),
         _ => None,
     }
 }
@@ -122,7 +172,8 @@ impl<A: Copy + Drop> AppKeys<A> {
     ghost use Rattle.minus_input.specs.RegisterCalls.{IsAdded, IsAddRefused};
     ghost use Rattle.minus_app.specs.Actions.{ends_program};
     ghost use Rattle.minus_app.specs.Keys.{act_at, done_at, keyed, HidesNothing, SomeEnds};
-    ghost use Rattle.minus_app.specs.declared.keys.KeyAction.TheVariants.{Pager, Own};
+    ghost use Rattle.minus_app.specs.Moves.{view_description};
+    ghost use Rattle.minus_app.specs.declared.keys.KeyAction.TheVariants.{Pager, View, Own};
 
     /// The default keys.
     ///
@@ -154,6 +205,24 @@ impl<A: Copy + Drop> AppKeys<A> {
         let mut keys = AppKeys::new(alloc)?;
         for bound in &KEYS_OF_LESS {
             keys.bind_default(&[bound.0], bound.1)?;
+        }
+        Ok(keys)
+    }
+
+    /// The keys of `less`, whatever they lead to by default, and the default keys that `less` does not have.
+    ///
+    /// # Errors
+    ///
+    /// [`MinusError::Memory`] where there is no memory.
+    pub fn all_of_less(alloc: Global) -> Result<AppKeys<A>, MinusError>
+        ensures acts { IfOk result (λ keys. keys.acts.items ≡ []) }
+    {
+        let mut keys = AppKeys::new(alloc)?;
+        for bound in &DEFAULTS_OF_LESS {
+            keys.rebind_default(bound.0, bound.1)?;
+        }
+        for bound in &VIEWS_OF_LESS {
+            keys.rebind_view(bound.0, bound.1)?;
         }
         Ok(keys)
     }
@@ -287,6 +356,24 @@ impl<A: Copy + Drop> AppKeys<A> {
         ensures acts { self.new.acts ≡ self.old.acts }
     {
         self.put_default(keys, action, true)
+    }
+
+    /// Binds keys to what the pager does that no default action does, whatever they lead to so far.
+    ///
+    /// # Errors
+    ///
+    /// Those of [`AppKeys::rebind`].
+    pub fn rebind_view(&mut self, keys: &[&str], action: ViewAction) -> Result<(), MinusError>
+        ensures ok { OnOk result (IsAdded IsKey (map (λ t. t.now) keys.now) true
+            (View action) (view_description action) (keyed self.old) (keyed self.new)) }
+        ensures refused { IfErr result (λ e. IsAddRefused IsKey KeyFault (map (λ t. t.now) keys.now) true
+            (keyed self.old) (refusal_of e)) }
+        ensures kept { OnErr result (keyed self.new ≡ keyed self.old) }
+        ensures acts { self.new.acts ≡ self.old.acts }
+    {
+        let bound = KeyAction::View(action);
+        self.table
+            .add_described_key_events_checked(keys, action.description(), bound, true)
     }
 
     /// Whether some key ends the program.

@@ -17,8 +17,9 @@ mod prompt;
 mod size;
 mod text;
 mod view;
+mod view_action;
 
-pub use app::{App, Fed, Flow, NoAct};
+pub use app::{App, Fed, Flow, Neighbour, NoAct};
 pub use fault::Fault;
 pub use keyboard::Keyboard;
 pub use keys::{AppKeys, KeyAction};
@@ -30,3 +31,4 @@ pub use prompt::Notice;
 pub use size::Size;
 pub use text::Text;
 pub use view::View;
+pub use view_action::ViewAction;

@@ -53,7 +53,7 @@ pub fn run<A: App>(
     rt: &HostRuntime,
     app: A,
     keys: AppKeys<A::Act>,
-    options: Options,
+    options: Options<'_>,
 ) -> Result<(), Fault> {
     if !keys.some_end() {
         return Err(Fault::NoEnd);

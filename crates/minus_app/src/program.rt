@@ -1,7 +1,7 @@
 //! The loop of a program: it hears the keys, and between them asks the application for its text.
 ghost use Rattle.std.specs.Prelude.{◌≡◌};
 
-use crate::app::{App, Fed, Flow};
+use crate::app::{App, Fed, Flow, Neighbour};
 use crate::fault::Fault;
 use crate::keyboard::Keyboard;
 use crate::keys::AppKeys;
@@ -19,6 +19,12 @@ use std::{mem, thread};
 
 /// How long the program sleeps where it heard and read nothing, in milliseconds.
 pub const NAP: u64 = 10;
+
+/// After so many turns in a row that found nothing to do, reads of the keyboard may wait.
+const RESTS: u32 = 100;
+
+/// How long the program sleeps between two such reads, in milliseconds.
+const SHORT_NAP: u64 = 1;
 
 /// How many bytes of a text are read, at most, to see whether it fits the terminal.
 const MOST_PRINTED: usize = 64 * 1024 * 1024;
@@ -49,10 +55,16 @@ pub struct Program<A: App, S, R> {
     ahead: TextQueue,
     keyboard: Keyboard<R>,
     sizes: SizeFile,
+    // Whether some of that may wait.
+    waits: bool,
     // Whether the application is asked for more text.
     may_grow: bool,
     // Whether the text was read to its end, for now or for good.
     is_at_end: bool,
+    // How many turns in a row found nothing to do.
+    idle: u32,
+    // Whether reads of the keyboard wait.
+    is_resting: bool,
     // How many pieces came since the prompt row was told where the page is.
     pieces: u32,
     // The keys that were pressed before the first page.
@@ -67,6 +79,9 @@ impl<A: App, S: Drop, R: Drop> Drop for Program<A, S, R> {
             acts: _,
             view: _,
             ahead: _,
+            waits: _,
+            idle: _,
+            is_resting: _,
             keyboard: _,
             sizes: _,
             may_grow: _,
@@ -114,7 +129,7 @@ impl Beginning {
         self.is_at_end
             || !self.pressed.is_empty()
             || self.text.len() > MOST_PRINTED
-            || self.text.lines().count() > rows
+            || self.text.lines().count() >= rows
     }
 
     // Reads a text that is printed where it fits a terminal of so many rows: all of it, unless it is longer than that,
@@ -144,7 +159,7 @@ fn begin_text<A: App, R: Read + Drop>(
     rt: &HostRuntime,
     app: &mut A,
     keyboard: &mut Keyboard<R>,
-    options: &Options,
+    options: &Options<'_>,
     size: Size,
 ) -> Result<Beginning, Fault> {
     let mut beginning = Beginning::new(rt.alloc());
@@ -172,7 +187,7 @@ impl<A: App, S: OutputSink + Drop, R: Read + Drop> Program<A, S, R> {
         rt: &HostRuntime,
         app: A,
         keys: AppKeys<A::Act>,
-        options: &Options,
+        options: &Options<'_>,
         terminal: Terminal<S, R>,
     ) -> Result<Option<Program<A, S, R>>, Fault>
         ensures { OnOk result (SomeEnds keys) }
@@ -203,6 +218,9 @@ impl<A: App, S: OutputSink + Drop, R: Read + Drop> Program<A, S, R> {
             acts,
             view,
             ahead: TextQueue::new(rt.alloc()),
+            waits: false,
+            idle: 0,
+            is_resting: false,
             keyboard,
             sizes: SizeFile::new(launch.sizes, size),
             may_grow: beginning.may_grow,
@@ -216,10 +234,13 @@ impl<A: App, S: OutputSink + Drop, R: Read + Drop> Program<A, S, R> {
 
     // Sets what the options ask for, shows where the first page is, goes to the line that is shown first, and makes
     // room for what is to come.
-    fn begin(&mut self, options: &Options) -> Result<(), Fault> {
+    fn begin(&mut self, options: &Options<'_>) -> Result<(), Fault> {
         self.view.set_options(options)?;
+        let is_whole = self.is_whole();
+        self.view.set_whole(is_whole);
+        let _ = self.view.pursue()?;
+        self.view.search(options.finds)?;
         self.show_place()?;
-        self.view.go_to_first_line()?;
         self.view.make_room(self.app.bytes_left());
         Ok(())
     }
@@ -284,7 +305,10 @@ impl<A: App, S: OutputSink + Drop, R: Read + Drop> Program<A, S, R> {
     fn next_text(&mut self, rt: &HostRuntime) -> Result<Option<String>, Fault> {
         match self.ahead.take() {
             Some(text) => Ok(Some(text)),
-            None => self.read_text(rt),
+            None => {
+                self.waits = false;
+                self.read_text(rt)
+            }
         }
     }
 
@@ -304,6 +328,7 @@ impl<A: App, S: OutputSink + Drop, R: Read + Drop> Program<A, S, R> {
         let Some(text) = self.read_text(rt)? else {
             return Ok(false);
         };
+        self.waits = true;
         if self.ahead.put(text.as_str()).is_err() {
             self.run_out_of_room();
         }
@@ -325,22 +350,27 @@ impl<A: App, S: OutputSink + Drop, R: Read + Drop> Program<A, S, R> {
         if !self.view.append(text)? {
             // (what waits would stand behind a gap)
             self.ahead.clear();
+            self.waits = false;
             self.run_out_of_room();
         }
         Ok(true)
     }
 
+    // Whether all of the text is on show, as far as is known.
+    fn is_whole(&self) -> bool {
+        !self.waits && (self.is_at_end || !self.may_grow)
+    }
+
     // Heeds that no text comes: a line that is shown first may not come any more, and the application may say something
     // of the text.
     fn look_at_end(&mut self) -> Result<(), Fault> {
-        if self.is_at_end && self.view.end_at_last_page()? {
+        let is_whole = self.is_whole();
+        self.view.set_whole(is_whole);
+        if self.view.pause()? {
             self.show_place()?;
         }
-        if self.view.notice() != Notice::Nothing {
-            return Ok(());
-        }
-        let notice = self.app.notice();
-        if notice != Notice::Nothing {
+        let (said, notice) = (self.view.notice(), self.app.notice());
+        if said != Notice::OutOfMemory && notice != said {
             self.pieces = self.pieces.max(1);
             self.view.set_notice(notice);
         }
@@ -353,8 +383,30 @@ impl<A: App, S: OutputSink + Drop, R: Read + Drop> Program<A, S, R> {
             self.pieces = 0;
             return self.show_place();
         }
-        if !fed {
-            thread::sleep(rt, Duration::from_millis(NAP));
+        if fed {
+            return self.wake(rt);
+        }
+        self.idle = self.idle.saturating_add(1);
+        self.rest(rt)
+    }
+
+    // Rests for a while; after a second the launcher is asked to let reads of the keyboard wait, so that the program does
+    // not look for keys.
+    fn rest(&mut self, rt: &HostRuntime) -> Result<(), Fault> {
+        if !self.is_resting && self.idle > RESTS && self.sizes.is_there() {
+            self.is_resting = true;
+            rt.eprintln("rest")?;
+        }
+        let nap = if self.is_resting { SHORT_NAP } else { NAP };
+        thread::sleep(rt, Duration::from_millis(nap));
+        Ok(())
+    }
+
+    // Lets reads of the keyboard wait no more, since text comes.
+    fn wake(&mut self, rt: &HostRuntime) -> Result<(), Fault> {
+        if self.is_resting {
+            self.is_resting = false;
+            rt.eprintln("busy")?;
         }
         Ok(())
     }
@@ -380,12 +432,29 @@ impl<A: App, S: OutputSink + Drop, R: Read + Drop> Program<A, S, R> {
         }
     }
 
+    // Shows the next text of the application, or the one before, where there is one.
+    fn turn_to(&mut self, rt: &HostRuntime, neighbour: Neighbour) -> Result<(), Fault> {
+        if !self.app.turn_to(rt, neighbour)? {
+            return self
+                .view
+                .message(String::from_str(rt.alloc(), "no such file (Return)")?);
+        }
+        self.ahead.clear();
+        self.waits = false;
+        self.may_grow = true;
+        self.is_at_end = false;
+        self.pieces = PIECES;
+        self.view.begin_text()
+    }
+
     // Tells events in their order, up to one that ends the session. Answers whether it goes on.
     fn tell(&mut self, rt: &HostRuntime, events: &[Event]) -> Result<bool, Fault> {
         for event in events {
             match self.tell_one(rt, *event)? {
                 Onward::On => {}
                 Onward::Suspended => self.suspend(rt)?,
+                Onward::Next => self.turn_to(rt, Neighbour::Next)?,
+                Onward::Before => self.turn_to(rt, Neighbour::Before)?,
                 Onward::Ended => return Ok(false),
             }
         }
@@ -413,6 +482,8 @@ impl<A: App, S: OutputSink + Drop, R: Read + Drop> Program<A, S, R> {
     pub fn turn(&mut self, rt: &HostRuntime) -> Result<bool, Fault> {
         let mut events = mem::replace(&mut self.pressed, Vec::new(rt.alloc()));
         let mut heard = self.keyboard.read(rt, &mut events)?;
+        let is_whole = self.is_whole();
+        self.view.set_whole(is_whole);
         if !self.tell(rt, &events)? {
             return Ok(false);
         }
@@ -423,7 +494,11 @@ impl<A: App, S: OutputSink + Drop, R: Read + Drop> Program<A, S, R> {
         if !fed {
             self.look_at_end()?;
         }
-        self.settle(rt, heard || !events.is_empty(), fed)?;
+        let heard = heard || !events.is_empty();
+        if heard || fed {
+            self.idle = 0;
+        }
+        self.settle(rt, heard, fed)?;
         Ok(true)
     }
 
@@ -448,6 +523,7 @@ impl<A: App, S: OutputSink + Drop, R: Read + Drop> Program<A, S, R> {
             return Ok(());
         }
         self.view.leave()?;
+        self.is_resting = false;
         rt.eprintln("suspend")?;
         if let Some(size) = self.wait_for_resume(rt) {
             self.view.come_back(size)?;
@@ -481,6 +557,9 @@ impl<A: App, S: OutputSink + Drop, R: Read + Drop> Program<A, S, R> {
             acts: _,
             view,
             ahead: _,
+            waits: _,
+            idle: _,
+            is_resting: _,
             keyboard: _,
             sizes: _,
             may_grow: _,

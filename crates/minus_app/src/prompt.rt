@@ -1,10 +1,10 @@
 //! What the prompt row of the program says.
 ghost use Rattle.std.specs.Prelude.{◌≡◌, ◌+◌, ◌<◌, min, option_map, string_bytes, IfOk};
-ghost use Rattle.minus_app.specs.Prompt.{notice_text, place_of, prompt_text};
+ghost use Rattle.minus_app.specs.Prompt.{start_of, notice_text, prompt_text, IsLineNumber, IsPlace};
 
 use minus::PagerState;
 use minus_term::page_len;
-use minus_view::place_text;
+use minus_view::{percent, place_text};
 use std::alloc::{AllocError, Global};
 
 /// What the prompt row says of the text besides the place of the page.
@@ -18,6 +18,8 @@ pub enum Notice {
     OutOfMemory,
     /// No row matches the query.
     NotFound,
+    /// The text is read on for what a key asked for.
+    Reading,
 }
 
 impl Notice {
@@ -33,6 +35,7 @@ impl Notice {
             Notice::CutShort => "(cut short) ",
             Notice::OutOfMemory => "(out of memory) ",
             Notice::NotFound => "(pattern not found) ",
+            Notice::Reading => "(reading on) ",
         }
     }
 }
@@ -48,38 +51,92 @@ fn row_after(row: usize, more: usize, count: usize) -> usize
     }
 }
 
-// The title of a text and where in it the page is, as `notes.txt  24-46/120  38%`.
-fn place_of(alloc: Global, title: &str, state: &PagerState) -> Result<String, AllocError>
-    ensures { IfOk result (λ text. string_bytes text ≡ place_of title.now state.now) }
+// The number of the line of a row, counted from 1; 0 where there is no line.
+fn line_number(state: &PagerState, row: usize) -> usize
+    ensures { IsLineNumber state.now row result }
 {
-    let rows = state.screen.formatted_lines_count();
-    let first = row_after(state.upper_mark, 1, rows);
-    let last = row_after(state.upper_mark, page_len(state.rows), rows);
-    place_text(alloc, title, first, last, rows)
+    let lines = state.screen.lines_to_row_map();
+    let count = lines.len();
+    match lines.row_to_line(row) {
+        Some(line) if line < count => line + 1,
+        _ => 0,
+    }
 }
 
-/// The text of the prompt row: what is said of the text, and behind it what the application says, or else the title,
-/// the rows on show, counted from 1, how many rows there are, and the part of the text up to the last one on show, as
-/// `(cut short) notes.txt  24-46/120  38%`.
+// Where a row begins, in bytes of the text; behind all rows, where the text ends.
+fn start_of(state: &PagerState, row: usize) -> usize
+    ensures { result ≡ start_of state.now row }
+{
+    match state.screen.row_place(row) {
+        Some(place) => place.start,
+        None => state.screen.orig_text().len(),
+    }
+}
+
+/// Where in its text a page is.
+#[derive(Clone, Copy, Debug, PartialEq, Eq)]
+pub struct Place {
+    /// The first line on show, counted from 1; 0 where there is none.
+    pub first: usize,
+    /// The last line on show, counted from 1; 0 where there is none.
+    pub last: usize,
+    /// How many lines there are.
+    pub lines: usize,
+    /// Where the row behind the last one on show begins, in bytes; behind all rows, where the text ends.
+    pub end: usize,
+    /// The length of the text in bytes.
+    pub bytes: usize,
+}
+
+/// Where in its text the page is.
+pub fn place_of(state: &PagerState) -> Place
+    ensures { IsPlace state.now result }
+{
+    let rows = state.screen.formatted_lines_count();
+    let behind = row_after(state.upper_mark, page_len(state.rows), rows);
+    let last = behind.saturating_sub(1);
+    Place {
+        first: line_number(state, state.upper_mark),
+        last: line_number(state, last),
+        lines: state.screen.lines_to_row_map().len(),
+        end: start_of(state, behind),
+        bytes: state.screen.orig_text().len(),
+    }
+}
+
+/// The text of the prompt row, for so many columns: what is said of the text, and behind it what the application says,
+/// or else the title, the lines on show, counted from 1, how many lines there are, and the part of the text up to the
+/// last row on show, as `(cut short) notes.txt  24-46/120  38%`.
 ///
 /// # Errors
 ///
 /// [`AllocError`] where there is no memory.
 pub fn prompt_text(
     alloc: Global,
+    columns: usize,
     own: Option<&str>,
     title: &str,
-    state: &PagerState,
+    place: Place,
     notice: Notice,
 ) -> Result<String, AllocError>
     ensures { IfOk result (λ text. string_bytes text
-        ≡ prompt_text (option_map (λ o. o.now) own.entry) title.now state.now notice) }
+        ≡ prompt_text columns (option_map (λ o. o.now) own.entry) title.now place notice) }
 {
     let notice = notice.text();
+    let room = columns.saturating_sub(notice.len());
     match own {
         Some(own) => format!(in alloc; "{notice}{own}"),
         None => {
-            let place = place_of(alloc, title, state)?;
+            let part = percent(place.end, place.bytes);
+            let place = place_text(
+                alloc,
+                room,
+                title,
+                place.first,
+                place.last,
+                place.lines,
+                part,
+            )?;
             format!(in alloc; "{notice}{place}")
         }
     }

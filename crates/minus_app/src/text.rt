@@ -4,10 +4,11 @@ ghost use Rattle.std.specs.Prelude.{◌≡◌};
 use crate::app::{AHEAD, App, Fed, Flow, NoAct};
 use crate::fault::Fault;
 use crate::hand_on::{hand_on_bytes, hand_on_text};
+use crate::launch::Launch;
 use crate::prompt::Notice;
 use crate::view::View;
 use minus::OutputSink;
-use minus_view::Preparation;
+use minus_view::{Preparation, Shape};
 use std::alloc::{AllocError, Global};
 use std::fs::File;
 use std::io::{self, ErrorKind, Read, Stdin};
@@ -77,6 +78,12 @@ pub struct Text {
     is_followed: bool,
     preparation: Preparation,
     piece: Vec<u8>,
+    // The path of a file.
+    path: Option<String>,
+    // The greatest length that the file had, in bytes.
+    longest: u64,
+    // Whether the file is shorter than it was, and nothing came since.
+    is_cut: bool,
     // How many bytes were read.
     read: u64,
     // Whether nothing came since what was begun was handed out.
@@ -92,6 +99,9 @@ impl Drop for Text {
             is_followed: _,
             preparation: _,
             piece: _,
+            path: _,
+            longest: _,
+            is_cut: _,
             read: _,
             is_paused: _,
         } = self;
@@ -112,6 +122,9 @@ impl Text {
             is_followed: false,
             preparation: Preparation::new(alloc),
             piece: vec![in alloc; 0; piece]?,
+            path: None,
+            longest: 0,
+            is_cut: false,
             read: 0,
             is_paused: true,
         })
@@ -130,16 +143,20 @@ impl Text {
     }
 
     /// The text of standard input, under a title, read as it comes. The launcher has set it so that a read does not
-    /// wait.
+    /// wait; it is asked for it here, and before that leaves a pipe to others.
     ///
     /// # Errors
     ///
-    /// [`Fault::Pager`] where there is no memory.
+    /// [`Fault::Io`] where the launcher cannot be asked, and [`Fault::Pager`] where there is no memory.
     pub fn stdin(rt: &HostRuntime, title: &str) -> Result<Text, Fault> {
+        if Launch::read(rt)?.is_some() {
+            rt.eprintln("input")?;
+        }
         Ok(Text::of(rt.alloc(), Origin::Standard(rt.stdin()), title, PIECE)?)
     }
 
-    /// The text of the file at a path, under a title, read on as it grows. The file is one whose reads do not wait,
+    /// The text of the file at a path, under a title, read on as it grows. Where the file is cut, or a shorter one gets
+    /// its name, that is read from its beginning, behind what was read. The file is one whose reads do not wait,
     /// which a pipe or a device is not.
     ///
     /// # Errors
@@ -147,7 +164,16 @@ impl Text {
     /// [`Fault::Io`] where it cannot be opened, and [`Fault::Pager`] where there is no memory.
     pub fn file(rt: &HostRuntime, path: &str, title: &str) -> Result<Text, Fault> {
         let file = File::open(rt, path)?;
-        Ok(Text::of(rt.alloc(), Origin::File(file), title, PIECE)?)
+        let mut text = Text::of(rt.alloc(), Origin::File(file), title, PIECE)?;
+        text.path = Some(String::from_str(rt.alloc(), path)?);
+        Ok(text)
+    }
+
+    /// This text, with its tabs and its empty lines in another shape. It is said before the first feed.
+    pub fn shaped(self, alloc: Global, shape: Shape) -> Text {
+        let mut text = self;
+        text.preparation = Preparation::with(alloc, shape);
+        text
     }
 
     /// This text, of which the end is followed from the first page on.
@@ -184,6 +210,37 @@ impl Text {
         }
     }
 
+    // The file at the path, where it is shorter than the one that was read was at any time.
+    fn shorter_file(&mut self, rt: &HostRuntime) -> Option<File> {
+        let path = self.path.as_ref()?;
+        let file = File::open(rt, path.as_str()).ok()?;
+        let len = file.metadata().ok()?.len();
+        if len < self.longest {
+            self.longest = len;
+            return Some(file);
+        }
+        self.longest = len;
+        None
+    }
+
+    // Reads from its beginning what has the name of the file now, where that is shorter than the file was.
+    fn begin_anew(&mut self, rt: &HostRuntime) {
+        if let Some(file) = self.shorter_file(rt) {
+            self.origin = Origin::File(file);
+            self.read = 0;
+            self.is_cut = true;
+        }
+    }
+
+    // Reads on, and looks at the end of a file whether that was cut.
+    fn read_and_look(&mut self, rt: &HostRuntime) -> Result<Fed, Fault> {
+        let fed = self.read_on(rt.alloc())?;
+        if let Fed::EndForNow = &fed {
+            self.begin_anew(rt);
+        }
+        Ok(fed)
+    }
+
     // Reads on.
     fn read_on(&mut self, alloc: Global) -> Result<Fed, Fault> {
         match self.origin.read(self.piece.as_mut_slice())? {
@@ -191,6 +248,7 @@ impl Text {
                 let count = count.min(self.piece.len());
                 self.read = self.read.saturating_add(count as u64);
                 self.is_paused = false;
+                self.is_cut = false;
                 let mut text = String::new(alloc);
                 self.preparation.add(&mut text, &self.piece[..count])?;
                 Ok(Fed::Text(text))
@@ -213,7 +271,8 @@ impl App for Text {
                 Some(text) => Ok(Fed::Text(text)),
                 None => Ok(Fed::End),
             },
-            Origin::File(_) | Origin::Standard(_) => self.read_on(rt.alloc()),
+            Origin::File(_) => self.read_and_look(rt),
+            Origin::Standard(_) => self.read_on(rt.alloc()),
         }
     }
 
@@ -246,7 +305,7 @@ impl App for Text {
     }
 
     fn notice(&self) -> Notice {
-        if self.origin.len().unwrap_or(self.read) < self.read {
+        if self.is_cut {
             return Notice::CutShort;
         }
         Notice::Nothing

@@ -2,25 +2,40 @@
 ghost use Rattle.std.specs.Prelude.{◌≡◌};
 ghost use Rattle.minus_app.specs.Reading.{bytes_below, wants_more};
 ghost use Rattle.minus_app.specs.Following.{leads_up};
+ghost use Rattle.minus_app.specs.Keys.{held};
 ghost use Rattle.minus_state.specs.States.{control_of, IsFormed};
 
+mod actions;
 mod jumps;
+mod keeping;
+mod marks;
+mod moves;
+mod places;
+mod printing;
+mod reading;
 mod searching;
 
 use crate::clipboard::clipboard_sequence;
 use crate::fault::Fault;
-use crate::keys::{Table, own_number};
+use crate::keys::{Table, own_number, view_action};
 use crate::options::Options;
-use crate::prompt::{Notice, prompt_text};
+use crate::prompt::{Notice, place_of, prompt_text};
 use crate::size::Size;
+use crate::view::actions::Pending;
+use crate::view::keeping::{PutAt, Shape};
+use crate::view::marks::Mark;
+use crate::view::moves::row_of_line;
+use crate::view::printing::{layout_of, page_left, print_if_fits};
+pub use crate::view::reading::Goal;
+use crate::view_action::ViewAction;
 use minus::{
     Answer, CommandOf, Core, Event, InputClassifier, InputEvent, InputOf, IoCommand, KeyCode,
-    KeyModifiers, Kinds, LineNumbers, MinusError, NeverCalled, NeverShows, OutputSink, PagedOf,
-    PagerOf, PagerState, RunMode, cleanup, draw_bytes, init_core_with, page_all_with, setup,
+    KeyModifiers, Kinds, LineNumbers, MinusError, MouseEventKind, NeverCalled, NeverShows,
+    OutputSink, PagerOf, PagerState, RunMode, cleanup, init_core_with, setup, strip_escapes,
     write_bytes,
 };
-use minus_view::History;
-use std::alloc::Global;
+use minus_view::{AtEnd, Case, History, percent};
+use std::alloc::{AllocError, Global};
 
 /// The kinds of an application's session: no condition is handed to it, and its register does not depend on the type of
 /// the application's actions.
@@ -38,6 +53,10 @@ pub enum Onward {
     Suspended,
     /// The session has ended.
     Ended,
+    /// The reader has asked for the next text.
+    Next,
+    /// The reader has asked for the text before.
+    Before,
 }
 
 /// The pager on the terminal, as an action of an application has it.
@@ -59,8 +78,25 @@ pub struct View<S> {
     // Where the page was then, if the text was followed.
     rests_from: Option<usize>,
     has_mouse: bool,
-    // The line that is shown first, counted from 0, until it was read.
-    line: Option<usize>,
+    // What the text is read on for.
+    goal: Option<Goal>,
+    // Whether all of the text is there, as far as is known.
+    is_whole: bool,
+    // What the next key is typed for.
+    pending: Option<Pending>,
+    // Where the page was put, as long as it stays there.
+    put_at: Option<PutAt>,
+    // The place of the page that help covers, in bytes of its text, and what its rows depended on.
+    covered: Option<(usize, Shape)>,
+    // Where the last jump began, in bytes of the text.
+    before: usize,
+    marks: Vec<Mark>,
+    case: Case,
+    at_end: AtEnd,
+    // Whether the page stays on the terminal where the program ends.
+    leaves: bool,
+    // Whether the mouse was moved since its button was pressed.
+    was_dragged: bool,
 }
 
 // By hand: a derived drop would stand anew in the proof of each function that lets one go.
@@ -78,7 +114,17 @@ impl<S: Drop> Drop for View<S> {
             told_before: _,
             rests_from: _,
             has_mouse: _,
-            line: _,
+            goal: _,
+            is_whole: _,
+            pending: _,
+            put_at: _,
+            covered: _,
+            before: _,
+            marks: _,
+            case: _,
+            at_end: _,
+            leaves: _,
+            was_dragged: _,
         } = self;
     }
 }
@@ -90,6 +136,16 @@ fn is_suspend(event: &Event) -> bool {
             key.code == KeyCode::Char('z') && key.modifiers == KeyModifiers::CONTROL
         }
         _ => false,
+    }
+}
+
+// What is done of an action: while help is open, only what moves its page.
+fn held(is_help: bool, action: Option<ViewAction>) -> Option<ViewAction>
+    ensures { result ≡ held is_help action }
+{
+    match action {
+        Some(action) if is_help && !action.holds_in_help() => None,
+        action => action,
     }
 }
 
@@ -131,7 +187,7 @@ fn wants_more(state: &PagerState, waits: bool, most: usize) -> bool
 }
 
 // Sets what a text is shown by, before it is there; a term is searched for in lines, and colours go on over their rows.
-fn set_up(pager: &mut PagerOf<AppKinds>, options: &Options) -> Result<(), MinusError> {
+fn set_up(pager: &mut PagerOf<AppKinds>, options: &Options<'_>) -> Result<(), MinusError> {
     if options.numbers {
         pager.set_line_numbers(LineNumbers::Enabled)?;
     }
@@ -146,7 +202,7 @@ fn set_up(pager: &mut PagerOf<AppKinds>, options: &Options) -> Result<(), MinusE
 // A pager with the beginning of a text.
 fn pager_of(
     alloc: Global,
-    options: &Options,
+    options: &Options<'_>,
     beginning: &str,
 ) -> Result<PagerOf<AppKinds>, MinusError> {
     let mut pager = PagerOf::new(alloc);
@@ -170,35 +226,23 @@ pub struct Start<S> {
     pub prints: bool,
 }
 
-// The session of a pager on the terminal; none where its text was printed instead, since it fits there.
+// The session of a pager on the terminal, of so many columns and rows.
 fn session_of<S: OutputSink + Drop>(
-    size: Size,
     pager: PagerOf<AppKinds>,
     terminal: S,
+    size: (usize, usize),
     keys: Table,
-    prints: bool,
-) -> Result<Option<Core<S, AppKinds>>, MinusError> {
-    let (cols, rows) = (usize::from(size.cols), usize::from(size.rows));
-    if !prints {
-        let session = init_core_with(pager, RunMode::Dynamic, terminal, cols, rows, keys)?;
-        return Ok(Some(session));
-    }
-    match page_all_with(pager, terminal, cols, rows, keys)? {
-        PagedOf::Written(mut terminal) => {
-            // (its mode is raw, so the last newline has not returned to the first column)
-            draw_bytes(&mut terminal, b"\r")?;
-            Ok(None)
-        }
-        PagedOf::Started(session) => Ok(Some(session)),
-    }
+) -> Result<Core<S, AppKinds>, MinusError> {
+    let (cols, rows) = size;
+    Ok(init_core_with(pager, RunMode::Dynamic, terminal, cols, rows, keys)?)
 }
 
 impl<S: OutputSink + Drop> View<S> {
     ghost use Rattle.std.specs.Prelude.{◌≡◌, Some, string_bytes, unwrap_or};
     ghost use Rattle.minus_input.specs.EventTables.{register_of};
     ghost use Rattle.minus_state.specs.States.{control_of};
-    ghost use Rattle.minus_app.specs.Keys.{own_number_at};
-    ghost use Rattle.minus_app.specs.Lines.{IsTopLine, row_of_line};
+    ghost use Rattle.minus_app.specs.Keys.{own_number_at, view_action_at};
+    ghost use Rattle.minus_app.specs.Lines.{IsTopLine};
 
     /// Starts a session with the beginning of a text. Where that is all of it, and is to be printed where it fits the
     /// terminal, it is printed there, and there is no session.
@@ -209,10 +253,9 @@ impl<S: OutputSink + Drop> View<S> {
     pub(crate) fn start(
         alloc: Global,
         start: Start<S>,
-        options: &Options,
+        options: &Options<'_>,
         beginning: &str,
     ) -> Result<Option<View<S>>, Fault> {
-        let pager = pager_of(alloc, options, beginning)?;
         let Start {
             pages,
             beside,
@@ -220,9 +263,13 @@ impl<S: OutputSink + Drop> View<S> {
             keys,
             prints,
         } = start;
-        let Some(session) = session_of(size, pager, pages, keys, prints)? else {
+        let (cols, rows) = (usize::from(size.cols), usize::from(size.rows));
+        let (mut pages, layout) = (pages, layout_of(options, cols));
+        if prints && print_if_fits(alloc, &mut pages, beginning, layout, rows)? {
             return Ok(None);
-        };
+        }
+        let pager = pager_of(alloc, options, beginning)?;
+        let session = session_of(pager, pages, (cols, rows), keys)?;
         Ok(Some(View {
             alloc,
             session,
@@ -235,7 +282,17 @@ impl<S: OutputSink + Drop> View<S> {
             told_before: 0,
             rests_from: None,
             has_mouse: options.mouse,
-            line: options.first_line(),
+            goal: options.first_goal(),
+            is_whole: false,
+            pending: None,
+            put_at: None,
+            covered: None,
+            before: 0,
+            marks: Vec::new(alloc),
+            case: options.case,
+            at_end: options.at_end,
+            leaves: options.leaves,
+            was_dragged: false,
         }))
     }
 
@@ -282,16 +339,6 @@ impl<S: OutputSink + Drop> View<S> {
         lines.row_to_line(state.upper_mark).unwrap_or(0)
     }
 
-    // The first row of a line, counted from 0, or else a row behind all.
-    fn row_of_line(&self, line: usize) -> usize
-        ensures { result ≡ row_of_line self.now.session.parts.state line }
-    {
-        self.session
-            .state()
-            .line_first_row(line)
-            .unwrap_or(usize::MAX)
-    }
-
     /// Goes to a line, counted from 0: the page begins there, but shows no less than the last page does. Where the text
     /// has no such line, that is the last page. A move up ends following.
     ///
@@ -299,12 +346,8 @@ impl<S: OutputSink + Drop> View<S> {
     ///
     /// [`Fault::Pager`] where the session refuses.
     pub fn go_to_line(&mut self, line: usize) -> Result<(), Fault> {
-        let row = self.row_of_line(line);
-        let state = self.session.state();
-        if state.follow_output() && row < state.upper_mark {
-            self.command(CommandOf::FollowOutput(false))?;
-        }
-        self.command(CommandOf::Io(IoCommand::SetUpperMark(row)))
+        let row = row_of_line(self.session.state(), line);
+        self.go_to_row(row)
     }
 
     /// Shows another text in the place of the one on show. What `feed` gives comes behind that. Out of memory the text
@@ -315,6 +358,20 @@ impl<S: OutputSink + Drop> View<S> {
     /// [`Fault::Pager`] where the session refuses.
     pub fn set_text(&mut self, text: String) -> Result<(), Fault> {
         self.command(CommandOf::SetData(text))
+    }
+
+    /// Shows no text, and forgets the places in the one before: another one begins.
+    ///
+    /// # Errors
+    ///
+    /// [`Fault::Pager`] where the session refuses.
+    pub(crate) fn begin_text(&mut self) -> Result<(), Fault> {
+        self.notice = Notice::Nothing;
+        self.goal = None;
+        self.put_at = None;
+        self.before = 0;
+        self.marks = Vec::new(self.alloc);
+        self.set_text(String::new(self.alloc))
     }
 
     /// Shows a message in the prompt row, until the next key.
@@ -357,9 +414,18 @@ impl<S: OutputSink + Drop> View<S> {
         Ok(())
     }
 
-    // What the events before this one left to be said is gone.
+    // What the pager does at an event that no default action does.
+    fn action(&self, event: &Event) -> Option<ViewAction>
+        ensures { result ≡ view_action_at self.now.session.parts.state
+            (register_of self.now.session.parts.classifier) event.now }
+    {
+        let action = view_action(self.session.classifier(), event);
+        held(self.session.state().help_open(), action)
+    }
+
+    // What the events before this one left to be said is gone, and what the text was read on for.
     fn begin_event(&mut self) {
-        self.line = None;
+        self.goal = None;
         self.was_short = false;
         self.was_missed = false;
     }
@@ -369,7 +435,7 @@ impl<S: OutputSink + Drop> View<S> {
     /// # Errors
     ///
     /// [`Fault::Pager`] where the session refuses.
-    pub(crate) fn set_options(&mut self, options: &Options) -> Result<(), Fault> {
+    pub(crate) fn set_options(&mut self, options: &Options<'_>) -> Result<(), Fault> {
         self.release_mouse()?;
         if options.follows {
             self.command(CommandOf::FollowOutput(true))?;
@@ -395,7 +461,7 @@ impl<S: OutputSink + Drop> View<S> {
     /// Whether more of the text is wanted: this number of bytes is not yet read below the page, or the text is
     /// followed, or the line that is shown first was not read yet.
     pub(crate) fn wants_more(&self, bytes: usize) -> bool {
-        wants_more(self.session.state(), self.line.is_some(), bytes)
+        wants_more(self.session.state(), self.goal.is_some(), bytes)
     }
 
     // Puts a copied text on the terminal's clipboard. Where there is no memory for that, the prompt row says so.
@@ -409,10 +475,35 @@ impl<S: OutputSink + Drop> View<S> {
         Ok(())
     }
 
+    // Heeds whether the mouse was moved since its button was pressed.
+    fn heed_mouse(&mut self, event: &Event) {
+        if let Event::Mouse(mouse) = event {
+            match mouse.kind {
+                MouseEventKind::Down(_) => self.was_dragged = false,
+                MouseEventKind::Drag(_) => self.was_dragged = true,
+                _ => (),
+            }
+        }
+    }
+
+    // Puts what was selected with the mouse on the terminal's clipboard, without its styles; a click selects nothing.
+    fn copy_selected(&mut self, copied: &str) -> Result<(), Fault> {
+        if !self.was_dragged {
+            return Ok(());
+        }
+        match strip_escapes(self.alloc, self.session.state().patterns(), copied) {
+            Ok(plain) => self.put_on_clipboard(plain.as_str()),
+            Err(_) => {
+                self.was_short = true;
+                Ok(())
+            }
+        }
+    }
+
     // Heeds what a step answers.
     fn heed(&mut self, answer: Answer) -> Result<Onward, Fault> {
         if let Some(copied) = &answer.copied {
-            self.put_on_clipboard(copied.as_str())?;
+            self.copy_selected(copied.as_str())?;
         }
         if answer.exited.is_some() {
             return Ok(Onward::Ended);
@@ -495,10 +586,54 @@ impl<S: OutputSink + Drop> View<S> {
     ///
     /// [`Fault::Pager`] where the session refuses.
     pub(crate) fn tell(&mut self, event: Event) -> Result<Onward, Fault> {
-        self.begin_event();
+        self.heed_mouse(&event);
+        let (asks_down, was_at_end) = (self.asks_down(&event), self.is_at_end());
+        let onward = self.tell_key(event)?;
+        let ends = match self.at_end {
+            AtEnd::Stays => false,
+            AtEnd::EndsAtSecond => asks_down && was_at_end,
+            AtEnd::EndsAtFirst => asks_down && self.is_at_end(),
+        };
+        if ends && onward == Onward::On {
+            return Ok(Onward::Ended);
+        }
+        Ok(onward)
+    }
+
+    // Whether the page shows the end of the whole text.
+    fn is_at_end(&self) -> bool {
+        let state = self.session.state();
+        self.is_whole && !state.help_open() && state.upper_mark >= state.top()
+    }
+
+    // Whether an event moves the page down by rows or pages.
+    fn asks_down(&self, event: &Event) -> bool {
+        if self.is_searching() || self.pending.is_some() {
+            return false;
+        }
+        if let Some(action) = self.action(event) {
+            return action == ViewAction::PageDown || action == ViewAction::HalfPageDown;
+        }
+        match self.asked(*event) {
+            Some(InputEvent::UpdateUpperMark(mark)) => mark > self.session.state().upper_mark,
+            _ => false,
+        }
+    }
+
+    // Tells the session an event, or does what it leads to.
+    fn tell_key(&mut self, event: Event) -> Result<Onward, Fault> {
+        if let (Some(pending), Event::Key(_)) = (self.pending, &event) {
+            self.pending = None;
+            return self.take_key(pending, event);
+        }
         if self.is_searching() {
+            self.begin_event();
             return self.tell_search(event);
         }
+        if let Some(action) = self.action(&event) {
+            return self.do_action(action, event);
+        }
+        self.begin_event();
         if is_suspend(&event) {
             return Ok(Onward::Suspended);
         }
@@ -513,11 +648,11 @@ impl<S: OutputSink + Drop> View<S> {
     ///
     /// [`Fault::Pager`] where the session refuses; a size that is none is passed over.
     pub(crate) fn resize(&mut self, size: Size) -> Result<(), Fault> {
-        let _ = self.step(InputOf::Event(Event::Resize(size.cols, size.rows)))?;
+        let _ = self.step_in_place(InputOf::Event(Event::Resize(size.cols, size.rows)))?;
         Ok(())
     }
 
-    /// Adds text, and goes to the line that is shown first once it was read. Answers whether there was memory for it.
+    /// Adds text, and goes where it was read on for. Answers whether there was memory for it.
     ///
     /// # Errors
     ///
@@ -528,42 +663,12 @@ impl<S: OutputSink + Drop> View<S> {
             .step(InputOf::Command(CommandOf::AppendData(text)))
         {
             Ok(_) => {
-                self.go_to_first_line()?;
+                let _ = self.pursue()?;
                 Ok(true)
             }
             Err(MinusError::Memory) => Ok(false),
             Err(cause) => Err(Fault::Pager(cause)),
         }
-    }
-
-    /// Goes to the line that is shown first, where it was read.
-    ///
-    /// # Errors
-    ///
-    /// [`Fault::Pager`] where the session refuses.
-    pub(crate) fn go_to_first_line(&mut self) -> Result<(), Fault> {
-        let Some(line) = self.line else {
-            return Ok(());
-        };
-        if let Some(row) = self.session.state().line_first_row(line) {
-            self.line = None;
-            self.command(CommandOf::Io(IoCommand::SetUpperMark(row)))?;
-        }
-        Ok(())
-    }
-
-    /// Goes to the last page, where the text ended before the line that is shown first. Answers whether it did.
-    ///
-    /// # Errors
-    ///
-    /// [`Fault::Pager`] where the session refuses.
-    pub(crate) fn end_at_last_page(&mut self) -> Result<bool, Fault> {
-        if self.line.is_none() {
-            return Ok(false);
-        }
-        self.line = None;
-        self.command(CommandOf::Io(IoCommand::SetUpperMark(usize::MAX)))?;
-        Ok(true)
     }
 
     /// What the prompt row says of the text.
@@ -587,6 +692,8 @@ impl<S: OutputSink + Drop> View<S> {
     fn notice_now(&self) -> Notice {
         if self.was_short {
             Notice::OutOfMemory
+        } else if self.goal.is_some() {
+            Notice::Reading
         } else if self.was_missed {
             Notice::NotFound
         } else {
@@ -601,11 +708,48 @@ impl<S: OutputSink + Drop> View<S> {
     ///
     /// [`Fault::Pager`] where the session refuses.
     pub(crate) fn show_place(&mut self, own: Option<&str>, title: &str) -> Result<(), Fault> {
-        let (state, notice) = (self.session.state(), self.notice_now());
-        if let Ok(text) = prompt_text(self.alloc, own, title, state, notice) {
+        let (place, notice) = (place_of(self.session.state()), self.notice_now());
+        let own = match self.pending {
+            Some(pending) => Some(pending.text()),
+            None => own,
+        };
+        let Ok(columns) = self.columns_left() else {
+            return Ok(());
+        };
+        if let Ok(text) = prompt_text(self.alloc, columns, own, title, place, notice) {
             self.command(CommandOf::SetPrompt(text))?;
         }
         Ok(())
+    }
+
+    // How many columns of the prompt row the match that is told of and the mark of following leave.
+    fn columns_left(&self) -> Result<usize, AllocError> {
+        let state = self.session.state();
+        let (told, count) = (
+            state.search_mark().saturating_add(1),
+            state.screen.view().match_total(),
+        );
+        let told = format!(in self.alloc; " {told}/{count} ")?;
+        let told = if count == 0 { 0 } else { told.len() };
+        let follow = if state.follow_output() { 3 } else { 0 };
+        Ok(state.cols.saturating_sub(told).saturating_sub(follow))
+    }
+
+    // Says in the prompt row where in the text the page is, in lines and in bytes.
+    fn tell_place(&mut self) -> Result<(), Fault> {
+        let place = place_of(self.session.state());
+        let (first, last, lines, end, bytes) = (
+            place.first,
+            place.last,
+            place.lines,
+            place.end,
+            place.bytes,
+        );
+        let part = percent(end, bytes);
+        let text = format!(in self.alloc;
+            "lines {first}-{last} of {lines}, byte {end} of {bytes}, {part}% (Return)"
+        )?;
+        self.message(text)
     }
 
     /// Hands the screen, the cursor and the mouse back, for the time that the program is suspended.
@@ -637,9 +781,9 @@ impl<S: OutputSink + Drop> View<S> {
     /// [`Fault::Pager`] where the terminal refuses.
     pub(crate) fn finish(self) -> Result<(), Fault> {
         let View {
-            alloc: _,
+            alloc,
             session,
-            terminal: _,
+            terminal,
             count: _,
             notice: _,
             was_short: _,
@@ -648,10 +792,27 @@ impl<S: OutputSink + Drop> View<S> {
             told_before: _,
             rests_from: _,
             has_mouse: _,
-            line: _,
+            goal: _,
+            is_whole: _,
+            pending: _,
+            put_at: _,
+            covered: _,
+            before: _,
+            marks: _,
+            case: _,
+            at_end: _,
+            leaves,
+            was_dragged: _,
         } = self;
+        let mut terminal = terminal;
+        let left = if leaves {
+            page_left(alloc, session.state())?
+        } else {
+            String::new(alloc)
+        };
         let (_, cleaned) = session.finish();
         cleaned.map_err(MinusError::from)?;
+        write_bytes(&mut terminal, left.as_bytes())?;
         Ok(())
     }
 }

@@ -105,7 +105,7 @@ fn typing(rt: &HostRuntime, pieces: &'static [&'static [u8]]) -> Result<Found, F
 fn an_own_key_is_the_applications(rt: HostRuntime) {
     let found = typing(&rt, &[b"e"]).expect(&rt, "typed");
     assert_eq!(rt; (found.on, found.line), (true, 9));
-    assert!(rt; found.prompt.as_str() == "lines  10-13/30  43%");
+    assert!(rt; found.prompt.as_str() == "lines  10-13/30  41%");
 }
 
 #[test]
@@ -287,4 +287,83 @@ fn keys_of_which_none_ends_the_program_are_refused(rt: HostRuntime) {
     let keys = ended_by(&rt, "e").expect(&rt, "keys");
     let found = run(&rt, Lines::new(30), keys, &[b"q", b"e"], READ, None).expect(&rt, "typed");
     assert_eq!(rt; (found.on, found.counted), (false, 1));
+}
+
+// Thirty lines, and what is typed to them with all keys of `less`.
+fn as_less(rt: &HostRuntime, pieces: &'static [&'static [u8]]) -> Result<Found, Fault> {
+    let keys = AppKeys::all_of_less(rt.alloc())?;
+    run(rt, Lines::new(30), keys, pieces, READ, None)
+}
+
+// What is typed to thirty lines on pages of four, and the line at the top of the page then, counted from 0.
+const MOVES: &[(&[&[u8]], usize)] = &[
+    (&[b" "], 4),
+    (&[b"f"], 4),
+    (&[b"\x06"], 4),
+    (&[b"\x16"], 4),
+    (&[b"z"], 4),
+    (&[b"10f"], 10),
+    (&[b"d"], 2),
+    (&[b"\x04"], 2),
+    (&[b"3d"], 3),
+    (&[b"Gb"], 22),
+    (&[b"G\x02"], 22),
+    (&[b"Gw"], 22),
+    (&[b"G5b"], 21),
+    (&[b"Gu"], 24),
+    (&[b"G\x15"], 24),
+    (&[b"j"], 1),
+    (&[b"e"], 1),
+    (&[b"\x05"], 1),
+    (&[b"\x0e"], 1),
+    (&[b"\n"], 1),
+    (&[b"\r"], 1),
+    (&[b"5j"], 5),
+    (&[b"Gk"], 25),
+    (&[b"Gy"], 25),
+    (&[b"G\x19"], 25),
+    (&[b"G\x10"], 25),
+    (&[b"G\x0b"], 25),
+    (&[b"10g"], 9),
+    (&[b"10gg"], 0),
+    (&[b"10G"], 9),
+    (&[b"99G"], 26),
+    (&[b"G<"], 0),
+    (&[b">"], 26),
+    (&[b"50%"], 15),
+    (&[b"50p"], 15),
+    (&[b"Gp"], 0),
+    (&[b"5jmaG'a"], 5),
+    (&[b"5jG''"], 5),
+    (&[b"5j'$"], 26),
+    (&[b"G'^"], 0),
+    (&[b"/line 2\r", b"n"], 19),
+    (&[b"/line 2\r", b"nN"], 1),
+    (&[b"/line 2\r", b"25gN"], 23),
+    (&[b"/line 2\r", b"25gn"], 25),
+    (&[b"/line 2\r", b"25gnnnnn"], 1),
+];
+
+#[test]
+fn the_keys_of_less_move_the_page(rt: HostRuntime) {
+    for (pieces, line) in MOVES {
+        let found = as_less(&rt, *pieces).expect(&rt, "typed");
+        assert_eq!(rt; (found.on, found.line), (true, *line));
+    }
+}
+
+#[test]
+fn the_keys_of_less_end_the_program(rt: HostRuntime) {
+    let ends: &[&[&[u8]]] = &[&[b"q"], &[b"Q"], &[b"ZZ"], &[b":q"], &[b"\x03"]];
+    for pieces in ends {
+        assert!(rt; !as_less(&rt, *pieces).expect(&rt, "typed").on);
+    }
+    // (Ctrl-C ends following first, and a key behind another that means nothing ends nothing)
+    let stays: &[&[&[u8]]] = &[&[b"F", b"\x03"], &[b"Zj"], &[b":j"], &[b"-q"], &[b"mq"]];
+    for (at, pieces) in stays.iter().enumerate() {
+        assert_eq!(rt;
+            (at, as_less(&rt, *pieces).expect(&rt, "typed").on),
+            (at, true)
+        );
+    }
 }

@@ -1,2 +1,3 @@
+pub mod Files
 pub mod Pagings
 pub mod Statuses

@@ -1,16 +1,32 @@
--- What the pager's words say to the library: the title of a text, and how it is paged.
-use Rattle.std.specs.Prelude.{ℕ, List, Option, None, Some, codes}
+-- What the pager's words say to the library: how a text is paged.
+use Rattle.std.specs.Prelude.{ℕ, List, [], Bool, true, false}
 use Rattle.minus_app.specs.declared.options.Options.{Options}
 use Rattle.minus_view.specs.declared.arguments.Paging.{Paging}
-use Rattle.minus_view.specs.declared.arguments.Source.{Source}
-use Rattle.minus_view.specs.declared.arguments.Source.TheVariants.{Unnamed, Input, File}
+use Rattle.minus_view.specs.Paging.{shown}
+use Rattle.minus_view.specs.declared.arguments.Opening.{Opening}
+use Rattle.minus_view.specs.declared.arguments.Opening.TheVariants.{First, Line, End, Follows, Finds}
 
--- the title of a text: the name that the launcher tells, or else its own
-abbrev pub title_of : Option (List ℕ) → Source → List ℕ
-title_of (Some name) source = name
-title_of None Unnamed = codes "standard input"
-title_of None Input = codes "standard input"
-title_of None (File name) = name.now
+-- the line that is shown first, counted from 1
+abbrev pub line_of : Opening → ℕ
+line_of (Line line) = line
+line_of opening = 1
+
+abbrev pub follows : Opening → Bool
+follows Follows = true
+follows opening = false
+
+abbrev pub begins_at_end : Opening → Bool
+begins_at_end End = true
+begins_at_end opening = false
+
+-- what is searched for at first; nothing else is no text
+abbrev pub finds_of : Opening → List ℕ
+finds_of (Finds query) = query.now
+finds_of opening = []
+
+-- how a text is paged, told by what is searched for, wherever that lies
+abbrev pub bare_options : Options → Options
+bare_options options = record options { finds = shown options.finds.now }
 
 -- how it is paged
 abbrev pub options_of : Paging → Options
@@ -18,7 +34,12 @@ options_of paging = record {
   numbers = paging.numbers;
   chops = paging.chops;
   prints = paging.prints;
-  follows = paging.follows;
+  follows = follows paging.opening;
   mouse = paging.mouse;
-  line = paging.line;
+  leaves = paging.leaves;
+  case = paging.case;
+  at_end = paging.at_end;
+  line = line_of paging.opening;
+  begins_at_end = begins_at_end paging.opening;
+  finds = shown (finds_of paging.opening);
 }

@@ -1,39 +1,45 @@
 //! Pages a file or standard input on the terminal, as `less` does; `bin/minus` runs it.
 #![tactic(auto)]
 
+mod files;
 mod paging;
 mod refusal;
 mod words;
 
 use crate::paging::page;
 use crate::refusal::Refusal;
-use crate::words::{read_words, texts};
+use crate::words::{read_words, set_words, texts};
 use minus_app::print;
 use minus_view::{Arguments, parse_arguments};
 use std::process::ExitCode;
 
 /// How the program is called.
 const USAGE: &str = "\
-usage: minus [-N] [-S] [-F] [+F] [+LINE] [--no-mouse] [-h | --help] [--version] [FILE | -]
+usage: minus [OPTION ..] [FILE | -] ..
 
-Pages FILE on the terminal, or standard input.
+Pages files on the terminal, or standard input. What MINUS sets, or else LESS, is read before the options of less:
 
   -N          number the lines
   -S          cut long lines at the screen's edge, and do not wrap them
   -F          print a text that fits the screen, and do not page it
+  -X          leave the last page on the terminal
+  -i -I       capitals do not count in queries without capitals; in none
+  -e -E       end at the end of the text, where it is reached for a second time; at once
+  -p PATTERN  begin at the first match
+  +LINE +G    begin at this line, counted from 1; at the end
   +F          follow the end of the text
-  +LINE       begin at this line, counted from 1
-  --no-mouse  leave the mouse to the terminal
+  --mouse     take the mouse
 
-Keys: j k scroll, Space f b page, g < go to the top, G > to the end, F follows the end, / ? search on and back,
-n N go to the next match and the one before, q ends; M lists all.
+Keys: those of less: j k scroll, Space b page, g G go to the top and the end, F follows the end, / ? search on and back,
+n N go to the next match and the one before, q ends; h lists all.
 ";
 
 // Does what the words ask for.
 fn answer(rt: &HostRuntime) -> Result<(), Refusal> {
     let words = read_words(rt)?;
     let words = texts(rt.alloc(), &words)?;
-    match parse_arguments(&words) {
+    let set = set_words(rt)?;
+    match parse_arguments(set.as_str(), &words) {
         Ok(Arguments::Page(paging)) => page(rt, &paging)?,
         Ok(Arguments::Help) => print(rt, USAGE)?,
         Ok(Arguments::Version) => print(rt, "minus 0.1.0\n")?,

@@ -29,8 +29,10 @@ impl Refusal {
     pub fn of_words(alloc: Global, fault: &ArgumentFault<'_>) -> Result<Refusal, AllocError> {
         let said = match fault {
             ArgumentFault::UnknownOption(word) => format!(in alloc; "no such option: {word}")?,
-            ArgumentFault::BadLine(word) => format!(in alloc; "no line: {word}")?,
-            ArgumentFault::SecondText(word) => format!(in alloc; "more than one file: {word}")?,
+            ArgumentFault::BadNumber(word) => format!(in alloc; "no number: {word}")?,
+            ArgumentFault::NoValue(word) => format!(in alloc;
+                "nothing follows the option: {word}"
+            )?,
         };
         Ok(Refusal::Words(said))
     }

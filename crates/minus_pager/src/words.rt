@@ -26,3 +26,17 @@ pub fn texts<'a>(alloc: Global, words: &'a [String]) -> Result<Vec<&'a str>, All
     }
     Ok(texts)
 }
+
+/// What the environment asks for: what `MINUS` says, or else `LESS`.
+///
+/// # Errors
+///
+/// [`AllocError`] where there is no memory.
+pub fn set_words(rt: &HostRuntime) -> Result<String, AllocError> {
+    for name in ["MINUS", "LESS"] {
+        if let Ok(set) = env::var(rt, name) {
+            return Ok(set);
+        }
+    }
+    Ok(String::new(rt.alloc()))
+}

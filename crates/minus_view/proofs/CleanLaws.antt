@@ -54,11 +54,11 @@ escape_step c false next e h = absurd (cc)
 last_clean : (c : ℕ) → (c == 109) ≡ true → (follows c false ≡ true) × ((c == 27) ≡ false)
 last_clean c h = (grind (arith, nat_tests), grind (arith, nat_tests))
 
-number_clean : (c : ℕ) → (is_in_range 48 57 c || (c == 59)) ≡ true → (follows c false ≡ true) × ((c == 27) ≡ false)
+number_clean : (c : ℕ) → is_in_range 48 59 c ≡ true → (follows c false ≡ true) × ((c == 27) ≡ false)
 number_clean c h = (grind (arith, nat_tests), grind (arith, nat_tests))
 
 -- in the numbers of a sequence
-number_step : (c : ℕ) (resets t d : Bool) (next : Spot) → (c == 109) ≡ t → (is_in_range 48 57 c || (c == 59)) ≡ d
+number_step : (c : ℕ) (resets t d : Bool) (next : Spot) → (c == 109) ≡ t → is_in_range 48 59 c ≡ d
     → (if t then Some (Line (not resets)) else (if d then Some (Numbers (resets && (c == 48))) else None)) ≡ Some next
     → (follows c false ≡ true) × (is_behind_escape next ≡ (c == 27))
 number_step c resets true d next e f h = let clean = last_clean c e in (clean.0, sym (ap behind h) ∙ sym clean.1)
@@ -68,7 +68,7 @@ number_step c resets false false next e f h = absurd (cc)
 clean_step : (spot next : Spot) (c : ℕ) → step spot c ≡ Some next → (follows c (is_behind_escape spot) ≡ true) × (is_behind_escape next ≡ (c == 27))
 clean_step (Line styled) next c h = line_step styled (c == 27) (c == 10) (is_control c) next h
 clean_step Escape next c h = escape_step c (c == 91) next refl h
-clean_step (Numbers resets) next c h = number_step c resets (c == 109) (is_in_range 48 57 c || (c == 59)) next refl refl h
+clean_step (Numbers resets) next c h = number_step c resets (c == 109) (is_in_range 48 59 c) next refl refl h
 
 clean_next : (spot : Spot) (c : ℕ) (cs : List ℕ) (o : Option Spot) → step spot c ≡ o → read cs o ≡ Some (Line false)
     → ((next : Spot) → read cs (Some next) ≡ Some (Line false) → is_clean (is_behind_escape next) cs ≡ true) → is_clean (is_behind_escape spot) (c ∷ cs) ≡ true

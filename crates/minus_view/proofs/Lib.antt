@@ -1,10 +1,12 @@
 pub mod CleanLaws
+pub mod CutLaws
 pub mod EventLaws
 pub mod ExpandedLaws
 pub mod HistoryLaws
 pub mod MeaningLaws
 pub mod PlainLaws
 pub mod PreparedLaws
+pub mod ReadingLaws
 pub mod ShownLaws
 pub mod TextQueueLaws
 pub mod UnitLaws

@@ -1,84 +1,127 @@
 -- What the words behind the program's name ask for, and why they ask for nothing. They are read from the left.
-use Rattle.std.specs.Prelude.{ℕ, ◌+◌, ◌-◌, ◌*◌, ◌==◌, ◌&&◌, ◌||◌, ◌^◌, true, false, List, [], ◌∷◌, Option, Some, None, Result, Ok, Err, if◌then◌else◌, codes}
-use Rattle.std.specs.Prelude.{bytes_eq, nat_lt}
-use Rattle.std.specs.Int.{is_in_range}
+use Rattle.std.specs.Prelude.{ℕ, ◌==◌, ◌||◌, Bool, false, List, [], ◌∷◌, Option, Some, None, Result, Ok, Err, if◌then◌else◌, codes, bytes_eq, option_map}
 use Rattle.std.specs.Borrow.{Bor}
-use Rattle.minus_view.specs.declared.arguments.Source.{Source}
-use Rattle.minus_view.specs.declared.arguments.Source.TheVariants.{Unnamed, Input, File}
+use Rattle.minus_view.specs.Paging.{shown, shown_all, bare, bare_paging, with_value}
+use Rattle.minus_view.specs.Reading.{new_reading, read_options}
+use Rattle.minus_view.specs.declared.arguments.Case.TheVariants.{Exact}
+use Rattle.minus_view.specs.declared.arguments.AtEnd.TheVariants.{Stays}
+use Rattle.minus_view.specs.declared.arguments.Opening.TheVariants.{First}
 use Rattle.minus_view.specs.declared.arguments.Paging.{Paging}
 use Rattle.minus_view.specs.declared.arguments.Arguments.{Arguments}
 use Rattle.minus_view.specs.declared.arguments.Arguments.TheVariants.{Page, Help, Version}
 use Rattle.minus_view.specs.declared.arguments.ArgumentFault.{ArgumentFault}
-use Rattle.minus_view.specs.declared.arguments.ArgumentFault.TheVariants.{UnknownOption, BadLine, SecondText}
+use Rattle.minus_view.specs.declared.arguments.ArgumentFault.TheVariants.{UnknownOption, BadNumber, NoValue}
+use Rattle.minus_view.specs.declared.arguments.reading.Ending.{Ending}
+use Rattle.minus_view.specs.declared.arguments.reading.Ending.TheVariants as ending
+use Rattle.minus_view.specs.declared.arguments.table.Valued.{Valued}
+use Rattle.minus_view.specs.declared.arguments.words.Words.{Words}
+use Rattle.minus_view.specs.declared.arguments.words.Step.{Step}
+use Rattle.minus_view.specs.declared.arguments.words.Step.TheVariants.{Options, End, Text, Says}
 
--- no word: standard input from its first line on
-abbrev pub no_words : Paging
-no_words = record { numbers = false; chops = false; prints = false; follows = false; mouse = true; line = 1; source = Unnamed }
+-- answers are told by what their texts are, wherever these lie
+abbrev pub bare_arguments : Arguments → Arguments
+bare_arguments (Page paging) = Page (bare_paging paging)
+bare_arguments Help = Help
+bare_arguments Version = Version
 
--- letters of one word: `N` for line numbers, `S` for lines that are not wrapped, `F` for a text that is printed where it fits
-abbrev pub with_letters : Paging → List ℕ → Option Paging
-with_letters so_far [] = Some so_far
-with_letters so_far (c ∷ letters) =
-    if c == 78 then with_letters (record so_far { numbers = true }) letters
-    else (if c == 83 then with_letters (record so_far { chops = true }) letters
-    else (if c == 70 then with_letters (record so_far { prints = true }) letters else None))
+abbrev pub bare_fault : ArgumentFault → ArgumentFault
+bare_fault (UnknownOption word) = UnknownOption (bare word)
+bare_fault (BadNumber word) = BadNumber (bare word)
+bare_fault (NoValue word) = NoValue (bare word)
 
--- the number that digits make behind `so_far`, where it has no more than 13 digits
-abbrev pub line_from : ℕ → List ℕ → Option ℕ
-line_from so_far [] = Some so_far
-line_from so_far (b ∷ digits) =
-    if is_in_range 48 57 b && nat_lt so_far (10 ^ 12) then line_from (so_far * 10 + (b - 48)) digits else None
+abbrev pub bare_answer : Result Arguments ArgumentFault → Result Arguments ArgumentFault
+bare_answer (Ok arguments) = Ok (bare_arguments arguments)
+bare_answer (Err fault) = Err (bare_fault fault)
 
--- a line's number, counted from 1
-abbrev pub positive : Option ℕ → Option ℕ
-positive (Some line) = if line == 0 then None else Some line
-positive None = None
+abbrev pub bare_words : Words → Words
+bare_words w = record { paging = bare_paging w.paging; waiting = option_map (λ x. (x.0, bare x.1)) w.waiting }
 
-abbrev pub line_number : List ℕ → Option ℕ
-line_number digits = positive (line_from 0 digits)
+abbrev pub bare_said : Step → Step
+bare_said (Options words) = Options (bare_words words)
+bare_said End = End
+bare_said Text = Text
+bare_said (Says arguments) = Says (bare_arguments arguments)
 
--- a text is named once
-abbrev pub named_after : Source → Paging → Source → Bor (List ℕ) → Result Arguments ArgumentFault
-named_after Unnamed so_far source word = Ok (Page (record so_far { source = source }))
-named_after Input so_far source word = Err (SecondText word)
-named_after (File before) so_far source word = Err (SecondText word)
+abbrev pub bare_step : Result Step ArgumentFault → Result Step ArgumentFault
+bare_step (Ok step) = Ok (bare_said step)
+bare_step (Err fault) = Err (bare_fault fault)
 
-abbrev pub with_source : Paging → Source → Bor (List ℕ) → Result Arguments ArgumentFault
-with_source so_far source word = named_after so_far.source so_far source word
+-- nothing is asked for: standard input from its first line on
+abbrev pub default_paging : Paging
+default_paging = record {
+  numbers = false;
+  chops = false;
+  prints = false;
+  leaves = false;
+  squeezes = false;
+  mouse = false;
+  case = Exact;
+  at_end = Stays;
+  tabs = 8;
+  opening = First;
+  name = None;
+  texts = shown_all [];
+}
 
--- an option of letters
-abbrev pub with_options : Option Paging → Bor (List ℕ) → Result Arguments ArgumentFault
-with_options (Some paging) word = Ok (Page paging)
-with_options None word = Err (UnknownOption word)
+-- a word of options: `-` or `+`, and more
+abbrev pub is_option : List ℕ → Bool
+is_option [] = false
+is_option (c ∷ []) = false
+is_option (c ∷ d ∷ rest) = (c == 45) || (c == 43)
 
-abbrev pub with_line : Paging → Option ℕ → Bor (List ℕ) → Result Arguments ArgumentFault
-with_line so_far (Some line) word = Ok (Page (record so_far { line = line }))
-with_line so_far None word = Err (BadLine word)
+abbrev pub after_word : Paging → Ending → List ℕ → Result Step ArgumentFault
+after_word paging ending.Nothing word = Ok (Options (record { paging = paging; waiting = None }))
+after_word paging (ending.Waits valued) word =
+    Ok (Options (record { paging = paging; waiting = Some (valued, shown word) }))
+after_word paging ending.Help word = Ok (Says Help)
+after_word paging ending.Version word = Ok (Says Version)
+after_word paging ending.Unknown word = Err (UnknownOption (shown word))
+after_word paging ending.BadNumber word = Err (BadNumber (shown word))
 
--- letters behind `-`, a line behind `+`, or a file's name
-abbrev pub read_other : Paging → Bor (List ℕ) → List ℕ → Result Arguments ArgumentFault
-read_other so_far word [] = with_source so_far (File word) word
-read_other so_far word (c ∷ rest) =
-    if c == 45 then with_options (with_letters so_far rest) word
-    else (if c == 43 then with_line so_far (line_number rest) word else with_source so_far (File word) word)
-
--- one word
-abbrev pub read_word : Paging → Bor (List ℕ) → Result Arguments ArgumentFault
+abbrev pub read_word : Paging → List ℕ → Result Step ArgumentFault
 read_word so_far word =
-    if bytes_eq word.now (codes "-h") || bytes_eq word.now (codes "--help") then Ok Help
-    else (if bytes_eq word.now (codes "--version") then Ok Version
-    else (if bytes_eq word.now (codes "--no-mouse") then Ok (Page (record so_far { mouse = false }))
-    else (if bytes_eq word.now (codes "+F") then Ok (Page (record so_far { follows = true }))
-    else (if bytes_eq word.now (codes "-") then with_source so_far Input word else read_other so_far word word.now))))
+    if bytes_eq word (codes "-h") then Ok (Says Help)
+    else (let reading = read_options (new_reading so_far) 0 word in after_word reading.paging reading.ending word)
 
--- help, the version and a fault end it
-abbrev pub goes_on : Result Arguments ArgumentFault → (Paging → Result Arguments ArgumentFault) → Result Arguments ArgumentFault
-goes_on (Ok (Page paging)) rest = rest paging
-goes_on (Ok Help) rest = Ok Help
-goes_on (Ok Version) rest = Ok Version
-goes_on (Err fault) rest = Err fault
+-- a word that is the value of an option
+abbrev pub after_value : Option Paging → List ℕ → Result Step ArgumentFault
+after_value (Some paging) value = Ok (Options (record { paging = paging; waiting = None }))
+after_value None value = Err (BadNumber (shown value))
 
--- all words
-abbrev pub read_words : Paging → List (Bor (List ℕ)) → Result Arguments ArgumentFault
-read_words so_far [] = Ok (Page so_far)
-read_words so_far (word ∷ words) = goes_on (read_word so_far word) (λ paging. read_words paging words)
+abbrev pub read_value : Paging → Valued → List ℕ → Result Step ArgumentFault
+read_value so_far valued value = after_value (with_value so_far valued value) value
+
+-- one word: `--` ends the options, and so does the first text
+abbrev pub next_of : Option (Valued × Bor (List ℕ)) → Paging → List ℕ → Result Step ArgumentFault
+next_of (Some waiting) so_far word = read_value so_far waiting.0 word
+next_of None so_far word = if is_option word then read_word so_far word else Ok Text
+
+abbrev pub next_word : Words → List ℕ → Result Step ArgumentFault
+next_word so_far word = if bytes_eq word (codes "--") then Ok End else next_of so_far.waiting so_far.paging word
+
+-- the texts are paged, where no option lacks its value
+abbrev pub paged_unless : Option (Valued × Bor (List ℕ)) → Paging → List (List ℕ) → Result Arguments ArgumentFault
+paged_unless (Some waiting) paging texts = Err (NoValue waiting.1)
+paged_unless None paging texts = Ok (Page (record paging { texts = shown_all texts }))
+
+abbrev pub paged : Words → List (List ℕ) → Result Arguments ArgumentFault
+paged so_far texts = paged_unless so_far.waiting so_far.paging texts
+
+-- all words: what asks for help or the version, and what is at fault, ends it
+abbrev pub goes_on : Result Step ArgumentFault → Words → List ℕ → List (List ℕ) → (Words → Result Arguments ArgumentFault) → Result Arguments ArgumentFault
+goes_on (Ok (Options words)) so_far word texts rest = rest words
+goes_on (Ok End) so_far word texts rest = paged so_far texts
+goes_on (Ok Text) so_far word texts rest = paged so_far (word ∷ texts)
+goes_on (Ok (Says arguments)) so_far word texts rest = Ok arguments
+goes_on (Err fault) so_far word texts rest = Err fault
+
+abbrev pub new_words : Paging → Words
+new_words paging = record { paging = paging; waiting = None }
+
+abbrev pub read_words : Words → List (List ℕ) → Result Arguments ArgumentFault
+read_words so_far [] = paged so_far []
+read_words so_far (word ∷ words) = goes_on (next_word so_far word) so_far word words (λ next. read_words next words)
+
+-- what a variable sets comes first
+abbrev pub arguments_of : List ℕ → List (List ℕ) → Result Arguments ArgumentFault
+arguments_of set words = read_words (new_words (read_options (new_reading default_paging) 0 set).paging) words

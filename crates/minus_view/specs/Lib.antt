@@ -1,12 +1,16 @@
 pub mod Arguments
+pub mod Cuts
 pub mod Events
 pub mod History
 pub mod Keys
 pub mod Meaning
 pub mod Mouse
 pub mod Numbers
+pub mod Options
+pub mod Paging
 pub mod Place
 pub mod Prepared
+pub mod Reading
 pub mod SearchKeys
 pub mod Shown
 pub mod TextQueue

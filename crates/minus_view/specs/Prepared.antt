@@ -1,12 +1,13 @@
 -- What of a text was read and is not handed out yet, and when a text is handed out as it is.
 use Rattle.std.specs.Prelude.{ℕ, ◌≡◌, ◌+◌, ◌-◌, ◌%◌, ◌==◌, ◌||◌, Bool, true, false, List, [], ◌∷◌, ◌++◌, Option, Some, None, string_bytes, encode_utf8}
-use Rattle.std.specs.Prelude.{drop, replicate, unwrap_or, if◌then◌else◌}
+use Rattle.std.specs.Prelude.{drop, replicate, unwrap_or, min, max, if◌then◌else◌}
 use Rattle.std.specs.List.{list_all}
 use Rattle.unicode_width.specs.Width.{char_width}
 use Rattle.minus_view.specs.declared.look.Glyph.{Glyph}
 use Rattle.minus_view.specs.declared.look.Look.TheVariants.{Plain}
 use Rattle.minus_view.specs.declared.prepare.Place.TheVariants.{Text}
 use Rattle.minus_view.specs.declared.prepare.Preparation.{Preparation}
+use Rattle.minus_view.specs.declared.prepare.Shape.{Shape}
 use Rattle.minus_view.specs.Shown.{is_control, is_plain}
 
 -- the last character, which may still be struck over
@@ -23,7 +24,12 @@ abbrev pub IsPlainGlyph : Option Glyph → Type 0
 IsPlainGlyph (Some glyph) = (glyph.look ≡ Plain) × (is_control glyph.c ≡ false)
 IsPlainGlyph None = Unit {0}
 
--- nothing is begun: no sequence and no character of several bytes, no style, no backspace, no colours
+-- how far tabs stand apart
+abbrev pub apart : Shape → ℕ
+apart shape = min 65535 (max 1 shape.tabs)
+
+-- nothing is begun: no sequence and no character of several bytes, no style, no backspace, no colours; and no empty lines
+-- are left out
 pub record IsPlain (p : Preparation) : Type 0 where
   pub place : p.place ≡ Text
   pub back : p.is_back ≡ false
@@ -31,6 +37,7 @@ pub record IsPlain (p : Preparation) : Type 0 where
   pub colours : string_bytes p.colours ≡ []
   pub styled : p.sheet.styled ≡ false
   pub glyph : IsPlainGlyph p.held
+  pub keeps : p.shape.squeezes ≡ false
 
 -- printed ASCII characters, newlines and tabs alone
 abbrev pub is_text : ℕ → Bool
@@ -39,24 +46,24 @@ is_text b = is_plain true b || (b == 9)
 abbrev pub IsText : List ℕ → Type 0
 IsText bytes = list_all is_text bytes ≡ true
 
--- how many spaces stand for a tab: as many as lead to the next column that 8 divides
-abbrev pub tab_len : ℕ → ℕ
-tab_len col = 8 - col % 8
+-- how many spaces stand for a tab: as many as lead to the next column that `tabs` divides
+abbrev pub tab_len : ℕ → ℕ → ℕ
+tab_len tabs col = tabs - col % tabs
 
 -- the column behind a byte, and behind bytes; columns are counted from 0
-abbrev pub next_column : ℕ → ℕ → ℕ
-next_column col b = if b == 9 then col + tab_len col else (if b == 10 then 0 else col + 1)
+abbrev pub next_column : ℕ → ℕ → ℕ → ℕ
+next_column tabs col b = if b == 9 then col + tab_len tabs col else (if b == 10 then 0 else col + 1)
 
-abbrev pub column_after : ℕ → List ℕ → ℕ
-column_after col [] = col
-column_after col (b ∷ bytes) = column_after (next_column col b) bytes
+abbrev pub column_after : ℕ → ℕ → List ℕ → ℕ
+column_after tabs col [] = col
+column_after tabs col (b ∷ bytes) = column_after tabs (next_column tabs col b) bytes
 
 -- what bytes become that begin in a column: spaces stand for tabs, and all others stay
-abbrev pub expanded : ℕ → List ℕ → List ℕ
-expanded col [] = []
-expanded col (b ∷ bytes) =
-    if b == 9 then replicate (tab_len col) 32 ++ expanded (next_column col b) bytes
-    else b ∷ expanded (next_column col b) bytes
+abbrev pub expanded : ℕ → ℕ → List ℕ → List ℕ
+expanded tabs col [] = []
+expanded tabs col (b ∷ bytes) =
+    if b == 9 then replicate (tab_len tabs col) 32 ++ expanded tabs (next_column tabs col b) bytes
+    else b ∷ expanded tabs (next_column tabs col b) bytes
 
 -- the columns of a character, and of the held one
 abbrev pub char_columns : ℕ → ℕ
@@ -66,41 +73,45 @@ abbrev pub glyph_columns : Option Glyph → ℕ
 glyph_columns (Some glyph) = char_columns glyph.c
 glyph_columns None = 0
 
--- what was read ends in a column, as far as tabs can tell
-abbrev pub IsAt : ℕ → Preparation → Type 0
-IsAt col p = (p.column + glyph_columns p.held) % 8 ≡ col % 8
+-- tabs stand so far apart, and what was read ends in a column, as far as tabs can tell
+pub record IsAt (tabs col : ℕ) (p : Preparation) : Type 0 where
+  pub apart : apart p.shape ≡ tabs
+  pub column : (p.column + glyph_columns p.held) % tabs ≡ col % tabs
 
 -- nothing is begun, and what was read ends in a column
-abbrev pub IsPlainAt : ℕ → Preparation → Type 0
-IsPlainAt col p = IsPlain p × IsAt col p
+abbrev pub IsPlainAt : ℕ → ℕ → Preparation → Type 0
+IsPlainAt tabs col p = IsPlain p × IsAt tabs col p
 
 -- some of the bytes were read, and `rest` is left: what they become is held
-pub record Takes (col : ℕ) (old new : Preparation) (bytes rest : List ℕ) : Type 0 where
+pub record Takes (tabs col : ℕ) (old new : Preparation) (bytes rest : List ℕ) : Type 0 where
   pub next : ℕ
   pub plain : IsPlain new
-  pub is_at : IsAt next new
+  pub is_at : IsAt tabs next new
   pub left : IsText rest
-  pub text : held new ++ expanded next rest ≡ held old ++ expanded col bytes
-  pub ends : column_after next rest ≡ column_after col bytes
+  pub text : held new ++ expanded tabs next rest ≡ held old ++ expanded tabs col bytes
+  pub ends : column_after tabs next rest ≡ column_after tabs col bytes
 
 -- a front of some bytes was taken, so many of them
 abbrev pub TakesFront : (old new : Preparation) → List ℕ → ℕ → Type 0
-TakesFront old new bytes n = (col : ℕ) → IsPlain old → IsAt col old → IsText bytes → Takes col old new bytes (drop n bytes)
+TakesFront old new bytes n =
+    (tabs col : ℕ) → IsPlain old → IsAt tabs col old → IsText bytes → Takes tabs col old new bytes (drop n bytes)
 
 -- a tab was taken: spaces stand for it
 abbrev pub TakesTab : (old new : Preparation) → Type 0
-TakesTab old new = (col : ℕ) → IsPlain old → IsAt col old → IsPlain new × (held new ≡ held old ++ replicate (tab_len col) 32)
+TakesTab old new =
+    (tabs col : ℕ) → IsPlain old → IsAt tabs col old → IsPlain new × (held new ≡ held old ++ replicate (tab_len tabs col) 32)
 
 -- what was held and what bytes become is handed out, or held again
 abbrev pub HandsOut : (old new : Preparation) → (bytes before after : List ℕ) → Type 0
 HandsOut old new bytes before after =
-    (col : ℕ) → IsPlainAt col old → IsText bytes
-    → IsPlainAt (column_after col bytes) new × (after ++ held new ≡ before ++ (held old ++ expanded col bytes))
+    (tabs col : ℕ) → IsPlainAt tabs col old → IsText bytes
+    → IsPlainAt tabs (column_after tabs col bytes) new × (after ++ held new ≡ before ++ (held old ++ expanded tabs col bytes))
 
 -- all that was held is handed out
 abbrev pub HandsOutHeld : (old new : Preparation) → (before after : List ℕ) → Type 0
-HandsOutHeld old new before after = (col : ℕ) → IsPlainAt col old → IsPlainAt col new × (after ≡ before ++ held old)
+HandsOutHeld old new before after =
+    (tabs col : ℕ) → IsPlainAt tabs col old → IsPlainAt tabs col new × (after ≡ before ++ held old)
 
 -- printed ASCII characters and newlines stay as they are
 abbrev pub PlainTextStays : Type 0
-PlainTextStays = (col : ℕ) (bytes : List ℕ) → list_all (is_plain true) bytes ≡ true → expanded col bytes ≡ bytes
+PlainTextStays = (tabs col : ℕ) (bytes : List ℕ) → list_all (is_plain true) bytes ≡ true → expanded tabs col bytes ≡ bytes

@@ -1,4 +1,4 @@
--- What a shown text is: characters that are no control characters, newlines, and sequences `ESC [ digits and ; m`,
+-- What a shown text is: characters that are no control characters, newlines, and sequences `ESC [ digits, : and ; m`,
 -- each whole. No line ends, and neither does the text, where a style is open. A text is here the list of its
 -- characters.
 use Rattle.std.specs.Prelude.{ℕ, ◌≡◌, chars, ◌==◌, ◌&&◌, ◌||◌, Bool, true, false, not, List, [], ◌∷◌, ◌++◌, Option, Some, None, if◌then◌else◌, option_and_then}
@@ -22,7 +22,7 @@ in_line styled c =
 abbrev pub in_numbers : Bool → ℕ → Option Spot
 in_numbers resets c =
     if c == 109 then Some (Line (not resets))
-    else (if is_in_range 48 57 c || (c == 59) then Some (Numbers (resets && (c == 48))) else None)
+    else (if is_in_range 48 59 c then Some (Numbers (resets && (c == 48))) else None)
 
 -- behind one character more
 abbrev pub step : Spot → ℕ → Option Spot

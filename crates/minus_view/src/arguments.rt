@@ -1,19 +1,56 @@
 //! The arguments of the pager program, as `less` has them.
 //!
-//! `[-N] [-S] [-F] [+F] [+LINE] [--no-mouse] [-h | --help] [--version] [FILE | -]`, in any order; letters may share a
-//! word, as in `-NS`. The first word that asks for help or the version, or that is at fault, ends the reading.
+//! What a variable sets is read first, and then the words, up to `--` or the first that begins with neither `-` nor
+//! `+`; a `-` alone is a text. A word holds one option or several, `-NS`, and the value of the last one stands in the
+//! rest of the word, up to a `$`, or in the next word. A text of letters alone, `FRX`, is one of options in a
+//! variable. Behind `-+` the options that have no value are set back.
 ghost use Rattle.std.specs.Prelude.{◌≡◌};
-ghost use Rattle.minus_view.specs.Arguments.{no_words, with_letters, line_number, with_source, read_other, read_word, read_words};
+ghost use Rattle.minus_view.specs.Arguments.{bare_answer, default_paging, arguments_of};
+ghost use Rattle.minus_view.specs.Paging.{bare_paging, texts_of};
 
-/// The text that is paged.
+mod options;
+mod reading;
+mod table;
+mod words;
+
+use reading::read_options;
+use words::read_words;
+
+/// Whether the capitals of a query count.
 #[derive(Clone, Copy, Debug, PartialEq, Eq)]
-pub enum Source<'a> {
-    /// None was named, so standard input.
-    Unnamed,
-    /// Standard input, by the name `-`.
-    Input,
-    /// The file with this name.
-    File(&'a str),
+pub enum Case {
+    /// They do.
+    Exact,
+    /// They do in a query that has one.
+    Smart,
+    /// They never do.
+    Ignored,
+}
+
+/// Where the first page begins.
+#[derive(Clone, Copy, Debug, PartialEq, Eq)]
+pub enum Opening<'a> {
+    /// At the first line.
+    First,
+    /// At this line, counted from 1.
+    Line(usize),
+    /// It is the last page.
+    End,
+    /// It is the last page, and the end of the text is followed.
+    Follows,
+    /// At the first line in which this query matches.
+    Finds(&'a str),
+}
+
+/// What the end of the text does.
+#[derive(Clone, Copy, Debug, PartialEq, Eq)]
+pub enum AtEnd {
+    /// Nothing.
+    Stays,
+    /// It ends the pager where it is reached for a second time.
+    EndsAtSecond,
+    /// It ends the pager.
+    EndsAtFirst,
 }
 
 /// How a text is paged.
@@ -25,20 +62,30 @@ pub struct Paging<'a> {
     pub chops: bool,
     /// Whether a text that fits the terminal is printed, and not paged.
     pub prints: bool,
-    /// Whether the end of the text is followed.
-    pub follows: bool,
+    /// Whether the last page stays on the terminal at the pager's end.
+    pub leaves: bool,
+    /// Whether one empty line is shown for several.
+    pub squeezes: bool,
     /// Whether the pager takes the mouse.
     pub mouse: bool,
-    /// The line that is shown first, counted from 1.
-    pub line: usize,
-    /// The text.
-    pub source: Source<'a>,
+    /// Whether the capitals of a query count.
+    pub case: Case,
+    /// What the end of the text does.
+    pub at_end: AtEnd,
+    /// How far tabs stand apart, in columns: from 1 to 65535.
+    pub tabs: usize,
+    /// Where the first page begins.
+    pub opening: Opening<'a>,
+    /// What a text is called that has no name.
+    pub name: Option<&'a str>,
+    /// The names of the texts; `-` is standard input, and so is no name at all.
+    pub texts: &'a [&'a str],
 }
 
 /// What the words ask for.
 #[derive(Clone, Copy, Debug, PartialEq, Eq)]
 pub enum Arguments<'a> {
-    /// To page a text.
+    /// To page texts.
     Page(Paging<'a>),
     /// To say how the program is called.
     Help,
@@ -51,115 +98,44 @@ pub enum Arguments<'a> {
 pub enum ArgumentFault<'a> {
     /// An option that there is not.
     UnknownOption(&'a str),
-    /// A `+` without a line's number, which is from 1 to 9,999,999,999,999.
-    BadLine(&'a str),
-    /// A second text.
-    SecondText(&'a str),
+    /// A number that is none, or out of its range; or a command behind `+` that there is not.
+    BadNumber(&'a str),
+    /// The value of an option is missing.
+    NoValue(&'a str),
 }
 
-// The options of a word's letters.
-fn with_letters<'a>(so_far: Paging<'a>, letters: &[u8]) -> Option<Paging<'a>>
-    ensures { result ≡ with_letters so_far.entry letters.now }
+// How a text is paged that nothing was said of.
+fn default_paging<'a>() -> Paging<'a>
+    ensures { bare_paging result ≡ default_paging }
 {
-    let mut paging = so_far;
-    for letter in letters {
-        match *letter {
-            b'N' => paging.numbers = true,
-            b'S' => paging.chops = true,
-            b'F' => paging.prints = true,
-            _ => return None,
-        }
-    }
-    Some(paging)
-}
-
-// The number of a line.
-fn line_number(digits: &[u8]) -> Option<usize>
-    ensures { result ≡ line_number digits.now }
-{
-    let mut line: usize = 0;
-    for digit in digits {
-        match *digit {
-            48..=57 if line < 1_000_000_000_000 => line = line * 10 + usize::from(*digit - 48),
-            _ => return None,
-        }
-    }
-    if line == 0 { None } else { Some(line) }
-}
-
-// The text of a word, where none was named before.
-fn with_source<'a>(
-    so_far: Paging<'a>,
-    source: Source<'a>,
-    word: &'a str,
-) -> Result<Arguments<'a>, ArgumentFault<'a>>
-    ensures { result ≡ with_source so_far.entry source.entry word.entry }
-{
-    match so_far.source {
-        Source::Unnamed => Ok(Arguments::Page(Paging { source, ..so_far })),
-        Source::Input | Source::File(_) => Err(ArgumentFault::SecondText(word)),
+    Paging {
+        numbers: false,
+        chops: false,
+        prints: false,
+        leaves: false,
+        squeezes: false,
+        mouse: false,
+        case: Case::Exact,
+        at_end: AtEnd::Stays,
+        tabs: 8,
+        opening: Opening::First,
+        name: None,
+        texts: &[],
     }
 }
 
-// A word that is no option by itself.
-fn read_other<'a>(so_far: Paging<'a>, word: &'a str) -> Result<Arguments<'a>, ArgumentFault<'a>>
-    ensures { result ≡ read_other so_far.entry word.entry word.now }
-{
-    match word.as_bytes() {
-        [b'-', letters @ ..] => match with_letters(so_far, letters) {
-            Some(paging) => Ok(Arguments::Page(paging)),
-            None => Err(ArgumentFault::UnknownOption(word)),
-        },
-        [b'+', digits @ ..] => match line_number(digits) {
-            Some(line) => Ok(Arguments::Page(Paging { line, ..so_far })),
-            None => Err(ArgumentFault::BadLine(word)),
-        },
-        _ => with_source(so_far, Source::File(word), word),
-    }
-}
-
-// One word.
-fn read_word<'a>(so_far: Paging<'a>, word: &'a str) -> Result<Arguments<'a>, ArgumentFault<'a>>
-    ensures { result ≡ read_word so_far.entry word.entry }
-{
-    match word {
-        "-h" | "--help" => Ok(Arguments::Help),
-        "--version" => Ok(Arguments::Version),
-        "--no-mouse" => Ok(Arguments::Page(Paging {
-            mouse: false,
-            ..so_far
-        })),
-        "+F" => Ok(Arguments::Page(Paging {
-            follows: true,
-            ..so_far
-        })),
-        "-" => with_source(so_far, Source::Input, word),
-        _ => read_other(so_far, word),
-    }
-}
-
-/// What the words behind the program's name ask for.
+/// What the words behind the program's name ask for, where a variable sets options, as `-R -S` or `RS`. What there is
+/// not in `set` is passed over there, and so is what asks for help or the version, or lacks its value.
 ///
 /// # Errors
 ///
 /// [`ArgumentFault`] of the first word that is at fault.
-pub fn parse_arguments<'a>(words: &[&'a str]) -> Result<Arguments<'a>, ArgumentFault<'a>>
-    ensures { result ≡ read_words no_words words.now }
+pub fn parse_arguments<'a>(
+    set: &'a str,
+    words: &'a [&'a str],
+) -> Result<Arguments<'a>, ArgumentFault<'a>>
+    ensures { bare_answer result ≡ arguments_of set.now (texts_of words.now) }
 {
-    let mut paging = Paging {
-        numbers: false,
-        chops: false,
-        prints: false,
-        follows: false,
-        mouse: true,
-        line: 1,
-        source: Source::Unnamed,
-    };
-    for word in words {
-        match read_word(paging, *word)? {
-            Arguments::Page(next) => paging = next,
-            ends => return Ok(ends),
-        }
-    }
-    Ok(Arguments::Page(paging))
+    let reading = read_options(default_paging(), set);
+    read_words(reading.paging, words)
 }

@@ -18,12 +18,12 @@ mod shown;
 mod text_queue;
 mod units;
 
-pub use arguments::{ArgumentFault, Arguments, Paging, Source, parse_arguments};
+pub use arguments::{ArgumentFault, Arguments, AtEnd, Case, Opening, Paging, parse_arguments};
 pub use events::{pieces_join, read_events, read_late_events, units_are_determined};
 pub use history::{History, steps_lead_back};
 pub use keys::press;
-pub use place::{clean_name, place_text};
-pub use prepare::{Preparation, plain_text_stays};
+pub use place::{clean_name, percent, place_text};
+pub use prepare::{Preparation, Shape, plain_text_stays};
 pub use search_keys::{SearchKey, search_key};
 pub use shown::{shown_texts_are_clean, shown_texts_join};
 pub use text_queue::TextQueue;

@@ -1,4 +1,4 @@
-//! How a character was struck: once, twice, or with a line below it.
+//! How a character is shown: as it was struck, once, twice or with a line below it, or as one of a mark.
 
 /// How a character is shown.
 #[derive(Clone, Copy, Debug, PartialEq, Eq)]
@@ -6,6 +6,8 @@ pub(crate) enum Look {
     Plain,
     Bold,
     Underlined,
+    /// In a mark of bytes that are no text.
+    Reversed,
 }
 
 /// A character that may still be struck over.
@@ -41,10 +43,16 @@ pub(crate) fn turn(from: Look, to: Look) -> &'static str {
     match (from, to) {
         (Look::Plain, Look::Bold) => "\x1b[1m",
         (Look::Plain, Look::Underlined) => "\x1b[4m",
+        (Look::Plain, Look::Reversed) => "\x1b[7m",
         (Look::Bold, Look::Plain) => "\x1b[22m",
-        (Look::Underlined, Look::Plain) => "\x1b[24m",
         (Look::Bold, Look::Underlined) => "\x1b[22;4m",
+        (Look::Bold, Look::Reversed) => "\x1b[22;7m",
+        (Look::Underlined, Look::Plain) => "\x1b[24m",
         (Look::Underlined, Look::Bold) => "\x1b[24;1m",
+        (Look::Underlined, Look::Reversed) => "\x1b[24;7m",
+        (Look::Reversed, Look::Plain) => "\x1b[27m",
+        (Look::Reversed, Look::Bold) => "\x1b[27;1m",
+        (Look::Reversed, Look::Underlined) => "\x1b[27;4m",
         _ => "",
     }
 }

@@ -1,10 +1,11 @@
 //! A file's bytes as a text that a pager can show.
 //!
-//! Tabs become spaces up to the next column that 8 divides, and a carriage return before a newline is dropped. Any
-//! other control character is shown as `^A`, a backspace that strikes over a character aside: the same character
-//! twice is bold, and one with `_` is underlined. Sequences `ESC[..m` are kept: styles are reset at each newline and
-//! opened again behind it. Any other sequence is dropped whole, and bytes that are no UTF-8 are U+FFFD. `a\tb\r\n`
-//! becomes `a       b\n`.
+//! Tabs become spaces up to the next column that their distance divides, and a carriage return before a newline is
+//! dropped. Any other control character is shown as `^A`, and each byte of what is no character in UTF-8 as `<E4>`, in
+//! reverse video as all marks; a backspace that strikes over a character aside: the same character twice is bold, and
+//! one with `_` is underlined. Sequences `ESC[..m` are kept, with `:` too: styles are reset at each newline and opened
+//! again behind it, and behind a mark. Any other sequence is dropped whole. Where tabs stand 8 columns apart,
+//! `a\tb\r\n` becomes `a       b\n`.
 //!
 //! [`Preparation::add`] takes the bytes in pieces that are cut anywhere, and each text that it hands out is reset at
 //! its end. It holds back the last character, since a backspace may follow, and what was begun;
@@ -12,15 +13,18 @@
 ghost use Rattle.std.specs.Prelude.{ℕ, ◌≡◌, ◌++◌, ◌≤◌, ◌<◌, [], true, false, length, string_bytes, IfOk, IfErr};
 ghost use Rattle.std.specs.List.{prefix_len};
 ghost use Rattle.minus_view.specs.Shown.{is_plain, IsShown};
-ghost use Rattle.minus_view.specs.Prepared.{glyph_bytes, held, IsAt, IsPlain, IsPlainAt, IsText, PlainTextStays, Takes};
+ghost use Rattle.minus_view.specs.Prepared.{apart, glyph_bytes, held, IsAt, IsPlain, IsPlainAt, IsText, PlainTextStays, Takes};
 ghost use Rattle.minus_view.specs.Prepared.{HandsOut, HandsOutHeld, TakesFront};
 
+mod begun;
 mod bytes;
 mod characters;
 mod sequences;
 
+use self::begun::Begun;
 use crate::look::{Glyph, Look};
 use crate::sheet::Sheet;
+pub(crate) use characters::columns;
 use std::alloc::{AllocError, Global};
 
 // What the next byte stands in.
@@ -29,8 +33,14 @@ enum Place {
     Text,
     // Behind a carriage return.
     Returned,
-    // A character of several bytes: its code so far, the least that it may be, and how many bytes are to come.
-    Character { code: u32, least: u32, left: u8 },
+    // A character of several bytes: its code so far, the least that it may be, how many bytes are to come, and those
+    // that have come.
+    Character {
+        code: u32,
+        least: u32,
+        left: u8,
+        begun: Begun,
+    },
     Escape,
     // `ESC[` and its numbers.
     Numbers,
@@ -44,9 +54,19 @@ enum Place {
     Designation,
 }
 
+/// How a text is laid out.
+#[derive(Clone, Copy, Debug, PartialEq, Eq)]
+pub struct Shape {
+    /// How far tabs stand apart, in columns: from 1 to 65535; any other number stands for the nearest of these.
+    pub tabs: usize,
+    /// Whether one empty line is shown for several that follow one another.
+    pub squeezes: bool,
+}
+
 /// What is prepared, as far as it was read.
 #[derive(Debug, Drop)]
 pub struct Preparation {
+    shape: Shape,
     // What is ready.
     sheet: Sheet,
     place: Place,
@@ -62,6 +82,9 @@ pub struct Preparation {
     colours: String,
     // Whether the colours hold at the end of the sheet.
     is_open: bool,
+    // Whether nothing was put in the line, and whether the line before it is empty.
+    is_blank: bool,
+    is_behind_blank: bool,
 }
 
 // How many bytes at the front are printed ASCII, or newlines where these are allowed.
@@ -80,12 +103,28 @@ fn plain_len(newlines: bool, bytes: &[u8]) -> usize
 }
 
 impl Preparation {
-    /// A preparation that has read nothing.
+    /// A preparation that has read nothing: tabs stand 8 columns apart, and all lines are shown.
     pub fn new(alloc: Global) -> Preparation
-        ensures plain { IsPlainAt 0 result }
+        ensures plain { IsPlainAt 8 0 result }
         ensures held { held result ≡ [] }
     {
+        Preparation::with(
+            alloc,
+            Shape {
+                tabs: 8,
+                squeezes: false,
+            },
+        )
+    }
+
+    /// A preparation of a text in this shape that has read nothing.
+    pub fn with(alloc: Global, shape: Shape) -> Preparation
+        ensures plain { shape.squeezes ≡ false → IsPlainAt (apart shape) 0 result }
+        ensures held { held result ≡ [] }
+        ensures shape { result.shape ≡ shape }
+    {
         Preparation {
+            shape,
             sheet: Sheet::new(alloc),
             place: Place::Text,
             column: 0,
@@ -95,6 +134,8 @@ impl Preparation {
             sequence: String::new(alloc),
             colours: String::new(alloc),
             is_open: false,
+            is_blank: true,
+            is_behind_blank: false,
         }
     }
 
@@ -108,6 +149,7 @@ impl Preparation {
             && self.colours.is_empty()
             && !self.sheet.is_styled()
             && self.holds_plain()
+            && !self.shape.squeezes
     }
 
     // Takes bytes at the front, and answers how many they are.
@@ -135,8 +177,8 @@ impl Preparation {
 
     // Takes the bytes.
     fn take(&mut self, bytes: &[u8]) -> Result<(), AllocError>
-        ensures text { IfOk result (λ _. (col : ℕ) → IsPlain self.old → IsAt col self.old → IsText bytes.now
-            → Takes col self.old self.new bytes.now []) }
+        ensures text { IfOk result (λ _. (tabs col : ℕ) → IsPlain self.old → IsAt tabs col self.old
+            → IsText bytes.now → Takes tabs col self.old self.new bytes.now []) }
     {
         let mut rest = bytes;
         while !rest.is_empty() {
@@ -152,7 +194,7 @@ impl Preparation {
         ensures kept { IfErr result (λ _. string_bytes out.new ≡ string_bytes out.old) }
         ensures glyph { IfOk result (λ _. held self.new ≡ glyph_bytes self.old.held) }
         ensures waits { IfOk result (λ _. length (held self.new) ≤ 4) }
-        ensures column { (col : ℕ) → IsAt col self.old → IsAt col self.new }
+        ensures column { (tabs col : ℕ) → IsAt tabs col self.old → IsAt tabs col self.new }
         ensures plain { IfOk result (λ _. IsPlain self.old
             → IsPlain self.new × (string_bytes out.new ++ held self.new ≡ string_bytes out.old ++ held self.old)) }
     {
@@ -198,8 +240,8 @@ impl Preparation {
         Ok(())
     }
 
-    /// Adds the held character and what was begun, at the end of the bytes: a character that is cut is U+FFFD, a
-    /// carriage return is `^M`, and a sequence that is cut is dropped.
+    /// Adds the held character and what was begun, at the end of the bytes: the bytes of a character that is cut are
+    /// `<E4>`, a carriage return is `^M`, and a sequence that is cut is dropped.
     ///
     /// # Errors
     ///

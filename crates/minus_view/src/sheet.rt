@@ -1,5 +1,5 @@
 //! A shown text that is put together: whatever is put on it, it stays one.
-ghost use Rattle.std.specs.Prelude.{encode_utf8, ◌≡◌, ◌++◌, [], true, false, chars, string_bytes, IfOk, Some};
+ghost use Rattle.std.specs.Prelude.{encode_utf8, ◌≡◌, ◌++◌, [], true, false, chars, replicate, string_bytes, IfOk, Some};
 ghost use Rattle.std.specs.Char.{IsScalar};
 ghost use Rattle.std.specs.List.{list_all};
 ghost use Rattle.minus_view.specs.Shown.{read, is_control, is_plain, IsShown, PutsLine};
@@ -88,6 +88,19 @@ impl Sheet {
         ensures put { IfOk result (λ _. string_bytes self.new.text ≡ string_bytes self.old.text ++ plain.now) }
     {
         self.text.push_str(plain)?;
+        Ok(())
+    }
+
+    /// Puts so many spaces on it.
+    pub(crate) fn put_spaces(&mut self, count: usize) -> Result<(), AllocError>
+        ensures styled { self.new.styled ≡ self.old.styled }
+        ensures put { IfOk result (λ _. string_bytes self.new.text ≡ string_bytes self.old.text ++ replicate count 32) }
+    {
+        let mut left = count;
+        while 0 < left {
+            self.put_plain(false, " ")?;
+            left -= 1;
+        }
         Ok(())
     }
 

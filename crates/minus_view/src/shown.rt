@@ -50,7 +50,7 @@ fn step(spot: Spot, c: char) -> Option<Spot>
         Spot::Numbers(resets) => {
             if c == 'm' {
                 Some(Spot::Line(!resets))
-            } else if c.is_ascii_digit() || c == ';' {
+            } else if ('0'..=';').contains(&c) {
                 Some(Spot::Numbers(resets && c == '0'))
             } else {
                 None

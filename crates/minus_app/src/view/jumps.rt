@@ -1,9 +1,35 @@
 //! The jumps among the matches that the program asks for itself.
 ghost use Rattle.std.specs.Prelude.{◌≡◌};
 ghost use Rattle.minus_state.specs.States.{control_of, IsFormed};
-ghost use Rattle.minus_app.specs.Jumps.{jump_back, LeadsToMatch};
+ghost use Rattle.minus_app.specs.Jumps.{jump_back, stands_before, IsFirstFrom, LeadsToMatch};
 
 use minus::{InputEvent, PagerState};
+
+// Whether the match at a place stands above a row.
+fn stands_before(state: &PagerState, row: usize, place: usize) -> bool
+    ensures { IsFormed state.now → result ≡ stands_before (control_of state.now) row place }
+{
+    match state.matches().row(place) {
+        Some(stands) => stands < row,
+        None => false,
+    }
+}
+
+/// The place of the first match in a row or below it, or how many matches there are; both counted from 0.
+pub fn first_match_from(state: &PagerState, row: usize) -> usize
+    ensures { IsFormed state.now → IsFirstFrom (control_of state.now) row result }
+{
+    let (mut before, mut behind) = (0, state.matches().len());
+    while before < behind {
+        let middle = before + (behind - before) / 2;
+        if stands_before(state, row, middle) {
+            before = middle + 1;
+        } else {
+            behind = middle;
+        }
+    }
+    before
+}
 
 /// The jump on from the page that leads to the match at this place, counted from 0.
 pub fn jump_to(state: &PagerState, place: usize) -> usize

@@ -2,7 +2,9 @@
 ghost use Rattle.std.specs.Prelude.{◌≡◌};
 ghost use Rattle.minus_view.specs.Prepared.{IsPlain};
 
+use super::begun::Begun;
 use super::{Place, Preparation};
+use crate::shown::is_control;
 use std::alloc::AllocError;
 
 impl Preparation {
@@ -16,7 +18,12 @@ impl Preparation {
                 }
                 self.first(byte)
             }
-            Place::Character { code, least, left } => self.further(code, least, left, byte),
+            Place::Character {
+                code,
+                least,
+                left,
+                begun,
+            } => self.further(code, least, left, begun, byte),
             Place::Escape => self.after_escape(byte),
             Place::Numbers => self.in_numbers(byte),
             Place::Sequence => self.in_sequence(byte),
@@ -37,26 +44,48 @@ impl Preparation {
             0x1B => self.place = Place::Escape,
             0x20..=0x7E => return self.character(char::from(byte)),
             0..=0x7F => return self.control(byte),
-            0xC2..=0xDF => self.begin(byte & 0x1F, 0x80, 1),
-            0xE0..=0xEF => self.begin(byte & 0x0F, 0x800, 2),
-            0xF0..=0xF4 => self.begin(byte & 0x07, 0x1_0000, 3),
-            _ => return self.character(char::REPLACEMENT_CHARACTER),
+            0xC2..=0xDF => self.begin(byte, byte & 0x1F, 0x80, 1),
+            0xE0..=0xEF => self.begin(byte, byte & 0x0F, 0x800, 2),
+            0xF0..=0xF4 => self.begin(byte, byte & 0x07, 0x1_0000, 3),
+            _ => return self.stray(byte),
         }
         Ok(())
     }
 
     // A character of several bytes begins.
-    fn begin(&mut self, bits: u8, least: u32, left: u8) {
-        let code = u32::from(bits);
-        self.place = Place::Character { code, least, left };
+    fn begin(&mut self, byte: u8, bits: u8, least: u32, left: u8) {
+        self.place = Place::Character {
+            code: u32::from(bits),
+            least,
+            left,
+            begun: Begun::new(byte),
+        };
+    }
+
+    // The bytes of a character that is none, shown.
+    fn broken(&mut self, begun: Begun) -> Result<(), AllocError> {
+        for place in 0..4 {
+            if let Some(byte) = begun.at(place) {
+                self.stray(byte)?;
+            }
+        }
+        Ok(())
     }
 
     // A further byte of a character.
-    fn further(&mut self, code: u32, least: u32, left: u8, byte: u8) -> Result<(), AllocError> {
+    fn further(
+        &mut self,
+        code: u32,
+        least: u32,
+        left: u8,
+        begun: Begun,
+        byte: u8,
+    ) -> Result<(), AllocError> {
         if !(0x80..=0xBF).contains(&byte) {
-            self.character(char::REPLACEMENT_CHARACTER)?;
+            self.broken(begun)?;
             return self.first(byte);
         }
+        let begun = begun.with(byte);
         let code = code
             .saturating_mul(64)
             .saturating_add(u32::from(byte & 0x3F));
@@ -65,13 +94,14 @@ impl Preparation {
                 code,
                 least,
                 left: left - 1,
+                begun,
             };
             return Ok(());
         }
         self.place = Place::Text;
         match char::from_u32(code) {
-            Some(c) if code >= least => self.character(c),
-            _ => self.character(char::REPLACEMENT_CHARACTER),
+            Some(c) if code >= least && !is_control(c) => self.character(c),
+            _ => self.broken(begun),
         }
     }
 
@@ -81,7 +111,7 @@ impl Preparation {
     {
         match self.place {
             Place::Text => return Ok(()),
-            Place::Character { .. } => self.character(char::REPLACEMENT_CHARACTER)?,
+            Place::Character { begun, .. } => self.broken(begun)?,
             Place::Returned => self.control(b'\r')?,
             _ => (),
         }

@@ -1,23 +1,20 @@
 //! Characters on their way to the sheet.
-ghost use Rattle.std.specs.Prelude.{ℕ, ◌≡◌, ◌+◌, ◌%◌, ◌≤◌, ◌++◌, [], true, false, string_bytes, IfOk, None};
+ghost use Rattle.std.specs.Prelude.{ℕ, ◌≡◌, ◌+◌, ◌%◌, ◌<◌, ◌≤◌, ◌++◌, [], true, false, string_bytes, IfOk, None};
 ghost use Rattle.std.specs.List.{list_all};
 ghost use Rattle.minus_view.specs.Shown.{is_plain};
-ghost use Rattle.minus_view.specs.Prepared.{char_columns, column_after, tab_len, held, IsAt, IsPlain, IsPlainGlyph, TakesTab};
+ghost use Rattle.minus_view.specs.Prepared.{apart, char_columns, column_after, tab_len, held, IsAt, IsPlain, IsPlainGlyph, TakesTab};
 ghost use Rattle.minus_view.specs.declared.look.Look.TheVariants.{Plain};
 ghost use Rattle.minus_view.specs.declared.prepare.Place.TheVariants.{Text};
 
-use super::{Place, Preparation};
+use super::{Place, Preparation, Shape};
 use crate::look::{Glyph, Look, struck, turn};
 use crate::sheet::RESET;
 use crate::shown::is_control;
 use std::alloc::AllocError;
 use unicode_width::UnicodeWidthChar;
 
-/// How far tabs stand apart, in columns.
-const TAB: usize = 8;
-
-// The columns of a character.
-fn columns(c: char) -> usize
+/// The columns of a character.
+pub(crate) fn columns(c: char) -> usize
     ensures is { result ≡ char_columns c }
     ensures few { result ≤ 3 }
 {
@@ -27,20 +24,43 @@ fn columns(c: char) -> usize
     }
 }
 
+/// How far tabs stand apart at most.
+const MOST_TABS: usize = 65535;
+
+// How far tabs stand apart.
+fn apart(shape: Shape) -> usize
+    ensures is { result ≡ apart shape }
+    ensures some { 0 < result }
+    ensures most { result ≤ 65535 }
+{
+    shape.tabs.max(1).min(MOST_TABS)
+}
+
 // The column behind these characters, as far as tabs can tell.
-fn column_after(column: usize, plain: &[u8]) -> usize
-    requires { list_all (is_plain true) plain.now ≡ true }
-    ensures { result % 8 ≡ column_after column plain.now % 8 }
+fn column_after(tabs: usize, column: usize, plain: &[u8]) -> usize
+    requires plain { list_all (is_plain true) plain.now ≡ true }
+    requires some { 0 < tabs }
+    requires most { tabs ≤ 65535 }
+    ensures { result % tabs ≡ column_after tabs column plain.now % tabs }
 {
     let mut start = plain.len();
     while 0 < start && plain[start - 1] != b'\n' {
         start -= 1;
     }
-    let line = (plain.len() - start) % TAB;
+    let line = (plain.len() - start) % tabs;
     if start == 0 {
-        column % TAB + line
+        column % tabs + line
     } else {
         line
+    }
+}
+
+// A hexadecimal digit.
+fn digit(value: u8) -> char {
+    match value {
+        0..=9 => char::from(b'0' + value),
+        10..=15 => char::from(b'A' - 10 + value),
+        _ => '?',
     }
 }
 
@@ -75,25 +95,43 @@ impl Preparation {
         }
     }
 
+    // Ends a mark where colours hold: they are opened again, since they may reverse too.
+    fn end_mark(&mut self) -> Result<(), AllocError>
+        ensures held { self.new.held ≡ self.old.held }
+        ensures column { self.new.column ≡ self.old.column }
+        ensures shape { self.new.shape ≡ self.old.shape }
+        ensures kept { string_bytes self.old.colours ≡ [] → self.new ≡ self.old }
+    {
+        if matches!(self.look, Look::Reversed) && !self.colours.is_empty() {
+            self.sheet.put(turn(Look::Reversed, Look::Plain))?;
+            self.sheet.put(self.colours.as_str())?;
+            self.look = Look::Plain;
+        }
+        Ok(())
+    }
+
     // Opens what holds for a character of this look.
     fn open(&mut self, look: Look) -> Result<(), AllocError>
         ensures held { self.new.held ≡ self.old.held }
         ensures column { self.new.column ≡ self.old.column }
+        ensures shape { self.new.shape ≡ self.old.shape }
         ensures kept { string_bytes self.old.colours ≡ [] → self.old.look ≡ look → self.new ≡ self.old }
     {
         if !self.is_open && !self.colours.is_empty() {
             self.sheet.put(self.colours.as_str())?;
             self.is_open = true;
         }
-        if self.look != look {
-            let sequence = if matches!(look, Look::Plain) && self.colours.is_empty() {
-                RESET
-            } else {
-                turn(self.look, look)
-            };
-            self.sheet.put(sequence)?;
-            self.look = look;
+        if self.look == look {
+            return Ok(());
         }
+        self.end_mark()?;
+        let sequence = if matches!(look, Look::Plain) && self.colours.is_empty() {
+            RESET
+        } else {
+            turn(self.look, look)
+        };
+        self.sheet.put(sequence)?;
+        self.look = look;
         Ok(())
     }
 
@@ -101,14 +139,15 @@ impl Preparation {
     pub(super) fn release(&mut self) -> Result<(), AllocError>
         ensures none { IfOk result (λ _. self.new.held ≡ None) }
         ensures plain { IfOk result (λ _. IsPlain self.old → IsPlain self.new × (held self.new ≡ held self.old)) }
-        ensures column { IfOk result (λ _. (col : ℕ) → IsAt col self.old → IsAt col self.new) }
+        ensures column { IfOk result (λ _. (tabs col : ℕ) → IsAt tabs col self.old → IsAt tabs col self.new) }
     {
         self.is_back = false;
         if let Some(glyph) = self.held {
             self.open(glyph.look)?;
             self.sheet.put_char(glyph.c)?;
             self.held = None;
-            self.column = self.column % TAB + columns(glyph.c);
+            self.is_blank = false;
+            self.column = self.column % apart(self.shape) + columns(glyph.c);
         }
         Ok(())
     }
@@ -138,12 +177,15 @@ impl Preparation {
         ensures held { self.new.held ≡ self.old.held }
         ensures plain { IfOk result (λ _. newlines ≡ true → IsPlain self.new
             × (string_bytes self.new.sheet.text ≡ string_bytes self.old.sheet.text ++ bytes.now)) }
-        ensures column { IfOk result (λ _. self.new.column % 8 ≡ column_after self.old.column bytes.now % 8) }
+        ensures shape { self.new.shape ≡ self.old.shape }
+        ensures column { IfOk result (λ _. self.new.column % apart self.old.shape
+            ≡ column_after (apart self.old.shape) self.old.column bytes.now % apart self.old.shape) }
     {
         if !bytes.is_empty() {
             self.open(Look::Plain)?;
             self.sheet.put_plain(newlines, as_text(newlines, bytes))?;
-            self.column = column_after(self.column, bytes);
+            self.is_blank = false;
+            self.column = column_after(apart(self.shape), self.column, bytes);
         }
         Ok(())
     }
@@ -154,8 +196,8 @@ impl Preparation {
         requires begun { newlines ≡ true → IsPlain self.old }
         ensures plain { IfOk result (λ _. newlines ≡ true
             → IsPlain self.new × (held self.new ≡ held self.old ++ bytes.now)) }
-        ensures column { IfOk result (λ _. (col : ℕ) → IsAt col self.old
-            → IsAt (column_after col bytes.now) self.new) }
+        ensures column { IfOk result (λ _. (tabs col : ℕ) → IsAt tabs col self.old
+            → IsAt tabs (column_after tabs col bytes.now) self.new) }
     {
         self.release()?;
         match bytes.split_last() {
@@ -174,25 +216,50 @@ impl Preparation {
     // A tab.
     pub(super) fn tab(&mut self) -> Result<(), AllocError>
         ensures plain { IfOk result (λ _. TakesTab self.old self.new) }
-        ensures column { IfOk result (λ _. (col : ℕ) → IsAt col self.old → IsAt (col + tab_len col) self.new) }
+        ensures column { IfOk result (λ _. (tabs col : ℕ) → IsAt tabs col self.old
+            → IsAt tabs (col + tab_len tabs col) self.new) }
     {
         self.release()?;
         self.open(Look::Plain)?;
-        let spaces = TAB - self.column % TAB;
-        self.sheet.put_plain(false, &"        "[..spaces])?;
+        let tabs = apart(self.shape);
+        self.sheet.put_spaces(tabs - self.column % tabs)?;
+        self.is_blank = false;
         self.column = 0;
+        Ok(())
+    }
+
+    // A character of a mark of bytes that are no text.
+    fn mark(&mut self, c: char) -> Result<(), AllocError> {
+        self.release()?;
+        self.held = Some(Glyph {
+            c,
+            look: Look::Reversed,
+        });
         Ok(())
     }
 
     // A control character, shown.
     pub(super) fn control(&mut self, byte: u8) -> Result<(), AllocError> {
-        self.character('^')?;
-        self.character(char::from((byte ^ 0x40) & 0x7F))
+        self.mark('^')?;
+        self.mark(char::from((byte ^ 0x40) & 0x7F))
+    }
+
+    // A byte that belongs to no character, shown.
+    pub(super) fn stray(&mut self, byte: u8) -> Result<(), AllocError> {
+        self.mark('<')?;
+        self.mark(digit(byte / 16))?;
+        self.mark(digit(byte % 16))?;
+        self.mark('>')
     }
 
     // The end of a line.
     pub(super) fn newline(&mut self) -> Result<(), AllocError> {
         self.release()?;
+        if self.shape.squeezes && self.is_blank && self.is_behind_blank {
+            return Ok(());
+        }
+        self.is_behind_blank = self.is_blank;
+        self.is_blank = true;
         self.sheet.put_newline()?;
         self.look = Look::Plain;
         self.is_open = false;

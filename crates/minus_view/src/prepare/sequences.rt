@@ -29,7 +29,7 @@ impl Preparation {
     // A byte among the numbers of `ESC[`.
     pub(super) fn in_numbers(&mut self, byte: u8) -> Result<(), AllocError> {
         match byte {
-            b'0'..=b'9' | b';' if self.sequence.len() < MOST_SEQUENCE => {
+            b'0'..=b';' if self.sequence.len() < MOST_SEQUENCE => {
                 self.sequence.push(char::from(byte))
             }
             b'm' => {

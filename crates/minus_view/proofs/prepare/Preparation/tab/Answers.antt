@@ -1,19 +1,12 @@
-use Rattle.std.proofs.Common.{◌≡◌, ◌-◌, ◌%◌, ◌++◌, false, take, refl, ap, sym, subst, ◌∙◌, arith, codes, string_bytes, replicate}
-use Rattle.std.specs.List.{list_all}
-use Rattle.std.proofs.lemmas.List.{append-nil, take-replicate}
-use Rattle.minus_view.specs.Shown.{is_plain}
-use Rattle.minus_view.specs.Prepared.{glyph_bytes, glyph_columns, held, tab_len, IsPlain}
-use Rattle.minus_view.proofs.ExpandedLaws.{list_all-take}
+use Rattle.std.proofs.Common.{ℕ, ◌≡◌, ◌+◌, ◌-◌, ◌<◌, ◌%◌, ◌++◌, ap, sym, subst, ◌∙◌, arith, string_bytes, replicate}
+use Rattle.std.proofs.lemmas.List.{append-nil}
+use Rattle.std.proofs.Math.Nat.{zero-mod}
+use Rattle.minus_view.specs.Prepared.{apart, glyph_bytes, glyph_columns, held, tab_len, IsPlain}
+use Rattle.minus_view.proofs.ExpandedLaws.{apart_some, tab_ends}
 use Rattle.minus_view.proofs.prepare.Preparation.tab.Goals as goal
 
-pub put_plain-requires-clause-plain : goal.put_plain-requires-clause-plain
-put_plain-requires-clause-plain c =
-    let count : 8 - c.open.new.self.column % 8 - 0 ≡ 8 - c.open.new.self.column % 8 = omega arith in
-    ap (list_all (is_plain false)) (c.range.ensures.value ∙ ap (λ n. take n (codes "        ")) count)
-    ∙ list_all-take (is_plain false) (8 - c.open.new.self.column % 8) (codes "        ") refl
-
 pub returns-clause-plain : goal.returns-clause-plain
-returns-clause-plain c = λ col plain was.
+returns-clause-plain c = λ tabs col plain was.
     let before = c.args.self.now in
     let released = c.in_ok-release.ensures.plain plain in
     let kept = c.in_ok-open.ensures.kept released.0.colours released.0.look in
@@ -21,14 +14,33 @@ returns-clause-plain c = λ col plain was.
     let none = c.in_ok-open.ensures.held ∙ c.in_ok-release.ensures.none in
     let text = string_bytes c.open.new.self.sheet.text in
     let base : text ≡ held before = sym (append-nil text) ∙ ap (λ g. text ++ g) (sym (ap glyph_bytes none)) ∙ ap held kept ∙ released.1 in
-    let spaces = 8 - c.open.new.self.column % 8 in
-    let columns = c.in_ok-release.ensures.column col was in
+    let stands = c.in_ok-release.ensures.column tabs col was in
     let gone = ap glyph_columns c.in_ok-release.ensures.none in
-    let count : spaces ≡ tab_len col = omega (arith, columns, gone, c.in_ok-open.ensures.column) in
-    let from : spaces - 0 ≡ spaces = omega arith in
-    let blank : take spaces (codes "        ") ≡ replicate spaces 32 = take-replicate spaces 8 32 (omega arith) in
-    let after = string_bytes c.put_plain.new.self.text in (
-      record { place = opened.place; back = opened.back; look = opened.look; colours = opened.colours; styled = c.in_ok-put_plain.ensures.styled ∙ opened.styled; glyph = opened.glyph },
-      ap (λ g. after ++ g) (ap glyph_bytes none) ∙ append-nil after ∙ c.in_ok-put_plain.ensures.put ∙ ap (λ xs. xs ++ c.range.result.now) base
-          ∙ ap (λ xs. held before ++ xs) (c.range.ensures.value ∙ ap (λ n. take n (codes "        ")) from ∙ blank ∙ ap (λ n. replicate n 32) count),
+    let column = c.open.new.self.column in
+    let same : c.apart-tabs.result ≡ tabs = c.apart-tabs.ensures.is ∙ ap apart c.in_ok-open.ensures.shape ∙ stands.apart in
+    let start : column % tabs ≡ col % tabs = ap (λ k. k % tabs) (omega (arith, gone, c.in_ok-open.ensures.column)) ∙ stands.column in
+    let count : c.apart-tabs.result - column % c.apart-tabs.result ≡ tab_len tabs col = ap (λ t. t - column % t) same ∙ ap (λ k. tabs - k) start in
+    let after = string_bytes c.put_spaces.new.self.text in (
+      record {
+        place = opened.place;
+        back = opened.back;
+        look = opened.look;
+        colours = opened.colours;
+        styled = c.in_ok-put_spaces.ensures.styled ∙ opened.styled;
+        glyph = opened.glyph;
+        keeps = opened.keeps;
+      },
+      ap (λ g. after ++ g) (ap glyph_bytes none) ∙ append-nil after ∙ c.in_ok-put_spaces.ensures.put
+          ∙ ap (λ xs. xs ++ replicate (c.apart-tabs.result - column % c.apart-tabs.result) 32) base ∙ ap (λ n. held before ++ replicate n 32) count,
     )
+
+pub returns-clause-column : goal.returns-clause-column
+returns-clause-column c = λ tabs col was.
+    let stands = c.in_ok-release.ensures.column tabs col was in
+    let same = ap apart c.in_ok-open.ensures.shape ∙ stands.apart in
+    let none = c.in_ok-open.ensures.held ∙ c.in_ok-release.ensures.none in
+    record {
+      apart = same;
+      column = ap (λ n. (0 + n) % tabs) (ap glyph_columns none) ∙ zero-mod tabs
+          ∙ sym (tab_ends tabs col (subst (λ (t : ℕ). 0 < t) same (apart_some c.open.new.self.shape)));
+    }

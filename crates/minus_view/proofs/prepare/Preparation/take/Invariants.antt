@@ -7,4 +7,4 @@ abbrev pub decreases-loop-rest : goal.decreases-loop-rest
 decreases-loop-rest l = length l.rest
 
 abbrev pub invariant-loop-rest : goal.invariant-loop-rest
-invariant-loop-rest l = (col : ℕ) → IsPlain l.fn.self → IsAt col l.fn.self → IsText l.fn.bytes → Takes col l.fn.self l.self l.fn.bytes l.rest
+invariant-loop-rest l = (tabs col : ℕ) → IsPlain l.fn.self → IsAt tabs col l.fn.self → IsText l.fn.bytes → Takes tabs col l.fn.self l.self l.fn.bytes l.rest

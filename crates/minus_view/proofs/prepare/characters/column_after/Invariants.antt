@@ -9,5 +9,5 @@ decreases-loop-start l = l.start
 abbrev pub invariant-loop-start : goal.invariant-loop-start
 invariant-loop-start l = record {
   within : l.start ≤ length l.plain;
-  line : (col : ℕ) → column_after col (drop l.start l.plain) ≡ col + (length l.plain - l.start);
+  line : (col : ℕ) → column_after l.tabs col (drop l.start l.plain) ≡ col + (length l.plain - l.start);
 }

@@ -1,0 +1,148 @@
+//! The places that are kept under letters, and the keys that are typed behind another.
+use crate::fault::Fault;
+use crate::view::actions::Pending;
+use crate::view::{Onward, View};
+use minus::{CommandOf, Event, InputEvent, InputOf, KeyCode, KeyModifiers, OutputSink};
+use minus_view::Case;
+
+/// A place that is kept under a letter.
+#[derive(Clone, Copy, Debug)]
+pub struct Mark {
+    letter: char,
+    // In bytes of the text.
+    byte: usize,
+}
+
+// The character that a key types.
+fn typed(event: &Event) -> Option<char> {
+    match event {
+        Event::Key(key) if key.modifiers != KeyModifiers::CONTROL => match key.code {
+            KeyCode::Char(c) => Some(c),
+            _ => None,
+        },
+        _ => None,
+    }
+}
+
+impl<S: OutputSink + Drop> View<S> {
+    // Keeps the place of the page under a letter. Out of memory it does not, and the prompt row says so.
+    fn set_mark(&mut self, letter: char) {
+        let byte = self.place();
+        for mark in &mut self.marks {
+            if mark.letter == letter {
+                mark.byte = byte;
+                return;
+            }
+        }
+        if self.marks.push(Mark { letter, byte }).is_err() {
+            self.was_short = true;
+        }
+    }
+
+    // The place that is kept under a letter; that of `'` is where the last jump began, and that of `^` and `$` are the
+    // first and the last one of the text.
+    fn marked(&self, letter: char) -> Option<usize> {
+        match letter {
+            '\'' => Some(self.before),
+            '^' => Some(0),
+            '$' => Some(usize::MAX),
+            _ => {
+                let mark = self.marks.iter().find(|mark| mark.letter == letter)?;
+                Some(mark.byte)
+            }
+        }
+    }
+
+    // Goes to the place that is kept under a letter, if one is.
+    fn go_to_mark(&mut self, letter: char) -> Result<(), Fault> {
+        let Some(byte) = self.marked(letter) else {
+            return self.message(String::from_str(self.alloc, "no such mark")?);
+        };
+        self.begin_jump();
+        self.command(CommandOf::FollowOutput(false))?;
+        self.put_at(byte)
+    }
+
+    // Says what an option is now.
+    fn say(&mut self, text: &str) -> Result<(), Fault> {
+        let text = String::from_str(self.alloc, text)?;
+        self.message(text)
+    }
+
+    // Turns line numbers on or off.
+    fn turn_numbers(&mut self) -> Result<(), Fault> {
+        let numbers = !self.session.state().line_numbers;
+        let said = if numbers.is_on() {
+            "the lines have numbers (Return)"
+        } else {
+            "the lines have no numbers (Return)"
+        };
+        self.step_in_place(InputOf::Command(CommandOf::UserInput(InputEvent::UpdateLineNumber(
+            numbers,
+        ))))?;
+        self.say(said)
+    }
+
+    // Cuts long lines at the screen's edge, or wraps them.
+    fn turn_wrapping(&mut self) -> Result<(), Fault> {
+        let is_cut = self.session.state().line_wrapping();
+        let said = if is_cut {
+            "long lines are cut (Return)"
+        } else {
+            "long lines are wrapped (Return)"
+        };
+        self.step_in_place(InputOf::Command(CommandOf::UserInput(InputEvent::HorizontalScroll(
+            !is_cut,
+        ))))?;
+        self.say(said)
+    }
+
+    // Lets the capitals of a query count, or not so.
+    fn turn_case(&mut self, case: Case) -> Result<(), Fault> {
+        self.case = if self.case == case { Case::Exact } else { case };
+        let said = match self.case {
+            Case::Exact => "capitals count in searches (Return)",
+            Case::Smart => "capitals count in searches that have one (Return)",
+            Case::Ignored => "capitals do not count in searches (Return)",
+        };
+        self.say(said)
+    }
+
+    // Sets the option of a letter.
+    fn set_option(&mut self, letter: char) -> Result<(), Fault> {
+        match letter {
+            'N' | 'n' => self.turn_numbers(),
+            'S' => self.turn_wrapping(),
+            'i' => self.turn_case(Case::Smart),
+            'I' => self.turn_case(Case::Ignored),
+            _ => self.say("no such option here (Return)"),
+        }
+    }
+
+    // Does what a letter behind `:` says.
+    fn do_command(&mut self, letter: char) -> Result<Onward, Fault> {
+        match letter {
+            'q' | 'Q' => Ok(Onward::Ended),
+            'n' => Ok(Onward::Next),
+            'p' => Ok(Onward::Before),
+            _ => Ok(Onward::On),
+        }
+    }
+
+    /// Does what a key says that was typed behind another. Esc, Ctrl-C and any other key without a character ask for
+    /// nothing.
+    pub(super) fn take_key(&mut self, pending: Pending, event: Event) -> Result<Onward, Fault> {
+        let Some(letter) = typed(&event) else {
+            return Ok(Onward::On);
+        };
+        match pending {
+            Pending::SetMark => self.set_mark(letter),
+            Pending::GoToMark => self.go_to_mark(letter)?,
+            Pending::Option => self.set_option(letter)?,
+            Pending::Command => return self.do_command(letter),
+            Pending::End if letter == 'Z' => return Ok(Onward::Ended),
+            Pending::End => (),
+        }
+        Ok(Onward::On)
+    }
+}
