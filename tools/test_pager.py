@@ -1000,11 +1000,12 @@ class PagerTests(TerminalTests):
 
     def test_a_rest_takes_few_turns(self):
         self.page_lines()
-        time.sleep(3)
-        before = self.terminal.counted('syscr')
-        time.sleep(2)
-        # (a turn reads the keys, the size and the text)
-        self.assertLess(self.terminal.counted('syscr') - before, 2 * 12 * 3)
+        def rests():
+            before = self.terminal.counted('syscr')
+            time.sleep(2)
+            # (a turn reads the keys, the size and the text, and is taken 12 times a second at most)
+            return self.terminal.counted('syscr') - before < 2 * 12 * 3
+        self.terminal.wait(rests, 'the program to rest')
         self.press('j')
         self.terminal.wait_for('2-8/100')
         self.quit()
