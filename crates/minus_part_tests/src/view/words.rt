@@ -25,458 +25,460 @@ const MAN: &str =
     "-ix8RmPm Manual page ls(1) ?ltline %lt?L/%L.:byte %bB?s/%s..?e (END):?pB %pB\\%.. (press h for help or q to quit)$PM Manual page ls(1) ?ltline %lt?L/%L.:byte %bB?s/%s..?e (END):?pB %pB\\%.. (press h for help or q to quit)$";
 
 // What a variable and words ask for: the variable, the words, and how the texts are paged.
+const READ: &[(&str, &[&str], &Paging)] = &[
+    ("", &[], &DEFAULT),
+    (
+        "",
+        &["f"],
+        &Paging {
+            texts: &["f"],
+            ..DEFAULT
+        },
+    ),
+    (
+        "",
+        &["-"],
+        &Paging {
+            texts: &["-"],
+            ..DEFAULT
+        },
+    ),
+    (
+        "",
+        &["a", "-N", "--", "b"],
+        &Paging {
+            texts: &["a", "-N", "--", "b"],
+            ..DEFAULT
+        },
+    ),
+    (
+        "",
+        &["--", "-N"],
+        &Paging {
+            texts: &["-N"],
+            ..DEFAULT
+        },
+    ),
+    (
+        "",
+        &["-N"],
+        &Paging {
+            numbers: true,
+            ..DEFAULT
+        },
+    ),
+    (
+        "",
+        &["--LINE-NUMBERS"],
+        &Paging {
+            numbers: true,
+            ..DEFAULT
+        },
+    ),
+    ("N", &["-n"], &DEFAULT),
+    ("N", &["--line-numbers"], &DEFAULT),
+    (
+        "-N -S",
+        &["-+N"],
+        &Paging {
+            chops: true,
+            ..DEFAULT
+        },
+    ),
+    ("NSFXsieI", &["-+NSFXsie"], &DEFAULT),
+    (
+        "",
+        &["-S"],
+        &Paging {
+            chops: true,
+            ..DEFAULT
+        },
+    ),
+    (
+        "",
+        &["--chop-long-lines"],
+        &Paging {
+            chops: true,
+            ..DEFAULT
+        },
+    ),
+    (
+        "",
+        &["-F"],
+        &Paging {
+            prints: true,
+            ..DEFAULT
+        },
+    ),
+    (
+        "",
+        &["--quit-if-one-screen"],
+        &Paging {
+            prints: true,
+            ..DEFAULT
+        },
+    ),
+    (
+        "",
+        &["-X"],
+        &Paging {
+            leaves: true,
+            ..DEFAULT
+        },
+    ),
+    (
+        "",
+        &["--no-init"],
+        &Paging {
+            leaves: true,
+            ..DEFAULT
+        },
+    ),
+    (
+        "",
+        &["-s"],
+        &Paging {
+            squeezes: true,
+            ..DEFAULT
+        },
+    ),
+    (
+        "",
+        &["--squeeze-blank-lines"],
+        &Paging {
+            squeezes: true,
+            ..DEFAULT
+        },
+    ),
+    (
+        "",
+        &["--mouse"],
+        &Paging {
+            mouse: true,
+            ..DEFAULT
+        },
+    ),
+    ("--mouse", &["--no-mouse"], &DEFAULT),
+    (
+        "",
+        &["-i"],
+        &Paging {
+            case: Case::Smart,
+            ..DEFAULT
+        },
+    ),
+    (
+        "",
+        &["--ignore-case"],
+        &Paging {
+            case: Case::Smart,
+            ..DEFAULT
+        },
+    ),
+    (
+        "",
+        &["-I"],
+        &Paging {
+            case: Case::Ignored,
+            ..DEFAULT
+        },
+    ),
+    (
+        "",
+        &["--IGNORE-CASE"],
+        &Paging {
+            case: Case::Ignored,
+            ..DEFAULT
+        },
+    ),
+    (
+        "",
+        &["-e"],
+        &Paging {
+            at_end: AtEnd::EndsAtSecond,
+            ..DEFAULT
+        },
+    ),
+    (
+        "",
+        &["--quit-at-eof"],
+        &Paging {
+            at_end: AtEnd::EndsAtSecond,
+            ..DEFAULT
+        },
+    ),
+    (
+        "",
+        &["-E"],
+        &Paging {
+            at_end: AtEnd::EndsAtFirst,
+            ..DEFAULT
+        },
+    ),
+    (
+        "",
+        &["--QUIT-AT-EOF"],
+        &Paging {
+            at_end: AtEnd::EndsAtFirst,
+            ..DEFAULT
+        },
+    ),
+    ("", &["-x4"], &Paging { tabs: 4, ..DEFAULT }),
+    (
+        "",
+        &["-x", "4", "f"],
+        &Paging {
+            tabs: 4,
+            texts: &["f"],
+            ..DEFAULT
+        },
+    ),
+    (
+        "",
+        &["-x5,9S"],
+        &Paging {
+            tabs: 5,
+            chops: true,
+            ..DEFAULT
+        },
+    ),
+    (
+        "-x 4 -S",
+        &[],
+        &Paging {
+            tabs: 4,
+            chops: true,
+            ..DEFAULT
+        },
+    ),
+    (
+        "--tabs=4 -S",
+        &[],
+        &Paging {
+            tabs: 4,
+            chops: true,
+            ..DEFAULT
+        },
+    ),
+    ("", &["--tabs", "4"], &Paging { tabs: 4, ..DEFAULT }),
+    (
+        "",
+        &["-ix4"],
+        &Paging {
+            case: Case::Smart,
+            tabs: 4,
+            ..DEFAULT
+        },
+    ),
+    (
+        "",
+        &["-NS"],
+        &Paging {
+            numbers: true,
+            chops: true,
+            ..DEFAULT
+        },
+    ),
+    (
+        "",
+        &["-p", "x y", "f"],
+        &Paging {
+            opening: Opening::Finds("x y"),
+            texts: &["f"],
+            ..DEFAULT
+        },
+    ),
+    (
+        "",
+        &["-Np\u{e9}$S"],
+        &Paging {
+            numbers: true,
+            chops: true,
+            opening: Opening::Finds("\u{e9}"),
+            ..DEFAULT
+        },
+    ),
+    (
+        "",
+        &["--pattern=x y"],
+        &Paging {
+            opening: Opening::Finds("x y"),
+            ..DEFAULT
+        },
+    ),
+    (
+        "",
+        &["+/x y"],
+        &Paging {
+            opening: Opening::Finds("x y"),
+            ..DEFAULT
+        },
+    ),
+    (
+        "",
+        &["+G"],
+        &Paging {
+            opening: Opening::End,
+            ..DEFAULT
+        },
+    ),
+    (
+        "+F",
+        &[],
+        &Paging {
+            opening: Opening::Follows,
+            ..DEFAULT
+        },
+    ),
+    (
+        "",
+        &["+12", "f"],
+        &Paging {
+            opening: Opening::Line(12),
+            texts: &["f"],
+            ..DEFAULT
+        },
+    ),
+    (
+        "",
+        &["+", "f"],
+        &Paging {
+            texts: &["+", "f"],
+            ..DEFAULT
+        },
+    ),
+    (
+        "",
+        &["-P", "a\u{e9}?", "f"],
+        &Paging {
+            name: Some("a\u{e9}"),
+            texts: &["f"],
+            ..DEFAULT
+        },
+    ),
+    (
+        "--prompt=Ma b ?x$S",
+        &[],
+        &Paging {
+            name: Some("a b"),
+            chops: true,
+            ..DEFAULT
+        },
+    ),
+    ("Ph help", &[], &DEFAULT),
+    (
+        "FRX",
+        &[],
+        &Paging {
+            prints: true,
+            leaves: true,
+            ..DEFAULT
+        },
+    ),
+    (
+        "-FRX",
+        &[],
+        &Paging {
+            prints: true,
+            leaves: true,
+            ..DEFAULT
+        },
+    ),
+    (
+        "",
+        &["-FRX"],
+        &Paging {
+            prints: true,
+            leaves: true,
+            ..DEFAULT
+        },
+    ),
+    (
+        "FRSXMK",
+        &[],
+        &Paging {
+            prints: true,
+            chops: true,
+            leaves: true,
+            ..DEFAULT
+        },
+    ),
+    (
+        "-ix8RmPm standard input?e (END):?pB %pB\\%..$",
+        &[],
+        &Paging {
+            case: Case::Smart,
+            name: Some("standard input"),
+            ..DEFAULT
+        },
+    ),
+    (
+        MAN,
+        &[],
+        &Paging {
+            case: Case::Smart,
+            name: Some("Manual page ls(1)"),
+            ..DEFAULT
+        },
+    ),
+    ("R", &["-R", "--RAW-CONTROL-CHARS", "-r"], &DEFAULT),
+    (
+        "",
+        &[
+            "-aABcCdfgGJKLmMqQuUwW~",
+            "-5",
+            "-10",
+            "-z-3",
+            "-h5",
+            "-b",
+            "9",
+            "-j.5",
+            "-y1",
+            "-#4",
+        ],
+        &DEFAULT,
+    ),
+    (
+        "",
+        &[
+            "-Dd",
+            "-ta",
+            "-Tb",
+            "-oc",
+            "-Od",
+            "-ke",
+            "-\"f",
+            "--color=d",
+        ],
+        &DEFAULT,
+    ),
+    (
+        "",
+        &[
+            "--wheel-lines=3",
+            "--rscroll",
+            ">",
+            "--use-color",
+            "--save-marks",
+            "--shift=.5",
+        ],
+        &DEFAULT,
+    ),
+    // what there is not is passed over in a variable
+    (
+        "l%-\u{e9}\u{e9}N --nothing=SFX -S +abc$x0$hV?p",
+        &[],
+        &Paging {
+            numbers: true,
+            chops: true,
+            ..DEFAULT
+        },
+    ),
+];
+
 #[test]
 fn arguments_are_read(rt: HostRuntime) {
-    let cases: &[(&str, &[&str], &Paging)] = &[
-        ("", &[], &DEFAULT),
-        (
-            "",
-            &["f"],
-            &Paging {
-                texts: &["f"],
-                ..DEFAULT
-            },
-        ),
-        (
-            "",
-            &["-"],
-            &Paging {
-                texts: &["-"],
-                ..DEFAULT
-            },
-        ),
-        (
-            "",
-            &["a", "-N", "--", "b"],
-            &Paging {
-                texts: &["a", "-N", "--", "b"],
-                ..DEFAULT
-            },
-        ),
-        (
-            "",
-            &["--", "-N"],
-            &Paging {
-                texts: &["-N"],
-                ..DEFAULT
-            },
-        ),
-        (
-            "",
-            &["-N"],
-            &Paging {
-                numbers: true,
-                ..DEFAULT
-            },
-        ),
-        (
-            "",
-            &["--LINE-NUMBERS"],
-            &Paging {
-                numbers: true,
-                ..DEFAULT
-            },
-        ),
-        ("N", &["-n"], &DEFAULT),
-        ("N", &["--line-numbers"], &DEFAULT),
-        (
-            "-N -S",
-            &["-+N"],
-            &Paging {
-                chops: true,
-                ..DEFAULT
-            },
-        ),
-        ("NSFXsieI", &["-+NSFXsie"], &DEFAULT),
-        (
-            "",
-            &["-S"],
-            &Paging {
-                chops: true,
-                ..DEFAULT
-            },
-        ),
-        (
-            "",
-            &["--chop-long-lines"],
-            &Paging {
-                chops: true,
-                ..DEFAULT
-            },
-        ),
-        (
-            "",
-            &["-F"],
-            &Paging {
-                prints: true,
-                ..DEFAULT
-            },
-        ),
-        (
-            "",
-            &["--quit-if-one-screen"],
-            &Paging {
-                prints: true,
-                ..DEFAULT
-            },
-        ),
-        (
-            "",
-            &["-X"],
-            &Paging {
-                leaves: true,
-                ..DEFAULT
-            },
-        ),
-        (
-            "",
-            &["--no-init"],
-            &Paging {
-                leaves: true,
-                ..DEFAULT
-            },
-        ),
-        (
-            "",
-            &["-s"],
-            &Paging {
-                squeezes: true,
-                ..DEFAULT
-            },
-        ),
-        (
-            "",
-            &["--squeeze-blank-lines"],
-            &Paging {
-                squeezes: true,
-                ..DEFAULT
-            },
-        ),
-        (
-            "",
-            &["--mouse"],
-            &Paging {
-                mouse: true,
-                ..DEFAULT
-            },
-        ),
-        ("--mouse", &["--no-mouse"], &DEFAULT),
-        (
-            "",
-            &["-i"],
-            &Paging {
-                case: Case::Smart,
-                ..DEFAULT
-            },
-        ),
-        (
-            "",
-            &["--ignore-case"],
-            &Paging {
-                case: Case::Smart,
-                ..DEFAULT
-            },
-        ),
-        (
-            "",
-            &["-I"],
-            &Paging {
-                case: Case::Ignored,
-                ..DEFAULT
-            },
-        ),
-        (
-            "",
-            &["--IGNORE-CASE"],
-            &Paging {
-                case: Case::Ignored,
-                ..DEFAULT
-            },
-        ),
-        (
-            "",
-            &["-e"],
-            &Paging {
-                at_end: AtEnd::EndsAtSecond,
-                ..DEFAULT
-            },
-        ),
-        (
-            "",
-            &["--quit-at-eof"],
-            &Paging {
-                at_end: AtEnd::EndsAtSecond,
-                ..DEFAULT
-            },
-        ),
-        (
-            "",
-            &["-E"],
-            &Paging {
-                at_end: AtEnd::EndsAtFirst,
-                ..DEFAULT
-            },
-        ),
-        (
-            "",
-            &["--QUIT-AT-EOF"],
-            &Paging {
-                at_end: AtEnd::EndsAtFirst,
-                ..DEFAULT
-            },
-        ),
-        ("", &["-x4"], &Paging { tabs: 4, ..DEFAULT }),
-        (
-            "",
-            &["-x", "4", "f"],
-            &Paging {
-                tabs: 4,
-                texts: &["f"],
-                ..DEFAULT
-            },
-        ),
-        (
-            "",
-            &["-x5,9S"],
-            &Paging {
-                tabs: 5,
-                chops: true,
-                ..DEFAULT
-            },
-        ),
-        (
-            "-x 4 -S",
-            &[],
-            &Paging {
-                tabs: 4,
-                chops: true,
-                ..DEFAULT
-            },
-        ),
-        (
-            "--tabs=4 -S",
-            &[],
-            &Paging {
-                tabs: 4,
-                chops: true,
-                ..DEFAULT
-            },
-        ),
-        ("", &["--tabs", "4"], &Paging { tabs: 4, ..DEFAULT }),
-        (
-            "",
-            &["-ix4"],
-            &Paging {
-                case: Case::Smart,
-                tabs: 4,
-                ..DEFAULT
-            },
-        ),
-        (
-            "",
-            &["-NS"],
-            &Paging {
-                numbers: true,
-                chops: true,
-                ..DEFAULT
-            },
-        ),
-        (
-            "",
-            &["-p", "x y", "f"],
-            &Paging {
-                opening: Opening::Finds("x y"),
-                texts: &["f"],
-                ..DEFAULT
-            },
-        ),
-        (
-            "",
-            &["-Np\u{e9}$S"],
-            &Paging {
-                numbers: true,
-                chops: true,
-                opening: Opening::Finds("\u{e9}"),
-                ..DEFAULT
-            },
-        ),
-        (
-            "",
-            &["--pattern=x y"],
-            &Paging {
-                opening: Opening::Finds("x y"),
-                ..DEFAULT
-            },
-        ),
-        (
-            "",
-            &["+/x y"],
-            &Paging {
-                opening: Opening::Finds("x y"),
-                ..DEFAULT
-            },
-        ),
-        (
-            "",
-            &["+G"],
-            &Paging {
-                opening: Opening::End,
-                ..DEFAULT
-            },
-        ),
-        (
-            "+F",
-            &[],
-            &Paging {
-                opening: Opening::Follows,
-                ..DEFAULT
-            },
-        ),
-        (
-            "",
-            &["+12", "f"],
-            &Paging {
-                opening: Opening::Line(12),
-                texts: &["f"],
-                ..DEFAULT
-            },
-        ),
-        (
-            "",
-            &["+", "f"],
-            &Paging {
-                texts: &["+", "f"],
-                ..DEFAULT
-            },
-        ),
-        (
-            "",
-            &["-P", "a\u{e9}?", "f"],
-            &Paging {
-                name: Some("a\u{e9}"),
-                texts: &["f"],
-                ..DEFAULT
-            },
-        ),
-        (
-            "--prompt=Ma b ?x$S",
-            &[],
-            &Paging {
-                name: Some("a b"),
-                chops: true,
-                ..DEFAULT
-            },
-        ),
-        ("Ph help", &[], &DEFAULT),
-        (
-            "FRX",
-            &[],
-            &Paging {
-                prints: true,
-                leaves: true,
-                ..DEFAULT
-            },
-        ),
-        (
-            "-FRX",
-            &[],
-            &Paging {
-                prints: true,
-                leaves: true,
-                ..DEFAULT
-            },
-        ),
-        (
-            "",
-            &["-FRX"],
-            &Paging {
-                prints: true,
-                leaves: true,
-                ..DEFAULT
-            },
-        ),
-        (
-            "FRSXMK",
-            &[],
-            &Paging {
-                prints: true,
-                chops: true,
-                leaves: true,
-                ..DEFAULT
-            },
-        ),
-        (
-            "-ix8RmPm standard input?e (END):?pB %pB\\%..$",
-            &[],
-            &Paging {
-                case: Case::Smart,
-                name: Some("standard input"),
-                ..DEFAULT
-            },
-        ),
-        (
-            MAN,
-            &[],
-            &Paging {
-                case: Case::Smart,
-                name: Some("Manual page ls(1)"),
-                ..DEFAULT
-            },
-        ),
-        ("R", &["-R", "--RAW-CONTROL-CHARS", "-r"], &DEFAULT),
-        (
-            "",
-            &[
-                "-aABcCdfgGJKLmMqQuUwW~",
-                "-5",
-                "-10",
-                "-z-3",
-                "-h5",
-                "-b",
-                "9",
-                "-j.5",
-                "-y1",
-                "-#4",
-            ],
-            &DEFAULT,
-        ),
-        (
-            "",
-            &[
-                "-Dd",
-                "-ta",
-                "-Tb",
-                "-oc",
-                "-Od",
-                "-ke",
-                "-\"f",
-                "--color=d",
-            ],
-            &DEFAULT,
-        ),
-        (
-            "",
-            &[
-                "--wheel-lines=3",
-                "--rscroll",
-                ">",
-                "--use-color",
-                "--save-marks",
-                "--shift=.5",
-            ],
-            &DEFAULT,
-        ),
-        // what there is not is passed over in a variable
-        (
-            "l%-\u{e9}\u{e9}N --nothing=SFX -S +abc$x0$hV?p",
-            &[],
-            &Paging {
-                numbers: true,
-                chops: true,
-                ..DEFAULT
-            },
-        ),
-    ];
+    let cases = READ;
     for (set, words, paging) in cases {
         let is_read = parse_arguments(set, words) == Ok(Arguments::Page(**paging));
         assert_at(&rt, words.first().unwrap_or(set), is_read);
