@@ -1,4 +1,4 @@
--- A start, once what its commands hand over is kept.
+-- A start, once what its commands register is kept.
 use Rattle.std.proofs.Common.{◌≡◌, ℕ, Option, None, map, Result, Ok, Err, IfOk, IfErr, refl, ap, subst, ◌∙◌}
 use Rattle.minus_term.specs.Counts.{SinkSeen}
 use Rattle.minus_term.specs.Refusals.{refusal_of}
@@ -6,17 +6,18 @@ use Rattle.minus_state.specs.Control.{Control}
 use Rattle.minus_state.specs.declared.state.RunMode.{RunMode}
 use Rattle.minus_state.specs.States.{control_of}
 use Rattle.minus.specs.declared.init.StartErrorOf.{StartErrorOf}
-use Rattle.minus.specs.declared.pager.PagerOf.{PagerOf}
-use Rattle.minus.specs.declared.parts.PartsOf.{PartsOf}
+use Rattle.minus_commands.specs.declared.pager.PagerOf.{PagerOf}
+use Rattle.minus_commands.specs.declared.parts.PartsOf.{PartsOf}
 use Rattle.minus.specs.declared.session.Core.{Core}
-use Rattle.minus.specs.Handing.{Kept, kept_at_first}
-use Rattle.minus.specs.Reads.{kept_of, wanted_of}
+use Rattle.minus_commands.specs.Registration.{Kept, kept_at_first}
+use Rattle.minus_commands.specs.Reads.{kept_of, wanted_of}
 use Rattle.minus.specs.SessionStarts.{IsStart, IsRefusedStart, IsOpened, IsUnopened}
-use Rattle.minus.specs.Starts.{first_control, first_move, kept_taken, classifier_taken, condition_taken, CanBegin, BeginsAndMoves, StartBreaksOff}
+use Rattle.minus.specs.Starts.{first_control, first_move, CanBegin, BeginsAndMoves, StartBreaksOff}
+use Rattle.minus_commands.specs.WaitingRegistrations.{kept_taken, classifier_taken, condition_taken}
 use Rattle.minus.proofs.StartLaws.{shown_at_start}
 use Rattle.minus.proofs.StepLaws.{seen_alike}
 
--- the parts that a session begins with, before and after they have what commands hand over
+-- the parts that a session begins with, before and after they have what commands register
 pub record IsPrepared {P H E Q K : Type 0} (pager : PagerOf P H E Q K) (first ready : PartsOf P H E Q K) : Type 0 where
   pub kept_first : kept_of first ≡ kept_at_first
   pub none_first : first.condition ≡ None
@@ -55,7 +56,7 @@ not_begun seen pager mode cols rows sink first ready e is can control off =
       untouched = off.untouched;
     }
 
--- what came of it
+-- what is left of it
 pub begins : {S P H E Q K : Type 0} (seen : S → SinkSeen) (pager : PagerOf P H E Q K) (mode : RunMode) (sink : S) (first ready : PartsOf P H E Q K) (r : Result (Core S P H E Q K) (StartErrorOf S P H E Q K)) → IsPrepared pager first ready → IfOk r (λ s. IsOpened seen mode ready sink s)
     → IfOk r (λ s. (cols rows : ℕ) → CanBegin mode cols rows (map wanted_of pager.queue.items) → control_of first.state ≡ first_control cols rows (map wanted_of pager.queue.items) → IsStart seen pager mode cols rows first.classifier sink s)
 begins seen pager mode sink first ready (Ok s) is opened = λ cols rows can control. begun seen pager mode cols rows sink first ready s is can control opened

@@ -3,19 +3,23 @@ use Rattle.std.proofs.Common.{◌≡◌, ℕ, Bool, true, false, Option, None, S
 use Rattle.std.specs.Prelude.{IfOk, IfErr, OnErr, slice_get}
 use Rattle.minus_term.specs.Refusals.{Refusal, at_cleanup, refusal_of}
 use Rattle.minus_term.specs.declared.error.MinusError.{MinusError}
-use Rattle.minus_state.specs.Control.{Control, cleared}
-use Rattle.minus.specs.declared.commands.InputOf.{InputOf}
+use Rattle.minus_state.specs.Control.{Control}
+use Rattle.minus_state.specs.TypedPrefix.{cleared}
+use Rattle.minus_commands.specs.declared.commands.InputOf.{InputOf}
 use Rattle.minus.specs.declared.done.Done.{Done}
-use Rattle.minus.specs.declared.request.Request.{Request}
+use Rattle.minus_commands.specs.declared.request.Request.{Request}
 use Rattle.minus.specs.declared.session.Core.{Core}
-use Rattle.minus.specs.Callbacks.{Callbacks, callbacks_of, with_input, KeepsOfInput, IsDue, CallsHook, CallsExit, CallsRequest, CallsWorked, CallsWhen, CallsUntaken, exit_in}
+use Rattle.minus_commands.specs.Callbacks.{Callbacks, callbacks_of, with_input, KeepsOfInput, IsDue, CallsHook, CallsExit}
+use Rattle.minus.specs.SessionCallbacks.{CallsRequest, CallsWorked, CallsWhen, CallsUntaken, exit_in}
 use Rattle.minus.specs.Core.{seen_of}
-use Rattle.minus.specs.Handing.{Exit}
-use Rattle.minus.specs.Reads.{Told, wanted_by}
+use Rattle.minus_commands.specs.Registration.{Exit}
+use Rattle.minus_commands.specs.Reads.{Told, wanted_by}
 use Rattle.minus.specs.Says.{Says}
 use Rattle.minus.specs.Seen.{Seen}
-use Rattle.minus.specs.Table.{hook_after, is_at_end}
-use Rattle.minus.specs.Works.{Work, Takes, worked, waited, edits, IsNext, IsAtRest}
+use Rattle.minus_commands.specs.Table.{hook_after, is_at_end}
+use Rattle.minus_draw.specs.Drawn.{Work}
+use Rattle.minus.specs.Works.{Takes, worked, waited, edits}
+use Rattle.minus.specs.Waiting.{IsNext, IsAtRest}
 
 -- where all are kept as they were, none was called
 pub uncalled_by : {S P H E Q K : Type 0} (refusal : Refusal) (old new : Core S P H E Q K) → callbacks_of new.parts ≡ callbacks_of old.parts → CallsUntaken refusal old new
@@ -51,7 +55,7 @@ called_still true exit told old mid new same h = same ∙ h
 called_still false None told old mid new same h = (h.0, h.1, subst (λ (c : Callbacks _ _). CallsHook h.0 (with_input (callbacks_of old.parts) told) c) (sym same) h.2)
 called_still false (Some exit) told old mid new same h = subst (λ (c : Callbacks _ _). CallsExit (callbacks_of old.parts) c) (sym same) h
 
--- where nothing waited, nothing is to be worked off after the first input
+-- where nothing waited, nothing is to be performed after the first input
 pub rests_after : {Q K : Type 0} (says : Says Q K) (s new : Seen Q K) (told : Told Q K) (work : Work) (copied : Option (List ℕ)) → Takes says s told work copied new → s.waiting ≡ [] → IsAtRest new
 rests_after says s new told work copied (worked w closed asks possible free stays) none = λ shut. none
 rests_after says s new told work copied (waited o w searching checked possible) none = λ shut. absurd (let both : None ≡ Some o = sym shut ∙ searching in cc)

@@ -8,12 +8,13 @@ use Rattle.std.proofs.lemmas.Bool.{cases_Bool, eqb-true, eq-eqb, ne_eqb, ltb-tru
 use Rattle.std.proofs.lemmas.List.{append-nil, length-append, length-take, take_all, take_more, get_or_at}
 use Rattle.std.proofs.lemmas.List.Sums.{sum_by-append, sum_by-cons}
 use Rattle.minus_text.specs.Lines.{cut}
-use Rattle.minus_text.specs.Prefixes.{is_on, padding}
+use Rattle.minus_text.specs.NumberPrefix.{is_on, padding}
 use Rattle.minus_text.specs.Layouts.{margin}
 use Rattle.minus_text.specs.declared.line_numbers.LineNumbers.{LineNumbers}
 use Rattle.minus_text.proofs.DigitsLaws.{length-decimal_step, length-decimal_digit}
 use Rattle.minus_text.proofs.LineCountLaws.{lines_counted, closed-count, newline_here, unless}
-use Rattle.minus_state.specs.Control.{Control, keeps_rows_with}
+use Rattle.minus_state.specs.Control.{Control}
+use Rattle.minus_state.specs.Appending.{keeps_rows_with}
 
 -- the digits of a number do not become fewer
 digits_grow : (fuel n m : ℕ) → m < fuel → n ≤ m → m < 2 ^ 64 → length (decimal n) ≤ length (decimal m)

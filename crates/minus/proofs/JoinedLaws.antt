@@ -5,11 +5,13 @@ use Rattle.std.proofs.lemmas.Bool.{cases_Bool}
 use Rattle.std.proofs.lemmas.List.{append-nil, map-append}
 use Rattle.std.proofs.lemmas.List.Folds.{concat-append}
 use Rattle.minus_state.specs.declared.hooks.HookId.{HookId}
-use Rattle.minus_state.specs.Appending.{search_mark_behind, with_more}
-use Rattle.minus_state.specs.Control.{Control, Saved, keeps_rows_with, clamp, top}
-use Rattle.minus.specs.Starts.{taken_all, CanTakeAll}
-use Rattle.minus.specs.Table.{Wanted, appends_data}
-use Rattle.minus.specs.Unmoved.{unmoved}
+use Rattle.minus_state.specs.Appending.{search_mark_behind, with_more, keeps_rows_with}
+use Rattle.minus_state.specs.Control.{Control, Saved}
+use Rattle.minus_state.specs.ClampedMark.{clamp, top}
+use Rattle.minus.specs.Starts.{taken_all}
+use Rattle.minus_commands.specs.WaitingRegistrations.{CanTakeAll}
+use Rattle.minus_commands.specs.Table.{Wanted, appends_data}
+use Rattle.minus_commands.specs.Unmoved.{unmoved}
 use Rattle.minus.specs.Joined.{appends, MayJoin, AppendsJoin, AreJoined}
 
 -- what an append leaves where nothing is searched for and the page stays at its first row
@@ -83,7 +85,7 @@ module _ {Q K : Type 0} where
   can_behind ids [] behind can = can
   can_behind ids (text ∷ texts) behind can = can_behind ids texts behind can.2
 
-  -- those behind them can be taken over beside the same ids
+  -- those behind them can be read in beside the same ids
   pub joined_can : (ids : List HookId) (first joined : List ℕ) (commands behind : List (Wanted Q K)) → AreJoined (λ (t : List ℕ). let w : Wanted Q K = appends_data t in w) first commands joined behind → CanTakeAll ids (appends_data first ∷ commands) → CanTakeAll ids behind
   joined_can ids first joined commands behind are can = can_behind ids are.texts behind (rw are.front at can.2)
 

@@ -16,15 +16,17 @@ use Rattle.minus.specs.declared.done.Done.{Done}
 use Rattle.minus.specs.Core.{seen_of}
 use Rattle.minus.specs.SessionSteps.{ending_of, IsTakenOf, IsUntakenOf, IsTakenWithOf, IsUntakenWithOf}
 use Rattle.minus.specs.Asked.{Asks, clears_prefix, Wants}
-use Rattle.minus.specs.Drawn.{IsDrawing}
+use Rattle.minus_draw.specs.Drawn.{IsDrawing, Work, IsQuiet}
 use Rattle.minus.specs.Joined.{appended_to, append_told, appending, MayGoWith}
-use Rattle.minus.specs.Reads.{Told}
+use Rattle.minus_commands.specs.Reads.{Told}
 use Rattle.minus.specs.Says.{Says}
 use Rattle.minus.specs.Seen.{Seen}
 use Rattle.minus.specs.Classes.{Class, class_of, memory, unfit, cleanup, drawing}
-use Rattle.minus.specs.Steps.{Ending, goes_on, has_exited, Took, TookWith, Fails, FailsIn, FailsWith, FailsWithIn, IsUnfitFor}
-use Rattle.minus.specs.Table.{Wanted, appends_data, hands_over, resizes, effect_of}
-use Rattle.minus.specs.Works.{Work, Takes, worked, waited, edits, work_of, after, leaving, IsFaultIn, Worked, first, IsQuiet}
+use Rattle.minus.specs.Steps.{Ending, goes_on, has_exited, Took, TookWith}
+use Rattle.minus.specs.RefusedSteps.{Fails, FailsIn, FailsWith, FailsWithIn, IsUnfitFor}
+use Rattle.minus_commands.specs.Table.{Wanted, appends_data, hands_over, resizes, effect_of, work_of}
+use Rattle.minus.specs.Works.{Takes, worked, waited, edits, after, IsFaultIn, Worked, first}
+use Rattle.minus.specs.Waiting.{leaving}
 use Rattle.minus.proofs.LoopLaws.{unfit_closed}
 use Rattle.minus.proofs.JoinedWorksLaws.{append_work, append_works, appends_worked, drawn_joined, quiet_joined}
 
@@ -43,7 +45,7 @@ module _ {Q K : Type 0} where
   as_one says m new told text work copied closed is (waited o w searching wants possible) = absurd (let both : None ≡ Some o = sym closed ∙ searching in cc)
   as_one says m new told text work copied closed is (edits o searching alone state formed same found may) = absurd (let both : None ≡ Some o = sym closed ∙ searching in cc)
 
-  -- what is left where they are worked off in one go, and where they are one after another
+  -- what is left where they are performed in one go, and where they are one after another
   left_as : (m last : Seen Q K) (told : Told Q K) (joined : List ℕ) (count : ℕ) (g : MayGoWith m.control told m.waiting joined count) → last ≡ record m { control = appended_to m.control joined } → record last { waiting = g.behind } ≡ record m { control = appended_to m.control (concat (g.text ∷ g.texts)); waiting = g.behind }
   left_as m last told joined count g is = ap (λ (x : Seen Q K). let r : Seen Q K = record x { waiting = g.behind } in r) is ∙ ap (λ (t : List ℕ). let r : Seen Q K = record m { control = appended_to m.control t; waiting = g.behind } in r) g.joined_is
 
@@ -57,7 +59,7 @@ module _ {Q K : Type 0} where
       let one = subst (λ (w : Work). IsDrawing ops m.control (w ∷ []) new) (is ∙ ap (append_work m.control) g.joined_is) h in
       drawn_joined ops m.control new g.text g.texts g.may (λ none. subst (λ (t : List ℕ). length (lines (m.control.text ++ t)) < 2 ^ 64) g.joined_is (g.fits none)) one
 
-  -- so many are let go
+  -- this many are let go
   pub dropped : (m : Seen Q K) (told : Told Q K) (joined : List ℕ) (count : ℕ) (g : MayGoWith m.control told m.waiting joined count) → drop count m.waiting ≡ g.behind
   dropped m told joined count g =
       let n : count ≡ length (appending {Q = Q} {K = K} g.texts) = g.count_is ∙ sym (length-map g.texts (λ (t : List ℕ). append_told t)) in

@@ -1,4 +1,4 @@
--- Neighbouring appends that are worked off in one go.
+-- Neighbouring appends that are performed in one go.
 use Rattle.std.proofs.Common.{◌≡◌, ℕ, zero, suc, ◌-◌, ◌^◌, ◌<◌, ◌≤◌, ◌&&◌, ◌==◌, is_some, Bool, true, false, List, [], ◌∷◌, ◌++◌, length, map, Option, None, Some, refl, sym, ap, subst, ◌∙◌, arith, append_assoc, inl, inr, if◌then◌else◌}
 use Rattle.std.specs.List.{concat, Contains}
 use Rattle.std.specs.Str.Lines.{lines}
@@ -11,29 +11,34 @@ use Rattle.minus_term.proofs.WrittenLaws.{IsClean-more}
 use Rattle.minus_text.specs.Layouts.{margin}
 use Rattle.minus_state.specs.declared.change.Redraw.{Redraw}
 use Rattle.minus_state.specs.declared.change.Redraw.TheVariants.{Appended, Whole}
-use Rattle.minus_state.specs.Appending.{with_more}
-use Rattle.minus_state.specs.Control.{Control, Saved, keeps_rows_with, first_changed, text_rows, clamp}
+use Rattle.minus_state.specs.Appending.{with_more, keeps_rows_with, first_changed}
+use Rattle.minus_state.specs.Control.{Control, Saved, text_rows}
+use Rattle.minus_state.specs.ClampedMark.{clamp}
 use Rattle.minus_state.specs.Page.{page}
-use Rattle.minus_state.specs.Redraws.{append_redraw, added_redraw}
+use Rattle.minus_state.specs.RedrawExtent.{append_redraw, added_redraw}
 use Rattle.minus_state.specs.ShownPrompt.{prompt_row}
-use Rattle.minus.specs.declared.step_drawing.Drawing.{Drawing}
-use Rattle.minus.specs.declared.step_drawing.Drawing.TheVariants.{Nothing, Full, Append, Prompt}
-use Rattle.minus.specs.Drawn.{most_puts, DrawsPrompts, IsDrawing}
+use Rattle.minus_draw.specs.declared.drawings.Drawing.{Drawing}
+use Rattle.minus_draw.specs.declared.drawings.Drawing.TheVariants.{Nothing, Page, Append, LastRow}
+use Rattle.minus_draw.specs.declared.drawings.WholePage.TheVariants.{Plain}
+use Rattle.minus_draw.specs.declared.drawings.LastRow.TheVariants.{Prompt}
+use Rattle.minus_draw.specs.Drawn.{most_puts, DrawsPrompts, IsDrawing, Work, reached, passed_in, some_full, IsQuiet}
 use Rattle.minus.specs.Joined.{appended_to, appended_all, append_told, appending, MayWorkJoined, WorkedAppendsJoin}
-use Rattle.minus.specs.Reads.{Told}
+use Rattle.minus_commands.specs.Reads.{Told}
 use Rattle.minus.specs.Says.{Says}
 use Rattle.minus.specs.Seen.{Seen}
-use Rattle.minus.specs.Shapes.{adds_text}
-use Rattle.minus.specs.Table.{appends_data, moved, drawing_by, end_hook, is_at_end}
-use Rattle.minus.specs.Works.{Work, reached, passed_in, some_full, IsQuiet, Takes, worked, Worked, first, more, IsNext, leaving}
-use Rattle.minus.proofs.JoinLaws.{quiet_reached, AllRows, page_fits}
+use Rattle.minus_commands.specs.Shapes.{adds_text}
+use Rattle.minus_commands.specs.Table.{appends_data, moved, end_hook, is_at_end}
+use Rattle.minus_draw.specs.Drawings.{drawing_by}
+use Rattle.minus.specs.Works.{Takes, worked, Worked, first, more}
+use Rattle.minus.specs.Waiting.{IsNext, leaving}
+use Rattle.minus_draw.proofs.JoinLaws.{quiet_reached, AllRows, page_fits}
 use Rattle.minus.proofs.JoinedKindsLaws.{keeps_join}
 use Rattle.minus.proofs.JoinedLaws.{left_by, longer, on_show, twice, still, put_aside}
-use Rattle.minus.proofs.LeavesLaws.{tail_there}
+use Rattle.minus_draw.proofs.LeavesLaws.{tail_there}
 
 -- ---- what they leave
 
--- an append that is worked off leaves what it leaves that is taken over
+-- an append that is performed leaves what it leaves that is read in
 as_left : (c : Control) (text : List ℕ) (h : Option Saved) → c.help ≡ h → MayWorkJoined c → appended_to c text ≡ left_by c text
 as_left c text None e may =
     let stays = may.stays e in
@@ -117,7 +122,7 @@ none_full (w ∷ works) all = (let drawn = all.0 in let rest = none_full works a
 
 none_prompts : (ops : List Op) (works : List Work) → AllNothing works → DrawsPrompts ops works
 none_prompts ops [] all = tt
-none_prompts ops (w ∷ works) all = (λ e. absurd (let drawn : Nothing ≡ Prompt = sym all.0 ∙ e in cc), none_prompts ops works all.1)
+none_prompts ops (w ∷ works) all = (λ e. absurd (let drawn : Nothing ≡ LastRow Prompt = sym all.0 ∙ e in cc), none_prompts ops works all.1)
 
 coarser_aside : (c : Control) (w : Work) (works : List Work) → w.drawing ≡ Nothing → w.left ≡ reached c works → 1 ≤ length works → AllNothing works → Coarser c w works
 coarser_aside c w works drawn reach some all = record {
@@ -132,7 +137,7 @@ coarser_aside c w works drawn reach some all = record {
 -- ---- else each is drawn as an append, or in full
 
 abbrev shown_drawing : Control → Bool → Drawing
-shown_drawing c keeps = if keeps then Append (first_changed c) (length (text_rows c)) else Full
+shown_drawing c keeps = if keeps then Append (first_changed c) (length (text_rows c)) else Page Plain
 
 abbrev AllShown : Control → List Work → Type 0
 AllShown c [] = Unit {0}
@@ -142,13 +147,13 @@ abbrev AllAppends : Control → List Work → Type 0
 AllAppends c [] = Unit {0}
 AllAppends c (w ∷ works) = (w.drawing ≡ Append (first_changed c) (length (text_rows c))) × AllAppends w.left works
 
-never_prompt : (c : Control) (keeps : Bool) (d : Drawing) → d ≡ shown_drawing c keeps → d ≡ Prompt → ⊥
-never_prompt c true d is e = absurd (let drawn : Append (first_changed c) (length (text_rows c)) ≡ Prompt = sym is ∙ e in cc)
-never_prompt c false d is e = absurd (let drawn : Full ≡ Prompt = sym is ∙ e in cc)
+never_prompt : (c : Control) (keeps : Bool) (d : Drawing) → d ≡ shown_drawing c keeps → d ≡ LastRow Prompt → ⊥
+never_prompt c true d is e = absurd (let drawn : Append (first_changed c) (length (text_rows c)) ≡ LastRow Prompt = sym is ∙ e in cc)
+never_prompt c false d is e = absurd (let drawn : Page Plain ≡ LastRow Prompt = sym is ∙ e in cc)
 
 never_nothing : (c : Control) (keeps : Bool) (d : Drawing) → d ≡ shown_drawing c keeps → d ≡ Nothing → ⊥
 never_nothing c true d is e = absurd (let drawn : Append (first_changed c) (length (text_rows c)) ≡ Nothing = sym is ∙ e in cc)
-never_nothing c false d is e = absurd (let drawn : Full ≡ Nothing = sym is ∙ e in cc)
+never_nothing c false d is e = absurd (let drawn : Page Plain ≡ Nothing = sym is ∙ e in cc)
 
 shown_prompts : (ops : List Op) (c : Control) (works : List Work) → AllShown c works → DrawsPrompts ops works
 shown_prompts ops c [] all = tt
@@ -183,7 +188,7 @@ coarser_kept c w works drawn reach some shown all = record {
   quiet = shown_loud c works w some shown;
 }
 
-coarser_full : (c : Control) (w : Work) (works : List Work) → w.drawing ≡ Full → w.left ≡ reached c works → 1 ≤ length works → AllShown c works → some_full works ≡ true → AllRows w.left.rows works → Coarser c w works
+coarser_full : (c : Control) (w : Work) (works : List Work) → w.drawing ≡ Page Plain → w.left ≡ reached c works → 1 ≤ length works → AllShown c works → some_full works ≡ true → AllRows w.left.rows works → Coarser c w works
 coarser_full c w works drawn reach some shown full rows = record {
   full = full ∙ sym (one_full drawn);
   reach = reach;
@@ -193,7 +198,7 @@ coarser_full c w works drawn reach some shown full rows = record {
   quiet = shown_loud c works w some shown;
 }
   where
-    one_full : w.drawing ≡ Full → some_full (w ∷ []) ≡ true
+    one_full : w.drawing ≡ Page Plain → some_full (w ∷ []) ≡ true
     one_full e = rw e refl
 
 both_left : (x y : Bool) → (x && y) ≡ true → x ≡ true
@@ -241,7 +246,7 @@ aside_all c (text ∷ texts) saved e may = (
   aside_all (appended_to c text) texts (record saved { text = saved.text ++ text }) (ap (λ (x : Control). x.help) (as_left c text (Some saved) e may ∙ put_aside c saved text e)) (still_may c text may),
 )
 
--- what an append leaves on show
+-- what an append leaves displayed
 left_longer : (c : Control) (text : List ℕ) → c.help ≡ None → MayWorkJoined c → appended_to c text ≡ longer c text
 left_longer c text e may = (let at = may.may e in as_left c text None e may ∙ on_show c text e at.0 at.1)
 
@@ -264,7 +269,7 @@ shown_all c (text ∷ texts) e may = (
   shown_all (appended_to c text) texts (ap (λ (x : Control). x.help) (left_longer c text e may) ∙ e) (still_may c text may),
 )
 
--- so many lines can be counted
+-- this many lines can be counted
 abbrev Fits : Control → List (List ℕ) → Type 0
 Fits c texts = length (lines (c.text ++ concat texts)) < 2 ^ 64
 
@@ -303,7 +308,7 @@ full_all c (text ∷ texts) e may fits keeps =
       | inr f ↦ any_first (append_work c text) (append_works (appended_to c text) texts) (shown_draws c text e may ∙ ap (shown_drawing c) f)
     ]
   where
-    any_first : (w : Work) (works : List Work) → w.drawing ≡ Full → some_full (w ∷ works) ≡ true
+    any_first : (w : Work) (works : List Work) → w.drawing ≡ Page Plain → some_full (w ∷ works) ≡ true
     any_first w works drawn = rw drawn refl
 
     any_more : (w : Work) (works : List Work) → w.drawing ≡ Append (first_changed c) (length (text_rows c)) → some_full works ≡ true → some_full (w ∷ works) ≡ true
@@ -336,13 +341,13 @@ drawn_joined ops c new text texts may fits h = drawn_as ops c new (append_work c
 pub quiet_joined : (c : Control) (text : List ℕ) (texts : List (List ℕ)) → MayWorkJoined c → (c.help ≡ None → Fits c (text ∷ texts)) → IsQuiet c (append_works c (text ∷ texts)) → IsQuiet c (append_work c (concat (text ∷ texts)) ∷ [])
 quiet_joined c text texts may fits q = (coarser c text texts may fits).quiet q
 
--- ---- they are worked off
+-- ---- they are performed
 
 module _ {Q K : Type 0} where
   appends_one : (says : Says Q K) (s : Seen Q K) (text : List ℕ) → s.control.search ≡ None → Takes says s (append_told text) (append_work s.control text) None (record s { control = appended_to s.control text })
   appends_one says s text closed = worked (appends_data text) closed refl tt tt refl
 
-  -- those that wait behind what was worked off
+  -- those that wait behind what was performed
   appends_on : (says : Says Q K) (old m : Seen Q K) (told : Told Q K) (works : List Work) (texts : List (List ℕ)) (behind : List (Told Q K)) → Worked says old told works [] None m → MayWorkJoined m.control → m.waiting ≡ appending texts ++ behind
       → Worked says old told (works ++ append_works m.control texts) [] None (record m { control = appended_all m.control texts; waiting = behind })
   appends_on says old m told works [] behind h may e =

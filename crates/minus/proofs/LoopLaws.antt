@@ -21,16 +21,18 @@ use Rattle.minus.specs.declared.status.Status.{Status}
 use Rattle.minus.specs.declared.status.Status.TheVariants as status
 use Rattle.minus.specs.Answers.{IsAnswer}
 use Rattle.minus.specs.Asked.{taken}
-use Rattle.minus.specs.Drawn.{IsDrawing, Drawn, BrokenOff}
-use Rattle.minus.specs.Reads.{Told}
+use Rattle.minus_draw.specs.Drawn.{IsDrawing, Drawn, BrokenOff, Work, passed_in}
+use Rattle.minus_commands.specs.Reads.{Told}
 use Rattle.minus.specs.Seen.{Seen}
 use Rattle.minus.specs.Classes.{Class, class_of, is_unfit, memory, unfit, over, cleanup, drawing}
-use Rattle.minus.specs.Steps.{Ending, goes_on, has_exited, Took, TookWith, Fails, FailsIn, FailsWith, FailsWithIn, IsStep, IsUntouched, IsUnfitFor, Refuses, RefusesIn, IsSinkFault, is_passed}
-use Rattle.minus.specs.Handing.{Exit}
-use Rattle.minus.specs.Works.{Work, IsUnfit, Worked, first, more, passed, at_once, later, IsNext, IsAtRest, leaving, last_copied, passed_in}
-use Rattle.minus.proofs.DrawnLaws.{nothing_drawn}
-use Rattle.minus.proofs.JoinLaws.{some_join, quiet_parts, quiet_reached, quiet_from}
-use Rattle.minus.proofs.LeavesLaws.{tail_there, leaves_more}
+use Rattle.minus.specs.Steps.{Ending, goes_on, has_exited, Took, TookWith, IsStep, is_passed}
+use Rattle.minus.specs.RefusedSteps.{Fails, FailsIn, FailsWith, FailsWithIn, IsUntouched, IsUnfitFor, Refuses, RefusesIn, IsSinkFault}
+use Rattle.minus_commands.specs.Registration.{Exit}
+use Rattle.minus.specs.Works.{IsUnfit, Worked, first, more, passed, at_once, later, last_copied}
+use Rattle.minus.specs.Waiting.{IsNext, IsAtRest, leaving}
+use Rattle.minus_draw.proofs.DrawnLaws.{nothing_drawn}
+use Rattle.minus_draw.proofs.JoinLaws.{some_join, quiet_parts, quiet_reached, quiet_from}
+use Rattle.minus_draw.proofs.LeavesLaws.{tail_there, leaves_more}
 use Rattle.minus.proofs.StartLaws.{Stays-rises}
 use Rattle.minus.proofs.WorksLaws.{some_works, last_passed, works_reach, status_kept, rows_kept}
 
@@ -43,7 +45,7 @@ last_of_three : (a b c : Option (List ℕ)) → last_copied (last_copied a b) c 
 last_of_three a b None = refl
 last_of_three a b (Some text) = refl
 
--- those that were worked off with one that waited, after those before it
+-- those that were performed with one that waited, after those before it
 worked_on : {Q K : Type 0} (says : Says Q K) (old : Seen Q K) (told : Told Q K) (s : Seen Q K) (next : Told Q K) (rest : List (Told Q K)) (works : List Work) (refused : List Refusal) (copied : Option (List ℕ)) (new : Seen Q K) (vs : List Work) (others : List Refusal) (text : Option (List ℕ)) → Worked says old told works refused copied s → IsNext s next rest → Worked says (leaving s rest) next vs others text new
     → Worked says old told (works ++ vs) (refused ++ others) (last_copied copied text) new
 worked_on says old told s next rest works refused copied new vs others text h n (first t) = subst (λ (r : List Refusal). Worked says old told (works ++ vs) r (last_copied copied text) new) (sym (append-nil refused)) (more h n t)
@@ -89,7 +91,7 @@ one_more says old told s new next rest refused copied text a b c (works, h, d) n
 drawn_to : {Q K : Type 0} (a b c : Option (List ℕ)) (old : Control) (works : List Work) (s new : Seen Q K) (rest : List (Told Q K)) → IsUntouched (leaving s rest) new b c → Drawn a b old works s.control → Drawn a c old works new.control
 drawn_to a b c old works s new rest k d = subst (λ (x : Option (List ℕ)). Drawn a x old works new.control) (sym k.1) (subst (λ (x : Control). Drawn a b old works x) (sym (ap (λ (x : Seen _ _). x.control) k.0)) d)
 
--- what is passed over could not be done, and has changed nothing: with no search prompt open no key is typed to a query
+-- what is skipped could not be done, and has changed nothing: with no search prompt open no key is typed to a query
 pub unfit_closed : {Q K : Type 0} (says : Says Q K) (refusal : Refusal) (s : Seen Q K) (told : Told Q K) → s.control.search ≡ None → IsUnfitFor says s told refusal → IsUnfit says s told refusal
 unfit_closed says for_query s told closed f = absurd (let both : None ≡ Some f.search = sym closed ∙ f.opened in cc)
 unfit_closed says refusal s told closed f = f
@@ -98,7 +100,7 @@ passed_unfit : {Q K : Type 0} (class : Class) (says : Says Q K) (refusal : Refus
 passed_unfit unfit says refusal s told new a b f p = f
 passed_unfit class says refusal s told new a b f p = absurd (cc)
 
--- one that is passed over
+-- one that is skipped
 pub passed_over : {Q K : Type 0} (says : Says Q K) (old : Seen Q K) (told : Told Q K) (s new : Seen Q K) (next : Told Q K) (rest : List (Told Q K)) (refused : List Refusal) (refusal : Refusal) (copied a b c : Option (List ℕ)) → SoFar says old told a b s refused copied → IsNext s next rest → FailsWith says refusal (leaving s rest) next new b c
     → is_passed refusal ≡ true → SoFar says old told a c new (refused ++ refusal ∷ []) copied
 passed_over says old told s new next rest refused refusal copied a b c (works, h, d) n f p =
@@ -234,7 +236,7 @@ refused_later drawing says refusal old told s mid new next rest refused copied a
 refused_later unfit says refusal old told s mid new next rest refused copied a b c running so n f p is = absurd (cc)
 refused_later class says refusal old told s mid new next rest refused copied a b c running so n f p is = absurd f
 
--- by want of memory to keep the refusal of one that is passed over: as where it was wanted at that one
+-- there may be no memory to keep the refusal of one that is skipped: as where it was wanted at that one
 late_memory : {Q K : Type 0} (says : Says Q K) (refusal : Refusal) (old : Seen Q K) (told : Told Q K) (s mid new : Seen Q K) (next : Told Q K) (rest : List (Told Q K)) (refused : List Refusal) (copied a b c : Option (List ℕ)) → old.status ≡ status.Running → SoFar says old told a b s refused copied → IsNext s next rest → FailsWith says refusal (leaving s rest) next mid b c
     → is_passed refusal ≡ true → new ≡ record mid { status = status.Failed } → Refuses says for_memory old told new a c
 late_memory says refusal old told s mid new next rest refused copied a b c running so n f p is = refused_later memory says for_memory old told s mid new next rest refused copied a b c running so n (passed_unfit (class_of refusal) says refusal (leaving s rest) next mid b c f p).1 refl is
@@ -257,7 +259,7 @@ refused_so says old told s m mid new next refused copied a b d c e of out runnin
       | inr h ↦ subst (λ (x : Refusal). Refuses says x old told new a c) (sym h.0) (late_memory says of old told s mid new next m.waiting refused copied a b c running so n fails h.1 is)
     ])
 
--- what is passed over is no fault of the sink
+-- what is skipped is no fault of the sink
 pub passed_no_fault : (refusal : Refusal) → is_passed refusal ≡ true → IsSinkFault refusal → ⊥
 passed_no_fault (at_cleanup cause) p x = absurd (cc)
 passed_no_fault at_drawing p x = absurd (cc)
@@ -324,7 +326,7 @@ passed_whole r P cause is met =
     let ended = err_from_is_err_and r is.1 in
     subst P (sym ended.1) (subst (λ e. P (Err e)) (sym ended.2) met)
 
--- what is worked off leaves a session running that ran
+-- what is performed leaves a session running that ran
 pub runs_on : {Q K : Type 0} (says : Says Q K) (old : Seen Q K) (told : Told Q K) (a b : Option (List ℕ)) (s : Seen Q K) (refused : List Refusal) (copied : Option (List ℕ)) → old.status ≡ status.Running → SoFar says old told a b s refused copied → s.status ≡ status.Running
 runs_on says old told a b s refused copied running (works, h, d) = status_kept says old told s works refused copied h ∙ running
 

@@ -21,17 +21,18 @@ use Rattle.minus_term.specs.Counts.{SinkSeen}
 use Rattle.minus_term.specs.Refusals.{refusal_of}
 use Rattle.minus_state.specs.declared.state.RunMode.TheVariants.{Static}
 use Rattle.minus.specs.declared.init.StartErrorOf.{StartErrorOf}
-use Rattle.minus.specs.declared.pager.PagerOf.{PagerOf}
-use Rattle.minus.specs.declared.parts.PartsOf.{PartsOf}
+use Rattle.minus_commands.specs.declared.pager.PagerOf.{PagerOf}
+use Rattle.minus_commands.specs.declared.parts.PartsOf.{PartsOf}
 use Rattle.minus.specs.declared.static_pager.PagedOf.{PagedOf}
 use Rattle.minus.specs.declared.static_pager.PagedOf.TheVariants.{Written, Started}
-use Rattle.minus.specs.Handing.{Kept}
-use Rattle.minus.specs.Reads.{kept_of, wanted_of}
-use Rattle.minus.specs.Starts.{first_control, kept_taken, CanBegin, IsFormRefused}
+use Rattle.minus_commands.specs.Registration.{Kept}
+use Rattle.minus_commands.specs.Reads.{kept_of, wanted_of}
+use Rattle.minus.specs.Starts.{first_control, CanBegin, IsFormRefused}
+use Rattle.minus_commands.specs.WaitingRegistrations.{kept_taken}
 use Rattle.minus.specs.StaticPager.{ended_rows, rows_that_fit, printed, printed_of, IsWritten, IsUnwritten, IsShownAll, IsNotShownAll, IsPaged, IsFirstPaged, IsUnpaged}
 use Rattle.minus.proofs.BeginLaws.{IsPrepared, begun, not_begun, if_ok, if_err}
 use Rattle.minus.proofs.StartLaws.{refused_with, form_is_early}
-use Rattle.minus.proofs.DrawingLaws.{row_added}
+use Rattle.minus_draw.proofs.DrawingLaws.{row_added}
 
 -- a stored row of a formed state
 found_at : (s : PagerState) (i : ℕ) → IsFormed s → IsFoundAt (term_of s) s.screen i
@@ -76,7 +77,7 @@ rows_fit c count i bytes is fits past e =
     let fit : nat_lt c.rows (length (text_rows c)) ≡ false = le-ltb c.rows (length (text_rows c)) (omega (arith, fits, is)) in
     rw fit (ap Some (e ∙ ap (λ rs. written_all (flat_map row_ops rs)) all))
 
--- ---- what came of the parts that a session would begin with
+-- ---- the result of the parts that a session would begin with
 
 -- what a session would begin with is what the commands that waited lead to
 record_same : {P H E Q K : Type 0} (pager : PagerOf P H E Q K) (cols rows : ℕ) (terminal : Bool) (first ready : PartsOf P H E Q K) → IsPrepared pager first ready → control_of first.state ≡ first_control cols rows (map wanted_of pager.queue.items) → printed terminal (control_of ready.state) (kept_of ready) ≡ printed_of pager cols rows terminal

@@ -9,12 +9,12 @@ use Rattle.minus.specs.declared.status.Status.TheVariants as status
 use Rattle.minus.specs.Answers.{ends_run}
 use Rattle.minus.specs.Says.{Says}
 use Rattle.minus_state.specs.Control.{Control}
-use Rattle.minus.specs.Reads.{Told}
-use Rattle.minus.specs.Works.{passed_in}
-use Rattle.minus.specs.Drawn.{Leaves}
+use Rattle.minus_commands.specs.Reads.{Told}
+use Rattle.minus_draw.specs.Drawn.{passed_in, Leaves}
 use Rattle.minus.specs.Seen.{Seen}
 use Rattle.minus.specs.Classes.{Class, class_of, memory, unfit, over, cleanup, drawing, never}
-use Rattle.minus.specs.Steps.{IsStep, Steps, none, more, IsUntouched, Refuses, RefusesIn}
+use Rattle.minus.specs.Steps.{IsStep, Steps, none, more}
+use Rattle.minus.specs.RefusedSteps.{IsUntouched, Refuses, RefusesIn}
 use Rattle.minus.specs.Runs.{StopsSo, StopsAfter, IsRun}
 
 passed_as : {Q K : Type 0} {says : Says Q K} {a b : Seen Q K} {ts : List (Told Q K)} {answers : List Answer} {x y : Option (List ℕ)} (ps qs : List Control) → ps ≡ qs → Steps says a ts ps answers b x y → Steps says a ts qs answers b x y

@@ -10,28 +10,32 @@ use Rattle.minus_term.specs.Terminal.{setup_bytes, cleanup_bytes}
 use Rattle.minus_term.specs.Refusals.{Refusal, for_memory, for_newline, for_size, at_setup, at_drawing, for_pattern, refusal_of}
 use Rattle.minus_term.specs.Written.{written_all}
 use Rattle.minus_term.proofs.WrittenLaws.{written_all-nil}
-use Rattle.minus_state.specs.Control.{Control, IsClamped}
+use Rattle.minus_state.specs.Control.{Control}
+use Rattle.minus_state.specs.ClampedMark.{IsClamped, top}
 use Rattle.minus_state.specs.Changes.{IsUnformedState}
 use Rattle.minus_state.specs.declared.state.RunMode.{RunMode}
 use Rattle.minus_state.specs.declared.state.RunMode.TheVariants.{Static}
 use Rattle.minus.specs.declared.init.StartErrorOf.{StartErrorOf}
-use Rattle.minus.specs.declared.pager.PagerOf.{PagerOf}
-use Rattle.minus.specs.Reads.{wanted_of}
+use Rattle.minus_commands.specs.declared.pager.PagerOf.{PagerOf}
+use Rattle.minus_commands.specs.Reads.{wanted_of}
 use Rattle.minus.specs.SessionStarts.{IsStart, IsFirstStart, IsRefusedStart}
 use Rattle.minus.specs.declared.session.Core.{Core}
 use Rattle.minus_state.specs.declared.hooks.HookId.{HookId}
-use Rattle.minus.specs.Handing.{ids_after, IsFreeFor}
-use Rattle.minus.specs.Classes.{MemoryOr}
-use Rattle.minus.specs.Outcomes.{IsUnformed}
-use Rattle.minus.specs.Shapes.{moves}
-use Rattle.minus.specs.Table.{Wanted, sets_prompt, sends_message, handed, HasNewline, IsPossible}
+use Rattle.minus_commands.specs.Registration.{ids_after, IsFreeFor}
+use Rattle.minus_commands.specs.Outcomes.{IsUnformed}
+use Rattle.minus_commands.specs.Shapes.{moves}
+use Rattle.minus_commands.specs.Table.{Wanted, sets_prompt, sends_message, handed, HasNewline, IsPossible, IsFaultBeside, effect_of}
 use Rattle.minus.specs.Starts.{first_control, CanStart, CanBegin, CannotStart, IsUnregistered, IsUnchecked, IsUntaken, IsFirstFault, IsFormRefused, IsStartFault, IsStartRefused, IsEarly, IsShowRefused, CleansUp, DrawsOff, DrawingBreaksOff, ShowBreaksOff, StartBreaksOff, BeginsAndMoves, StartLeavesItsPage, first_mark, first_move, move_ops}
-use Rattle.minus.specs.Works.{Work, IsFaultBeside}
-use Rattle.minus.proofs.CommandLaws.{shape_draws}
-use Rattle.minus.proofs.LeavesLaws.{head_there, tail_there, leaves_more}
-use Rattle.minus.specs.Drawings.{whole_page}
-use Rattle.minus.specs.Drawn.{IsDrawing, Redraws, RedrawBreaksOff, ExchangeLeavesItsPage}
-use Rattle.minus.proofs.DrawnLaws.{page_draws, first_drawn, page_leaves}
+use Rattle.minus_draw.specs.Drawn.{Work, IsDrawing, Redraws, RedrawBreaksOff, ExchangeLeavesItsPage}
+use Rattle.minus_commands.proofs.CommandLaws.{shape_draws}
+use Rattle.minus_draw.proofs.LeavesLaws.{head_there, tail_there, leaves_more}
+use Rattle.minus_draw.specs.Drawings.{whole_page}
+use Rattle.minus_draw.proofs.DrawnLaws.{page_draws, first_drawn, page_leaves}
+use Rattle.std.proofs.Common.{min}
+use Rattle.minus_state.specs.States.{at_start}
+use Rattle.minus.specs.Starts.{taken_all}
+use Rattle.minus_commands.specs.Unmoved.{unmoved}
+use Rattle.minus_commands.proofs.OutcomeLaws.{memory_or}
 
 pub start_broken : (refusal : Refusal) (a b : Option (List ℕ)) (m n : Option ℕ) (bytes drawing : List ℕ) (terminal : Bool) (c : Control) → c.search ≡ None → 1 ≤ c.rows → bytes ≡ drawing → drawing ≡ written_all (whole_page c) → IsShowRefused refusal terminal → ShowBreaksOff refusal a b m n bytes → StartBreaksOff refusal a b m n c
 start_broken (at_setup cause) a b m n bytes drawing terminal c closed some e g r h = h
@@ -82,11 +86,6 @@ pub Stays-refl : (a : Option ℕ) → Stays a a
 Stays-refl None = tt
 Stays-refl (Some n) = refl
 
--- why it is so for want of memory, or for this, it is for want of memory, or for that
-pub memory_or : {A B : Refusal → Type 0} (refusal : Refusal) → ((r : Refusal) → A r → B r) → MemoryOr A refusal → MemoryOr B refusal
-memory_or for_memory so h = tt
-memory_or refusal so h = so refusal h
-
 -- what is no fault of any command is none of the first
 no_first : {Q K : Type 0} (refusal : Refusal) (ids : List HookId) (ws : List (Wanted Q K)) → ((ids : List HookId) (w : Wanted Q K) → IsFaultBeside ids refusal w → ⊥) → IsFirstFault refusal ids ws → ⊥
 no_first refusal ids [] none h = h
@@ -136,7 +135,7 @@ unregistered for_memory mode cols rows waiting h = inr (h, tt)
 unregistered for_pattern mode cols rows waiting h = absurd h
 unregistered refusal mode cols rows waiting h = inl h
 
--- one whose commands cannot be taken over
+-- one whose commands cannot be read in
 pub untaken : {Q K : Type 0} (refusal : Refusal) (mode : RunMode) (cols rows : ℕ) (waiting : List (Wanted Q K)) → CanStart mode cols rows → IsUntaken refusal [] waiting → IsFormRefused refusal mode cols rows waiting
 untaken for_pattern mode cols rows waiting can h = absurd (no_first for_pattern [] waiting (λ ids w f. f) h)
 untaken refusal mode cols rows waiting can h = inr (can, h)
@@ -147,7 +146,7 @@ pub first_start : {S P H E Q K F : Type 0} (IsFirst : K → Type 0) (seen : S �
 first_start IsFirst seen pager mode cols rows sink classifier (Ok s) first start = record { classifier = classifier; first = first; start = start }
 first_start IsFirst seen pager mode cols rows sink classifier (Err e) first start = tt
 
--- where no first state is formed, though its commands can be taken over
+-- where no first state is formed, though its commands can be read in
 pub unformed_refused : {Q K : Type 0} (refusal : Refusal) (mode : RunMode) (cols rows : ℕ) (waiting : List (Wanted Q K)) → CanBegin mode cols rows waiting → IsUnformedState refusal cols rows → IsFormRefused refusal mode cols rows waiting
 unformed_refused for_memory mode cols rows waiting can h = inr (can.can, tt)
 unformed_refused for_pattern mode cols rows waiting can h = can
@@ -156,12 +155,12 @@ unformed_refused refusal mode cols rows waiting can h = absurd h
 
 -- ---- the commands that wait
 
--- one that cannot be taken over is the first of those that begin with it
+-- one that cannot be read in is the first of those that begin with it
 pub untaken_here : {Q K : Type 0} (refusal : Refusal) (ids : List HookId) (w : Wanted Q K) (ws : List (Wanted Q K)) → IsUnchecked refusal ids w → IsUntaken refusal ids (w ∷ ws)
 untaken_here for_memory ids w ws h = tt
 untaken_here refusal ids w ws h = inl h
 
--- or of those that it follows, where it is taken over
+-- or of those that it follows, where it is read in
 pub untaken_later : {Q K : Type 0} (refusal : Refusal) (ids : List HookId) (w : Wanted Q K) (ws : List (Wanted Q K)) → IsPossible w → IsFreeFor ids (handed w) → IsUntaken refusal (ids_after ids (handed w)) ws → IsUntaken refusal ids (w ∷ ws)
 untaken_later refusal ids w ws possible free h = memory_or {A = λ (r : Refusal). IsFirstFault r (ids_after ids (handed w)) ws} {B = λ (r : Refusal). IsFirstFault r ids (w ∷ ws)} refusal (λ r fault. inr (possible, free, fault)) h
 
@@ -243,7 +242,7 @@ pub none_open : {X : Type 0} (x : Option X) → is_some x ≡ false → x ≡ No
 none_open None e = refl
 none_open (Some x) e = absurd (let wrong : true ≡ false = e in cc)
 
--- what can be done is not formed for want of memory alone
+-- what can be done is not formed only since memory runs out
 has_none : {Q K X : Type 0} (w : Wanted Q K) → IsPossible w → HasNewline w → X
 has_none (sets_prompt text) possible has = absurd (let wrong : false ≡ true = sym possible ∙ has in cc)
 has_none (sends_message text) possible has = absurd (let wrong : false ≡ true = sym possible ∙ has in cc)
@@ -254,3 +253,19 @@ possible_memory for_memory w possible h = refl
 possible_memory for_newline w possible h = has_none w possible h
 possible_memory (for_size cols rows) w possible h = absurd (h.1 (subst IsPossible h.0 possible))
 possible_memory refusal w possible h = absurd h
+
+-- each leaves the mark clamped
+taken_clamped : {Q K : Type 0} (c : Control) (ws : List (Wanted Q K)) → IsClamped c → IsClamped (taken_all c ws)
+taken_clamped c [] h = h
+taken_clamped c (w ∷ ws) h = taken_clamped (unmoved c w) ws (let k : Control = (effect_of c w).changed in let m : min k.mark (top k) ≤ top k = omega arith in m)
+
+pub first_is_clamped : {Q K : Type 0} (cols rows : ℕ) (ws : List (Wanted Q K)) (c : Control) → c ≡ first_control cols rows ws → IsClamped c
+first_is_clamped cols rows ws c e = subst IsClamped (sym e) (taken_clamped (at_start cols rows) ws (omega arith))
+
+-- a start opens no search prompt
+taken_search : {Q K : Type 0} (c : Control) (ws : List (Wanted Q K)) → (taken_all c ws).search ≡ c.search
+taken_search c [] = refl
+taken_search c (w ∷ ws) = taken_search (unmoved c w) ws
+
+pub first_search : {Q K : Type 0} (cols rows : ℕ) (waiting : List (Wanted Q K)) → (first_control cols rows waiting).search ≡ None
+first_search cols rows waiting = taken_search (at_start cols rows) waiting

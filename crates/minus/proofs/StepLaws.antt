@@ -1,4 +1,4 @@
--- One input that is worked off, from what the parts of a step ensure.
+-- One input that is performed, from what the parts of a step ensure.
 use Rattle.std.proofs.Common.{◌≡◌, ℕ, ◌≤◌, is_some, Bool, true, false, List, [], ◌∷◌, length, Option, None, Some, String, Global, string_bytes, refl, sym, ap, subst, ◌∙◌, ◌<◌, arith}
 use Rattle.std.specs.Io.KnownBytes.{Appends}
 use Rattle.std.specs.Option.{option_map, unwrap_or}
@@ -14,44 +14,49 @@ use Rattle.minus_term.specs.Written.{written_all}
 use Rattle.minus_term.proofs.WrittenLaws.{written_all-nil}
 use Rattle.minus_state.specs.declared.change.Redraw.{Redraw}
 use Rattle.minus.specs.Says.{Says}
-use Rattle.minus_state.specs.Control.{Control, Settings, IsClamped, clamp, cleared, with_prefix}
+use Rattle.minus_state.specs.Control.{Control, Settings}
+use Rattle.minus_state.specs.TypedPrefix.{cleared, with_prefix}
+use Rattle.minus_state.specs.ClampedMark.{IsClamped, clamp}
 use Rattle.minus_state.specs.Changes.{IsChange}
-use Rattle.minus_state.specs.Keying.{keyed, keyed_redraw, told_by, MayFind, IsUnkeyed}
+use Rattle.minus_state.specs.PromptKeys.{keyed, keyed_redraw, told_by, MayFind, IsUnkeyed}
 use Rattle.minus_state.specs.OpenPrompts.{fed}
 use Rattle.minus_state.specs.OpenSearches.{OpenSearch}
 use Rattle.minus_state.specs.QueryKeys.{edit_of}
 use Rattle.minus_state.specs.States.{control_of, IsFormed}
 use Rattle.minus_state.specs.declared.state.PagerState.{PagerState}
 use Rattle.minus_state.proofs.ChangeLaws.{typed_after}
-use Rattle.minus.specs.declared.outcome.Outcome.{Outcome}
+use Rattle.minus_commands.specs.declared.outcome.Outcome.{Outcome}
 use Rattle.minus.specs.declared.status.Status.{Status}
 use Rattle.minus.specs.declared.status.Status.TheVariants as status
 use Rattle.minus_state.specs.declared.state.RunMode.{RunMode}
-use Rattle.minus.specs.declared.step_drawing.Drawing.{Drawing}
-use Rattle.minus.specs.Asked.{Asks, Wants, checked_as, clears_prefix, taken}
-use Rattle.minus.specs.Drawings.{ops_of_step, IsDrawable}
-use Rattle.minus.specs.Drawn.{IsDrawing, Drawn}
-use Rattle.minus.specs.Outcomes.{IsOutcome, IsTakenBy, ExitsWith}
-use Rattle.minus.specs.Reads.{Told, a_command, an_event}
+use Rattle.minus_draw.specs.declared.drawings.Drawing.{Drawing}
+use Rattle.minus.specs.Asked.{Asks, Wants, clears_prefix, taken}
+use Rattle.minus.specs.Waiting.{checked_as}
+use Rattle.minus_draw.specs.Drawings.{ops_of_step, IsDrawable, drawing_by}
+use Rattle.minus_draw.specs.Drawn.{IsDrawing, Drawn, Work, IsQuiet, undrawn, key_work}
+use Rattle.minus_commands.specs.Outcomes.{IsOutcome}
+use Rattle.minus.specs.Works.{IsTakenBy, ExitsWith, after, Takes, worked, edits}
+use Rattle.minus_commands.specs.Reads.{Told, a_command, an_event}
 use Rattle.minus.specs.Seen.{Seen}
-use Rattle.minus.specs.Handing.{Exit, Handing, Kept, kept_after, classifier_after, condition_after, kept_with, classifier_with, condition_with, IsFree, IsFreeFor, IsUnhanded}
-use Rattle.minus.specs.Table.{Wanted, hands_over, shape, effect_of, handed, changed_by, control_after, drawing_by, drawing_of, end_hook, is_at_end, IsPossible}
-use Rattle.minus.specs.Works.{Work, work_of, undrawn, key_work, after, Takes, worked, edits, IsQuiet}
+use Rattle.minus_commands.specs.Registration.{Exit, Handing, Kept, kept_after, classifier_after, condition_after, kept_with, classifier_with, condition_with, IsFree, IsFreeFor, IsUnhanded}
+use Rattle.minus_commands.specs.Table.{Wanted, hands_over, shape, effect_of, handed, changed_by, control_after, drawing_of, end_hook, is_at_end, IsPossible}
+use Rattle.minus_commands.specs.Table.{work_of}
 use Rattle.minus.specs.Core.{seen_of}
 use Rattle.minus.specs.SessionSteps.{IsUntakenOf}
 use Rattle.minus.specs.declared.session.Core.{Core}
-use Rattle.minus.specs.Steps.{goes_on, has_exited, Took, Fails, IsSinkFault}
-use Rattle.minus.proofs.DrawnLaws.{undrawn_drawn}
-use Rattle.minus.proofs.TableLaws.{clamp_still, exit_still}
-use Rattle.minus.proofs.CommandLaws.{work_draws, work_drawable}
-use Rattle.minus.proofs.KeyedLaws.{key_drawable}
-use Rattle.minus.proofs.KeyLaws.{key_drawn}
+use Rattle.minus.specs.Steps.{goes_on, has_exited, Took}
+use Rattle.minus.specs.RefusedSteps.{Fails, IsSinkFault}
+use Rattle.minus_draw.proofs.DrawnLaws.{undrawn_drawn}
+use Rattle.minus_commands.proofs.TableLaws.{clamp_still, exit_still}
+use Rattle.minus_commands.proofs.CommandLaws.{work_draws, work_drawable}
+use Rattle.minus_draw.proofs.KeyedLaws.{key_drawable}
+use Rattle.minus_draw.proofs.KeyLaws.{key_drawn}
 
 -- a change is drawn as the table says of its request
 pub drawn_as : {Q K : Type 0} (c : Control) (w : Wanted Q K) (redraw : Redraw) (mark : ℕ) → redraw ≡ (effect_of c w).redraw → mark ≡ (changed_by (effect_of c w)).mark → drawing_by redraw c mark ≡ drawing_of c w
 drawn_as c w redraw mark r m = ap (λ (x : Redraw). drawing_by x c mark) r ∙ ap (λ (n : ℕ). drawing_by (effect_of c w).redraw c n) m
 
--- what is left where nothing is handed over
+-- what is left where nothing is registered
 after_alone : {Q K : Type 0} (clears : Bool) (seen : Seen Q K) (w : Wanted Q K) → handed w ≡ None → (let left : Seen Q K = record seen { control = control_after clears seen.control w } in left ≡ after clears seen w)
 after_alone {Q = Q} {K = K} clears seen w none =
     ap (λ (h : Option (Handing Q K)). let left : Seen Q K = record seen { control = control_after clears seen.control w; classifier = classifier_after seen.classifier h; condition = condition_after seen.condition h; kept = kept_after seen.kept h } in left) (sym none)
@@ -72,7 +77,7 @@ pub prefix_placed : {Q K : Type 0} (seen : Seen Q K) (told : Told Q K) (w : Want
 prefix_placed seen told w prefix before after is placed x =
     ap control_of placed ∙ ap (λ (p : List ℕ). with_prefix (control_of before) p) (typed_after prefix before.prefix_num) ∙ ap (λ (k : Control). with_prefix k (unwrap_or (option_map string_bytes prefix) k.settings.prefix)) (sym is) ∙ ap (λ (p : List ℕ). with_prefix seen.control p) x.typed
 
--- the input was worked off
+-- the input was performed
 takes : {Q K : Type 0} (says : Says Q K) (old new : Seen Q K) (told : Told Q K) (w : Wanted Q K) (copied : Option (List ℕ)) → old.control.search ≡ None → Asks says old told w → IsPossible w → IsFreeFor old.kept.ids (handed w) → (effect_of old.control w).is_exit ≡ false → new ≡ after (clears_prefix told w) old w → copied ≡ (effect_of old.control w).copies
     → Takes says old told (work_of (clears_prefix told w) old.control w) copied new
 takes {Q = Q} {K = K} says old new told w copied closed asks possible free on is copies =
@@ -80,7 +85,7 @@ takes {Q = Q} {K = K} says old new told w copied closed asks possible free on is
     subst (λ (x : Seen Q K). Takes says old told work copied x) (sym is)
     (subst (λ (text : Option (List ℕ)). Takes says old told work text (after (clears_prefix told w) old w)) (sym copies) (worked w closed asks possible free on))
 
--- it was worked off by a change, and hands nothing over
+-- it was performed by a change, and registers nothing
 pub worked_by : {Q K : Type 0} (says : Says Q K) (old : Seen Q K) (told : Told Q K) (w : Wanted Q K) (outcome : Outcome) → old.control.search ≡ None → IsClamped old.control → 1 ≤ old.control.rows → Asks says old told w → handed w ≡ None → IsOutcome (clears_prefix told w) old.control w outcome → outcome.exits ≡ false → IsTakenBy says old told outcome (work_of (clears_prefix told w) old.control w)
 worked_by {Q = Q} {K = K} says old told w outcome closed clamped some asks none o on =
     let clears : Bool = clears_prefix told w in
@@ -158,7 +163,7 @@ seen_alike {Q = Q} {K = K} x y a b c d e f g =
     ∙ ap (λ (v : List (Told Q K)). let r : Seen Q K = record y { waiting = v; status = x.status } in r) f
     ∙ ap (λ (v : Status). let r : Seen Q K = record y { status = v } in r) g
 
--- ---- what is handed over
+-- ---- what is registered
 
 -- no event hands anything over, so the typed prefix stays
 prefix_stays : {Q K : Type 0} (told : Told Q K) (handing : Handing Q K) → clears_prefix told (hands_over handing) ≡ false

@@ -8,12 +8,12 @@ use Rattle.minus.specs.declared.session.Core.{Core}
 use Rattle.minus.specs.Asked.{Asks, Wants}
 use Rattle.minus.specs.Core.{seen_of}
 use Rattle.minus.specs.Exchanges.{CanExchange, IsUnexchanged, RefusesExchange}
-use Rattle.minus.specs.Outcomes.{IsUnformed}
+use Rattle.minus_commands.specs.Outcomes.{IsUnformed}
 use Rattle.minus.specs.Says.{Says}
-use Rattle.minus.specs.Reads.{Told}
+use Rattle.minus_commands.specs.Reads.{Told}
 use Rattle.minus.specs.Seen.{Seen}
-use Rattle.minus.specs.Steps.{Fails, IsSinkFault}
-use Rattle.minus.specs.Table.{Wanted, resizes}
+use Rattle.minus.specs.RefusedSteps.{Fails, IsSinkFault}
+use Rattle.minus_commands.specs.Table.{Wanted, resizes}
 use Rattle.minus.specs.TakenParts.{IsUntakenAs}
 
 -- an input asks for what could not be formed

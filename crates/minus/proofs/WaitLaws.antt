@@ -6,16 +6,19 @@ use Rattle.minus_term.specs.declared.error.MinusError.{MinusError}
 use Rattle.minus.specs.Says.{Says}
 use Rattle.minus.specs.declared.session.Core.{Core}
 use Rattle.minus.specs.declared.done.Done.{Done}
-use Rattle.minus.specs.Asked.{Wants, checked_as}
+use Rattle.minus.specs.Asked.{Wants}
+use Rattle.minus.specs.Waiting.{checked_as}
 use Rattle.minus.specs.Core.{seen_of}
-use Rattle.minus.specs.Reads.{Told}
+use Rattle.minus_commands.specs.Reads.{Told}
 use Rattle.minus_state.specs.OpenSearches.{OpenSearch}
 use Rattle.minus.specs.Seen.{Seen}
 use Rattle.minus.specs.SessionSteps.{ending_of, IsTakenOf, IsUntakenOf, IsKept, IsUnkept, IsNotKept}
-use Rattle.minus.specs.Steps.{goes_on, Took, Fails, IsSinkFault}
-use Rattle.minus.specs.Table.{Wanted, IsFault}
-use Rattle.minus.specs.Works.{undrawn, waited}
-use Rattle.minus.proofs.DrawnLaws.{undrawn_drawn}
+use Rattle.minus.specs.Steps.{goes_on, Took}
+use Rattle.minus.specs.RefusedSteps.{Fails, IsSinkFault}
+use Rattle.minus_commands.specs.Table.{Wanted, IsFault}
+use Rattle.minus_draw.specs.Drawn.{undrawn}
+use Rattle.minus.specs.Works.{waited}
+use Rattle.minus_draw.proofs.DrawnLaws.{undrawn_drawn}
 use Rattle.minus.proofs.LoopLaws.{some_of}
 use Rattle.minus.proofs.StartLaws.{Stays-refl}
 

@@ -7,14 +7,16 @@ use Rattle.std.proofs.lemmas.List.Folds.{list_any-append}
 use Rattle.minus_term.specs.Refusals.{Refusal}
 use Rattle.minus.specs.Says.{Says}
 use Rattle.minus_state.specs.Control.{Control}
-use Rattle.minus.specs.Reads.{Told}
+use Rattle.minus_commands.specs.Reads.{Told}
 use Rattle.minus.specs.Seen.{Seen}
-use Rattle.minus.specs.Works.{Work, Takes, worked, waited, edits, Worked, first, more, passed, IsNext, leaving, passed_in, reached, is_full, some_full, AloneWithNoPrompt}
-use Rattle.minus_state.specs.Keying.{told_by}
+use Rattle.minus_draw.specs.Drawn.{Work, passed_in, reached, is_full, some_full}
+use Rattle.minus.specs.Works.{Takes, worked, waited, edits, Worked, first, more, passed, AloneWithNoPrompt}
+use Rattle.minus.specs.Waiting.{IsNext, leaving}
+use Rattle.minus_state.specs.PromptKeys.{told_by}
 use Rattle.minus_state.specs.OpenPrompts.{fed}
 use Rattle.minus_state.specs.QueryKeys.{edit_of}
-use Rattle.minus.proofs.KeyedLaws.{keyed_rows}
-use Rattle.minus.proofs.TableLaws.{resizes_full_lem}
+use Rattle.minus_draw.proofs.KeyedLaws.{keyed_rows}
+use Rattle.minus_commands.proofs.TableLaws.{resizes_full_lem}
 
 -- ---- one input
 

@@ -3,10 +3,11 @@ use Rattle.std.specs.Prelude.{◌≡◌, ℕ, nat_lt, List, map, length, is_some
 use Rattle.std.specs.Option.{option_map}
 use Rattle.minus_term.specs.Refusals.{Refusal, refusal_of}
 use Rattle.minus.specs.declared.answer.Answer.{Answer}
-use Rattle.minus.specs.Handing.{Exit}
+use Rattle.minus_commands.specs.Registration.{Exit}
 
--- an exit is answered, the text that was copied, and the refusals of the items that were passed over
-pub record IsAnswer (exit : Option Exit) (text : Option (List ℕ)) (refused : List Refusal) (answer : Answer) : Type 0 where
+-- an exit is answered, the text that was copied, and the refusals of the items that were skipped
+pub record IsAnswer (exit : Option Exit) (text : Option (List ℕ)) (refused : List Refusal)
+    (answer : Answer) : Type 0 where
   pub exited : answer.exited ≡ exit
   pub copied : option_map string_bytes answer.copied ≡ text
   pub refusals : map refusal_of answer.refused.items ≡ refused

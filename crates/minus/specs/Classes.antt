@@ -1,6 +1,7 @@
 -- The classes of refusals.
 use Rattle.std.specs.Prelude.{Bool, true, false}
-use Rattle.minus_term.specs.Refusals.{Refusal, for_memory, after_failure, after_exit, at_setup, at_cleanup, at_drawing, of_no_call}
+use Rattle.minus_term.specs.Refusals.{Refusal, for_memory, after_failure, after_exit, at_setup, at_cleanup, at_drawing}
+use Rattle.minus_term.specs.Refusals.{of_no_call}
 use Rattle.minus_term.specs.declared.error.CleanupError.{CleanupError}
 use Rattle.minus.specs.declared.status.Status.{Status}
 use Rattle.minus.specs.declared.status.Status.TheVariants as stands
@@ -35,8 +36,3 @@ class_of refusal = unfit
 abbrev pub is_unfit : Class → Bool
 is_unfit unfit = true
 is_unfit class = false
-
--- out of memory, or for this
-abbrev pub MemoryOr : (Refusal → Type 0) → Refusal → Type 0
-MemoryOr Why for_memory = Unit {0}
-MemoryOr Why refusal = Why refusal

@@ -8,12 +8,13 @@ use Rattle.minus.specs.Says.{says_of}
 use Rattle.minus_state.specs.States.{control_of, IsFormed}
 use Rattle.minus_input.specs.DefaultAnswers.{max, steps_of}
 use Rattle.minus_input.specs.DefaultBindings.{default_asks, event_of, plain}
-use Rattle.minus.specs.Asked.{Asks, IsRequest}
-use Rattle.minus.specs.Reads.{event_wanted, an_event}
+use Rattle.minus.specs.Asked.{Asks}
+use Rattle.minus_commands.specs.Reads.{IsRequest, event_wanted, an_event}
 use Rattle.minus.specs.Seen.{Seen}
-use Rattle.minus.specs.Table.{Wanted, moves_mark}
+use Rattle.minus_commands.specs.Table.{Wanted, moves_mark}
 
--- an event asks for what the table of the default bindings has for it, in a formed state that holds the control, and for nothing else
+-- an event asks for what the table of the default bindings has for it, in a formed state
+-- that holds the control, and for nothing else
 abbrev pub EventsAskByTheTable : {Q K : Type 0} → Judges Q → Classifies K → (K → Type 0) → Seen Q K → Type 0
 EventsAskByTheTable {Q} {K} judges events IsFirst seen =
     (e : Event) (w : Wanted Q K) → IsFirst seen.classifier → Asks (says_of judges events) seen (an_event e) w

@@ -7,5 +7,6 @@ pub record Says (Q K : Type 0) : Type 1 where
   pub condition : Judges Q
   pub events : Classifies K
 
+-- what the condition, judged so, and the classifier, which classifies so, may answer
 abbrev pub says_of : {Q K : Type 0} → Judges Q → Classifies K → Says Q K
 says_of judges events = record { condition = judges; events = events }

@@ -2,7 +2,7 @@
 use Rattle.std.specs.Prelude.{◌≡◌, List, ℕ, Option}
 use Rattle.std.specs.Option.{unwrap_or}
 use Rattle.minus_term.specs.Written.{written_all}
-use Rattle.minus.specs.declared.step_drawing.Drawing.{Drawing}
+use Rattle.minus_draw.specs.declared.drawings.Drawing.{Drawing}
 use Rattle.minus.specs.declared.session.Core.{Core}
 use Rattle.minus_state.specs.declared.change.Change.{Change}
 use Rattle.minus_state.specs.Changes.{IsChange}
@@ -10,25 +10,27 @@ use Rattle.minus_state.specs.Control.{Control}
 use Rattle.minus_state.specs.ShownPrompt.{prompt_row}
 use Rattle.minus_state.specs.States.{control_of}
 use Rattle.minus.specs.Core.{seen_of}
-use Rattle.minus.specs.Drawings.{ops_of_step, IsDrawable}
-use Rattle.minus.specs.Table.{drawing_by}
+use Rattle.minus_draw.specs.Drawings.{ops_of_step, IsDrawable, drawing_by}
 
 -- the buffer holds the list that a page is drawn by, on the way from one control to another
 abbrev pub DrawsBetween : {S P H E Q K : Type 0} → Core S P H E Q K → Drawing → Control → Control → Type 0
 DrawsBetween core drawing old new = core.drawing.items ≡ written_all (ops_of_step drawing old new)
 
--- the control that a session holds, and how a change of it is drawn
+-- the control that a session holds
 abbrev pub control_in : {S P H E Q K : Type 0} → Core S P H E Q K → Control
 control_in core = control_of core.parts.state
 
+-- how a change is drawn over the page of the control that a session holds
 abbrev pub drawing_in : {S P H E Q K : Type 0} → Core S P H E Q K → Change → Drawing
 drawing_in core change = drawing_by change.redraw (control_in core) change.mark
 
 -- the buffer holds the drawing of a change, whose prompt row is this one, or else the one drawn last
-abbrev pub DrawsWithRow : {S P H E Q K : Type 0} → (old : Core S P H E Q K) → Change → Option (List ℕ) → (new : Core S P H E Q K) → Type 0
+abbrev pub DrawsWithRow : {S P H E Q K : Type 0} → (old : Core S P H E Q K) → Change → Option (List ℕ)
+    → (new : Core S P H E Q K) → Type 0
 DrawsWithRow old change row new =
     (next : Control) → IsChange (control_in old) change next → IsDrawable (drawing_in old change) (control_in old) next
-    → unwrap_or row (prompt_row (control_in old)) ≡ prompt_row next → DrawsBetween new (drawing_in old change) (control_in old) next
+    → unwrap_or row (prompt_row (control_in old)) ≡ prompt_row next
+    → DrawsBetween new (drawing_in old change) (control_in old) next
 
 -- the buffer holds the drawing of a change
 abbrev pub DrawsChange : {S P H E Q K : Type 0} → (old : Core S P H E Q K) → Change → (new : Core S P H E Q K) → Type 0
@@ -38,4 +40,5 @@ DrawsChange old change new =
 
 -- the change was put in its place, and nothing else has changed
 abbrev pub PutsChange : {S P H E Q K : Type 0} → (old : Core S P H E Q K) → Change → (new : Core S P H E Q K) → Type 0
-PutsChange old change new = (next : Control) → IsChange (control_in old) change next → seen_of new ≡ record (seen_of old) { control = next }
+PutsChange old change new =
+    (next : Control) → IsChange (control_in old) change next → seen_of new ≡ record (seen_of old) { control = next }

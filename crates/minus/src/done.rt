@@ -1,8 +1,8 @@
-//! What comes of one input.
+//! The result of one input.
 use crate::state::ExitStrategy;
 
-// What came of one input that was taken: the session goes on, with the text that the input copied, if it copied one; or
-// it has exited so.
+// The result of one input that was taken: the session goes on, with the text that the input copied, if it copied one;
+// or it has exited so.
 #[derive(Drop)]
 pub(crate) enum Done {
     On(Option<String>),

@@ -1,11 +1,11 @@
 //! The exchange of a session's sink.
-ghost use Rattle.minus.specs.Drawn.{ExchangeLeavesItsPage};
+ghost use Rattle.minus_draw.specs.Drawn.{ExchangeLeavesItsPage};
 
-use crate::outcome::outcome_of;
-use crate::parts::Parts;
-use crate::request::Request;
 use crate::session::Core;
 use crate::status::Status;
+use minus_commands::outcome::outcome_of;
+use minus_commands::parts::Parts;
+use minus_commands::request::Request;
 use minus_term::{MinusError, OutputSink};
 use std::mem;
 
@@ -40,11 +40,11 @@ impl<S: OutputSink + Drop, P: Parts> Core<S, P> {
     ghost use Rattle.minus_term.specs.Refusals.{refusal_of};
     ghost use Rattle.minus_term.specs.Written.{written_all};
     ghost use Rattle.minus_state.specs.Sizes.{IsSize};
-    ghost use Rattle.minus.specs.Callbacks.{callbacks_of};
+    ghost use Rattle.minus_commands.specs.Callbacks.{callbacks_of};
     ghost use Rattle.minus.specs.Core.{seen_of};
-    ghost use Rattle.minus.specs.Drawings.{whole_page};
-    ghost use Rattle.minus.specs.Outcomes.{IsUnformed};
-    ghost use Rattle.minus.specs.Table.{resizes};
+    ghost use Rattle.minus_draw.specs.Drawings.{whole_page};
+    ghost use Rattle.minus_commands.specs.Outcomes.{IsUnformed};
+    ghost use Rattle.minus_commands.specs.Table.{resizes};
     ghost use Rattle.minus.specs.Exchanges.{CanExchange, IsExchange, IsExchangeEarly, RefusesExchange, resized};
 
     // Takes another size over, and draws the page whole into the buffer. An `Err` changes nothing.
@@ -65,8 +65,8 @@ impl<S: OutputSink + Drop, P: Parts> Core<S, P> {
         Ok(())
     }
 
-    // Whether the sink can be exchanged now.
-    fn check_exchange(&self) -> Result<(), MinusError>
+    // Whether the sink can be exchanged now, or the term set.
+    pub(crate) fn check_exchange(&self) -> Result<(), MinusError>
         ensures can { OnOk result (CanExchange (seen_of self.now)) }
         ensures refused { IfErr result (λ e. IsExchangeEarly (refusal_of e) (seen_of self.now)) }
     {
@@ -81,7 +81,7 @@ impl<S: OutputSink + Drop, P: Parts> Core<S, P> {
         Ok(())
     }
 
-    /// Puts another sink in the place of the session's, for a terminal of so many columns and rows, draws the page on
+    /// Puts another sink in the place of the session's, for a terminal of this many columns and rows, draws the page on
     /// it, whole, and hands the old one back. Nothing else is written on either: the new terminal is set up by its
     /// owner, and the old one cleaned up.
     ///

@@ -1,24 +1,24 @@
-//! Neighbouring appends that are taken over, or worked off, in one go.
+//! Neighbouring appends that are read in, or performed, in one go.
 ghost use Rattle.std.specs.Prelude.{◌≡◌, ◌≤◌, ◌∷◌, None, length, map, string_bytes, IsTrue, IfOk, IfSome};
 ghost use Rattle.minus_state.specs.States.{control_of};
 ghost use Rattle.minus.specs.Joined.{MayJoin, MayWorkJoined, MayGoWith, AreJoined, TakesFirst, CanTakeRest, append_told};
-ghost use Rattle.minus.specs.Reads.{told_of, wanted_by, wanted_of};
-ghost use Rattle.minus.specs.Table.{appends_data, IsPossible};
+ghost use Rattle.minus_commands.specs.Reads.{told_of, wanted_by, wanted_of};
+ghost use Rattle.minus_commands.specs.Table.{appends_data, IsPossible};
 
-use crate::commands::{CommandOf, InputOf};
-use crate::parts::Parts;
-use crate::request::Request;
 use crate::state::PagerState;
+use minus_commands::commands::{CommandOf, InputOf};
+use minus_commands::parts::Parts;
+use minus_commands::request::Request;
 use std::alloc::{AllocError, Global};
 
-// Whether neighbouring appends may be taken over in one go.
+// Whether neighbouring appends may be read in one go.
 fn may_join(state: &PagerState) -> bool
     ensures { IsTrue result → MayJoin (control_of state.now) }
 {
     state.help_open() || (state.upper_mark == 0 && state.term().is_none())
 }
 
-// Whether neighbouring appends may be worked off in one go, with no search prompt open.
+// Whether neighbouring appends may be performed in one go, with no search prompt open.
 fn may_work_joined(state: &PagerState) -> bool
     requires { (control_of state.now).search ≡ None }
     ensures { IsTrue result → MayWorkJoined (control_of state.now) }
@@ -68,8 +68,8 @@ fn join_appends<'q, P: Parts>(
     Ok((text, rest))
 }
 
-// What is taken over next where a command waits and others behind it, and what is left of these: the command, or all
-// the appends that the commands begin with, where they may be taken over in one go.
+// What is read in next where a command waits and others behind it, and what is left of these: the command, or all
+// the appends that the commands begin with, where they may be read in one go.
 pub(crate) fn next_taken<'q, P: Parts>(
     alloc: Global,
     state: &PagerState,
@@ -114,14 +114,14 @@ fn join_waiting<'q, P: Parts>(
     Ok((text, rest))
 }
 
-// Appends that are worked off in one go: their texts, joined, and how many wait behind the first.
+// Appends that are performed in one go: their texts, joined, and how many wait behind the first.
 pub(crate) struct JoinedAppends {
     pub(crate) text: String,
     pub(crate) count: usize,
 }
 
-// An input that is taken and the appends that wait behind it, where it is one too and they may be worked off in one go.
-// Where there is no memory to join them, they are worked off one after another.
+// An input that is taken and the appends that wait behind it, where it is one too and they may be performed in one go.
+// Where there is no memory to join them, they are performed one after another.
 pub(crate) fn joined_behind<P: Parts>(
     alloc: Global,
     state: &PagerState,
@@ -140,7 +140,7 @@ pub(crate) fn joined_behind<P: Parts>(
     let Ok((text, rest)) = join_waiting(alloc, first, waiting) else {
         return None;
     };
-    // (so many lines can be counted)
+    // (this many lines can be counted)
     state.screen.line_count().checked_add(text.len())?;
     Some(JoinedAppends {
         text,

@@ -5,56 +5,94 @@
 #![tactic(auto)]
 
 mod answer;
-mod command_queue;
-mod commands;
 mod done;
-pub mod error;
-mod ev_handler;
 mod exchange;
-mod handed;
-pub mod help;
-pub mod hooks;
 mod init;
 pub mod input;
 mod joined;
 mod laws;
-mod outcome;
-mod page;
-mod page_bytes;
-mod pager;
-mod parts;
-mod prompt_drawing;
-mod request;
 mod run;
-pub mod screen;
-pub mod search;
 mod session;
-pub mod sink;
-mod sink_calls;
-pub mod state;
+mod session_drawings;
+mod starts;
 mod static_pager;
 mod status;
-mod step_drawing;
+mod term_change;
 mod waiting;
-mod written_rows;
+mod works;
+
+/// Why calls are refused.
+pub mod error {
+    pub use minus_term::error::{
+        CleanupError, DescriptionError, MinusError, RegexError, SetupError, TermError,
+    };
+}
+
+/// The names of keys, and the table of them that a help page shows.
+pub mod help {
+    pub use minus_input::help_table::{format_help_table_from_entries, format_key};
+}
+
+/// When the pager calls back, and what is called.
+pub mod hooks {
+    pub use minus_state::exits::{ExitCall, ExitCallbacks};
+    pub use minus_state::hooks::{HookCall, HookId, HookList, is_reserved};
+    pub use minus_state::kept::{
+        ExitCallback, HookCallback, Hooks, KeptExit, KeptHook, NeverCalled,
+    };
+    pub use minus_term::hooks::Hook;
+}
+
+/// The store of a text with its rows.
+pub mod screen {
+    pub use minus_text::screen::{
+        FormatResult, Line, OwnedTextBlock, Row, Rows, Screen, TextBlock,
+    };
+    pub use minus_text::{
+        AppendableBuffer, FormatOpts, FormattedRow, ReusableRows, SearchFormattedRow,
+        format_lines_into, format_search_rows, format_text_block,
+    };
+}
+
+/// Search in texts, the editor of a query, and where a query leads.
+pub mod search {
+    pub use minus_state::search::condition::{
+        ConditionCall, KeptCondition, NeverShows, SearchCondition,
+    };
+    pub use minus_state::search::matches::Matches;
+    pub use minus_state::search::open_prompt::OpenPrompt;
+    pub use minus_state::search::opts::{IncrementalSearchOpts, SearchOpts, search_opts};
+    pub use minus_state::search::preview::incremental_preview;
+    pub use minus_state::search::{InputStatus, SearchMode};
+    pub use minus_text::search::{
+        HighlightMatchesArgs, Patterns, Term, found_rows_go_on, highlight_line_matches,
+        highlights_add_markers_alone, next_nth_match, only_matches_are_highlighted,
+        parts_show_their_matches, rows_show_their_matches, strip_escapes,
+    };
+}
+
+/// What takes the pager's bytes, and what is written to it.
+pub mod sink {
+    pub use minus_term::sink::{OutputSink, draw_bytes, write_bytes};
+    pub use minus_term::term::{cleanup, setup};
+    pub use minus_term::with_tty::WithTty;
+    pub use minus_term::writes::{clear_entire_screen, move_cursor, write_raw_lines};
+}
+
+/// What is displayed, and how.
+pub mod state {
+    pub use minus_state::search::SearchState;
+    pub use minus_state::selection::Selection;
+    pub use minus_state::state::{ExitStrategy, PagerState, RunMode};
+}
 
 pub use answer::Answer;
-pub use command_queue::CommandQueue;
-pub use command_queue::CommandQueueOf;
-pub use commands::Command;
-pub use commands::CommandOf;
-pub use commands::Input;
-pub use commands::InputOf;
-pub use commands::IoCommand;
 pub use error::CleanupError;
 pub use error::DescriptionError;
 pub use error::MinusError;
 pub use error::RegexError;
 pub use error::SetupError;
 pub use error::TermError;
-pub use ev_handler::Handled;
-pub use ev_handler::handle_event;
-pub use ev_handler::handle_io_command;
 pub use exchange::SinkError;
 pub use exchange::an_exchange_leaves_its_page;
 pub use help::format_help_table_from_entries;
@@ -118,13 +156,41 @@ pub use input::resizes_are_one_key;
 pub use input::wild_is_itself_alone;
 pub use laws::an_input_is_alone_with_no_prompt;
 pub use laws::appends_join;
-pub use laws::by_hand_as_by_the_table;
-pub use laws::drawings_join;
 pub use laws::events_ask_by_the_table;
-pub use laws::help_leaves_no_trace;
 pub use laws::j_moves_by_the_prefix;
-pub use laws::keys_are_drawn;
-pub use laws::resizes_are_full;
+pub use minus_commands::command_queue::CommandQueue;
+pub use minus_commands::command_queue::CommandQueueOf;
+pub use minus_commands::commands::Command;
+pub use minus_commands::commands::CommandOf;
+pub use minus_commands::commands::Input;
+pub use minus_commands::commands::InputOf;
+pub use minus_commands::commands::IoCommand;
+pub use minus_commands::ev_handler::Handled;
+pub use minus_commands::ev_handler::handle_event;
+pub use minus_commands::ev_handler::handle_io_command;
+pub use minus_commands::laws::by_hand_as_by_the_table;
+pub use minus_commands::laws::help_leaves_no_trace;
+pub use minus_commands::laws::resizes_are_full;
+pub use minus_commands::pager::Pager;
+pub use minus_commands::pager::PagerOf;
+pub use minus_commands::parts::Boxes;
+pub use minus_commands::parts::Calls;
+pub use minus_commands::parts::Keyed;
+pub use minus_commands::parts::Kinds;
+pub use minus_commands::parts::PagerParts;
+pub use minus_commands::parts::Parts;
+pub use minus_commands::parts::PartsOf;
+pub use minus_draw::laws::drawings_join;
+pub use minus_draw::laws::keys_are_drawn;
+pub use minus_draw::page::Page;
+pub use minus_draw::sink_calls::draw_append_text;
+pub use minus_draw::sink_calls::draw_for_change;
+pub use minus_draw::sink_calls::draw_full;
+pub use minus_draw::sink_calls::write_from_pagerstate;
+pub use minus_draw::sink_calls::write_prompt;
+pub use minus_draw::written_rows::write_lines;
+pub use minus_draw::written_rows::write_lines_in_horizontal_scroll;
+pub use minus_draw::written_rows::write_text_checked;
 pub use minus_input::KeySeq;
 pub use minus_input::parse_usize;
 pub use minus_input::usize_of_is_what_parse_reads;
@@ -244,16 +310,6 @@ pub use minus_text::styles_stand_before;
 pub use minus_text::word_starts;
 pub use minus_text::words_are_cut_at_joints;
 pub use minus_text::wrap_line;
-pub use page::Page;
-pub use pager::Pager;
-pub use pager::PagerOf;
-pub use parts::Boxes;
-pub use parts::Calls;
-pub use parts::Keyed;
-pub use parts::Kinds;
-pub use parts::PagerParts;
-pub use parts::Parts;
-pub use parts::PartsOf;
 pub use run::Ran;
 pub use run::RanOf;
 pub use screen::AppendableBuffer;
@@ -305,11 +361,6 @@ pub use sink::move_cursor;
 pub use sink::setup;
 pub use sink::write_bytes;
 pub use sink::write_raw_lines;
-pub use sink_calls::draw_append_text;
-pub use sink_calls::draw_for_change;
-pub use sink_calls::draw_full;
-pub use sink_calls::write_from_pagerstate;
-pub use sink_calls::write_prompt;
 pub use state::ExitStrategy;
 pub use state::PagerState;
 pub use state::RunMode;
@@ -319,6 +370,3 @@ pub use static_pager::Paged;
 pub use static_pager::PagedOf;
 pub use static_pager::page_all;
 pub use static_pager::page_all_with;
-pub use written_rows::write_lines;
-pub use written_rows::write_lines_in_horizontal_scroll;
-pub use written_rows::write_text_checked;

@@ -1,11 +1,11 @@
-//! Lists of inputs that are worked off.
+//! Lists of inputs that are performed.
 use crate::answer::Answer;
-use crate::commands::InputOf;
-use crate::parts::{Boxes, Calls, Parts};
 use crate::session::Core;
+use minus_commands::commands::InputOf;
+use minus_commands::parts::{Boxes, Calls, Parts};
 use minus_term::{MinusError, OutputSink};
 
-/// What came of a list of inputs, over the kinds of what the session keeps.
+/// The result of a list of inputs, over the kinds of what the session keeps.
 #[derive(Drop)]
 #[derive_where(Debug)]
 pub struct RanOf<P: Parts> {
@@ -19,10 +19,10 @@ pub struct RanOf<P: Parts> {
     pub rest: Vec<InputOf<P>>,
 }
 
-/// What came of a list of inputs to a session that keeps a register of bindings, or a classifier in a box.
+/// The result of a list of inputs to a session that keeps a register of bindings, or a classifier in a box.
 pub type Ran = RanOf<Boxes>;
 
-// How far a list of inputs was worked off.
+// How far a list of inputs was performed.
 #[derive(Drop)]
 struct Progress {
     done: usize,

@@ -11,20 +11,21 @@ ghost use Rattle.minus.specs.StaticPager.{ended_rows, rows_that_fit, IsWrittenOn
 ghost use Rattle.minus.specs.StaticPager.{IsPaged, IsFirstPaged, IsUnpaged};
 
 use crate::hooks::{ExitCall, HookCall};
-use crate::init::{First, StartErrorOf, first_of, first_register, open, prepare};
+use crate::init::{StartErrorOf, first_register, open, prepare};
 use crate::input::{ActionCall, Classifier};
-use crate::pager::PagerOf;
-use crate::parts::{Boxes, Calls, Keyed, Parts};
 use crate::search::ConditionCall;
 use crate::session::Core;
+use crate::starts::{First, first_of};
 use crate::state::{PagerState, RunMode};
+use minus_commands::pager::{PagerOf, alloc_of};
+use minus_commands::parts::{Boxes, Calls, Keyed, Parts};
 use minus_term::{MinusError, OutputSink, draw_bytes, write_bytes, write_row};
 use minus_text::Row;
 use minus_text::search::styles::closing;
 use std::alloc::{AllocError, Global};
 use std::io;
 
-/// What came of a text that is paged where it does not fit, over the kinds of what a session keeps.
+/// The result of a text that is paged where it does not fit, over the kinds of what a session keeps.
 #[derive(Drop)]
 pub enum PagedOf<S, P: Parts> {
     /// It was written on this sink, and nothing is paged.
@@ -33,7 +34,7 @@ pub enum PagedOf<S, P: Parts> {
     Started(Core<S, P>),
 }
 
-/// What came of a text, where a session keeps what its caller boxes, or a register of bindings.
+/// The result of a text, where a session keeps what its caller boxes, or a register of bindings.
 pub type Paged<S> = PagedOf<S, Boxes>;
 
 // A row as it is printed, whole: as it is stored, and ended where styles are carried.
@@ -140,7 +141,7 @@ fn write_rows<S: OutputSink + Drop, P: Calls>(
     Ok(PagedOf::Written(sink))
 }
 
-// The rows, unless they are to be paged all the same.
+// The rows, unless they are to be paged anyway.
 fn unless_paged(rows: Option<Vec<u8>>, is_paged: bool) -> Option<Vec<u8>>
     ensures { option_map (λ r. r.items) result ≡ (if is_paged then None else option_map (λ r. r.items) rows) }
 {
@@ -174,10 +175,10 @@ fn write_or_open<S: OutputSink + Drop, P: Calls>(
     }
 }
 
-/// Pages a text that does not fit the terminal, of so many columns and rows, with a classifier of the caller's: takes
+/// Pages a text that does not fit the terminal, of this many columns and rows, with a classifier of the caller's: takes
 /// over the commands that wait in a pager, as a start does, and calls the callbacks of [`Hook::PrePagerStart`]. Where
 /// the sink is no terminal, it writes the text and a newline. Where the text has at most as many rows as the terminal,
-/// and is not to be paged all the same, it writes these one below another, whole, each behind a carriage return, and
+/// and is not to be paged anyway, it writes these one below another, whole, each behind a carriage return, and
 /// calls the callbacks of an exit. Otherwise it goes on as a start in the mode `Static`.
 ///
 /// [`Hook::PrePagerStart`]: crate::Hook::PrePagerStart
@@ -200,12 +201,12 @@ pub fn page_all_with<S: OutputSink + Drop, P: Calls>(
         Ok(first) => first,
         Err(cause) => return Err(StartErrorOf::early(pager, sink, cause)),
     };
-    let fitting = match fitting_rows(pager.alloc, &first.parts.state) {
+    let fitting = match fitting_rows(alloc_of(&pager), &first.parts.state) {
         Ok(fitting) => fitting,
         Err(_) => return Err(StartErrorOf::early(pager, sink, MinusError::Memory)),
     };
-    let PagerOf { alloc, queue } = pager;
-    let ready = prepare(first, queue);
+    let alloc = alloc_of(&pager);
+    let ready = prepare(first, pager);
     write_or_open(alloc, sink, ready, fitting)
 }
 
@@ -226,7 +227,7 @@ pub fn page_all<
     ensures paged { IfOk result (λ paged. IsFirstPaged IsDefault S.seen pager cols rows sink paged) }
     ensures refused { IfErr result (λ e. IsUnpaged S.seen pager cols rows sink e) }
 {
-    match first_register(pager.alloc, RunMode::Static, cols, rows) {
+    match first_register(alloc_of(&pager), RunMode::Static, cols, rows) {
         Ok(register) => page_all_with(pager, sink, cols, rows, Classifier::Register(register)),
         Err(cause) => Err(StartErrorOf::early(pager, sink, cause)),
     }

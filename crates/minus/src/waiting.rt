@@ -1,25 +1,22 @@
 //! Inputs that wait while the search prompt is open, and their refusals.
-ghost use Rattle.std.specs.Prelude.{◌≡◌, ◌≤◌, false, true, is_some, Some, None, drop, option_map, string_bytes};
+ghost use Rattle.std.specs.Prelude.{◌≡◌, ◌≤◌, true, is_some, Some, None, drop, option_map, string_bytes};
 ghost use Rattle.std.specs.Prelude.{OnOk, IfErr, IfSome, IfNone};
 ghost use Rattle.std.specs.VecDeque.{deque_len};
-ghost use Rattle.minus_state.specs.ShownPrompt.{has_newline, IsNewlineRefused};
 ghost use Rattle.minus_term.specs.Refusals.{refusal_of};
-ghost use Rattle.minus.specs.Asked.{checked_as};
-ghost use Rattle.minus.specs.Reads.{an_event, told_of, wanted_of};
+ghost use Rattle.minus.specs.Waiting.{checked_as};
+ghost use Rattle.minus_commands.specs.Reads.{an_event, told_of};
 ghost use Rattle.minus.specs.declared.status.Status.TheVariants as stands;
 ghost use Rattle.minus.specs.Steps.{is_passed};
-ghost use Rattle.minus.specs.Table.{Wanted, IsPossible, IsFault};
+ghost use Rattle.minus_commands.specs.Table.{Wanted, IsPossible, IsFault};
 ghost use Rattle.minus.specs.Works.{last_copied};
 
-use crate::commands::{CommandOf, InputOf};
 use crate::done::Done;
-use crate::init::check_size;
-use crate::input::InputEvent;
 use crate::joined::{JoinedAppends, joined_behind};
-use crate::parts::Parts;
 use crate::session::Core;
 use crate::status::Status;
-use minus_state::has_newline;
+use minus_commands::commands::InputOf;
+use minus_commands::parts::Parts;
+use minus_commands::request::{check_command, check_size};
 use minus_term::{Event, MinusError};
 use std::collections::VecDeque;
 
@@ -31,29 +28,6 @@ pub(crate) fn last_of(before: Option<String>, text: Option<String>) -> Option<St
     match text {
         Some(text) => Some(text),
         None => before,
-    }
-}
-
-// Whether the prompt row can say this.
-pub(crate) fn check_line(text: &str) -> Result<(), MinusError>
-    ensures ok { OnOk result (has_newline text.now ≡ false) }
-    ensures err { IfErr result (λ e. IsNewlineRefused e text.now) }
-{
-    if has_newline(text) {
-        return Err(MinusError::NewlineInPrompt);
-    }
-    Ok(())
-}
-
-// Whether a command can be done.
-pub(crate) fn check_command<P: Parts>(command: &CommandOf<P>) -> Result<(), MinusError>
-    ensures ok { OnOk result (IsPossible (wanted_of command.now)) }
-    ensures err { IfErr result (λ e. IsFault (refusal_of e) (wanted_of command.now)) }
-{
-    match command {
-        CommandOf::SetPrompt(text) | CommandOf::SendMessage(text) => check_line(text),
-        CommandOf::UserInput(InputEvent::UpdateTermArea(cols, rows)) => check_size(*cols, *rows),
-        _ => Ok(()),
     }
 }
 
@@ -85,7 +59,7 @@ pub(crate) fn fed_event<P: Parts>(input: &InputOf<P>) -> Option<Event>
     }
 }
 
-// Whether an input that waited is passed over for a refusal: what it asks for cannot be done.
+// Whether an input that waited is skipped for a refusal: what it asks for cannot be done.
 fn is_passed(refusal: &MinusError) -> bool
     ensures { result ≡ is_passed (refusal_of refusal.now) }
 {
@@ -98,7 +72,7 @@ fn is_passed(refusal: &MinusError) -> bool
     }
 }
 
-// Lets so many of the first in a queue go.
+// Lets this many of the first in a queue go.
 fn let_first_go<T: Drop>(queue: &mut VecDeque<T>, count: usize)
     ensures items { queue.new.items ≡ drop count queue.old.items }
     ensures fewer { deque_len queue.new ≤ deque_len queue.old }
@@ -113,14 +87,14 @@ impl<S, P: Parts> Core<S, P> {
     ghost use Rattle.std.specs.Prelude.{OnOk, OnErr, IfOk, IfErr, IfSome, IfNone};
     ghost use Rattle.std.specs.VecDeque.{deque_len};
     ghost use Rattle.minus_term.specs.Refusals.{refusal_of};
-    ghost use Rattle.minus.specs.Callbacks.{callbacks_of};
+    ghost use Rattle.minus_commands.specs.Callbacks.{callbacks_of};
     ghost use Rattle.minus.specs.Core.{seen_of};
     ghost use Rattle.minus.specs.Joined.{MayGoWith};
-    ghost use Rattle.minus.specs.Reads.{told_of};
-    ghost use Rattle.minus.specs.Asked.{checked_as};
+    ghost use Rattle.minus_commands.specs.Reads.{told_of};
+    ghost use Rattle.minus.specs.Waiting.{checked_as};
     ghost use Rattle.minus.specs.SessionSteps.{IsKept, IsNotKept, IsNotPassed};
     ghost use Rattle.minus.specs.Steps.{is_passed};
-    ghost use Rattle.minus.specs.Works.{IsNext, leaving, IsAtRest};
+    ghost use Rattle.minus.specs.Waiting.{IsNext, leaving, IsAtRest};
 
     // Whether the search prompt is open.
     pub(crate) fn is_searching(&self) -> bool
@@ -153,7 +127,7 @@ impl<S, P: Parts> Core<S, P> {
         self.waiting.clear();
     }
 
-    // Lets so many of the inputs that wait go, those that were taken with another one.
+    // Lets this many of the inputs that wait go, those that were taken with another one.
     pub(crate) fn let_go(&mut self, count: usize)
         ensures seen { seen_of self.new ≡ leaving (seen_of self.old) (drop count (seen_of self.old).waiting) }
         ensures sink { self.new.sink ≡ self.old.sink }
@@ -162,7 +136,7 @@ impl<S, P: Parts> Core<S, P> {
         let_first_go(&mut self.waiting, count);
     }
 
-    // The appends that wait behind an input, joined with it, where they may be worked off in one go.
+    // The appends that wait behind an input, joined with it, where they may be performed in one go.
     pub(crate) fn appends_behind(&self, input: &InputOf<P>) -> Option<JoinedAppends>
         requires { (seen_of self.now).control.search ≡ None }
         ensures { IfSome result (λ j. MayGoWith (seen_of self.now).control (told_of input.now)
@@ -188,8 +162,8 @@ impl<S, P: Parts> Core<S, P> {
         self.waiting.pop_front()
     }
 
-    // Keeps the refusal of an input that is passed over. Any other refusal fails the session, and want of memory for
-    // this.
+    // Keeps the refusal of an input that is skipped. Any other refusal fails the session, and so does running out of
+    // memory for this.
     pub(crate) fn pass_over(
         &mut self,
         refused: &mut Vec<MinusError>,

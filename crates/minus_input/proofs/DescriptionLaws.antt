@@ -247,7 +247,7 @@ mouse_one_meaning text = record {
 pub each_text : EachTextHasOneMeaning
 each_text text = (key_one_meaning text, mouse_one_meaning text)
 
--- what is read of a text is told of the whole text
+-- what is read of a text is reported of the whole text
 pub parsed_key : (text part : List ℕ) (seq : KeySeq KeyCode) (code : KeyCode) → IsAscii text → 0 < length part → part ≡ trim text →
     Ok seq ≡ read_segments key_named beginning (segments part) → code ≡ unwrap_or seq.code Null →
     DescribesKey text (record { code = code; modifiers = seq.modifiers; kind = Press; state = record { 0 = 0 } })

@@ -9,7 +9,7 @@ use Rattle.minus_term.specs.declared.event.KeyEvent.{KeyEvent}
 use Rattle.minus_input.specs.HelpTable.{entry_of}
 use Rattle.minus_input.specs.Register.{Binding}
 use Rattle.minus_input.specs.HelpEntries.{entry_at}
-use Rattle.minus_input.specs.RegisterAnswers.{binding_entry, key_entries}
+use Rattle.minus_input.specs.RegisterHelp.{binding_entry, key_entries}
 use Rattle.minus_input.specs.declared.event_form.EventWrapper.{EventWrapper}
 use Rattle.minus_input.proofs.RegisterLaws.{element_at}
 

@@ -1,6 +1,7 @@
 -- Laws of the definitions.
 pub mod SegmentsLaws
 pub mod FaultLaws
+pub mod ModifierLaws
 pub mod ReadingLaws
 pub mod DescriptionLaws
 pub mod HelpTableLaws

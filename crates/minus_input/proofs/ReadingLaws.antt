@@ -1,14 +1,14 @@
 -- Segments read from the left are read by the rules, up to the first that is at fault.
-use Rattle.std.proofs.Common.{◌≡◌, ◌⊎◌, ℕ, ◌<◌, List, [], ◌∷◌, ◌++◌, length, Option, None, Some, IsSome, Result, Ok, Err, true, false, not, eqb, is_none, bit_and, bit_or, refl, sym, subst, arith, ◌∙◌, ap, inl, inr, get_or}
+use Rattle.std.proofs.Common.{◌≡◌, ◌⊎◌, ℕ, ◌<◌, List, [], ◌∷◌, ◌++◌, length, Option, None, Some, IsSome, Result, Ok, Err, true, false, not, eqb, is_none, bit_and, bit_or, refl, sym, subst, arith, ◌∙◌, ap, inl, inr}
 use Rattle.std.specs.Bool.{Decides}
 use Rattle.std.specs.Cmp.{first_so, second_so}
 use Rattle.std.specs.List.{Contains, filter, filter_map, fold}
-use Rattle.std.proofs.lemmas.Bool.{cases_Bool, true≢false, eqb-true, ne_eqb, eq-eqb, not-true}
+use Rattle.std.proofs.lemmas.Bool.{cases_Bool, true≢false, ne_eqb, eq-eqb, not-true}
 use Rattle.std.proofs.lemmas.List.{append_assoc, append-nil}
 use Rattle.std.proofs.lemmas.List.Elements.{Contains-append_left, Contains-push, Contains-push_cases, filter-append, filter_map-append}
 use Rattle.std.proofs.lemmas.List.Sums.{fold-append}
 use Rattle.std.proofs.lemmas.Nat.{and_or_self, and_or_apart}
-use Rattle.std.proofs.lemmas.Option.{none-some, same_Some}
+use Rattle.std.proofs.lemmas.Option.{none-some}
 use Rattle.minus_term.specs.declared.error.DescriptionError.{DescriptionError}
 use Rattle.minus_term.specs.declared.error.DescriptionError.TheVariants.{NotAscii, Empty, EmptySegment, RepeatedModifier, UnknownName, SecondKey, NoAction}
 use Rattle.minus_input.specs.declared.key_seq.KeySeq.{KeySeq}
@@ -17,50 +17,7 @@ use Rattle.minus_input.specs.Segments.{leading, last_segment}
 use Rattle.minus_input.specs.Reading.{beginning, read_leading, read_last, read_segments, then_read}
 use Rattle.minus_input.specs.Description.{is_other, others, IsCode, IsReading, LeadingFault, LastFault, IsFaultless, FirstFault, SegmentFault}
 use Rattle.minus_input.proofs.FaultLaws.{cases_Option, none_is_not_some, some_of, ok_is_not_err, some_name, no_name, nil_split, snoc_last, no_code, some_code, faultless_more, faultless_nil, others_some, others_none}
-
--- the letters of the modifiers, and their bits
-letter_cases : (segment : List ℕ) (bit : ℕ) → modifier_letter segment ≡ Some bit →
-    ((segment ≡ 109 ∷ []) × (bit ≡ 4)) ⊎ (((segment ≡ 99 ∷ []) × (bit ≡ 2)) ⊎ ((segment ≡ 115 ∷ []) × (bit ≡ 1)))
-letter_cases [] bit h = absurd (none-some bit h)
-letter_cases (a ∷ b ∷ more) bit h = absurd (none-some bit h)
-letter_cases (a ∷ []) bit h = elim (cases_Bool (eqb a 109)) [
-  | inl t ↦ inl (ap (λ c. c ∷ []) (eqb-true a 109 t), sym (same_Some 4 bit (rw t at h)))
-  | inr f ↦
-      let h2 = rw f at h in
-      elim (cases_Bool (eqb a 99)) [
-        | inl t ↦ inr (inl (ap (λ c. c ∷ []) (eqb-true a 99 t), sym (same_Some 2 bit (rw t at h2))))
-        | inr f2 ↦
-            let h3 = rw f2 at h2 in
-            elim (cases_Bool (eqb a 115)) [
-              | inl t ↦ inr (inr (ap (λ c. c ∷ []) (eqb-true a 115 t), sym (same_Some 1 bit (rw t at h3))))
-              | inr f3 ↦ absurd (none-some bit (rw f3 at h3))
-            ]
-      ]
-]
-
--- two modifiers are one, or share no bit and no letter
-letters_apart : (s t : List ℕ) (a b : ℕ) → modifier_letter s ≡ Some a → modifier_letter t ≡ Some b →
-    ((s ≡ t) × (a ≡ b)) ⊎ ((bit_and a b ≡ 0) × (s ≡ t → ⊥))
-letters_apart s t a b h k = elim (letter_cases s a h) [
-  | inl p ↦ elim (letter_cases t b k) [
-    | inl q ↦ inl (p.0 ∙ sym q.0, p.1 ∙ sym q.1)
-    | inr (inl q) ↦ inr (rw (p.1, q.1) refl, λ e. first_differs 109 99 (λ n. omega (arith, n)) (sym p.0 ∙ e ∙ q.0))
-    | inr (inr q) ↦ inr (rw (p.1, q.1) refl, λ e. first_differs 109 115 (λ n. omega (arith, n)) (sym p.0 ∙ e ∙ q.0))
-  ]
-  | inr (inl p) ↦ elim (letter_cases t b k) [
-    | inl q ↦ inr (rw (p.1, q.1) refl, λ e. first_differs 99 109 (λ n. omega (arith, n)) (sym p.0 ∙ e ∙ q.0))
-    | inr (inl q) ↦ inl (p.0 ∙ sym q.0, p.1 ∙ sym q.1)
-    | inr (inr q) ↦ inr (rw (p.1, q.1) refl, λ e. first_differs 99 115 (λ n. omega (arith, n)) (sym p.0 ∙ e ∙ q.0))
-  ]
-  | inr (inr p) ↦ elim (letter_cases t b k) [
-    | inl q ↦ inr (rw (p.1, q.1) refl, λ e. first_differs 115 109 (λ n. omega (arith, n)) (sym p.0 ∙ e ∙ q.0))
-    | inr (inl q) ↦ inr (rw (p.1, q.1) refl, λ e. first_differs 115 99 (λ n. omega (arith, n)) (sym p.0 ∙ e ∙ q.0))
-    | inr (inr q) ↦ inl (p.0 ∙ sym q.0, p.1 ∙ sym q.1)
-  ]
-]
-  where
-    first_differs : (a b : ℕ) → (a ≡ b → ⊥) → a ∷ [] ≡ b ∷ [] → ⊥
-    first_differs a b n e = n (ap (λ l. get_or l 0 0) e)
+use Rattle.minus_input.proofs.ModifierLaws.{letter_cases, letters_apart}
 
 -- no bit of a modifier is in nothing
 no_bit : (segment : List ℕ) (bit : ℕ) → modifier_letter segment ≡ Some bit → eqb (bit_and 0 bit) bit ≡ false
@@ -207,7 +164,7 @@ module _ {C : Type 0} (named : List ℕ → Option C) where
   fault_read done seq segment Empty s f = absurd f
   fault_read done seq segment NoAction s f = absurd f
 
-  -- what comes of one more leading segment
+  -- the result of one more leading segment
   abbrev Step : List (List ℕ) → KeySeq C → List ℕ → Type 0
   Step done seq segment =
       ((next : KeySeq C) × (read_leading named seq segment ≡ Ok next) × IsSoFar named (done ++ segment ∷ []) next)
@@ -290,7 +247,7 @@ module _ {C : Type 0} (named : List ℕ → Option C) where
     ]
   ]
 
-  -- what comes of the leading segments
+  -- the result of the leading segments
   walk : (done rest : List (List ℕ)) (seq : KeySeq C) → IsSoFar named done seq →
       ((next : KeySeq C) × (read_leads named seq rest ≡ Ok next) × IsSoFar named (done ++ rest) next)
       ⊎ ((error : DescriptionError) × (read_leads named seq rest ≡ Err error) × FirstFault named (done ++ rest) error)
@@ -315,7 +272,7 @@ module _ {C : Type 0} (named : List ℕ → Option C) where
     names = names;
   }
 
-  -- what comes of the last segment
+  -- the result of the last segment
   finish : (leads : List (List ℕ)) (last : List ℕ) (seq : KeySeq C) → IsSoFar named leads seq →
       ((final : KeySeq C) × (read_last named seq last ≡ Ok final) × IsReading named leads last final.modifiers.0 final.code)
       ⊎ ((error : DescriptionError) × (read_last named seq last ≡ Err error) × LastFault named leads last error)

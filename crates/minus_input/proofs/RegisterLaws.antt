@@ -269,7 +269,8 @@ module _ {C K : Type 0} (same : K → K → Bool) (kept : List (KeptCallback C))
   action_by o found at read =
       subst (λ x. action_or found wild ≡ action_at same held x) is_key (ap (λ x. action_or x wild) (sym (found_at (binding_at kept) same es k o h at ∙ read)))
 
-  -- what is done at a key that is bound to a default action, at one that is bound to a callback, and at one that is not bound
+  -- what is done at a key that is bound to a default action, at one that is bound to a callback, and at one that is not
+  -- bound
   pub default_action_found : (v : Bound) (d : DefaultAction) → Some v ≡ lookup (same k) es → v ≡ Default d → Some (action.Default d) ≡ action_at same held key
   default_action_found v d at is = action_by (Some v) _ at (ap (binding_at kept) is)
 

@@ -6,11 +6,15 @@ use Rattle.minus_input.specs.declared.event_form.EventWrapper.TheVariants.{Exact
 use Rattle.minus_input.specs.EventForm.{same_event}
 use Rattle.minus_input.specs.EventTables.{register_of}
 use Rattle.minus_input.specs.Register.{action_at}
-use Rattle.minus_input.specs.RegisterAnswers.{Answering, IsAnswerOf, help_text}
+use Rattle.minus_input.specs.RegisterAnswers.{Answering, IsAnswerOf}
+use Rattle.minus_input.specs.RegisterHelp.{help_text}
 
--- a register answers an event by the action of its key, or by the one for all other events, and gives the table of its keys for help
-abbrev pub register_says : {S C H : Type 0} {builder hasher : _} → Answering C → Classifies (EventTable S C H builder hasher)
+-- a register answers an event by the action of its key, or by the one for all other
+-- events, and gives the table of its keys for help
+abbrev pub register_says : {S C H : Type 0} {builder hasher : _} → Answering C
+    → Classifies (EventTable S C H builder hasher)
 register_says Answers = record {
-  allows = λ table event state answer. IsAnswerOf Answers (action_at same_event (register_of table) (ExactMatchEvent event)) event state answer;
+  allows = λ table event state answer.
+      IsAnswerOf Answers (action_at same_event (register_of table) (ExactMatchEvent event)) event state answer;
   helps = λ table text. text ≡ help_text (register_of table);
 }

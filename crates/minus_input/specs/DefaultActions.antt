@@ -1,11 +1,13 @@
 -- How a help table describes the default actions.
 use Rattle.std.specs.Prelude.{ℕ, List, [], codes}
 use Rattle.minus_input.specs.declared.default_action.DefaultAction.{DefaultAction}
-use Rattle.minus_input.specs.declared.default_action.DefaultAction.TheVariants.{Quit, ScrollUp, ScrollDown, ToggleFollow, ScrollLines, HalfPageUp, HalfPageDown}
-use Rattle.minus_input.specs.declared.default_action.DefaultAction.TheVariants.{Top, GoToLine}
-use Rattle.minus_input.specs.declared.default_action.DefaultAction.TheVariants.{PageUp, PageDown, ToggleNumbers, Bottom, Help, SearchForward, SearchBackward}
-use Rattle.minus_input.specs.declared.default_action.DefaultAction.TheVariants.{NextMatch, PreviousMatch}
-use Rattle.minus_input.specs.declared.default_action.DefaultAction.TheVariants.{ToggleWrap, ScrollLeft, ScrollRight}
+use Rattle.minus_input.specs.declared.default_action.DefaultAction.TheVariants.{Quit, ScrollUp, ScrollDown}
+use Rattle.minus_input.specs.declared.default_action.DefaultAction.TheVariants.{ToggleFollow, ScrollLines, HalfPageUp}
+use Rattle.minus_input.specs.declared.default_action.DefaultAction.TheVariants.{HalfPageDown, Top, GoToLine, PageUp}
+use Rattle.minus_input.specs.declared.default_action.DefaultAction.TheVariants.{PageDown, ToggleNumbers, Bottom, Help}
+use Rattle.minus_input.specs.declared.default_action.DefaultAction.TheVariants.{SearchForward, SearchBackward}
+use Rattle.minus_input.specs.declared.default_action.DefaultAction.TheVariants.{NextMatch, PreviousMatch, ToggleWrap}
+use Rattle.minus_input.specs.declared.default_action.DefaultAction.TheVariants.{ScrollLeft, ScrollRight}
 
 -- the description of each; what is done with the mouse, a copy, a resize and the typing of digits are not listed
 abbrev pub default_description : DefaultAction → List ℕ

@@ -15,12 +15,15 @@ use Rattle.minus_state.specs.declared.state.PagerState.{PagerState}
 use Rattle.minus_input.specs.declared.bound.ActionOf.{ActionOf}
 use Rattle.minus_input.specs.declared.bound.ActionOf.TheVariants.{Default}
 use Rattle.minus_input.specs.declared.default_action.DefaultAction.{DefaultAction}
-use Rattle.minus_input.specs.declared.default_action.DefaultAction.TheVariants.{Quit, ScrollUp, ScrollDown, ToggleFollow, ScrollLines, HalfPageUp, HalfPageDown}
-use Rattle.minus_input.specs.declared.default_action.DefaultAction.TheVariants.{Top, GoToLine}
-use Rattle.minus_input.specs.declared.default_action.DefaultAction.TheVariants.{PageUp, PageDown, ToggleNumbers, Bottom, Help, SearchForward, SearchBackward}
-use Rattle.minus_input.specs.declared.default_action.DefaultAction.TheVariants.{NextMatch, PreviousMatch}
-use Rattle.minus_input.specs.declared.default_action.DefaultAction.TheVariants.{WheelUp, WheelDown, StartSelection, UpdateSelection, CopySelection, ToggleWrap}
-use Rattle.minus_input.specs.declared.default_action.DefaultAction.TheVariants.{ScrollLeft, ScrollRight}
+use Rattle.minus_input.specs.declared.default_action.DefaultAction.TheVariants.{Quit, ScrollUp, ScrollDown}
+use Rattle.minus_input.specs.declared.default_action.DefaultAction.TheVariants.{ToggleFollow, ScrollLines, HalfPageUp}
+use Rattle.minus_input.specs.declared.default_action.DefaultAction.TheVariants.{HalfPageDown, Top, GoToLine, PageUp}
+use Rattle.minus_input.specs.declared.default_action.DefaultAction.TheVariants.{PageDown, ToggleNumbers, Bottom, Help}
+use Rattle.minus_input.specs.declared.default_action.DefaultAction.TheVariants.{SearchForward, SearchBackward}
+use Rattle.minus_input.specs.declared.default_action.DefaultAction.TheVariants.{NextMatch, PreviousMatch, WheelUp}
+use Rattle.minus_input.specs.declared.default_action.DefaultAction.TheVariants.{WheelDown, StartSelection}
+use Rattle.minus_input.specs.declared.default_action.DefaultAction.TheVariants.{UpdateSelection, CopySelection}
+use Rattle.minus_input.specs.declared.default_action.DefaultAction.TheVariants.{ToggleWrap, ScrollLeft, ScrollRight}
 use Rattle.minus_input.specs.declared.default_action.DefaultAction.TheVariants.{Resize, TypeDigit}
 use Rattle.minus_input.specs.declared.event_form.EventWrapper.{EventWrapper}
 use Rattle.minus_input.specs.declared.event_form.EventWrapper.TheVariants.{ExactMatchEvent, WildEvent}
@@ -32,10 +35,17 @@ use Rattle.minus_input.specs.Register.{Binding, Register, bind_each, bound_to, n
 use Rattle.minus_input.specs.RegisterAnswers.{Answering, IsAnswerOf}
 use Rattle.minus_input.specs.Resolved.{default_binding}
 
--- a key that is pressed with some modifiers, and a character's key without any
+-- a key of this code that is pressed with these modifiers
 abbrev pub pressed : KeyCode → ℕ → EventWrapper
-pressed code modifiers = ExactMatchEvent (event.Key (record { code = code; modifiers = record { 0 = modifiers }; kind = Press; state = record { 0 = 0 } }))
+pressed code modifiers =
+    ExactMatchEvent (event.Key (record {
+      code = code;
+      modifiers = record { 0 = modifiers };
+      kind = Press;
+      state = record { 0 = 0 };
+    }))
 
+-- a character's key that is pressed without modifiers
 abbrev pub plain : ℕ → EventWrapper
 plain character = pressed (Char character) 0
 
@@ -90,7 +100,8 @@ bindings_of keys = map (λ key. (key.0, default_binding key.1)) keys
 
 -- the keys of the table are bound, one after another, and at all other events digits are typed
 abbrev pub with_defaults : {C : Type 0} → Register EventWrapper (ActionOf C) → Register EventWrapper (ActionOf C)
-with_defaults old = record { bindings = bind_each same_event old.bindings (bindings_of default_keys); wild = Some (Default TypeDigit) }
+with_defaults old =
+    record { bindings = bind_each same_event old.bindings (bindings_of default_keys); wild = Some (Default TypeDigit) }
 
 -- the register of the default bindings alone
 abbrev pub default_register : {C : Type 0} → Register EventWrapper (ActionOf C)
@@ -98,7 +109,8 @@ default_register = with_defaults nothing_bound
 
 -- what the default bindings do at an event: the action of its key, and else digits are typed
 abbrev pub default_action_at : Event → DefaultAction
-default_action_at e = unwrap_or (bound_to same_event (bind_each same_event [] default_keys) (ExactMatchEvent e)) TypeDigit
+default_action_at e =
+    unwrap_or (bound_to same_event (bind_each same_event [] default_keys) (ExactMatchEvent e)) TypeDigit
 
 -- what they ask for at an event in a state
 abbrev pub default_asks : Event → PagerState → InputEvent
@@ -108,11 +120,14 @@ default_asks e state = default_answer (default_action_at e) e state
 abbrev pub DefaultsHaveOneAnswer : {C : Type 0} → Answering C → Type 0
 DefaultsHaveOneAnswer {C} Answers =
     (e : Event) (state : PagerState) (answer : Option InputEvent) →
-    IsAnswerOf Answers (action_at same_event (default_register {C = C}) (ExactMatchEvent e)) e state answer ↔ (answer ≡ Some (default_asks e state))
+    IsAnswerOf Answers (action_at same_event (default_register {C = C}) (ExactMatchEvent e)) e state answer
+    ↔ (answer ≡ Some (default_asks e state))
 
 -- each key of the table does what its row says: no later row binds it to something else
 abbrev pub KeysDoAsListed : Type 0
-KeysDoAsListed = AllByRecursion (λ listed. bound_to same_event (bind_each same_event [] default_keys) listed.0 ≡ Some listed.1) default_keys
+KeysDoAsListed =
+    AllByRecursion (λ listed. bound_to same_event (bind_each same_event [] default_keys) listed.0 ≡ Some listed.1)
+    default_keys
 
 -- the key `j` moves the mark down by as many rows as the typed prefix says
 abbrev pub JScrollsDown : Type 0

@@ -8,17 +8,19 @@ use Rattle.minus_input.specs.declared.event_form.EventWrapper.{EventWrapper}
 use Rattle.minus_input.specs.declared.event_form.EventWrapper.TheVariants.{ExactMatchEvent}
 use Rattle.minus_input.specs.Description.{DescribesKey, DescribesMouse}
 
--- the key of a register that a text describes: of a key, and of what is done with the mouse
+-- the key of a register is that of the key event that a text describes
 abbrev pub IsKey : List ℕ → EventWrapper → Type 0
 IsKey text key = (event : KeyEvent) × DescribesKey text event × (key ≡ ExactMatchEvent (Key event))
 
+-- the key of a register is that of the mouse event that a text describes
 abbrev pub IsMouse : List ℕ → EventWrapper → Type 0
 IsMouse text key = (event : MouseEvent) × DescribesMouse text event × (key ≡ ExactMatchEvent (Mouse event))
 
--- what texts describe, and why a text describes nothing
+-- the type of a statement that a text describes a key of a register
 abbrev pub Describing : Type 1
 Describing = List ℕ → EventWrapper → Type 0
 
+-- the type of a statement that a text describes nothing, for an error
 abbrev pub Faulting : Type 1
 Faulting = List ℕ → DescriptionError → Type 0
 
@@ -40,4 +42,5 @@ pub record IsFirstFault {K : Type 0} (Describes : List ℕ → K → Type 0) (Fa
 
 -- no text both describes a key and has a fault
 abbrev pub NeverBoth : Describing → Faulting → Type 0
-NeverBoth Describes Fault = (text : List ℕ) (key : EventWrapper) (error : DescriptionError) → Describes text key → Fault text error → ⊥
+NeverBoth Describes Fault =
+    (text : List ℕ) (key : EventWrapper) (error : DescriptionError) → Describes text key → Fault text error → ⊥

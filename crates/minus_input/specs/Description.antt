@@ -1,11 +1,13 @@
 -- What a text describes, by the rules of its segments, and why it describes nothing.
-use Rattle.std.specs.Prelude.{ℕ, ◌≡◌, ◌<◌, ◌==◌, ◌⊎◌, List, [], ◌∷◌, ◌++◌, length, Bool, not, ◌&&◌, IsTrue, Option, None, Some, IsSome, is_none, unwrap_or}
-use Rattle.std.specs.Prelude.{if◌then◌else◌}
+use Rattle.std.specs.Prelude.{ℕ, ◌≡◌, ◌<◌, ◌==◌, ◌⊎◌, List, [], ◌∷◌, ◌++◌, length, Bool, not, ◌&&◌, IsTrue, Option}
+use Rattle.std.specs.Prelude.{None, Some, IsSome, is_none, unwrap_or, if◌then◌else◌}
 use Rattle.std.specs.Int.RustNames.{bit_or}
 use Rattle.std.specs.List.{Contains, filter, filter_map, fold}
 use Rattle.std.specs.Str.{IsAscii, IsNotAscii, trim}
 use Rattle.minus_term.specs.declared.error.DescriptionError.{DescriptionError}
-use Rattle.minus_term.specs.declared.error.DescriptionError.TheVariants.{NotAscii, Empty, EmptySegment, RepeatedModifier, UnknownName, SecondKey, NoAction}
+use Rattle.minus_term.specs.declared.error.DescriptionError.TheVariants.{NotAscii, Empty, EmptySegment}
+use Rattle.minus_term.specs.declared.error.DescriptionError.TheVariants.{RepeatedModifier, UnknownName, SecondKey}
+use Rattle.minus_term.specs.declared.error.DescriptionError.TheVariants.{NoAction}
 use Rattle.minus_term.specs.declared.event.KeyCode.{KeyCode}
 use Rattle.minus_term.specs.declared.event.KeyCode.TheVariants.{Null}
 use Rattle.minus_term.specs.declared.event.KeyEvent.{KeyEvent}
@@ -43,7 +45,8 @@ IsCode named (name ∷ []) code = (code ≡ named name) × IsSome (named name)
 IsCode named (name ∷ second ∷ more) code = ⊥
 
 -- the rules for some modifiers and a code, by what a segment names
-pub record IsReading {C : Type 0} (named : List ℕ → Option C) (leads : List (List ℕ)) (last : List ℕ) (bits : ℕ) (code : Option C) : Type 0 where
+pub record IsReading {C : Type 0} (named : List ℕ → Option C) (leads : List (List ℕ)) (last : List ℕ) (bits : ℕ)
+    (code : Option C) : Type 0 where
   pub once : EachModifierOnce leads
   pub empties : EmptiesFollowModifiers leads
   pub modifiers : bits ≡ fold bit_or 0 (filter_map modifier_letter leads)
@@ -51,7 +54,8 @@ pub record IsReading {C : Type 0} (named : List ℕ → Option C) (leads : List 
 
 -- the rules for the segments of a text, which is read without white space at its ends
 abbrev pub Reads : {C : Type 0} → (List ℕ → Option C) → List ℕ → ℕ → Option C → Type 0
-Reads named text bits code = IsReading named (leading (segments (trim text))) (last_segment (segments (trim text))) bits code
+Reads named text bits code =
+    IsReading named (leading (segments (trim text))) (last_segment (segments (trim text))) bits code
 
 -- a text describes a key: without a code it is Null
 pub record DescribesKey (text : List ℕ) (key : KeyEvent) : Type 0 where
@@ -72,10 +76,12 @@ pub record DescribesMouse (text : List ℕ) (mouse : MouseEvent) : Type 0 where
 -- a leading segment is at fault, after those before it
 abbrev pub LeadingFault : {C : Type 0} → (List ℕ → Option C) → List (List ℕ) → List ℕ → DescriptionError → Type 0
 LeadingFault named before segment EmptySegment =
-    (segment ≡ []) × (front : List (List ℕ)) × (previous : List ℕ) × (before ≡ front ++ previous ∷ []) × (modifier_letter previous ≡ None)
+    (segment ≡ []) × (front : List (List ℕ)) × (previous : List ℕ) × (before ≡ front ++ previous ∷ [])
+    × (modifier_letter previous ≡ None)
 LeadingFault named before segment RepeatedModifier = IsSome (modifier_letter segment) × Contains before segment
 LeadingFault named before segment UnknownName = IsTrue (is_other segment) × (named segment ≡ None)
-LeadingFault named before segment SecondKey = IsTrue (is_other segment) × IsSome (named segment) × (0 < length (filter is_other before))
+LeadingFault named before segment SecondKey =
+    IsTrue (is_other segment) × IsSome (named segment) × (0 < length (filter is_other before))
 LeadingFault named before segment NotAscii = ⊥
 LeadingFault named before segment Empty = ⊥
 LeadingFault named before segment NoAction = ⊥
@@ -93,7 +99,8 @@ IsFaultless {C} named leads =
     LeadingFault named before segment error → ⊥
 
 -- the first leading segment that is at fault
-pub record FirstFault {C : Type 0} (named : List ℕ → Option C) (leads : List (List ℕ)) (error : DescriptionError) : Type 0 where
+pub record FirstFault {C : Type 0} (named : List ℕ → Option C) (leads : List (List ℕ))
+    (error : DescriptionError) : Type 0 where
   pub before : List (List ℕ)
   pub segment : List ℕ
   pub after : List (List ℕ)
@@ -103,12 +110,14 @@ pub record FirstFault {C : Type 0} (named : List ℕ → Option C) (leads : List
 
 -- the first segment from the left that is at fault
 abbrev pub SegmentFault : {C : Type 0} → (List ℕ → Option C) → List (List ℕ) → List ℕ → DescriptionError → Type 0
-SegmentFault named leads last error = FirstFault named leads error ⊎ (IsFaultless named leads × LastFault named leads last error)
+SegmentFault named leads last error =
+    FirstFault named leads error ⊎ (IsFaultless named leads × LastFault named leads last error)
 
 -- and that of a text
 abbrev pub TextFault : {C : Type 0} → (List ℕ → Option C) → List ℕ → DescriptionError → Type 0
 TextFault named text error =
-    IsAscii text × (0 < length (trim text)) × SegmentFault named (leading (segments (trim text))) (last_segment (segments (trim text))) error
+    IsAscii text × (0 < length (trim text))
+    × SegmentFault named (leading (segments (trim text))) (last_segment (segments (trim text))) error
 
 -- why a text describes no key: the first that holds
 abbrev pub KeyFault : List ℕ → DescriptionError → Type 0
@@ -132,4 +141,6 @@ pub record HasOneMeaning {D : Type 0} (Describes : D → Type 0) (Fault : Descri
 
 -- the law for all texts
 abbrev pub EachTextHasOneMeaning : Type 0
-EachTextHasOneMeaning = (text : List ℕ) → HasOneMeaning (DescribesKey text) (KeyFault text) × HasOneMeaning (DescribesMouse text) (MouseFault text)
+EachTextHasOneMeaning =
+    (text : List ℕ)
+    → HasOneMeaning (DescribesKey text) (KeyFault text) × HasOneMeaning (DescribesMouse text) (MouseFault text)

@@ -11,7 +11,8 @@ use Rattle.minus_input.specs.contracts.event_form.EventFormPartialEq.TheImpl.{gh
 use Rattle.minus_input.specs.declared.event_form.EventWrapper.{EventWrapper}
 use Rattle.minus_input.specs.declared.event_form.EventWrapper.TheVariants.{ExactMatchEvent, WildEvent}
 
--- what of an event counts: of a key its normal form, of the mouse what is done with it and the modifiers, of a resize nothing more
+-- what of an event counts: of a key its normal form, of the mouse what is done with it
+-- and the modifiers, of a resize nothing more
 abbrev pub event_form : Event → EventForm
 event_form events.FocusGained = forms.FocusGained
 event_form events.FocusLost = forms.FocusLost
@@ -19,6 +20,7 @@ event_form (events.Key key) = forms.Key (normal_form key)
 event_form (events.Mouse mouse) = forms.Mouse mouse.kind mouse.modifiers
 event_form (events.Resize cols rows) = forms.Resize
 
+-- what two keys of a register are compared by: the form of an event, or that of the wild key
 abbrev pub form_of : EventWrapper → EventForm
 form_of (ExactMatchEvent event) = event_form event
 form_of WildEvent = forms.Wild
@@ -33,7 +35,8 @@ EqualEventsHashEqually equal writes = (a b : EventWrapper) → equal a b ≡ tru
 
 -- all resizes are equal
 abbrev pub ResizesAreOneKey : (EventWrapper → EventWrapper → Bool) → Type 0
-ResizesAreOneKey equal = (a b c d : ℕ) → equal (ExactMatchEvent (events.Resize a b)) (ExactMatchEvent (events.Resize c d)) ≡ true
+ResizesAreOneKey equal =
+    (a b c d : ℕ) → equal (ExactMatchEvent (events.Resize a b)) (ExactMatchEvent (events.Resize c d)) ≡ true
 
 -- events of the mouse are equal where what is done and the modifiers are the same
 abbrev pub MouseGoesByKindAndModifiers : (EventWrapper → EventWrapper → Bool) → Type 0
@@ -43,7 +46,8 @@ MouseGoesByKindAndModifiers equal =
 
 -- key events are equal where they are equal by themselves
 abbrev pub KeysGoByTheirEquality : (EventWrapper → EventWrapper → Bool) → (KeyEvent → KeyEvent → Bool) → Type 0
-KeysGoByTheirEquality equal same = (a b : KeyEvent) → equal (ExactMatchEvent (events.Key a)) (ExactMatchEvent (events.Key b)) ≡ same a b
+KeysGoByTheirEquality equal same =
+    (a b : KeyEvent) → equal (ExactMatchEvent (events.Key a)) (ExactMatchEvent (events.Key b)) ≡ same a b
 
 -- the wild key is equal to itself and to no other
 abbrev pub WildIsItselfAlone : (EventWrapper → EventWrapper → Bool) → Type 0

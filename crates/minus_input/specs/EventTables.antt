@@ -11,8 +11,10 @@ use Rattle.minus_input.specs.Register.{Register, Binding}
 use Rattle.minus_input.specs.Resolved.{binding_at, read_each}
 
 -- the register that a table holds
-abbrev pub register_of : {S C H : Type 0} {builder hasher : _} → EventTable S C H builder hasher → Register EventWrapper (ActionOf C)
-register_of table = record { bindings = read_each (binding_at table.callbacks.items) table.bindings.entries; wild = table.wild }
+abbrev pub register_of : {S C H : Type 0} {builder hasher : _} → EventTable S C H builder hasher
+    → Register EventWrapper (ActionOf C)
+register_of table =
+    record { bindings = read_each (binding_at table.callbacks.items) table.bindings.entries; wild = table.wild }
 
 -- the action that is found, with its callback
 abbrev pub seen_action : {C : Type 0} → ActionOf (Bor C) → ActionOf C

@@ -6,4 +6,7 @@ use Rattle.minus_input.specs.ExactKeys.{exact_answer}
 
 -- each event has one answer in each state, and help has no text
 abbrev pub exact_says : Classifies DefaultInputClassifier
-exact_says = record { allows = λ classifier event state answer. answer ≡ exact_answer event state; helps = λ classifier text. text ≡ None }
+exact_says = record {
+  allows = λ classifier event state answer. answer ≡ exact_answer event state;
+  helps = λ classifier text. text ≡ None;
+}

@@ -7,33 +7,38 @@ use Rattle.minus_term.specs.declared.event.KeyCode.{KeyCode}
 use Rattle.minus_term.specs.declared.event.KeyCode.TheVariants.{Char, Up, Down, Enter, PageUp, PageDown, Left, Right}
 use Rattle.minus_term.specs.declared.event.MouseEventKind.{MouseEventKind}
 use Rattle.minus_term.specs.declared.event.MouseEventKind.TheVariants.{ScrollUp, ScrollDown}
-use Rattle.minus_text.specs.Prefixes.{toggled}
+use Rattle.minus_text.specs.NumberPrefix.{toggled}
 use Rattle.minus_state.specs.declared.input.InputEvent.{InputEvent}
 use Rattle.minus_state.specs.declared.input.InputEvent.TheVariants as asks
 use Rattle.minus_state.specs.declared.search.SearchMode.{SearchMode}
 use Rattle.minus_state.specs.declared.search.SearchMode.TheVariants.{Forward, Reverse}
 use Rattle.minus_state.specs.declared.state.PagerState.{PagerState}
 use Rattle.minus_state.specs.States.{control_of}
-use Rattle.minus_input.specs.DefaultAnswers.{max, typed, steps, up_by, down_by, left_by, right_by, half_page, page, restore_or_down}
+use Rattle.minus_input.specs.DefaultAnswers.{max, typed, steps, up_by, down_by, left_by, right_by, half_page, page}
+use Rattle.minus_input.specs.DefaultAnswers.{restore_or_down}
 use Rattle.minus_input.specs.Names.{shift, control}
 
--- the row before the one that the typed prefix names, counted from 1; the greatest number where it names none, or the first one
+-- the number before this one, counted from 1; the greatest number before 0 and 1
 abbrev pub row_before : ℕ → ℕ
 row_before number = if number - 1 == 0 then max else number - 1
 
+-- the mark moves to the row that the typed prefix names, counted from 1; to the greatest number where the prefix writes
+-- 0 or 1, and to that number less one where it writes none
 abbrev pub to_row : PagerState → InputEvent
 to_row state = asks.UpdateUpperMark (row_before (unwrap_or (typed state) max))
 
--- a jump on among the matches, and one back; after a search back the other way round
+-- a jump on by this many matches; after a search back the jump goes back
 abbrev pub match_on : SearchMode → ℕ → InputEvent
 match_on Reverse jump = asks.MoveToPrevMatch jump
 match_on mode jump = asks.MoveToNextMatch jump
 
+-- a jump back by this many matches; after a search back the jump goes on
 abbrev pub match_back : SearchMode → ℕ → InputEvent
 match_back Reverse jump = asks.MoveToNextMatch jump
 match_back mode jump = asks.MoveToPrevMatch jump
 
--- a character without modifiers that is no digit: `k`, `j`, `u`, `d`, `g`, `G`, the space, `q`, `h`, `l`, `/`, `?`, `n` and `p`
+-- a character without modifiers that is no digit: `k`, `j`, `u`, `d`, `g`, `G`, the
+-- space, `q`, `h`, `l`, `/`, `?`, `n` and `p`
 abbrev pub plain_letter : ℕ → PagerState → Option InputEvent
 plain_letter c state =
     if c == 107 then Some (up_by state (steps state))

@@ -1,6 +1,6 @@
 -- The names of keys, and the table of them that a help page shows.
-use Rattle.std.specs.Prelude.{ℕ, ◌-◌, ◌==◌, List, [], ◌∷◌, ◌++◌, map, length, replicate, Bool, false, not, ◌&&◌, bytes_eq, codes, encode_utf8, string_bytes}
-use Rattle.std.specs.Prelude.{if◌then◌else◌}
+use Rattle.std.specs.Prelude.{ℕ, ◌-◌, ◌==◌, List, [], ◌∷◌, ◌++◌, map, length, replicate, Bool, false, not, ◌&&◌}
+use Rattle.std.specs.Prelude.{bytes_eq, codes, encode_utf8, string_bytes, if◌then◌else◌}
 use denote.Ref.{Bor}
 use Rattle.std.specs.Char.{is_ascii_uppercase}
 use Rattle.std.specs.Fmt.{decimal, char_count}
@@ -8,8 +8,9 @@ use Rattle.std.specs.Int.RustNames.{bit_and}
 use Rattle.std.specs.List.{filter, flat_map, join_by, list_any}
 use Rattle.std.specs.Str.{trim}
 use Rattle.minus_term.specs.declared.event.KeyCode.{KeyCode}
-use Rattle.minus_term.specs.declared.event.KeyCode.TheVariants.{Backspace, Enter, Left, Right, Up, Down, Home, End, PageUp, PageDown, Tab, BackTab, Delete}
-use Rattle.minus_term.specs.declared.event.KeyCode.TheVariants.{Insert, F, Char, Null, Esc}
+use Rattle.minus_term.specs.declared.event.KeyCode.TheVariants.{Backspace, Enter, Left, Right, Up, Down, Home, End}
+use Rattle.minus_term.specs.declared.event.KeyCode.TheVariants.{PageUp, PageDown, Tab, BackTab, Delete, Insert, F, Char}
+use Rattle.minus_term.specs.declared.event.KeyCode.TheVariants.{Null, Esc}
 use Rattle.minus_term.specs.declared.event.KeyEvent.{KeyEvent}
 use Rattle.minus_input.specs.declared.help_table.Entry as code
 use Rattle.minus_input.specs.Names.{shift, control, alt}
@@ -60,13 +61,15 @@ shows_shift key = has key shift && not (is_capital key.code)
 -- a key's name: its modifiers, and then its code's name
 abbrev pub key_name : KeyEvent → List ℕ
 key_name key =
-    shown (has key control) (codes "Ctrl-") ++ shown (has key alt) (codes "Alt-") ++ shown (shows_shift key) (codes "Shift-") ++ code_name key.code
+    shown (has key control) (codes "Ctrl-") ++ shown (has key alt) (codes "Alt-")
+    ++ shown (shows_shift key) (codes "Shift-") ++ code_name key.code
 
 -- an entry of the help table: a key's name, and a description without white space at its ends
 pub record Entry : Type 0 where
   pub name : List ℕ
   pub description : List ℕ
 
+-- the entry of a key and its description: the key's name, and the description without white space at its ends
 abbrev pub entry_of : Bor KeyEvent × Bor (List ℕ) → Entry
 entry_of entry = record { name = key_name entry.0.now; description = trim entry.1.now }
 
@@ -101,7 +104,8 @@ filled text = text ++ replicate (30 - char_count text) 32
 
 -- the line of a description
 abbrev pub group_line : List Entry → List ℕ → List ℕ
-group_line entries description = codes "  " ++ filled (joined (names_of entries description)) ++ codes " " ++ description ++ codes "\n"
+group_line entries description =
+    codes "  " ++ filled (joined (names_of entries description)) ++ codes " " ++ description ++ codes "\n"
 
 -- what stands above the lines
 abbrev pub table_head : List ℕ

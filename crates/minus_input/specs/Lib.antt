@@ -15,6 +15,7 @@ pub mod Described
 pub mod RegisterCalls
 pub mod DefaultAnswers
 pub mod RegisterAnswers
+pub mod RegisterHelp
 pub mod HelpEntries
 pub mod Classifiers
 pub mod DefaultBindings

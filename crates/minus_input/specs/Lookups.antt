@@ -8,7 +8,8 @@ use Rattle.minus_input.specs.Register.{bind, unbind, bound_to}
 abbrev pub BoundKeysAreFound : {K : Type 0} → (K → K → Bool) → Type 0 → Type 0
 BoundKeysAreFound {K} same B =
     (bindings : List (K × B)) (key other : K) (bound : B) →
-    bound_to same (bind same bindings key bound) other ≡ (if same other key then Some bound else bound_to same bindings other)
+    bound_to same (bind same bindings key bound) other
+    ≡ (if same other key then Some bound else bound_to same bindings other)
 
 -- nothing is bound to a key that was removed, and every other key has what it had
 abbrev pub RemovedKeysAreGone : {K : Type 0} → (K → K → Bool) → Type 0 → Type 0

@@ -9,7 +9,8 @@ is_numeral digits = nat_lt 0 (length digits) && all_ascii_digits digits
 
 -- the number that decimal digits write, if it fits a `usize`
 abbrev pub fitting_value : List ℕ → Option ℕ
-fitting_value digits = if is_numeral digits && nat_lt (digits_value 10 digits) (2 ^ 64) then Some (digits_value 10 digits) else None
+fitting_value digits =
+    if is_numeral digits && nat_lt (digits_value 10 digits) (2 ^ 64) then Some (digits_value 10 digits) else None
 
 -- the number of a text: a numeral that fits a `usize`, perhaps behind a plus
 abbrev pub usize_of : List ℕ → Option ℕ

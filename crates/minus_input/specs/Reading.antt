@@ -1,8 +1,10 @@
 -- Segments read one by one, from the left.
-use Rattle.std.specs.Prelude.{ℕ, ◌==◌, List, [], ◌∷◌, true, false, Option, None, Some, Result, Ok, Err, length, if◌then◌else◌}
+use Rattle.std.specs.Prelude.{ℕ, ◌==◌, List, [], ◌∷◌, true, false, Option, None, Some, Result, Ok, Err, length}
+use Rattle.std.specs.Prelude.{if◌then◌else◌}
 use Rattle.std.specs.Int.RustNames.{bit_and, bit_or}
 use Rattle.minus_term.specs.declared.error.DescriptionError.{DescriptionError}
-use Rattle.minus_term.specs.declared.error.DescriptionError.TheVariants.{EmptySegment, RepeatedModifier, UnknownName, SecondKey}
+use Rattle.minus_term.specs.declared.error.DescriptionError.TheVariants.{EmptySegment, RepeatedModifier, UnknownName}
+use Rattle.minus_term.specs.declared.error.DescriptionError.TheVariants.{SecondKey}
 use Rattle.minus_input.specs.declared.key_seq.KeySeq.{KeySeq}
 use Rattle.minus_input.specs.Names.{modifier_letter}
 
@@ -21,7 +23,8 @@ abbrev pub read_action : {C : Type 0} → (List ℕ → Option C) → KeySeq C �
 read_action named seq segment = name_read seq (named segment) seq.code
 
 -- a segment that may be a modifier is read
-abbrev pub read_modifier : {C : Type 0} → (List ℕ → Option C) → KeySeq C → List ℕ → Option ℕ → Result (KeySeq C) DescriptionError
+abbrev pub read_modifier : {C : Type 0} → (List ℕ → Option C) → KeySeq C → List ℕ → Option ℕ
+    → Result (KeySeq C) DescriptionError
 read_modifier named seq segment None = read_action named seq segment
 read_modifier named seq segment (Some bit) =
     if bit_and seq.modifiers.0 bit == bit then Err RepeatedModifier
@@ -43,12 +46,15 @@ abbrev pub read_last : {C : Type 0} → (List ℕ → Option C) → KeySeq C →
 read_last named seq segment = if length segment == 0 then Ok seq else read_action named seq segment
 
 -- what follows is read, unless there was an error
-abbrev pub then_read : {A B : Type 0} → Result A DescriptionError → (A → Result B DescriptionError) → Result B DescriptionError
+abbrev pub then_read : {A B : Type 0} → Result A DescriptionError → (A → Result B DescriptionError)
+    → Result B DescriptionError
 then_read (Ok a) rest = rest a
 then_read (Err e) rest = Err e
 
 -- all segments are read
-abbrev pub read_segments : {C : Type 0} → (List ℕ → Option C) → KeySeq C → List (List ℕ) → Result (KeySeq C) DescriptionError
+abbrev pub read_segments : {C : Type 0} → (List ℕ → Option C) → KeySeq C → List (List ℕ)
+    → Result (KeySeq C) DescriptionError
 read_segments named seq [] = Ok seq
 read_segments named seq (last ∷ []) = read_last named seq last
-read_segments named seq (segment ∷ next ∷ more) = then_read (read_leading named seq segment) (λ read. read_segments named read (next ∷ more))
+read_segments named seq (segment ∷ next ∷ more) =
+    then_read (read_leading named seq segment) (λ read. read_segments named read (next ∷ more))

@@ -1,5 +1,5 @@
--- A register of bindings: a list of keys in the order in which they were bound first, no key twice, each with what is bound to it; and
--- what is done at an event to which no key is bound.
+-- A register of bindings: a list of keys in the order in which they were bound first, no key twice, each with what is
+-- bound to it; and what is done at an event to which no key is bound.
 use Rattle.std.specs.Prelude.{ℕ, Bool, List, [], ◌∷◌, position, Option, None, Some, is_some, if◌then◌else◌}
 
 -- what is bound to a key: what is done, and the text that the help table shows of it
@@ -32,7 +32,7 @@ module _ {K B : Type 0} (same : K → K → Bool) where
   bind_each bindings [] = bindings
   bind_each bindings (first ∷ more) = bind_each (bind bindings first.0 first.1) more
 
-  -- a key is removed, and the others close up; a key that is not bound is passed over
+  -- a key is removed, and the others close up; a key that is not bound is skipped
   abbrev pub unbind : List (K × B) → K → List (K × B)
   unbind [] key = []
   unbind (first ∷ more) key = if same key first.0 then more else first ∷ unbind more key

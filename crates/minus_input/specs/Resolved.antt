@@ -1,5 +1,6 @@
 -- What a register's bindings say, read through the callbacks that it keeps.
-use Rattle.std.specs.Prelude.{◌≡◌, List, [], ◌∷◌, map, true, Option, None, Some, is_some, option_map, slice_get, string_bytes}
+use Rattle.std.specs.Prelude.{◌≡◌, List, [], ◌∷◌, map, true, Option, None, Some, is_some, option_map, slice_get}
+use Rattle.std.specs.Prelude.{string_bytes}
 use Rattle.std.specs.List.{AllByRecursion}
 use Rattle.minus_input.specs.declared.bound.ActionOf.{ActionOf}
 use Rattle.minus_input.specs.declared.bound.ActionOf.TheVariants as action
@@ -28,6 +29,8 @@ module _ {K V B : Type 0} (read : V → Option B) where
   abbrev pub EachIsRead : List (K × V) → Type 0
   EachIsRead pairs = AllByRecursion (λ pair. is_some (read pair.1) ≡ true) pairs
 
+  -- a pair of a key and what its value is read as, before the other pairs; the pair is
+  -- left out where the value cannot be read
   abbrev pub with_read : K → Option B → List (K × B) → List (K × B)
   with_read key None more = more
   with_read key (Some value) more = (key, value) ∷ more

@@ -1,13 +1,13 @@
 //! What the default actions answer to an event in a state.
 ghost use Rattle.std.specs.Prelude.{◌≡◌};
 ghost use Rattle.minus_input.specs.DefaultAnswers.{typed, steps, up_by, down_by, left_by, right_by, half_page, page};
-ghost use Rattle.minus_input.specs.DefaultAnswers.{restore_or_down, row_of_line, to_line, typed_digit, selection_start};
+ghost use Rattle.minus_input.specs.DefaultAnswers.{restore_or_down, row_of_line, to_line, selection_start};
 ghost use Rattle.minus_input.specs.DefaultAnswers.{selection_update, next_match, previous_match, new_size, default_answer};
 
 use crate::default_action::DefaultAction;
 use crate::number::parse_usize;
-use minus_state::{InputEvent, PagerState, SearchMode};
-use minus_term::{Event, KeyCode, KeyModifiers};
+use minus_state::{InputEvent, PagerState, SearchMode, typed_digit};
+use minus_term::{Event, page_len};
 
 // The number that the typed prefix writes.
 pub(crate) fn typed(state: &PagerState) -> Option<usize>
@@ -62,7 +62,7 @@ pub(crate) fn half_page(state: &PagerState) -> usize
 pub(crate) fn page(state: &PagerState) -> usize
     ensures { result ≡ page state.now }
 {
-    state.rows.saturating_sub(1)
+    page_len(state.rows)
 }
 
 // The message goes if there is one; else the mark moves down.
@@ -93,21 +93,6 @@ fn to_line(state: &PagerState) -> InputEvent
     InputEvent::UpdateUpperMark(row_of_line(state).unwrap_or(usize::MAX - 1))
 }
 
-// An ASCII digit without modifiers is typed to the prefix.
-fn typed_digit(event: &Event) -> InputEvent
-    ensures { result ≡ typed_digit event.now }
-{
-    match event {
-        Event::Key(key) => match key.code {
-            KeyCode::Char(c) if c.is_ascii_digit() && key.modifiers == KeyModifiers::NONE => {
-                InputEvent::Number(c)
-            }
-            _ => InputEvent::Ignore,
-        },
-        _ => InputEvent::Ignore,
-    }
-}
-
 // A selection begins where the mouse is.
 fn selection_start(event: &Event) -> InputEvent
     ensures { result ≡ selection_start event.now }
@@ -121,7 +106,7 @@ fn selection_start(event: &Event) -> InputEvent
     }
 }
 
-// A selection is led on to where the mouse is.
+// A selection is dragged to where the mouse is.
 fn selection_update(event: &Event) -> InputEvent
     ensures { result ≡ selection_update event.now }
 {

@@ -65,7 +65,7 @@ fn shown(whether: bool, text: &'static str) -> &'static str
     if whether { text } else { "" }
 }
 
-/// A key's name, such as `Ctrl-Alt-x`, `Shift-g` or `<Space>`. Fails for want of memory alone.
+/// A key's name, such as `Ctrl-Alt-x`, `Shift-g` or `<Space>`. Fails only if memory runs out.
 pub fn format_key(alloc: Global, key: &KeyEvent) -> Result<String, AllocError>
     ensures { IfOk result (λ text. string_bytes text ≡ key_name key.now) }
 {
@@ -192,7 +192,7 @@ fn format_entries(alloc: Global, entries: &[Entry<'_>]) -> Result<String, AllocE
 
 /// The help table: a line for each description that is not empty, in the order of first ones, with
 /// the names of its keys. White space at a description's ends does not count. Empty if there is no
-/// such line. Fails for want of memory alone.
+/// such line. Fails only if memory runs out.
 pub fn format_help_table_from_entries(
     alloc: Global,
     entries: &[(&KeyEvent, &str)],

@@ -181,7 +181,7 @@ impl<S: BuildHasher + Drop, C: Drop> EventTable<S, C> {
         self.add_described::<Keys>(texts, description, callback, remap)
     }
 
-    /// Removes the keys that the texts describe, and the others close up; a key that is not bound is passed over. It
+    /// Removes the keys that the texts describe, and the others close up; a key that is not bound is skipped. It
     /// takes no memory.
     ///
     /// # Errors

@@ -4,7 +4,7 @@ ghost use Rattle.minus_input.specs.EventTables.{register_of};
 ghost use Rattle.minus_input.specs.HelpTable.{entry_of};
 ghost use Rattle.minus_input.specs.HelpEntries.{entry_at};
 ghost use Rattle.minus_input.specs.Resolved.{binding_at};
-ghost use Rattle.minus_input.specs.RegisterAnswers.{key_entry, key_entries, help_text};
+ghost use Rattle.minus_input.specs.RegisterHelp.{key_entry, key_entries, help_text};
 
 use crate::bound::{Bound, KeptCallback};
 use crate::event_form::EventWrapper;

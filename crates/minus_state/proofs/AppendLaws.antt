@@ -1,11 +1,11 @@
--- A text that is added to the one on show.
+-- A text that is added to the displayed one.
 use Rattle.std.proofs.Common.{◌≡◌, ℕ, ◌+◌, ◌-◌, ◌==◌, ◌&&◌, ◌++◌, min, Bool, true, false, List, length, inl, inr, if◌then◌else◌, arith, Option, refl, sym, ap, ap₂, subst, ◌∙◌}
 use Rattle.regex.specs.Patterns.{Re}
 use Rattle.std.specs.Option.{unwrap_or}
 use Rattle.std.proofs.lemmas.Bool.{eq-eqb, ne_eqb}
 use Rattle.std.proofs.lemmas.Bool.Decides.{eqb_tells}
 use Rattle.minus_text.specs.declared.line_numbers.LineNumbers.{LineNumbers}
-use Rattle.minus_text.specs.Prefixes.{is_on, prefix_columns}
+use Rattle.minus_text.specs.NumberPrefix.{is_on, prefix_columns}
 use Rattle.minus_text.specs.Layouts.{margin}
 use Rattle.minus_text.specs.Document.{Document, rows_of, line_count, margin_in, pushed}
 use Rattle.minus_text.specs.Found.{RowMatches, jump_rows}
@@ -15,8 +15,8 @@ use Rattle.minus_text.specs.Searched.{Searched, IsFoundBy}
 use Rattle.minus_text.proofs.StoredKeptLaws.{columns_alike}
 use Rattle.minus_state.specs.declared.state.PagerState.{PagerState}
 use Rattle.minus_state.specs.declared.change.AppendStyle.TheVariants.{PartialUpdate, FullRedraw}
-use Rattle.minus_state.specs.Appending.{append_style, search_mark_behind}
-use Rattle.minus_state.specs.Control.{Control, document_of, first_changed, keeps_rows_with}
+use Rattle.minus_state.specs.Appending.{append_style, search_mark_behind, first_changed, keeps_rows_with}
+use Rattle.minus_state.specs.Control.{Control, document_of}
 use Rattle.minus_state.specs.States.{control_of, term_of, IsFormed}
 use Rattle.minus_state.specs.View.{prefix_in}
 

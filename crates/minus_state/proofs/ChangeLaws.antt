@@ -15,7 +15,8 @@ use Rattle.minus_state.specs.declared.change.MessageChange.{MessageChange}
 use Rattle.minus_state.specs.declared.state.help.HelpChange.{HelpChange}
 use Rattle.minus_state.specs.declared.change.NextText.{NextText}
 use Rattle.minus_state.specs.declared.change.NextText.TheVariants.{Same, Whole, Pushed, Found, SavedWhole, SavedMore}
-use Rattle.minus_state.specs.Control.{Control, Saved, Settings, document_of, first_match, search_mark_anew}
+use Rattle.minus_state.specs.Control.{Control, Saved, Settings, document_of}
+use Rattle.minus_state.specs.SearchMark.{first_match, search_mark_anew}
 use Rattle.minus_state.specs.ShownPrompt.{shown_in}
 use Rattle.minus_state.specs.Page.{shown_of, all_shown, shown}
 use Rattle.minus_state.specs.NextTexts.{next_document, next_found, next_term, aside_with, IsNext}
@@ -114,7 +115,7 @@ pub formed_after : {E : Type 0} (r : Result (Unit {0}) E) (s t : PagerState) (ch
 formed_after (Ok x) s t change new placed still leads f = placed new f (leads f)
 formed_after (Err e) s t change new placed still leads f = still f
 
--- a change to a text that was formed anew, under the term as it is
+-- a change to a text that was formed again, under the term as it is
 pub change_anew : (s : PagerState) (change : Change) (next : Box Searched Global) (d : Document) (new : Control) → change.text ≡ Whole next → next.value ≡ searched (term_of s) d → d ≡ document_of new → change.mark ≡ new.mark → change.cols ≡ new.cols → change.rows ≡ new.rows → change.left ≡ new.left → change.ends ≡ new.ends → term_of s ≡ new.term → change.search_mark ≡ new.search_mark
     → settings_after (settings_of s) change ≡ new.settings → help_after change.help (aside_of s.saved) ≡ new.help → change.mode ≡ new.mode → search_after change.search (search_of s) ≡ new.search → IsChange (control_of s) change new
 change_anew s change next d new is formed same m c r l e t n q h y z = record {
@@ -205,7 +206,7 @@ pub typed_after : (prefix : Option (String Global)) (typed : String Global) → 
 typed_after None typed = refl
 typed_after (Some next) typed = refl
 
--- the search mark of rows that were formed anew
+-- the search mark of rows that were formed again
 pub search_mark_of : (s : PagerState) (seen next : Searched) (d e : Document) (mark : ℕ) {result : ℕ} → result ≡ first_match seen.found mark → seen ≡ next → next ≡ searched (term_of s) d → d ≡ e → result ≡ search_mark_anew (term_of s) e mark
 search_mark_of s seen next d e mark is view formed same =
     is ∙ ap (λ (x : Searched). first_match x.found mark) (view ∙ formed) ∙ ap (λ (x : Document). search_mark_anew (term_of s) x mark) same

@@ -8,7 +8,7 @@ replaced_beside : (c : Control) (help : Option Saved) (text : List ℕ) → is_s
 replaced_beside c None text closed = refl
 replaced_beside c (Some saved) text closed = cc
 
--- where help is not open, the text on show is replaced
+-- where help is not open, the displayed text is replaced
 pub text_replaced : (c : Control) (text : List ℕ) → help_open c ≡ false → reformed (record c { text = text }) ≡ with_text c text
 text_replaced c text closed = replaced_beside c c.help text closed
 

@@ -1,5 +1,5 @@
 pub mod VisibleLaws
-pub mod ScrollLaws
+pub mod LineBoundsLaws
 pub mod CopiedLaws
 pub mod ShownRowLaws
 pub mod ShownRowsLaws
@@ -10,7 +10,7 @@ pub mod SelectingLaws
 pub mod ChangeLaws
 pub mod AppendLaws
 pub mod PreviewLaws
-pub mod KeyingLaws
+pub mod PromptKeysLaws
 pub mod HelpTextLaws
 pub mod RefusalLaws
 pub mod CharacterLaws

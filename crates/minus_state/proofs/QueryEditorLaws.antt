@@ -1,9 +1,9 @@
--- What is told of an edit, and where the words around a cursor start.
+-- What is reported of an edit, and where the words around a cursor start.
 use Rattle.std.proofs.Common.{◌≡◌, ℕ, ◌+◌, ◌-◌, ◌≤◌, List, [], ◌∷◌, take, drop, length, refl, arith, inl, inr}
 use Rattle.std.specs.Prelude.{nat_lt}
 use Rattle.std.proofs.lemmas.Bool.{ne_eqb, cases_Bool}
 use Rattle.std.proofs.lemmas.List.{length-append, length-take-le, length-drop}
-use Rattle.minus_text.specs.Words.{AreWithin}
+use Rattle.minus_text.specs.WordStarts.{AreWithin}
 use Rattle.minus_state.specs.declared.search.query.Fed.TheVariants as told
 use Rattle.minus_state.specs.QueryEditor.{Editor, without, with_at, told_between, last_below, first_above}
 

@@ -1,4 +1,4 @@
--- A selection that is led on, and one that stays.
+-- A selection that is dragged, and one that stays.
 use Rattle.std.proofs.Common.{◌≡◌, ℕ, ◌==◌, ◌&&◌, ◌||◌, eqb, min, is_some, Bool, true, false, Option, None, Some, ◌-◌, refl, ap, ◌∙◌, inl, inr}
 use Rattle.std.specs.Prelude.{if◌then◌else◌}
 use Rattle.std.proofs.lemmas.Bool.{cases_Bool, and_parts, eqb-true, eq-eqb}
@@ -46,7 +46,7 @@ pub ends_stay : (c : Control) (x y : ℕ) → stays_led c x y ≡ true → ends_
 ends_stay c x y e =
     ends_are (ends_led c x y) c.ends (anchor_led c x y) (same_end_is (ends_led c x y).selection c.ends.selection (and_parts (eqb (mark_led c y) c.mark) (is_same_end (ends_led c x y).selection c.ends.selection) e).1)
 
--- a selection that is led on, and one that is not
+-- a selection that is dragged, and one that is not
 pub led_mark : (c : Control) (y : ℕ) → is_led c ≡ true → mark_led c y ≡ mark_led_to c y
 led_mark c y e = ap (λ (b : Bool). if b then mark_led_to c y else c.mark) e
 

@@ -109,7 +109,7 @@ rest_from term d left ends i (suc m) n l =
     ∙ rest_from term d left ends (i + 1) m n (omega (arith, l))
     ∙ ap (λ (j : ℕ). rows_from term d left ends j n) here
 
--- so many of all shown rows, from one on
+-- this many of all shown rows, from one on
 pub shown_rows_from : (term : Option Re) (d : Document) (left : ℕ) (ends : Option (Selection × Selection)) (m k : ℕ) → m ≤ length (rows_of d) → shown_rows term d left ends m (m + k) ≡ take k (drop m (shown_rows term d left ends 0 (length (rows_of d))))
 unfolding shown_rows
 shown_rows_from term d left ends m k l =

@@ -1,7 +1,7 @@
 -- What a command leaves, formed beside the state.
 use Rattle.std.specs.Prelude.{◌≡◌, ℕ, List, length, take, drop, Option, None, Some, string_bytes}
 use Rattle.std.specs.Option.{option_map, unwrap_or}
-use Rattle.minus_term.specs.Marks.{page_len}
+use Rattle.minus_term.specs.PageRows.{page_len}
 use Rattle.minus_text.specs.Searched.{searched}
 use Rattle.minus_state.specs.declared.state.PagerState.{PagerState}
 use Rattle.minus_state.specs.declared.change.Change.{Change}
@@ -23,19 +23,19 @@ use Rattle.minus_state.specs.States.{control_of, settings_of, ends_of, term_of, 
 use Rattle.minus_state.specs.Sizes.{IsSize}
 use Rattle.minus_term.specs.Refusals.{Refusal, for_memory, for_size, for_pattern}
 
--- the message, after what becomes of it
+-- the message after a change of it: it stays, goes, or is this text
 abbrev pub message_after : MessageChange → Option (List ℕ) → Option (List ℕ)
 message_after messages.Stays message = message
 message_after messages.Goes message = None
 message_after (messages.Says text) message = Some (string_bytes text)
 
--- what is put aside, after help was opened or left
+-- what is saved, after help was opened or left
 abbrev pub help_after : HelpChange → Option Saved → Option Saved
 help_after helps.Stays help = help
 help_after (helps.Opens saved) help = Some (aside_in saved.value)
 help_after helps.Closes help = None
 
--- what is put aside after a change: its text was changed before that
+-- what is saved after a change: the text that is saved was changed before help was opened or left
 abbrev pub aside_after : Change → Option Saved → Option Saved
 aside_after change help = help_after change.help (aside_with change.text help)
 
@@ -108,7 +108,8 @@ pub record KeepsBeside (s t : PagerState) : Type 0 where
   pub search_state : t.search_state ≡ s.search_state
   pub search : search_of t ≡ search_of s
 
--- a state in which a change of another one was put in its place: its rows are what its term finds where the change was searched for it
+-- a state in which a change of another one was put in its place: its rows are what its term
+-- finds where the change was searched for it
 pub record IsPlaced (s : PagerState) (change : Change) (t : PagerState) : Type 0 where
   pub document : t.screen.document ≡ next_document s.screen.document change.text
   pub found : FindsNext (term_of s) s.screen change.text t.screen
@@ -126,19 +127,22 @@ pub record IsPlaced (s : PagerState) (change : Change) (t : PagerState) : Type 0
   pub help : aside_of t.saved ≡ aside_after change (aside_of s.saved)
   pub search : search_of t ≡ search_after change.search (search_of s)
 
--- what the prompt row of a state is formed of, and what it is formed of after a change
+-- what the prompt row of a state is formed of
 abbrev pub shown_prompt : PagerState → PromptRow
 shown_prompt s = shown_in s.cols (settings_of s) s.screen.document.layout.match_lines s.screen.found s.search_mark
 
+-- what the prompt row of a state is formed of after a change
 abbrev pub prompt_after : PagerState → Change → PromptRow
 prompt_after s change =
-    shown_in change.cols (settings_after (settings_of s) change) (next_document s.screen.document change.text).layout.match_lines
+    shown_in change.cols (settings_after (settings_of s) change)
+    (next_document s.screen.document change.text).layout.match_lines
     (next_found s.screen.found change.text) change.search_mark
 
--- the prompt row of a state, and the one after a change
+-- the prompt row of a state, as bytes
 abbrev pub displayed_prompt : PagerState → List ℕ
 displayed_prompt s = prompt_row (shown_prompt s)
 
+-- the prompt row of a state after a change, as bytes
 abbrev pub prompt_row_after : PagerState → Change → List ℕ
 prompt_row_after s change = prompt_row (prompt_after s change)
 
@@ -148,14 +152,14 @@ shown_by s change =
     take (page_len change.rows) (drop change.mark (shown_of (next_term (term_of s) change.text)
     (next_document s.screen.document change.text) change.left change.ends))
 
--- why a state was not resized: for the size, or, where that is one, for want of memory
+-- why a state was not resized: the numbers of columns and rows are no size, or they are, and the state is out of memory
 abbrev pub IsUnresized : Refusal → ℕ → ℕ → Type 0
 IsUnresized for_memory cols rows = IsSize cols rows
 IsUnresized (for_size c r) cols rows = (c ≡ cols) × (r ≡ rows) × (IsSize cols rows → ⊥)
 IsUnresized refusal cols rows = ⊥
 
--- why a state of so many columns and rows was not formed: for its size, or, where that is one, for want of memory or since a fixed
--- pattern was not built
+-- why a state with these numbers of columns and rows was not formed: they are no size; or they are, and there was
+-- no memory, or a fixed pattern was not built
 abbrev pub IsUnformedState : Refusal → ℕ → ℕ → Type 0
 IsUnformedState for_memory cols rows = IsSize cols rows
 IsUnformedState for_pattern cols rows = IsSize cols rows

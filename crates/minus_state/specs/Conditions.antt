@@ -14,14 +14,15 @@ use Rattle.minus_state.specs.States.{control_of}
 abbrev pub Judges : Type 0 → Type 1
 Judges Q = Q → SearchOpts → Bool → Type 0
 
--- whether the page may be to show where the query of a prompt leads, after an event has edited it in a state: where a condition is kept,
--- as that may answer to what it sees then, and by default for a query and a text that are so long
+-- whether the page may be to show where the query of a prompt leads, after an event has edited it in a state: where a
+-- condition is kept, as that may answer to what it sees then, and by default for a query and a text that are so long
 abbrev pub MayShow : {Q : Type 0} → Judges Q → Option Q → PagerState → Prompt → Event → Bool → Type 0
 MayShow judges None s p event shows = shows ≡ shows_by_default (control_of s) (fed p (edit_of event))
-MayShow judges (Some condition) s p event shows = (opts : SearchOpts) × AreOptsAfter s p event opts × judges condition opts shows
+MayShow judges (Some condition) s p event shows =
+    (opts : SearchOpts) × AreOptsAfter s p event opts × judges condition opts shows
 
--- what may be found for that query: no pattern, since none was built or the page is not to show it, or the one that is read in its text,
--- where the page may be to show it
+-- what may be found for that query: no pattern, since none was built or the page is not to show it, or the one that is
+-- read in its text, where the page may be to show it
 abbrev pub MayPreview : {Q : Type 0} → Judges Q → Option Q → PagerState → Prompt → Event → Option Re → Type 0
 MayPreview judges condition s p event None = Unit {0}
 MayPreview judges condition s p event (Some pattern) =

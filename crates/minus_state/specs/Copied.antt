@@ -1,6 +1,6 @@
 -- The text that is copied of a selection: the part of the lines between two places, joined by newlines.
 use Rattle.std.specs.Prelude.{ℕ, ◌+◌, ◌==◌, Option, None, Some, List, slice_get, slice_range, if◌then◌else◌}
-use Rattle.minus_text.specs.declared.wrap.Span.{Span}
+use Rattle.minus_text.specs.declared.rows.Span.{Span}
 use Rattle.minus_text.specs.Document.{Document, rows_of, line_count}
 use Rattle.minus_text.specs.LinePlaces.{joined_lines, last_line_end, row_places}
 use Rattle.minus_state.specs.declared.copied.Side.{Side}
@@ -8,7 +8,8 @@ use Rattle.minus_state.specs.declared.copied.Side.TheVariants.{Before, Behind}
 use Rattle.minus_state.specs.declared.selection.Selection.{Selection}
 use Rattle.minus_state.specs.VisibleCharacters.{place_of_visible, place_after_visible}
 
--- a side of the visible character at a column of a row, as a place in the row's bytes; with no such character the end of the row
+-- a side of the visible character at a column of a row, as a place in the row's bytes;
+-- with no such character the end of the row
 abbrev pub side_in_row : Side → ℕ → List ℕ → ℕ
 side_in_row Before column row = place_of_visible column row
 side_in_row Behind column row = place_after_visible column row
@@ -19,13 +20,15 @@ moved_to_row place otherwise (Some span) (Some row) = span.start + place row
 moved_to_row place otherwise (Some span) None = otherwise
 moved_to_row place otherwise None row = otherwise
 
--- a side of the character at an end of a selection, as a place in a document's text. Rows stand there as parts of their lines, each
--- with what was dropped behind it; a row past the last means the end of the last line
+-- a side of the character at an end of a selection, as a place in a document's text. Rows stand there as parts of their
+-- lines, each with what was dropped behind it; a row past the last means the end of the last line
 abbrev pub place_in_text : Document → Side → Selection → ℕ
 place_in_text d side end =
-    moved_to_row (side_in_row side end.col) (last_line_end d.text) (slice_get (row_places d) end.absolute_row) (slice_get (rows_of d) end.absolute_row)
+    moved_to_row (side_in_row side end.col) (last_line_end d.text) (slice_get (row_places d) end.absolute_row)
+    (slice_get (rows_of d) end.absolute_row)
 
--- the text from before the character at the first of two ends up to behind the one at the last, if there are ends and lines
+-- the text from before the character at the first of two ends up to behind the one at the
+-- last, if there are ends and lines
 abbrev pub copied : Document → Option (Selection × Selection) → Option (List ℕ)
 copied d None = None
 copied d (Some ends) =

@@ -6,6 +6,6 @@ use Rattle.minus_state.specs.declared.exits.ExitCallbacks.{ExitCallbacks}
 abbrev pub exits_of : {C : Type 0} → ExitCallbacks C → List C
 exits_of exits = exits.callbacks.items
 
--- so many callbacks more are held without memory
+-- `more` callbacks can be added without allocation
 abbrev pub HasExitRoom : {C : Type 0} → ExitCallbacks C → ℕ → Type 0
 HasExitRoom exits more = vec_len exits.callbacks + more ≤ vec_capacity exits.callbacks

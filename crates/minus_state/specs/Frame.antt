@@ -10,11 +10,15 @@ use Rattle.minus_state.specs.declared.frame.Frame.{Frame}
 abbrev pub frame_of : Document → ℕ → Frame
 frame_of d left = record { layout = d.layout; line_count = line_count d; left_mark = left }
 
--- this is shown of a line that is one row, with this text, in a frame; or it is added to bytes
+-- the bytes `row` are what is shown of line i, counted from 0, with this text, in a frame; the line is one row
 abbrev pub IsCroppedLine : Frame → ℕ → MatchedText → List ℕ → Type 0
 IsCroppedLine frame i text row =
-    (d : Document) (left : ℕ) → frame ≡ frame_of d left → row ≡ cropped_line d left i (text_within left (columns_for_text d) text)
+    (d : Document) (left : ℕ) → frame ≡ frame_of d left
+    → row ≡ cropped_line d left i (text_within left (columns_for_text d) text)
 
+-- the bytes `new` are the bytes `old` and behind them what is shown of line i, counted from 0, with
+-- this text, in a frame; the line is one row
 abbrev pub WritesCroppedLine : Frame → ℕ → MatchedText → (old new : List ℕ) → Type 0
 WritesCroppedLine frame i text old new =
-    (d : Document) (left : ℕ) → frame ≡ frame_of d left → new ≡ old ++ cropped_line d left i (text_within left (columns_for_text d) text)
+    (d : Document) (left : ℕ) → frame ≡ frame_of d left
+    → new ≡ old ++ cropped_line d left i (text_within left (columns_for_text d) text)

@@ -1,4 +1,4 @@
--- Help: a text on show in the place of the one that is put aside.
+-- Help: a displayed text in the place of the one that is saved.
 use Rattle.std.specs.Prelude.{ℕ, ◌++◌, List, is_some, Bool, false, Option, None, Some, codes, if◌then◌else◌}
 use Rattle.std.specs.Option.{option_map}
 use Rattle.minus_text.specs.declared.line_numbers.LineNumbers.TheVariants.{Disabled}
@@ -12,17 +12,25 @@ help_prompt = codes "HELP -- Press q or Shift-m to return to pager"
 abbrev pub help_open : Control → Bool
 help_open c = is_some c.help
 
--- what is put aside as help is opened
+-- what is saved as help is opened
 abbrev pub put_aside : Control → Saved
 put_aside c =
-    record { text = c.text; wrapping = c.wrapping; numbers = c.numbers; mark = c.mark; left = c.left; prompt = c.settings.prompt; follow = c.settings.follow }
+    record {
+      text = c.text;
+      wrapping = c.wrapping;
+      numbers = c.numbers;
+      mark = c.mark;
+      left = c.left;
+      prompt = c.settings.prompt;
+      follow = c.settings.follow;
+    }
 
 -- what is set beside the text, with another prompt, without a message, and following what is appended or not
 abbrev pub switched : Settings → List ℕ → Bool → Settings
 switched s prompt follow = record s { prompt = prompt; message = None; follow = follow }
 
--- help is opened with a text: its lines are not wrapped and have no numbers, the marks are at the first row and column, and the
--- page stays where it is at an append; what is selected stays, and so does the term
+-- help is opened with a text: its lines are not wrapped and have no numbers, the marks are at the first row and column,
+-- and the page stays where it is at an append; what is selected stays, and so does the term
 abbrev pub opened : Control → List ℕ → Control
 opened c text = reformed (record c {
   text = text;
@@ -34,7 +42,7 @@ opened c text = reformed (record c {
   help = Some (put_aside c);
 })
 
--- help is left: what was put aside returns, without a message
+-- help is left: what was saved returns, without a message
 abbrev pub closed : Control → Saved → Control
 closed c saved = reformed (record c {
   text = saved.text;
@@ -66,18 +74,20 @@ abbrev pub turned : Control → Option Saved → List ℕ → Control
 turned c None text = opened c text
 turned c (Some saved) text = closed c saved
 
--- another text in the place of the one that is put aside, if one is; or more after it
+-- another text in the place of the saved one, if one is saved
 abbrev pub text_aside : List ℕ → Option Saved → Option Saved
 text_aside text help = option_map (λ (s : Saved). let r : Saved = record s { text = text } in r) help
 
+-- what is saved, with more text at the end of the saved one, if one is saved
 abbrev pub more_aside : List ℕ → Option Saved → Option Saved
 more_aside text help = option_map (λ (s : Saved). let r : Saved = record s { text = s.text ++ text } in r) help
 
 -- the prompt says this; while help is open, it stays that of help
 abbrev pub with_prompt : Control → List ℕ → Control
-with_prompt c text = record c { settings = record c.settings { prompt = if help_open c then c.settings.prompt else text } }
+with_prompt c text =
+    record c { settings = record c.settings { prompt = if help_open c then c.settings.prompt else text } }
 
--- another text is put in the place of that on show; while help is open, of the one that is put aside
+-- another text is put in the place of the displayed one; while help is open, of the saved one
 abbrev pub with_text : Control → List ℕ → Control
 with_text c text = record c {
   text = if help_open c then c.text else text;

@@ -1,5 +1,6 @@
 -- The ids under which the callbacks of hooks are held.
-use Rattle.std.specs.Prelude.{ℕ, ◌+◌, ◌^◌, ◌==◌, ◌||◌, ◌≡◌, nat_le, max, Bool, true, false, List, filter, map, fold, Option, Some, is_some, slice_get, position, if◌then◌else◌}
+use Rattle.std.specs.Prelude.{ℕ, ◌+◌, ◌^◌, ◌==◌, ◌||◌, ◌≡◌, nat_le, max, Bool, true, false, List, filter, map, fold}
+use Rattle.std.specs.Prelude.{Option, Some, is_some, slice_get, position, if◌then◌else◌}
 use Rattle.minus_term.specs.Refusals.{Refusal, for_memory, for_hook_id, for_free_hook_id}
 use Rattle.minus_term.specs.declared.hooks.Hook.{Hook}
 use Rattle.minus_term.specs.declared.hooks.Hook.TheVariants.{PostPagerExit}
@@ -7,6 +8,7 @@ use Rattle.minus_term.specs.contracts.hooks.HookPartialEq.TheImpl.{ghosts as hoo
 use Rattle.minus_state.specs.declared.hooks.HookId.{HookId}
 use Rattle.minus_state.specs.contracts.hooks.HookIdPartialEq.TheImpl.{ghosts as id_equality}
 
+-- whether two hooks are the same
 abbrev pub same_hook : Hook → Hook → Bool
 same_hook = hook_equality.eq
 
@@ -22,6 +24,7 @@ id_of hook id = record { hook = hook; id = id }
 abbrev pub place_of : List HookId → Hook → (id : ℕ) → Option ℕ
 place_of held hook id = position (same_id (id_of hook id)) held
 
+-- whether this id of the hook is among those that are held
 abbrev pub is_held : List HookId → Hook → (id : ℕ) → Bool
 is_held held hook id = is_some (place_of held hook id)
 
@@ -60,7 +63,7 @@ IsUngiven (for_hook_id of number) held hook id = (of ≡ hook) × (number ≡ id
 IsUngiven for_free_hook_id held hook id = has_no_next held hook id ≡ true
 IsUngiven refusal held hook id = ⊥
 
--- why a callback was not added: no id is given; or, where one is, want of memory
+-- why a callback was not added: no id is given; or one is, and there was no memory
 abbrev pub IsUnadded : Refusal → List HookId → Hook → (id : ℕ) → Type 0
 IsUnadded for_memory held hook id = (is_taken held hook id ≡ false) × (has_no_next held hook id ≡ false)
 IsUnadded refusal held hook id = IsUngiven refusal held hook id
@@ -68,4 +71,5 @@ IsUnadded refusal held hook id = IsUngiven refusal held hook id
 -- of some callbacks, each under the id at its place, those that are not of a hook are as they were
 abbrev pub AreOthersKept : {C : Type 0} → Hook → List HookId → (old new : List C) → Type 0
 AreOthersKept hook ids old new =
-    (i : ℕ) (entry : HookId) → slice_get ids i ≡ Some entry → same_hook entry.hook hook ≡ false → slice_get new i ≡ slice_get old i
+    (i : ℕ) (entry : HookId) → slice_get ids i ≡ Some entry → same_hook entry.hook hook ≡ false
+    → slice_get new i ≡ slice_get old i

@@ -11,9 +11,11 @@ pub record Held (C : Type 0) : Type 0 where
   pub ids : List HookId
   pub callbacks : List C
 
+-- what a list of hooks' callbacks holds, as values alone
 abbrev pub held_by : {C : Type 0} → HookList C → Held C
 held_by hooks = record { ids = hooks.ids.items; callbacks = hooks.callbacks.items }
 
+-- no id and no callback is held
 abbrev pub none_held : {C : Type 0} → Held C
 none_held = record { ids = []; callbacks = [] }
 
@@ -21,7 +23,7 @@ none_held = record { ids = []; callbacks = [] }
 abbrev pub with_callback : {C : Type 0} → Held C → HookId → C → Held C
 with_callback held entry callback = record { ids = held.ids ++ entry ∷ []; callbacks = held.callbacks ++ callback ∷ [] }
 
--- so many callbacks more are held without memory
+-- `more` callbacks can be added without allocation
 pub record HasRoom {C : Type 0} (hooks : HookList C) (more : ℕ) : Type 0 where
   pub ids : vec_len hooks.ids + more ≤ vec_capacity hooks.ids
   pub callbacks : vec_len hooks.callbacks + more ≤ vec_capacity hooks.callbacks

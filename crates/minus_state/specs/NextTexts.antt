@@ -1,5 +1,5 @@
 -- The text that a command leaves, formed beside the document.
-use Rattle.std.specs.Prelude.{◌≡◌, Option, Some, List, ◌++◌, string_bytes}
+use Rattle.std.specs.Prelude.{◌≡◌, Option, Some, List, ◌++◌, string_bytes, option_map}
 use Rattle.regex.specs.Patterns.{Re}
 use Rattle.regex.specs.Strings.{regex_pattern}
 use Rattle.minus_text.specs.Document.{Document, rows_of, pushed}
@@ -26,7 +26,7 @@ abbrev pub next_term : Option Re → NextText → Option Re
 next_term term Same = term
 next_term term (Whole screen) = term
 next_term term (Pushed text pending) = term
-next_term term (Found pattern findings) = Some (regex_pattern pattern.value)
+next_term term (Found pattern findings) = option_map (λ p. regex_pattern p.value) pattern
 next_term term (SavedWhole text) = term
 next_term term (SavedMore text) = term
 
@@ -39,10 +39,11 @@ next_found found (Found pattern findings) = findings
 next_found found (SavedWhole text) = found
 next_found found (SavedMore text) = found
 
+-- the document that there will be, and what will be found in its rows
 abbrev pub next_searched : Searched → NextText → Searched
 next_searched s next = record { document = next_document s.document next; found = next_found s.found next }
 
--- what is put aside then, while help is open
+-- what is saved after the text that was formed is put in its place, while help is open
 abbrev pub aside_with : NextText → Option Saved → Option Saved
 aside_with (SavedWhole text) help = text_aside (string_bytes text) help
 aside_with (SavedMore text) help = more_aside (string_bytes text) help
@@ -52,7 +53,8 @@ aside_with next help = help
 abbrev pub Belongs : Document → NextText → Type 0
 Belongs d Same = Unit {0}
 Belongs d (Whole screen) = Unit {0}
-Belongs d (Pushed text pending) = IsPending d (string_bytes text) pending.value.push.numbers pending.value.push.cols pending.value.push
+Belongs d (Pushed text pending) =
+    IsPending d (string_bytes text) pending.value.push.numbers pending.value.push.cols pending.value.push
 Belongs d (Found pattern findings) = AreFoundIn 0 (rows_of d) findings
 Belongs d (SavedWhole text) = Unit {0}
 Belongs d (SavedMore text) = Unit {0}

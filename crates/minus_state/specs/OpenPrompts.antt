@@ -23,7 +23,7 @@ fed p edit = record p { editor = edited p.editor edit }
 abbrev pub cursor_moved : Prompt → QueryEdit → Prompt
 cursor_moved p edit = record p { editor = record p.editor { cursor = moved p.editor edit } }
 
--- why a prompt was not opened: no search has begun, or, where one has, for want of memory
+-- why a prompt was not opened: no search has begun, or one has, and there was no memory
 abbrev pub IsUnopened : Refusal → SearchMode → Type 0
 IsUnopened for_mode mode = mode ≡ Unknown
 IsUnopened for_memory mode = mode ≡ Unknown → ⊥

@@ -10,8 +10,8 @@ use Rattle.minus_state.specs.declared.search.open_search.SearchChange.TheVariant
 use Rattle.minus_state.specs.SearchMode.{char_of}
 use Rattle.minus_state.specs.OpenPrompts.{Prompt, prompt_of, cursor_moved}
 
--- its direction and its query, whether the query was edited since the prompt was opened, and the pattern whose matches the page shows
--- before the query is taken, if one is
+-- its direction and its query, whether the query was edited since the prompt was opened, and the pattern whose matches
+-- the page shows before the query is taken, if one is
 pub record OpenSearch : Type 0 where
   pub prompt : Prompt
   pub edited : Bool
@@ -19,7 +19,8 @@ pub record OpenSearch : Type 0 where
 
 -- what a value of the code is seen as
 abbrev pub seen_search : code.OpenSearch → OpenSearch
-seen_search o = record { prompt = o.prompt; edited = o.edited; preview = option_map (λ b. regex_pattern b.value) o.preview }
+seen_search o =
+    record { prompt = o.prompt; edited = o.edited; preview = option_map (λ b. regex_pattern b.value) o.preview }
 
 -- one whose query was not edited
 abbrev pub unedited : Prompt → OpenSearch
@@ -29,17 +30,19 @@ unedited p = record { prompt = p; edited = false; preview = None }
 abbrev pub newly_open : SearchMode → OpenSearch
 newly_open mode = unedited (prompt_of mode)
 
--- the prompt that is open, if one is, after what becomes of it
+-- the search prompt that is open after a change of it, if one is
 abbrev pub search_after : SearchChange → Option OpenSearch → Option OpenSearch
 search_after Stays search = search
-search_after (Moves edit) search = option_map (λ o. let x : OpenSearch = record o { prompt = cursor_moved o.prompt edit } in x) search
+search_after (Moves edit) search =
+    option_map (λ o. let x : OpenSearch = record o { prompt = cursor_moved o.prompt edit } in x) search
 search_after (Is o) search = Some (seen_search o.value)
 search_after Closes search = None
 
--- what stands in its row: the character of its direction, if it has one, and the query
+-- the character of a direction, if it has one, and the characters of a query behind it
 abbrev pub typed_behind : Option ℕ → List ℕ → List ℕ
 typed_behind None query = query
 typed_behind (Some character) query = character ∷ query
 
+-- what stands in the row of a search prompt, as bytes: the character of its direction, if it has one, and the query
 abbrev pub typed_in : Prompt → List ℕ
 typed_in p = encode_utf8_all (typed_behind (char_of p.mode) p.editor.query)

@@ -1,7 +1,7 @@
 -- The page of a control.
 use Rattle.std.specs.Prelude.{ℕ, List, length, take, drop, Option, None, Some}
 use Rattle.regex.specs.Patterns.{Re}
-use Rattle.minus_term.specs.Marks.{page_len}
+use Rattle.minus_term.specs.PageRows.{page_len}
 use Rattle.minus_term.specs.PlayedScreen.{ShownPage}
 use Rattle.minus_term.specs.FullRedraw.{page_of}
 use Rattle.minus_term.specs.SearchPrompt.{typed_page}
@@ -30,8 +30,8 @@ shown c = take (page_len c.rows) (drop c.mark (all_shown c))
 abbrev pub page_with : Control → List (List ℕ) → ShownPage
 page_with c texts = page_of c.rows texts (prompt_row c)
 
--- the page with a search prompt, if one is open: then the rows are those that its pattern leads to, if there is one, the last row has
--- what is typed, and the cursor stands there
+-- the page with a search prompt, if one is open: then the rows are those that its pattern leads to, if there is one,
+-- the last row has what is typed, and the cursor stands there
 abbrev pub page_under : Control → Option OpenSearch → ShownPage
 page_under c None = page_with c (shown c)
 page_under c (Some o) = typed_page c.rows (shown (confirmed_by c o.preview)) (typed_in o.prompt) o.prompt.editor.cursor

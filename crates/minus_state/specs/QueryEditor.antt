@@ -3,7 +3,7 @@ use Rattle.std.specs.Prelude.{ℕ, ◌+◌, ◌-◌, ◌==◌, ◌&&◌, not, na
 use Rattle.std.specs.Prelude.{List, [], ◌∷◌, ◌++◌, length, take, drop, if◌then◌else◌}
 use Rattle.std.specs.Str.{encode_utf8_all}
 use Rattle.minus_term.specs.Refusals.{Refusal, for_memory, for_query}
-use Rattle.minus_text.specs.Words.{word_starts, AreWithin}
+use Rattle.minus_text.specs.WordStarts.{word_starts, AreWithin}
 use Rattle.minus_state.specs.declared.search.keys.QueryEdit.{QueryEdit}
 use Rattle.minus_state.specs.declared.search.keys.QueryEdit.TheVariants as edits
 use Rattle.minus_state.specs.declared.search.query.Fed.{Fed}
@@ -62,13 +62,13 @@ edited e edits.RemovesUnder = record e { query = without e.cursor e.query }
 edited e (edits.Inserts character) = record { query = with_at e.cursor character e.query; cursor = e.cursor + 1 }
 edited e edit = record e { cursor = moved e edit }
 
--- what is told of a query before and after an edit: it has changed where it is longer or shorter
+-- what is reported of a query before and after an edit: it has changed where it is longer or shorter
 abbrev pub told_between : Editor → Editor → Fed
 told_between old new =
     if length old.query == length new.query then (if old.cursor == new.cursor then told.Unchanged else told.Moved)
     else told.Edited
 
--- what is told of an edit
+-- what is reported of an edit
 abbrev pub told_of : Editor → QueryEdit → Fed
 told_of e edits.Cancels = told.Cancelled
 told_of e edits.Confirms = told.Confirmed
@@ -82,12 +82,13 @@ most = 65534
 abbrev pub is_too_long : List ℕ → Bool
 is_too_long query = nat_lt most (length query)
 
--- why there is no editor of a query: it is too long, or, where it is not, for want of memory
+-- why there is no editor of a query: it is too long; or it is not, and there was no memory
 abbrev pub IsRefusedQuery : Refusal → List ℕ → Type 0
 IsRefusedQuery for_memory query = is_too_long query ≡ false
 IsRefusedQuery for_query query = is_too_long query ≡ true
 IsRefusedQuery refusal query = ⊥
 
+-- whether an edit inserts a character
 abbrev pub inserts : QueryEdit → Bool
 inserts (edits.Inserts character) = true
 inserts edit = false
@@ -108,7 +109,7 @@ moves edits.Cancels = false
 moves edits.Confirms = false
 moves edit = not (takes_memory edit)
 
--- why an edit was not made: the query refuses it, or, where it does not, for want of the memory that it takes
+-- why an edit was not made: the query refuses it; or it does not, and the memory that the edit takes was refused
 abbrev pub IsRefusedEdit : Refusal → Editor → QueryEdit → Type 0
 IsRefusedEdit for_memory e edit = (takes_memory edit ≡ true) × (refuses e edit ≡ false)
 IsRefusedEdit for_query e edit = refuses e edit ≡ true

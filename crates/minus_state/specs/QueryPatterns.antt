@@ -19,27 +19,32 @@ query_text p = encode_utf8_all p.editor.query
 
 -- this is what the grammar of `regex` reads in a text
 abbrev pub IsPatternOf : List ℕ → Re → Type 0
-IsPatternOf text pattern = (r : Regex) × (regex_source r ≡ text) × (regex_config r ≡ default_config) × IsReadFromSource r × (regex_pattern r ≡ pattern)
+IsPatternOf text pattern =
+    (r : Regex) × (regex_source r ≡ text) × (regex_config r ≡ default_config) × IsReadFromSource r
+    × (regex_pattern r ≡ pattern)
 
 -- whether the page shows where a query leads: its text has more than one byte, and there are at most 5,000 lines
 abbrev pub shows_by_default : Control → Prompt → Bool
 shows_by_default c p = nat_lt 1 (length (query_text p)) && nat_le (line_count (document_of c)) 5000
 
--- `regex` may build no pattern of a text: for another cause than want of memory
+-- `regex` may build no pattern of a text, for another cause than memory
 abbrev pub HasNoPattern : List ℕ → Type 0
-HasNoPattern text = (e : Error) × (e ≢ OutOfMemory) × IsTextRefusal default_config text e × IsRightKind default_config text e
+HasNoPattern text =
+    (e : Error) × (e ≢ OutOfMemory) × IsTextRefusal default_config text e × IsRightKind default_config text e
 
--- what may be found for a query that is taken: the pattern whose matches the page shows already, if there is one; else no pattern, where
--- none may be built, or the one that is read in its text
+-- what may be found for a query that is taken: the pattern whose matches the page shows already, if there is one; else
+-- no pattern, where none may be built, or the one that is read in its text
 abbrev pub MayTakeOver : Option Re → Prompt → Option Re → Type 0
 MayTakeOver (Some shown) p found = found ≡ Some shown
 MayTakeOver None p None = HasNoPattern (query_text p)
 MayTakeOver None p (Some pattern) = IsPatternOf (query_text p) pattern
 
--- for one that was edited since the prompt was opened; any other is not taken
+-- what may be found for a query that is taken, by whether it was edited since the prompt was
+-- opened; one that was not edited is not taken
 abbrev pub MayTakeWhere : (edited : Bool) → OpenSearch → Option Re → Type 0
 MayTakeWhere true o found = MayTakeOver o.preview o.prompt found
 MayTakeWhere false o found = found ≡ None
 
+-- what may be found for the query of an open search prompt that is taken
 abbrev pub MayTake : OpenSearch → Option Re → Type 0
 MayTake o found = MayTakeWhere o.edited o found

@@ -44,7 +44,8 @@ abbrev pub cursor_seen : Editor → QueryEdit → ℕ
 cursor_seen e (edits.Inserts character) = e.cursor
 cursor_seen e edit = (edited e edit).cursor
 
--- what is seen after an event has edited the query of a prompt, in a state: that event, and the new query with the starts of its words
+-- what is seen after an event has edited the query of a prompt, in a state: that event, and
+-- the new query with the starts of its words
 pub record AreOptsAfter (s : PagerState) (p : Prompt) (e : Event) (o : SearchOpts) : Type 0 where
   pub event : o.ev ≡ Some e
   pub query : chars (string_bytes o.string) ≡ (fed p (edit_of e)).editor.query

@@ -1,5 +1,6 @@
 -- What is selected: its two ends, each a row and a column, counted from 0.
-use Rattle.std.specs.Prelude.{ℕ, ◌+◌, ◌-◌, ◌^◌, ◌==◌, ◌&&◌, ◌||◌, Bool, nat_le, nat_lt, min, Option, None, Some, option_map, if◌then◌else◌}
+use Rattle.std.specs.Prelude.{ℕ, ◌+◌, ◌-◌, ◌^◌, ◌==◌, ◌&&◌, ◌||◌, Bool, nat_le, nat_lt, min, Option, None, Some}
+use Rattle.std.specs.Prelude.{option_map, if◌then◌else◌}
 use Rattle.minus_state.specs.declared.selection.Selection.{Selection}
 use Rattle.minus_state.specs.declared.selection.SelectionEnds.{SelectionEnds}
 
@@ -17,6 +18,7 @@ both_in_order None b = None
 both_in_order (Some a) None = None
 both_in_order (Some a) (Some b) = Some (in_order a b)
 
+-- both ends of a selection, the first one first, if there are both
 abbrev pub ends_in_order : SelectionEnds → Option (Selection × Selection)
 ends_in_order ends = both_in_order ends.anchor ends.selection
 
@@ -28,15 +30,17 @@ is_between first last row = nat_le first.absolute_row row && nat_le row last.abs
 abbrev pub greatest : ℕ
 greatest = 2 ^ 64 - 1
 
--- the column of a row between the ends that is selected first, and the one behind the last, if there is a limit
+-- the column of a row between the ends, counted from 0, where the selection begins
 abbrev pub first_column : Selection → ℕ → ℕ
 first_column first row = if row == first.absolute_row then first.col else 0
 
+-- the column behind the last that is selected in a row between the ends, counted from 0;
+-- none where the selection goes to the row's end
 abbrev pub column_behind : Selection → ℕ → Option ℕ
 column_behind last row = if row == last.absolute_row then Some (min (last.col + 1) greatest) else None
 
--- the number of a row's visible character at a column, where a prefix of so many columns stands before and so many columns are
--- cut off at the left
+-- the number of a row's visible character at a column, where `prefix` columns stand before the
+-- text and `cut` columns are cut off at the left
 abbrev pub visible_at : ℕ → ℕ → ℕ → ℕ
 visible_at prefix cut column = min (prefix + (column - cut)) greatest
 

@@ -17,17 +17,20 @@ row_text (Formed row) = string_bytes row
 -- the row with a number, if there is one, is shown so, where each line is one row and nothing in it is selected
 abbrev pub IsCroppedRow : ShownRows → ℕ → Option (List ℕ) → Type 0
 IsCroppedRow shown i row =
-    (term : Option Re) → IsFoundAt term (viewed shown.view) i → row ≡ cropped_row term (viewed shown.view).document shown.left_mark i
+    (term : Option Re) → IsFoundAt term (viewed shown.view) i
+    → row ≡ cropped_row term (viewed shown.view).document shown.left_mark i
 
 -- the row with a number, if there is one, is laid out so
 abbrev pub IsLaidRow : ShownRows → ℕ → Option (List ℕ) → Type 0
 IsLaidRow shown i row =
-    (term : Option Re) → IsFoundAt term (viewed shown.view) i → row ≡ laid_row term (viewed shown.view).document shown.left_mark i
+    (term : Option Re) → IsFoundAt term (viewed shown.view) i
+    → row ≡ laid_row term (viewed shown.view).document shown.left_mark i
 
 -- the row with a number, if there is one, is shown so, where nothing in it is selected
 abbrev pub IsUnmarkedRow : ShownRows → ℕ → Option (List ℕ) → Type 0
 IsUnmarkedRow shown i row =
-    (term : Option Re) → IsFoundAt term (viewed shown.view) i → row ≡ unmarked_row term (viewed shown.view).document shown.left_mark i
+    (term : Option Re) → IsFoundAt term (viewed shown.view) i
+    → row ≡ unmarked_row term (viewed shown.view).document shown.left_mark i
 
 -- the row with a number, if there is one, is shown so
 abbrev pub IsShownRow : ShownRows → ℕ → Option (List ℕ) → Type 0

@@ -6,16 +6,18 @@ use Rattle.minus_term.specs.declared.error.MinusError.{MinusError}
 use Rattle.minus_term.specs.declared.error.MinusError.TheVariants.{NewlineInPrompt}
 use Rattle.minus_text.specs.Found.{RowMatches, jump_rows, match_total, matches_above}
 use Rattle.minus_text.specs.Finds.{finds}
-use Rattle.minus_text.specs.Jumps.{counted}
+use Rattle.minus_text.specs.JumpRows.{counted}
 use Rattle.minus_state.specs.PromptRow.{PromptRow, prompt_row as row_text}
 use Rattle.minus_state.specs.Control.{Control, Settings, document_of}
 
--- how many matches begin above the row that is told of; without such a row its place
+-- how many matches begin above the row that the search mark is at; without such a row, the search mark
 abbrev pub told_above : List RowMatches → ℕ → ℕ
-told_above found search_mark = unwrap_or (option_map (λ row. counted (matches_above row found)) (slice_get (jump_rows found) search_mark)) search_mark
+told_above found search_mark =
+    unwrap_or (option_map (λ row. counted (matches_above row found)) (slice_get (jump_rows found) search_mark))
+    search_mark
 
--- which match the prompt row tells of, counted from 0: where lines are searched, the first of all that begins in the row that is told of, and
--- else that row, among those that match
+-- which match the prompt row reports, counted from 0: where lines are searched, the first of all that begins in the row
+-- of the search mark, and else that row, among those that match
 abbrev pub told_match : Bool → List RowMatches → ℕ → ℕ
 told_match match_lines found search_mark = if match_lines then told_above found search_mark else search_mark
 
@@ -23,7 +25,8 @@ told_match match_lines found search_mark = if match_lines then told_above found 
 abbrev pub told_count : Bool → List RowMatches → ℕ
 told_count match_lines found = if match_lines then counted (match_total found) else length (jump_rows found)
 
--- what the prompt row of so many columns is formed of, where this was found in lines or in rows, and a row at this place is told of
+-- what the prompt row with `cols` columns is formed of, where this was found in lines or in rows, and the search mark
+-- is at this place among the rows that match
 abbrev pub shown_in : ℕ → Settings → Bool → List RowMatches → ℕ → PromptRow
 shown_in cols s match_lines found search_mark = record {
   is_shown = s.is_shown;
@@ -36,6 +39,7 @@ shown_in cols s match_lines found search_mark = record {
   cols = cols;
 }
 
+-- the prompt row of a control, as bytes
 abbrev pub prompt_row : Control → List ℕ
 prompt_row c = row_text (shown_in c.cols c.settings c.match_lines (finds c.term (document_of c)) c.search_mark)
 

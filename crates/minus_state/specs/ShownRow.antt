@@ -1,10 +1,11 @@
--- What is shown of the rows of a document under a term: from the left mark on, with what matches and what is selected marked.
-use Rattle.std.specs.Prelude.{◌≡◌, ℕ, ◌+◌, ◌-◌, ◌≤◌, ◌⊎◌, true, false, zero, suc, min, Option, None, Some, option_map, unwrap_or, List, [], ◌∷◌, ◌++◌, length}
-use Rattle.std.specs.Prelude.{slice_get, if◌then◌else◌}
+-- What is shown of the rows of a document under a term: from the left mark on, with what
+-- matches and what is selected marked.
+use Rattle.std.specs.Prelude.{◌≡◌, ℕ, ◌+◌, ◌-◌, ◌≤◌, ◌⊎◌, true, false, zero, suc, min, Option, None, Some, option_map}
+use Rattle.std.specs.Prelude.{unwrap_or, List, [], ◌∷◌, ◌++◌, length, slice_get, if◌then◌else◌}
 use Rattle.std.specs.List.{concat}
 use Rattle.std.specs.Str.{IsUtf8, encode_utf8_all}
 use Rattle.minus_text.specs.Crop.{cropped, columns_of}
-use Rattle.minus_text.specs.Prefixes.{is_on, prefix}
+use Rattle.minus_text.specs.NumberPrefix.{is_on, prefix}
 use Rattle.regex.specs.Patterns.{Re}
 use Rattle.minus_text.specs.Document.{Document, rows_of, line_count}
 use Rattle.minus_text.specs.Searched.{stored_rows_for}
@@ -32,7 +33,8 @@ cropped_line d left i text = line_prefix d i ++ cropped left (columns_for_text d
 -- what is shown of it under a term, with the markers of those of its matches that take some of these columns
 abbrev pub cropped_row : Option Re → Document → ℕ → ℕ → Option (List ℕ)
 cropped_row term d left i =
-    option_map (cropped_line d left i) (option_map (marked_within left (columns_for_text d) (found_of_row i (finds term d))) (slice_get (rows_of d) i))
+    option_map (cropped_line d left i)
+    (option_map (marked_within left (columns_for_text d) (found_of_row i (finds term d))) (slice_get (rows_of d) i))
 
 -- a row as it is laid out: as it is stored, or, where lines are not wrapped, what is shown of its line
 abbrev pub laid_row : Option Re → Document → ℕ → ℕ → Option (List ℕ)
@@ -51,7 +53,8 @@ abbrev pub selected_range : Document → ℕ → Option (Selection × Selection)
 selected_range d left None i = None
 selected_range d left (Some ends) i = marked_range ends.0 ends.1 i (prefix_in d) (cut_in d left)
 
--- a row with marks around a range of its visible characters; a range without an end goes to the row's end, which has no more of them than bytes
+-- a row with marks around a range of its visible characters; a range without an end goes to the
+-- row's end, which has no more of them than bytes
 abbrev pub with_marks : Option (ℕ × Option ℕ) → List ℕ → List ℕ
 with_marks None row = row
 with_marks (Some range) row = marked range.0 (unwrap_or range.1 (length row)) row
@@ -65,7 +68,7 @@ abbrev pub before_rows : Option (List ℕ) → List (List ℕ) → List (List �
 before_rows None rows = rows
 before_rows (Some row) rows = row ∷ rows
 
--- so many shown rows from one on
+-- the shown rows from row i on, counted from 0, at most this number of them
 abbrev pub rows_from : Option Re → Document → ℕ → Option (Selection × Selection) → ℕ → ℕ → List (List ℕ)
 rows_from term d left ends i zero = []
 rows_from term d left ends i (suc n) = before_rows (shown_row term d left ends i) (rows_from term d left ends (i + 1) n)
@@ -74,11 +77,14 @@ rows_from term d left ends i (suc n) = before_rows (shown_row term d left ends i
 unfoldable pub shown_rows : Option Re → Document → ℕ → Option (Selection × Selection) → ℕ → ℕ → List (List ℕ)
 shown_rows term d left ends start end = rows_from term d left ends start (min end (length (rows_of d)) - start)
 
--- where lines are not wrapped, a row without a selection, less the reset that ends it, takes no more columns behind its prefix than are
--- left for its text
+-- where lines are not wrapped, a row without a selection, less the reset that ends it, takes no more columns
+-- behind its prefix than are left for its text
 abbrev pub ShownRowsFit : Type 0
-ShownRowsFit = (term : Option Re) (d : Document) (left i : ℕ) (row : List ℕ) → d.layout.wrapping ≡ false → shown_row term d left None i ≡ Some row
-    → (units : List (List ℕ)) × (row ≡ ended_in d (line_prefix d i ++ encode_utf8_all (concat units))) × (columns_of units ≤ columns_for_text d)
+ShownRowsFit =
+    (term : Option Re) (d : Document) (left i : ℕ) (row : List ℕ) → d.layout.wrapping ≡ false
+    → shown_row term d left None i ≡ Some row
+    → (units : List (List ℕ)) × (row ≡ ended_in d (line_prefix d i ++ encode_utf8_all (concat units)))
+    × (columns_of units ≤ columns_for_text d)
 
 -- where styles are carried, a row without a selection leaves none open
 abbrev pub ShownRowsAreClosed : Type 0
@@ -87,6 +93,7 @@ ShownRowsAreClosed = (term : Option Re) (d : Document) (left i : ℕ) (row : Lis
 
 -- a shown row without the two marks of a selection is the row without a selection, or it has none
 abbrev pub SelectionAddsMarkersAlone : Type 0
-SelectionAddsMarkersAlone = (term : Option Re) (d : Document) (left i : ℕ) (ends : Selection × Selection) (row shown : List ℕ)
+SelectionAddsMarkersAlone =
+    (term : Option Re) (d : Document) (left i : ℕ) (ends : Selection × Selection) (row shown : List ℕ)
     → IsUtf8 row → shown_row term d left None i ≡ Some row → shown_row term d left (Some ends) i ≡ Some shown
     → (shown ≡ row) ⊎ HasMarks row shown

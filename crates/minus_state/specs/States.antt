@@ -62,8 +62,8 @@ control_of s = record {
   search = search_of s;
 }
 
--- the stored rows are those of the control's document, what is kept as found in them is what its term finds, and the direction of the
--- last search is one
+-- the stored rows are those of the control's document, what is kept as found in them is what its term finds,
+-- and the direction of the last search is one
 pub record IsFormed (s : PagerState) : Type 0 where
   pub screen : s.screen ≡ searched (term_of s) (document_of (control_of s))
   pub mode : s.search_mode ≡ (control_of s).mode
@@ -72,8 +72,8 @@ pub record IsFormed (s : PagerState) : Type 0 where
 abbrev pub first_settings : Settings
 first_settings = record { prompt = codes "minus"; message = None; prefix = []; is_shown = true; follow = false }
 
--- no text, lines without numbers and wrapped, searches in rows, no styles carried, the marks at the first row and column, nothing selected,
--- no term, and no prompt open
+-- no text, lines without numbers and wrapped, searches in rows, no styles carried, the marks at the first row and
+-- column, nothing selected, no term, and no prompt open
 abbrev pub at_start : ℕ → ℕ → Control
 at_start cols rows = record {
   text = [];

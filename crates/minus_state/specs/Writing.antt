@@ -22,7 +22,8 @@ WritesStored shown i old new =
     → (let d = (viewed shown.view).document in new ≡ old
     ++ written_all (some_row_ops (option_map (ended_in d) (slice_get (stored_rows_for term d) i))))
 
--- the row with a number, if there is one, is added as it is shown where each line is one row and nothing in it is selected
+-- the row with a number, if there is one, is added as it is shown where each line is one
+-- row and nothing in it is selected
 abbrev pub WritesCropped : ShownRows → ℕ → (old new : List ℕ) → Type 0
 WritesCropped shown i old new =
     (term : Option Re) → IsFoundAt term (viewed shown.view) i
@@ -39,4 +40,5 @@ WritesUnmarked shown i old new =
 abbrev pub WritesShown : ShownRows → ℕ → (old new : List ℕ) → Type 0
 WritesShown shown i old new =
     (term : Option Re) → IsFoundAt term (viewed shown.view) i
-    → new ≡ old ++ written_all (some_row_ops (shown_row term (viewed shown.view).document shown.left_mark (ends_in_order shown.ends) i))
+    → new ≡ old ++ written_all
+    (some_row_ops (shown_row term (viewed shown.view).document shown.left_mark (ends_in_order shown.ends) i))

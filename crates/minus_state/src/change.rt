@@ -7,7 +7,7 @@ use crate::search::open_search::SearchChange;
 use crate::selection::SelectionEnds;
 use crate::state::PagerState;
 use crate::state::help::HelpChange;
-use minus_term::{MinusError, top_of};
+use minus_term::MinusError;
 use minus_text::screen::searching::{view_after, view_of};
 use minus_text::{Findings, PendingPush, RowsView, Screen};
 use regex::Regex;
@@ -42,11 +42,11 @@ pub enum Redraw {
 pub enum AppendStyle {
     /// The rows before the first of these numbers stayed, and the second is the number of rows then.
     PartialUpdate((usize, usize)),
-    /// All rows were formed anew.
+    /// All rows were formed again.
     FullRedraw,
 }
 
-// What the prompt row tells of matches: the place of one, counted from 0, and how many there are.
+// What the prompt row reports matches: the place of one, counted from 0, and how many there are.
 #[derive(Clone, Copy, PartialEq, Eq)]
 pub(crate) struct Told {
     pub(crate) place: usize,
@@ -57,18 +57,18 @@ pub(crate) struct Told {
 /// aside while help is open, or more is added to that.
 #[derive(Drop)]
 pub enum NextText {
-    /// The text on show stays, and what is put aside too.
+    /// The displayed text stays, and what is saved too.
     Same,
     /// Another text with its rows. What is large stands in a box: each step moves a change several times.
     Whole(Box<Screen>),
     /// This text is added, and these rows were formed for it.
     Pushed(String, Box<PendingPush>),
-    /// The text on show stays, and this pattern, the term from now on, was found so in its rows. It may be the one whose
-    /// matches the page shows already.
-    Found(Rc<Regex>, Findings),
-    /// Another text in the place of the one that is put aside.
+    /// The displayed text stays, and this pattern, the term from now on, was found so in its rows; without one, nothing
+    /// is searched for any more. It may be the one whose matches the page shows already.
+    Found(Option<Rc<Regex>>, Findings),
+    /// Another text in the place of the one that is saved.
     SavedWhole(String),
-    /// More of the text that is put aside.
+    /// More of the text that is saved.
     SavedMore(String),
 }
 
@@ -77,11 +77,11 @@ impl NextText {
     ghost use Rattle.minus_text.specs.Views.{viewed};
     ghost use Rattle.minus_text.specs.Document.{rows_of};
     ghost use Rattle.minus_text.specs.Found.{jump_rows, match_total, matches_above};
-    ghost use Rattle.minus_text.specs.Jumps.{counted};
+    ghost use Rattle.minus_text.specs.JumpRows.{counted};
     ghost use Rattle.minus_state.specs.ShownPrompt.{told_above, told_match, told_count};
     ghost use Rattle.minus_state.specs.NextTexts.{next_document, next_found, next_searched, Belongs};
 
-    // The rows that there will be, where the text on show stands in a screen.
+    // The rows that there will be, where the displayed text stands in a screen.
     pub(crate) fn view<'a>(&'a self, screen: &'a Screen) -> RowsView<'a>
         requires { Belongs screen.now.document self.now }
         ensures { viewed result ≡ next_searched screen.now self.now }
@@ -94,8 +94,8 @@ impl NextText {
         }
     }
 
-    // The number of rows that there will be, where the text on show stands in a screen.
-    fn row_count(&self, screen: &Screen) -> usize
+    // The number of rows that there will be, where the displayed text stands in a screen.
+    pub(crate) fn row_count(&self, screen: &Screen) -> usize
         ensures { Belongs screen.now.document self.now → result
             ≡ length (rows_of (next_document screen.now.document self.now)) }
     {
@@ -109,7 +109,7 @@ impl NextText {
         }
     }
 
-    // Whether lines will be searched, and not rows, where the text on show stands in a screen.
+    // Whether lines will be searched, and not rows, where the displayed text stands in a screen.
     fn match_lines(&self, screen: &Screen) -> bool
         ensures { result ≡ (next_document screen.now.document self.now).layout.match_lines }
     {
@@ -123,7 +123,7 @@ impl NextText {
         }
     }
 
-    // The number of rows that will match, where the text on show stands in a screen.
+    // The number of rows that will match, where the displayed text stands in a screen.
     fn match_count(&self, screen: &Screen) -> usize
         ensures { result ≡ length (jump_rows (next_found screen.now.found self.now)) }
     {
@@ -179,7 +179,7 @@ impl NextText {
         }
     }
 
-    // How many matches will begin above the row that the prompt row tells of.
+    // How many matches will begin above the row that the prompt row reports.
     fn told_above(&self, screen: &Screen, search_mark: usize) -> usize
         ensures { result ≡ told_above (next_found screen.now.found self.now) search_mark }
     {
@@ -189,7 +189,7 @@ impl NextText {
         }
     }
 
-    // What the prompt row will tell of matches, where the text on show stands in a screen.
+    // What the prompt row will report matches, where the displayed text stands in a screen.
     pub(crate) fn told(&self, screen: &Screen, search_mark: usize) -> Told
         ensures place { result.place ≡ told_match (next_document screen.now.document self.now).layout.match_lines
             (next_found screen.now.found self.now) search_mark }
@@ -276,7 +276,7 @@ pub struct Change {
     pub cols: usize,
     /// The rows of the terminal, the prompt's among them, from 1 to 65,535.
     pub rows: usize,
-    /// The place, counted from 0 among the rows that match, of the one that the prompt row tells of.
+    /// The place, counted from 0 among the rows that match, of the one that the prompt row reports.
     pub search_mark: usize,
     /// The columns that are cut off at the left where lines are not wrapped.
     pub left: usize,
@@ -303,7 +303,7 @@ pub struct Change {
     pub ghost sized: { IsSize cols rows },
 }
 
-// By hand: a derived drop would stand anew in the proof of each function that lets one go.
+// Hand-written: a derived drop would stand again in the proof of each function that lets one go.
 impl Drop for Change {
     fn drop(self) {
         let Change {
@@ -328,31 +328,9 @@ impl Drop for Change {
 }
 
 impl Change {
-    ghost use Rattle.std.specs.Prelude.{◌≡◌, length, OnOk, OnErr, IfErr};
-    ghost use Rattle.minus_text.specs.Document.{rows_of};
+    ghost use Rattle.std.specs.Prelude.{◌≡◌, OnOk, OnErr, IfErr};
     ghost use Rattle.minus_state.specs.Changes.{IsPlaced};
-    ghost use Rattle.minus_state.specs.ClampedMark.{clamped_beside};
-    ghost use Rattle.minus_term.specs.Marks.{top_of};
-    ghost use Rattle.minus_state.specs.NextTexts.{next_document, Belongs};
     ghost use Rattle.minus_state.specs.States.{control_of};
-
-    /// The greatest mark that there will be, where it is formed beside this screen: the row, counted from 0, at which
-    /// the last page of the text is full. It takes no memory.
-    pub fn top(&self, screen: &Screen) -> usize
-        ensures { Belongs screen.now.document self.now.text → result
-            ≡ top_of (length (rows_of (next_document screen.now.document self.now.text))) self.now.rows }
-    {
-        top_of(self.text.row_count(screen), self.rows)
-    }
-
-    /// Clamps the mark: it is at most the greatest one (`top`).
-    pub fn clamp(&mut self, screen: &Screen)
-        ensures belongs { Belongs screen.now.document self.old.text → self.new
-            ≡ clamped_beside screen.now.document self.old }
-        ensures rest { self.new ≡ record self.old { mark = self.new.mark } }
-    {
-        self.mark = self.mark.min(self.top(screen));
-    }
 
     // Puts what was formed in its place in a state. An `Err` leaves the control, the screen and the direction that the
     // state tells.

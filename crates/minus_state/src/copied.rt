@@ -48,7 +48,7 @@ fn place_in_text(screen: &Screen, side: Side, end: Selection) -> usize
 /// its row up to behind the one at the last end's: what stands there in the lines, with its escape sequences
 /// and with the spaces that no row shows, and a newline between two lines. A column past the last visible
 /// character of its row means the row's end, and a row past the last one the end of the last line. `None`
-/// where an end is missing or there is no line. Fails for want of memory alone.
+/// where an end is missing or there is no line. Fails only if memory runs out.
 pub fn extract_selection(
     alloc: Global,
     screen: &Screen,

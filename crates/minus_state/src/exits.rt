@@ -47,7 +47,7 @@ impl<C: Drop> ExitCallbacks<C> {
         self.callbacks.as_slice()
     }
 
-    /// Makes room for this number of callbacks more: so many are added without memory. The callbacks stay, whether
+    /// Makes room for this number of callbacks more: this many are added without memory. The callbacks stay, whether
     /// there is room or not.
     ///
     /// # Errors

@@ -121,7 +121,7 @@ impl<C: Drop> HookList<C> {
         &self.ids
     }
 
-    /// Makes room for this number of callbacks more: so many are added without memory. What is held stays, whether
+    /// Makes room for this number of callbacks more: this many are added without memory. What is held stays, whether
     /// there is room or not.
     ///
     /// # Errors

@@ -10,7 +10,7 @@ use std::alloc::{AllocError, Global};
 pub enum InputEvent {
     /// Move the mark, the first row of text on the page, to this row, counted from 0.
     UpdateUpperMark(usize),
-    /// The terminal has so many columns and rows now, each from 1 to 65,535.
+    /// The terminal has this many columns and rows now, each from 1 to 65,535.
     UpdateTermArea(usize, usize),
     /// Move the left mark, the columns that are cut off at the left where lines are not wrapped, to this column,
     /// counted from 0. It moves to the right only as long as the page does not go beyond the longest line.
@@ -38,17 +38,17 @@ pub enum InputEvent {
     ClearSelection,
     /// Copy what is selected, and select nothing any more.
     CopySelection,
-    /// Open the search prompt for a search in this direction, with an empty query, and let the prompt row tell of the
+    /// Open the search prompt for a search in this direction, with an empty query, and let the prompt row report the
     /// first match from then on; nothing where the direction is unknown.
     Search(SearchMode),
     /// `MoveToNextMatch` by one match.
     NextMatch,
     /// `MoveToPrevMatch` by one match.
     PrevMatch,
-    /// Move the mark to the row of the match that a jump on by so many matches goes to, counted from the mark, past the
-    /// last one on at the first, and let the prompt row tell of that match. Where no row matches, nothing.
+    /// Move the mark to the row of the match that a jump on by this many matches goes to, counted from the mark, past
+    /// the last one on at the first, and let the prompt row report that match. Where no row matches, nothing.
     MoveToNextMatch(usize),
-    /// Let the prompt row tell of the match so many before the one that it tells of, or of the first one, and move the
+    /// Let the prompt row report the match this many before the one that it reports, or of the first one, and move the
     /// mark to its row where that stands above it. Where no row matches, nothing.
     MoveToPrevMatch(usize),
     /// Move to the last page, and go on with what is appended from now on, or no longer.
@@ -63,21 +63,6 @@ pub enum InputEvent {
     Exit,
     /// Nothing.
     Ignore,
-}
-
-impl InputEvent {
-    ghost use Rattle.std.specs.Prelude.{◌≡◌};
-    ghost use Rattle.minus_state.specs.Events.{event_clears};
-
-    /// Whether the typed prefix goes with it: it does unless it is typed to.
-    pub fn clears_prefix(&self) -> bool
-        ensures { result ≡ event_clears self.now }
-    {
-        match self {
-            InputEvent::Number(_) => false,
-            _ => true,
-        }
-    }
 }
 
 /// What decides about the events of a terminal.

@@ -29,8 +29,8 @@ pub struct PromptRow<'p> {
     pub message: Option<&'p str>,
     /// The prefix that was typed; empty where there is none.
     pub prefix: &'p str,
-    /// The place of the match that is shown, counted from 0 among the rows that match, or among all matches where a term
-    /// is searched for in lines.
+    /// The place of the match that is shown, counted from 0 among the rows that match, or among all matches where a
+    /// term is searched for in lines.
     pub search_mark: usize,
     /// How many rows match, or how many matches there are.
     pub match_count: usize,
@@ -106,7 +106,7 @@ impl fmt::Display for Styled<'_> {
 /// The prompt row's text: the message or else the prompt, taken as one piece, cut to its longest front of
 /// whole units or filled with spaces to the columns that the indicators leave; the prefix that was typed;
 /// which match is shown, and of how many; `[F]` where the pager follows its text. Empty where
-/// the prompt is hidden. Fails for want of memory alone.
+/// the prompt is hidden. Fails only if memory runs out.
 pub fn format_prompt(alloc: Global, row: &PromptRow<'_>) -> Result<String, AllocError>
     ensures text { IfOk result (λ text. string_bytes text ≡ prompt_row (seen_prompt row.now)) }
     ensures fills { IfOk result (λ _. row.now.is_shown ≡ true → FillsItsRow (seen_prompt row.now)) }

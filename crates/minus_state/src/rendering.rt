@@ -22,7 +22,7 @@ fn push_row(alloc: Global, rows: &mut Rows, row: Option<ShownRow<'_>>) -> Result
 /// what was found in them in reverse. Where lines are wrapped, a row is as it is stored; otherwise what its
 /// text, the markers of its matches among it, shows of the columns from the left mark on, as many as its
 /// number leaves, behind the number. The visible characters of it that are selected stand in reverse. Fails
-/// for want of memory alone.
+/// only since memory runs out.
 pub fn render_rows_for_display(
     alloc: Global,
     rendering: &ShownRows<'_>,

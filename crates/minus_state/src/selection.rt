@@ -88,7 +88,7 @@ fn visible_at(prefix: usize, cut: usize, column: usize) -> usize
 
 /// Which visible characters of a row are selected, from the first up to but without the other, where there
 /// is one; `None` for a row that is not between the two ends, which are in order. Before the row's text
-/// stands a prefix of so many columns, and so many of the text's columns are cut off at the left. Sums go
+/// stands a prefix of this many columns, and this many of the text's columns are cut off at the left. Sums go
 /// no further than the greatest number: no row has as many characters.
 pub fn marked_range(
     first: Selection,

@@ -146,7 +146,7 @@ impl<'s> ShownRows<'s> {
         }
     }
 
-    // What is shown of a row, counted from 0, if there is one. An `Err` is for want of memory alone.
+    // What is shown of a row, counted from 0, if there is one. An `Err` only means out of memory.
     pub(crate) fn row(self, alloc: Global, i: usize) -> Result<Option<ShownRow<'s>>, AllocError>
         requires { i + 1 < 2 ^ 64 }
         ensures { IfOk result (λ row. IsShownRow self.entry i (option_map row_text row)) }

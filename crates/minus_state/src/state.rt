@@ -1,34 +1,39 @@
-//! What is on show, and how.
+//! What is displayed, and how.
 ghost use Rattle.std.specs.Prelude.{◌≡◌, ◌↔◌, IsTrue, string_bytes, option_map, unwrap_or, OnOk, OnErr, IfOk, IfErr};
 ghost use Rattle.regex.specs.Strings.{regex_pattern};
-ghost use Rattle.minus_text.specs.Views.{viewed};
 ghost use Rattle.minus_state.specs.Aside.{aside_of};
-ghost use Rattle.minus_state.specs.Control.{first_match};
 ghost use Rattle.minus_text.specs.FoundRows.{pattern_of};
 ghost use Rattle.minus_state.specs.ShownPrompt.{has_newline};
 ghost use Rattle.minus_state.specs.Sizes.{IsSize};
 ghost use Rattle.minus_text.specs.Searched.{searched};
 
 pub mod after;
-mod forming;
+mod appending;
+mod confirming;
 pub mod help;
-mod jumps;
-mod keying;
+mod left_mark;
+mod match_jumps;
+mod prompt_keys;
 mod prompting;
+mod query_patterns;
 mod readers;
+mod reforming;
+mod resizing;
+mod search_mark;
 mod selecting;
 mod settings;
 mod term;
 mod texts;
+mod unchanged;
 
 use crate::change::{Change, NextText};
 use crate::search::open_search::OpenSearch;
 use crate::search::{SearchMode, SearchState};
 use crate::selection::{Selection, SelectionEnds};
 use crate::state::help::{Saved, add_aside, replace_aside};
-use crate::state::term::{KeptTerm, kept_pattern};
+use crate::state::term::{KeptTerm, kept_pattern, shared_pattern};
 use minus_term::MinusError;
-use minus_text::{Findings, Layout, LineNumbers, Patterns, RowsView, Screen, Term};
+use minus_text::{Findings, Layout, LineNumbers, Patterns, Screen, Term};
 use regex::Regex;
 use std::alloc::Global;
 use std::rc::Rc;
@@ -68,14 +73,6 @@ fn searching<'t>(patterns: &'t Patterns, term: Option<&'t Regex>) -> Option<Term
     }
 }
 
-// The place of the match that the prompt row tells of where rows were formed anew or another term is searched for: the
-// first one at a mark or behind it, or else the first one; 0 where no row matches.
-fn search_mark_anew(view: RowsView<'_>, mark: usize) -> usize
-    ensures { result ≡ first_match (viewed view.entry).found mark }
-{
-    view.nth_match(mark, 0).unwrap_or(0)
-}
-
 /// How a session was started, or that it runs no more.
 #[derive(Clone, Copy, Debug, PartialEq, Eq)]
 pub enum RunMode {
@@ -107,7 +104,7 @@ pub enum ExitStrategy {
     PagerQuit,
 }
 
-/// What is on show: the text, the size of the terminal, the mark, and what is set beside them.
+/// What is displayed: the text, the size of the terminal, the mark, and what is set beside them.
 #[derive(Debug)]
 pub struct PagerState {
     /// The text with its rows.
@@ -144,7 +141,7 @@ pub struct PagerState {
     pub ghost sized: { IsSize cols rows },
 }
 
-// By hand: a derived drop would stand anew in the proof of each function that lets one go.
+// Hand-written: a derived drop would stand again in the proof of each function that lets one go.
 impl Drop for PagerState {
     fn drop(self) {
         let PagerState {
@@ -183,7 +180,7 @@ impl PagerState {
     ghost use Rattle.minus_state.specs.Aside.{aside_of};
     ghost use Rattle.minus_state.specs.Changes.{WhereLed, KeepsBeside, IsPlaced, IsUnformedState};
 
-    /// No text yet, for a terminal of so many columns and rows.
+    /// No text yet, for a terminal of this many columns and rows.
     ///
     /// # Errors
     ///
@@ -285,13 +282,13 @@ impl PagerState {
         self.search_mode = self.search_state.search_mode;
     }
 
-    // Puts what a pattern found in its place, and the pattern. It stands apart: a function pays for the room of its
-    // largest value whenever it is called.
+    // Puts what a pattern found in its place, and the pattern, or none. It stands apart: a function pays for the room
+    // of its largest value whenever it is called.
     #[inline(never)]
     fn place_found(
         &mut self,
         alloc: Global,
-        pattern: Rc<Regex>,
+        pattern: Option<Rc<Regex>>,
         findings: Findings,
     ) -> Result<(), MinusError>
         ensures document { OnOk result (self.new.screen.document
@@ -308,13 +305,13 @@ impl PagerState {
         ensures mode { OnErr result (self.new.search_mode ≡ self.old.search_mode) }
         ensures memory { IfErr result (λ e. e ≡ MinusError.Memory) }
     {
-        let term = searching(&self.patterns, Some(&*pattern));
+        let term = searching(&self.patterns, shared_pattern(&pattern));
         self.screen.place_findings(alloc, findings, term)?;
-        self.term = Some(KeptTerm::Shown(pattern));
+        self.term = pattern.map(KeptTerm::Shown);
         Ok(())
     }
 
-    // Puts a text that was formed in its place, or where one is put aside. An `Err` leaves the text and its rows.
+    // Puts a text that was formed in its place, or where one is saved. An `Err` leaves the text and its rows.
     pub(crate) fn place_text(&mut self, alloc: Global, text: NextText) -> Result<(), MinusError>
         ensures document { OnOk result (self.new.screen.document ≡ next_document self.old.screen.document text) }
         ensures found { OnOk result (FindsNext (term_of self.old) self.old.screen text self.new.screen) }
@@ -357,8 +354,8 @@ impl PagerState {
         }
     }
 
-    /// Puts what was formed in its place. A push that was prepared for another text is formed anew for this one, and
-    /// what was found in other rows is searched for anew. An `Err` leaves the control and the screen as they were.
+    /// Puts what was formed in its place. A push that was prepared for another text is formed again for this one, and
+    /// what was found in other rows is searched for again. An `Err` leaves the control and the screen as they were.
     ///
     /// # Errors
     ///

@@ -11,7 +11,7 @@ const REVERSE_ON: &str = "\x1b[7m";
 
 const REVERSE_OFF: &str = "\x1b[27m";
 
-// The units from a visible character on, where so many come before it.
+// The units from a visible character on, where this many come before it.
 fn from_visible(units: Units<'_>, count: usize) -> Units<'_>
     ensures units { units_left result ≡ behind_visible count (units_left units.entry) }
     ensures bytes { bytes_left units.entry ≡ text_of (before_visible count (units_left units.entry))

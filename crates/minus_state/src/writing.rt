@@ -1,4 +1,4 @@
-//! What is shown of the rows of a text, added to the bytes of a drawing. An `Err` is for want of memory alone; it may
+//! What is shown of the rows of a text, added to the bytes of a drawing. An `Err` only means out of memory; it may
 //! leave some of a row behind.
 ghost use Rattle.std.specs.Prelude.{◌≡◌, ◌≤◌, ◌++◌, length, take, drop, OnOk};
 ghost use Rattle.minus_text.specs.Styles.{closing};

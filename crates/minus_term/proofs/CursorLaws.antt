@@ -4,7 +4,7 @@ use Rattle.std.specs.List.{flat_map}
 use Rattle.std.proofs.lemmas.Bool.{cases_Bool}
 use Rattle.minus_term.specs.Operations.{Op}
 use Rattle.minus_term.specs.CursorShown.{switched, cursor_shown}
-use Rattle.minus_term.specs.Marks.{page_len}
+use Rattle.minus_term.specs.PageRows.{page_len}
 use Rattle.minus_term.specs.FullRedraw.{row_ops, prompt_ops, full_ops}
 use Rattle.minus_term.specs.Scroll.{scroll_ops}
 use Rattle.minus_term.specs.Append.{rows_anew, append_ops}

@@ -12,7 +12,7 @@ use Rattle.minus_term.specs.Written.{written_all, IsClean, IsRowOf}
 use Rattle.minus_term.proofs.PlayLaws.{Texts, play_all-append}
 use Rattle.minus_term.proofs.WrittenLaws.{ops_added, IsClean-append}
 
--- some rows of text at the top, so many blank ones after them, and the cursor in the first of these
+-- some rows of text at the top, this many blank ones after them, and the cursor in the first of these
 abbrev pub filled : List (List ℕ) → ℕ → Option ℕ → PlayedScreen
 filled front n column = record { texts = map Some front ++ replicate n blank; row = Some (length front); column = column }
 

@@ -196,7 +196,7 @@ screen_of_below page s shown = record {
 pub draws_from : (ops : List Op) (old new : ShownPage) (s : PlayedScreen) → Draws ops old new → Shows s old → Shows (play_all ops s) new
 draws_from ops old new s drawn shown = shows_below new (play_all ops (screen_of old)) (play_all ops s) (play_is_monotone_lem ops (screen_of old) s (screen_of_below old s shown)) drawn
 
--- a screen with so many rows is known at least as well as one of which nothing is
+-- a screen with this many rows is known at least as well as one of which nothing is
 pub unknown_below : (rows : ℕ) (s : PlayedScreen) → length s.texts ≡ rows → IsBelow (unknown_screen rows) s
 unknown_below rows s e = record { texts = rw (sym e) (unknown_texts_below s.texts s.texts refl); row = tt; column = tt }
 

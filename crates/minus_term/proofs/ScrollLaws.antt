@@ -61,7 +61,7 @@ page_texts rows xs prompt = ap (λ (ys : List (List ℕ)). ys ++ prompt ∷ []) 
 
 -- ---- rows of text that are drawn into blank rows above others
 
--- some rows of text at the top, so many blank ones and some more, and the cursor in the first of the blank ones
+-- some rows of text at the top, this many blank ones and some more, and the cursor in the first of the blank ones
 abbrev pub filling : List (List ℕ) → ℕ → Texts → Option ℕ → PlayedScreen
 filling front n below column = record { texts = (map Some front ++ replicate n blank) ++ below; row = Some (length front); column = column }
 

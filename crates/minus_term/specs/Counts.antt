@@ -1,10 +1,11 @@
--- What a sink tells: the bytes that it holds, how many of its calls it refused, how often it was settled, and whether it is a terminal.
-use Rattle.std.specs.Prelude.{◌≡◌, ℕ, ◌+◌, ◌-◌, ◌^◌, ◌<◌, ◌≤◌, ◌==◌, ◌++◌, Bool, true, false, if◌then◌else◌, Option, None, Some, Result, Ok, Err, List, length}
-use Rattle.std.specs.Prelude.{take, min, ⊤}
+-- What a sink tells: the bytes that it holds, how many of its calls it refused, how often it
+-- was settled, and whether it is a terminal.
+use Rattle.std.specs.Prelude.{◌≡◌, ℕ, ◌+◌, ◌-◌, ◌^◌, ◌<◌, ◌≤◌, ◌==◌, ◌++◌, Bool, true, false, if◌then◌else◌, Option}
+use Rattle.std.specs.Prelude.{None, Some, Result, Ok, Err, List, length, take, min, ⊤}
 use Rattle.std.specs.Io.KnownBytes.{Appends}
 
--- the bytes that a sink holds, the number of its calls that it refused, and how often it was settled, refused or not, each where the sink
--- tells it; and whether it is a terminal
+-- the bytes that a sink holds, the number of its calls that it refused, and how often it was settled, refused or not,
+-- each where the sink tells it; and whether it is a terminal
 pub record SinkSeen : Type 0 where
   pub bytes : Option (List ℕ)
   pub refusals : Option ℕ
@@ -27,7 +28,7 @@ CountsCall (Some m) None refused = ⊤
 CountsCall (Some m) (Some n) true = n ≡ m + 1
 CountsCall (Some m) (Some n) false = n ≡ m
 
--- over some calls a count rose by so many, where it is told before and after them
+-- over some calls a count rose by `more`, where it is told before and after them; a count that is not told stays so
 abbrev pub RisesBy : Option ℕ → Option ℕ → ℕ → Type 0
 RisesBy None None more = ⊤
 RisesBy None (Some n) more = ⊥

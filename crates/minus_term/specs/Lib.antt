@@ -3,12 +3,14 @@ pub mod Operations
 pub mod PlayedScreen
 pub mod Puts
 pub mod CursorShown
-pub mod Marks
+pub mod PageRows
+pub mod Top
 pub mod Counts
 pub mod FullRedraw
 pub mod Scroll
 pub mod Append
 pub mod SearchPrompt
+pub mod RefusalNumbers
 pub mod Refusals
 pub mod Written
 pub mod Terminal

@@ -32,7 +32,8 @@ normal_form key = record {
 
 -- a key with another code and other modifiers
 abbrev pub with_code : KeyEvent → KeyCode → ℕ → KeyEvent
-with_code key code modifiers = record { code = code; modifiers = record { 0 = modifiers }; kind = key.kind; state = key.state }
+with_code key code modifiers =
+    record { code = code; modifiers = record { 0 = modifiers }; kind = key.kind; state = key.state }
 
 -- what compares keys finds those of one normal form equal
 abbrev pub KeysOfOneNormalFormAreEqual : (KeyEvent → KeyEvent → Bool) → Type 0
@@ -46,5 +47,7 @@ EqualKeysHashEqually equal writes = (a b : KeyEvent) → equal a b ≡ true → 
 abbrev pub LettersWithShiftAreCapitals : (KeyEvent → KeyEvent → Bool) → Type 0
 LettersWithShiftAreCapitals equal =
     (key : KeyEvent) (letter modifiers : ℕ) → is_ascii_lowercase letter ≡ true →
-    (equal (with_code key (Char letter) (bit_or modifiers shift)) (with_code key (Char (to_ascii_uppercase letter)) (bit_or modifiers shift)) ≡ true)
-    × (equal (with_code key (Char letter) (bit_or modifiers shift)) (with_code key (Char (to_ascii_uppercase letter)) modifiers) ≡ true)
+    (equal (with_code key (Char letter) (bit_or modifiers shift))
+    (with_code key (Char (to_ascii_uppercase letter)) (bit_or modifiers shift)) ≡ true)
+    × (equal (with_code key (Char letter) (bit_or modifiers shift))
+    (with_code key (Char (to_ascii_uppercase letter)) modifiers) ≡ true)

@@ -1,10 +1,12 @@
 -- A terminal's screen as far as it is known, and what operations leave of it.
-use Rattle.std.specs.Prelude.{◌≡◌, ℕ, ◌+◌, ◌-◌, nat_le, min, List, [], ◌∷◌, ◌++◌, length, map, take, drop, replicate, Option, Some, None, IfSome, slice_set}
-use Rattle.std.specs.Prelude.{slice_index_or, if◌then◌else◌, Bool}
+use Rattle.std.specs.Prelude.{◌≡◌, ℕ, ◌+◌, ◌-◌, nat_le, min, List, [], ◌∷◌, ◌++◌, length, map, take, drop, replicate}
+use Rattle.std.specs.Prelude.{Option, Some, None, IfSome, slice_set, slice_index_or, if◌then◌else◌, Bool}
 use Rattle.std.specs.Option.{option_map}
-use Rattle.minus_term.specs.Operations.{Op, ClearAll, ClearRow, GoTo, Return, NextRow, Put, ScrollUp, ScrollDown, ShowCursor, HideCursor}
+use Rattle.minus_term.specs.Operations.{Op, ClearAll, ClearRow, GoTo, Return, NextRow, Put, ScrollUp, ScrollDown}
+use Rattle.minus_term.specs.Operations.{ShowCursor, HideCursor}
 
--- a page that a screen is to show: the text of each of its rows and, where the cursor has a place in the last row, its column
+-- a page that a screen is to show: the text of each of its rows and, where the cursor has
+-- a place in the last row, its column
 pub record ShownPage : Type 0 where
   pub texts : List (List ℕ)
   pub cursor : Option ℕ
@@ -23,7 +25,7 @@ blank = Some []
 abbrev pub unknown_texts : List (Option (List ℕ)) → List (Option (List ℕ))
 unknown_texts texts = replicate (length texts) None
 
--- whether a row is the last of so many
+-- whether a row, counted from 0, is the last row of a screen with this number of rows, or lies behind it
 abbrev pub is_last_row : ℕ → ℕ → Bool
 is_last_row rows row = nat_le rows (row + 1)
 
@@ -50,7 +52,7 @@ abbrev pub next_texts : List (Option (List ℕ)) → Option ℕ → List (Option
 next_texts texts None = unknown_texts texts
 next_texts texts (Some row) = if is_last_row (length texts) row then scrolled_up 1 texts else texts
 
--- the cursor's row after it went to the next one of so many
+-- the cursor's row after it went to the next row of a screen with this number of rows: in the last row it stays
 abbrev pub next_row : ℕ → Option ℕ → Option ℕ
 next_row rows None = None
 next_row rows (Some row) = if is_last_row rows row then Some row else Some (row + 1)
@@ -73,13 +75,17 @@ abbrev pub play_all : List Op → PlayedScreen → PlayedScreen
 play_all [] s = s
 play_all (op ∷ ops) s = play_all ops (play op s)
 
--- a screen with so many rows, of which nothing is known
+-- a screen with this number of rows, of which nothing is known
 abbrev pub unknown_screen : ℕ → PlayedScreen
 unknown_screen rows = record { texts = replicate rows None; row = None; column = None }
 
 -- what is known of a screen that shows the page: its texts and, where the page has a cursor, the cursor's place
 abbrev pub screen_of : ShownPage → PlayedScreen
-screen_of page = record { texts = map Some page.texts; row = option_map (λ column. length page.texts - 1) page.cursor; column = page.cursor }
+screen_of page = record {
+  texts = map Some page.texts;
+  row = option_map (λ column. length page.texts - 1) page.cursor;
+  column = page.cursor;
+}
 
 -- the screen's rows are known to be the page's and, where the page has a cursor, the cursor to be there
 pub record Shows (screen : PlayedScreen) (page : ShownPage) : Type 0 where
@@ -111,7 +117,8 @@ pub record IsBelow (s t : PlayedScreen) : Type 0 where
 -- what operations show on a screen of which nothing is known, they show on every screen with as many rows
 abbrev pub UnknownStandsForAll : Type 0
 UnknownStandsForAll =
-    (ops : List Op) (page : ShownPage) (s : PlayedScreen) → Shows (play_all ops (unknown_screen (length s.texts))) page → Shows (play_all ops s) page
+    (ops : List Op) (page : ShownPage) (s : PlayedScreen) → Shows (play_all ops (unknown_screen (length s.texts))) page
+    → Shows (play_all ops s) page
 
 -- what a play makes known from a screen, it makes known from each screen of which more is known
 abbrev pub PlayIsMonotone : Type 0

@@ -1,38 +1,18 @@
--- The number and the kind of each refusal.
+-- The kind of each refusal.
 use Rattle.std.specs.Prelude.{ℕ}
 use Rattle.minus_term.specs.declared.error.SetupError.{SetupError}
 use Rattle.minus_term.specs.declared.error.CleanupError.{CleanupError}
 use Rattle.minus_term.specs.declared.error.DescriptionError.{DescriptionError}
 use Rattle.minus_term.specs.declared.error.MinusError.{MinusError}
 use Rattle.minus_term.specs.declared.hooks.Hook.{Hook}
-use Rattle.minus_term.specs.declared.error.MinusError.TheVariants.{Memory, NewlineInPrompt, HookIdTaken, NoFreeHookId, BadSize, BadDescription, Bound}
-use Rattle.minus_term.specs.declared.error.MinusError.TheVariants.{QueryFull, BadMode, Failed, Ended, Setup, Cleanup, Draw, HandleEvent, Cursor, FmtWriteError}
-use Rattle.minus_term.specs.declared.error.MinusError.TheVariants.{Conversion, SearchExpError}
+use Rattle.minus_term.specs.declared.error.MinusError.TheVariants.{Memory, NewlineInPrompt, HookIdTaken, NoFreeHookId}
+use Rattle.minus_term.specs.declared.error.MinusError.TheVariants.{BadSize, BadDescription, Bound, QueryFull, BadMode}
+use Rattle.minus_term.specs.declared.error.MinusError.TheVariants.{Failed, Ended, Setup, Cleanup, Draw, HandleEvent}
+use Rattle.minus_term.specs.declared.error.MinusError.TheVariants.{Cursor, FmtWriteError, Conversion, SearchExpError}
 
--- the number by which a refusal is named; 0 where it has none
-abbrev pub number_of : MinusError → ℕ
-number_of Memory = 1
-number_of NewlineInPrompt = 2
-number_of (HookIdTaken hook id) = 3
-number_of NoFreeHookId = 4
-number_of (BadSize columns rows) = 5
-number_of (BadDescription place cause) = 6
-number_of (Bound place) = 7
-number_of QueryFull = 8
-number_of BadMode = 9
-number_of Failed = 10
-number_of Ended = 11
-number_of (Setup cause) = 12
-number_of (Cleanup cause) = 13
-number_of (Draw cause) = 14
-number_of (SearchExpError cause) = 15
-number_of (FmtWriteError cause) = 16
-number_of (HandleEvent cause) = 0
-number_of (Cursor cause) = 0
-number_of Conversion = 0
-
--- the kinds of refusals that contracts tell apart: out of memory; for a newline, a hook's id, a size, a description, a binding, a query or a mode;
--- after a failure or an exit; by the sink, at the setup, the cleanup or a drawing; for a pattern; and those that no call of the pager answers
+-- the kinds of refusals that contracts tell apart: out of memory; for a newline, a hook's id, a size, a description, a
+-- binding, a query or a mode; after a failure or an exit; by the sink, at the setup, the cleanup or a drawing; for a
+-- pattern; and those that no call of the pager answers
 pub data Refusal : Type 0 where
   for_memory : Refusal
   for_newline : Refusal
@@ -51,6 +31,7 @@ pub data Refusal : Type 0 where
   for_pattern : Refusal
   of_no_call : Refusal
 
+-- the kind of refusal that an error is
 abbrev pub refusal_of : MinusError → Refusal
 refusal_of Memory = for_memory
 refusal_of NewlineInPrompt = for_newline

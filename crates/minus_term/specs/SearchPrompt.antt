@@ -5,11 +5,13 @@ use Rattle.minus_term.specs.FullRedraw.{full_ops, page_of}
 use Rattle.minus_term.specs.PlayedScreen.{ShownPage, PlayedScreen, Shows, Draws, play_all}
 use Rattle.minus_term.specs.Puts.{puts}
 
--- the page with what is typed, the mark and the query behind it, in its last row, and the cursor at a column of that row
+-- the page with what is typed, the mark and the query behind it, in its last row, and the
+-- cursor at a column of that row
 abbrev pub typed_page : ℕ → List (List ℕ) → List ℕ → ℕ → ShownPage
 typed_page rows shown typed cursor = record (page_of rows shown typed) { cursor = Some cursor }
 
--- the search prompt opens in the last of so many rows: the row is cleared, the mark is put, and the cursor is shown behind it
+-- the operations that open the search prompt in the last row of a terminal with this number of rows: the row is
+-- cleared, the mark is put, and the cursor is shown behind it
 abbrev pub opening_ops : ℕ → List ℕ → List Op
 opening_ops rows mark = GoTo 0 rows ∷ ClearRow ∷ Put mark ∷ ShowCursor ∷ GoTo 1 rows ∷ []
 
@@ -33,7 +35,9 @@ OpeningShowsItsPage =
 
 -- an opening puts no text but the mark, which is not counted, since it is put last and into the last row
 abbrev pub OpeningPutsNone : Type 0
-OpeningPutsNone = (rows : ℕ) (mark : List ℕ) (s : PlayedScreen) → 1 ≤ rows → length s.texts ≡ rows → puts (opening_ops rows mark) s ≡ 0
+OpeningPutsNone =
+    (rows : ℕ) (mark : List ℕ) (s : PlayedScreen) → 1 ≤ rows → length s.texts ≡ rows
+    → puts (opening_ops rows mark) s ≡ 0
 
 -- a moved cursor leads from the page with the cursor at one column to the page with it at another
 abbrev pub CursorShowsItsPage : Type 0
@@ -44,22 +48,27 @@ CursorShowsItsPage =
 -- an edit shows its page and the cursor, whatever the screen showed before
 abbrev pub EditShowsItsPage : Type 0
 EditShowsItsPage =
-    (rows : ℕ) (shown : List (List ℕ)) (typed : List ℕ) (cursor : ℕ) (s : PlayedScreen) → length s.texts ≡ rows → length shown < rows
+    (rows : ℕ) (shown : List (List ℕ)) (typed : List ℕ) (cursor : ℕ) (s : PlayedScreen) → length s.texts ≡ rows
+    → length shown < rows
     → Shows (play_all (edit_ops rows shown typed cursor) s) (typed_page rows shown typed cursor)
 
 -- a closing shows its page, whatever the screen showed before
 abbrev pub ClosingShowsItsPage : Type 0
 ClosingShowsItsPage =
-    (rows : ℕ) (shown : List (List ℕ)) (prompt : List ℕ) (s : PlayedScreen) → length s.texts ≡ rows → length shown < rows
+    (rows : ℕ) (shown : List (List ℕ)) (prompt : List ℕ) (s : PlayedScreen) → length s.texts ≡ rows
+    → length shown < rows
     → Shows (play_all (closing_ops rows shown prompt) s) (page_of rows shown prompt)
 
--- both put no more texts than the page has rows of text, the last row aside
+-- an edit puts no more texts than there are shown rows; the last row is not counted
 abbrev pub EditPutsFew : Type 0
 EditPutsFew =
-    (rows : ℕ) (shown : List (List ℕ)) (typed : List ℕ) (cursor : ℕ) (s : PlayedScreen) → length s.texts ≡ rows → length shown < rows
+    (rows : ℕ) (shown : List (List ℕ)) (typed : List ℕ) (cursor : ℕ) (s : PlayedScreen) → length s.texts ≡ rows
+    → length shown < rows
     → puts (edit_ops rows shown typed cursor) s ≤ length shown
 
+-- a closing puts no more texts than there are shown rows; the last row is not counted
 abbrev pub ClosingPutsFew : Type 0
 ClosingPutsFew =
-    (rows : ℕ) (shown : List (List ℕ)) (prompt : List ℕ) (s : PlayedScreen) → length s.texts ≡ rows → length shown < rows
+    (rows : ℕ) (shown : List (List ℕ)) (prompt : List ℕ) (s : PlayedScreen) → length s.texts ≡ rows
+    → length shown < rows
     → puts (closing_ops rows shown prompt) s ≤ length shown

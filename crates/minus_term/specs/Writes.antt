@@ -16,10 +16,12 @@ raw_lines initial lines = flat_map (λ line. initial ++ line ++ codes "\n") line
 
 -- the one error of a write of these bytes by the sink, and what it leaves: a beginning of them, and a count that rose
 abbrev pub SinkRefuses : {S : Type 0} → (S → SinkSeen) → MinusError → S → S → List ℕ → Type 0
-SinkRefuses seen (Draw cause) old new bytes = AppendsFront (seen old).bytes (seen new).bytes bytes × Rises (seen old).refusals (seen new).refusals
+SinkRefuses seen (Draw cause) old new bytes =
+    AppendsFront (seen old).bytes (seen new).bytes bytes × Rises (seen old).refusals (seen new).refusals
 SinkRefuses seen error old new bytes = ⊥
 
--- the two errors where the bytes are formed first: for want of memory the sink stays as it was
+-- the two errors of a write of bytes that are formed first, and what each leaves: after one of memory the sink is as it
+-- was, and a refusal by the sink leaves what `SinkRefuses` says
 abbrev pub WriteRefuses : {S : Type 0} → (S → SinkSeen) → MinusError → S → S → List ℕ → Type 0
 WriteRefuses seen Memory old new bytes = new ≡ old
 WriteRefuses seen (Draw cause) old new bytes = SinkRefuses seen (Draw cause) old new bytes

@@ -1,6 +1,8 @@
 -- The bytes of the operations, and the lists of operations that put nothing but rows of pages.
-use Rattle.std.specs.Prelude.{◌≡◌, ℕ, ◌+◌, ◌==◌, List, [], ◌∷◌, ◌++◌, flat_map, if◌then◌else◌, decimal, codes, Contains, ◌⊎◌, ⊤}
-use Rattle.minus_term.specs.Operations.{Op, ClearAll, ClearRow, GoTo, Return, NextRow, Put, ScrollUp, ScrollDown, ShowCursor, HideCursor}
+use Rattle.std.specs.Prelude.{◌≡◌, ℕ, ◌+◌, ◌==◌, List, [], ◌∷◌, ◌++◌, flat_map, if◌then◌else◌, decimal, codes, Contains}
+use Rattle.std.specs.Prelude.{◌⊎◌, ⊤}
+use Rattle.minus_term.specs.Operations.{Op, ClearAll, ClearRow, GoTo, Return, NextRow, Put, ScrollUp, ScrollDown}
+use Rattle.minus_term.specs.Operations.{ShowCursor, HideCursor}
 use Rattle.minus_term.specs.PlayedScreen.{ShownPage}
 
 -- the escape character and `[`, by which a control sequence of a terminal begins

@@ -25,9 +25,9 @@ pub enum DrawOp<'a> {
     NextRow,
     /// Puts a text at the cursor.
     Put(&'a str),
-    /// Moves the rows up, by so many.
+    /// Moves the rows up, by this many.
     ScrollUp(u16),
-    /// Moves the rows down, by so many.
+    /// Moves the rows down, by this many.
     ScrollDown(u16),
     /// Makes the cursor visible.
     ShowCursor,
@@ -95,6 +95,15 @@ pub(crate) fn push_go_to(out: &mut Vec<u8>, x: u16, y: u16) -> Result<(), AllocE
     let end = write_number(&mut bytes, end, row);
     let start = write_escape(&mut bytes, end);
     push_bytes(out, &bytes[start..])
+}
+
+// Adds a move to the first column of a row, which is counted from 0, and these bytes.
+pub(crate) fn push_at_row(out: &mut Vec<u8>, row: u16, then: &[u8]) -> Result<(), AllocError>
+    ensures { OnOk result (out.new.items ≡ out.old.items ++ (written (GoTo 0 row) ++ then.now)) }
+{
+    push_go_to(out, 0, row)?;
+    push_bytes(out, then)?;
+    Ok(())
 }
 
 // Adds the bytes that move the rows by n, with the direction's letter, or on an error none of them; none for 0.

@@ -1,6 +1,6 @@
 //! The errors of the pager.
 ghost use Rattle.std.specs.Prelude.{◌≡◌};
-ghost use Rattle.minus_term.specs.Refusals.{number_of};
+ghost use Rattle.minus_term.specs.RefusalNumbers.{number_of};
 ghost use Rattle.minus_term.specs.declared.error.MinusError.TheVariants.{Memory, BadDescription, Setup, Cleanup, Draw};
 ghost use Rattle.minus_term.specs.declared.error.MinusError.TheVariants.{Cursor, FmtWriteError, SearchExpError};
 
@@ -74,7 +74,7 @@ pub enum MinusError {
     /// The greatest id that is held is `u64::MAX`, so that no next one is free.
     #[error("refused 4")]
     NoFreeHookId,
-    /// So many columns and rows are out of range.
+    /// This many columns and rows are out of range.
     #[error("refused 5")]
     BadSize(usize, usize),
     /// The description at this place of a list, counted from 0, describes nothing.

@@ -8,12 +8,13 @@ pub mod error;
 pub mod event;
 mod full_redraw;
 pub mod hooks;
-pub mod marks;
 mod page_parts;
+pub mod page_rows;
 pub mod search_prompt;
 pub mod sink;
 pub mod sinks;
 pub mod term;
+pub mod top;
 pub mod with_tty;
 pub mod wrappers;
 pub mod writes;
@@ -32,13 +33,12 @@ pub use event::{
     Event, KeyCode, KeyEvent, KeyEventKind, KeyEventState, KeyModifiers, MouseButton, MouseEvent,
     MouseEventKind,
 };
-pub use full_redraw::write_page;
-pub use hooks::Hook;
-pub use marks::{page_len, top_of};
-pub use page_parts::{
-    write_closing_start, write_down_start, write_page_start, write_prompt_row, write_row,
-    write_row_end, write_row_start, write_up_start,
+pub use full_redraw::{
+    write_page, write_page_start, write_prompt_row, write_row, write_row_end, write_row_start,
 };
+pub use hooks::Hook;
+pub use page_parts::{write_closing_start, write_down_start, write_up_start};
+pub use page_rows::page_len;
 pub use search_prompt::{
     closing_puts_few, closing_shows_its_page, cursor_shows_its_page, edit_puts_few,
     edit_shows_its_page, opening_puts_none, opening_shows_its_page, write_search_cursor,
@@ -46,5 +46,6 @@ pub use search_prompt::{
 };
 pub use sink::{OutputSink, draw_bytes, write_bytes};
 pub use term::{cleanup, setup};
+pub use top::top_of;
 pub use with_tty::WithTty;
 pub use writes::{clear_entire_screen, move_cursor, write_raw_lines};

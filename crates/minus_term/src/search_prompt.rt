@@ -1,4 +1,4 @@
-//! The drawings of the search prompt, added to a buffer, and their laws. They go to its row as the one after so many
+//! The drawings of the search prompt, added to a buffer, and their laws. They go to its row as the one after this many
 //! rows, since a terminal stops at the last.
 ghost use Rattle.std.specs.Prelude.{◌≡◌, ◌++◌, OnOk};
 ghost use Rattle.minus_term.specs.SearchPrompt.{opening_ops, cursor_ops};
@@ -9,7 +9,7 @@ ghost use Rattle.minus_term.specs.Written.{written_all};
 use crate::draw::{DrawOp, write_ops};
 use std::alloc::{AllocError, Global};
 
-/// Adds the bytes that open the search prompt to a buffer: the last of so many rows is cleared, the mark, which takes
+/// Adds the bytes that open the search prompt to a buffer: the last of this many rows is cleared, the mark, which takes
 /// one column, is put there, and the cursor is shown behind it, in column 1, counted from 0.
 ///
 /// # Errors
@@ -37,7 +37,7 @@ pub fn write_search_opening(
 }
 
 /// Adds the bytes that move the cursor of the search prompt to a buffer: to a column, counted from 0, of the last of
-/// so many rows.
+/// this many rows.
 ///
 /// # Errors
 ///

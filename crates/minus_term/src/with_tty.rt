@@ -15,7 +15,7 @@ pub struct WithTty<W> {
     pub inner: W,
     /// Whether it is a terminal.
     pub tty: bool,
-    /// How many writes and flushes the writer refused, a write that took nothing among them; so many or more at
+    /// How many writes and flushes the writer refused, a write that took nothing among them; this many or more at
     /// `u64::MAX`.
     pub refusals: u64,
     /// How often the writer was flushed, also where it refused that; so often or more at `u64::MAX`.

@@ -15,7 +15,7 @@ use Rattle.minus_text.specs.declared.layout.Wrap.{Wrap}
 use Rattle.minus_text.specs.declared.layout.Layout.{Layout}
 use Rattle.minus_text.specs.declared.formed.Formed.{Formed}
 use Rattle.minus_text.specs.declared.screen.FormatResult.{FormatResult}
-use Rattle.minus_text.specs.Prefixes.{is_on, prefix}
+use Rattle.minus_text.specs.NumberPrefix.{is_on, prefix}
 use Rattle.minus_text.specs.Lines.{unfinished_line}
 use Rattle.minus_text.specs.Layouts.{own_rows, wrap_of}
 use Rattle.minus_text.specs.LineMaps.{IsLineOfRow}

@@ -12,7 +12,8 @@ use Rattle.minus_text.specs.Units.{char_columns, is_final, begins_sequence, unit
 use Rattle.minus_text.specs.Runs.{IsRun, IsFull, AreRuns}
 use Rattle.minus_text.specs.TheRuns.{the_runs}
 use Rattle.minus_text.specs.Fronts.{is_wide, fits_front, front_rule}
-use Rattle.minus_text.specs.Pieces.{fronts, parts, part_len_after, begins_alphanumeric}
+use Rattle.minus_text.specs.Pieces.{fronts}
+use Rattle.minus_text.specs.Hyphens.{parts, part_len_after, begins_alphanumeric}
 use Rattle.minus_text.proofs.CutsLaws.{cuts-nil, cuts-cons, cuts_first}
 use Rattle.minus_text.proofs.UnitsLaws.{unit_rule, units_join, unit_sequence, unit_character}
 use Rattle.minus_text.proofs.FrontsLaws.{concat-append}
@@ -97,7 +98,8 @@ unit_front : (u rest : List ℕ) → 0 < length u → unit_len (u ++ rest) ≡ l
 unit_front u rest some len =
     cuts_first unit_len unit_rule (u ++ rest) u rest (omega (arith, length-append u rest)) (sym (ap (λ n. take n (u ++ rest)) len ∙ take_at u rest (length u) refl)) (sym (ap (λ n. drop n (u ++ rest)) len ∙ drop_at u rest (length u) refl))
 
--- units that end before a character are the same whatever follows it, and the others are those of what stands from it on
+-- units that end before a character are the same whatever follows it, and the others are those of what stands from it
+-- on
 units_stay : (us vs : List (List ℕ)) (c : ℕ) (ys zs : List ℕ) → units (concat us ++ c ∷ ys) ≡ us ++ vs → units (concat us ++ c ∷ zs) ≡ us ++ units (c ∷ zs)
 units_stay [] vs c ys zs e = refl
 units_stay (u ∷ us) vs c ys zs e =

@@ -7,7 +7,7 @@ use Rattle.std.proofs.lemmas.List.{length-append, length-replicate, nil_from_len
 use Rattle.std.proofs.lemmas.List.Sums.{sum_by-cons}
 use Rattle.std.proofs.lemmas.Str.{chars-append, encodes-append, encodes-chars, chars-IsAscii}
 use Rattle.minus_text.specs.Units.{body_of, units, unit_columns}
-use Rattle.minus_text.specs.Measures.{SplitsUnit}
+use Rattle.minus_text.specs.MeasuredPieces.{SplitsUnit}
 use Rattle.minus_text.proofs.WordsLaws.{spaces_encode}
 
 body_spaces : (n : ℕ) → body_of (replicate n 32) ≡ []

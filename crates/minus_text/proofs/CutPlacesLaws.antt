@@ -6,11 +6,12 @@ use Rattle.std.proofs.lemmas.Bool.{cases_Bool, and_parts, and_from, le-leb, leb-
 use Rattle.std.proofs.lemmas.List.{append-nil, length-append, length-drop, length-take-le, drop-drop, drop_all, take-append-drop, drop_more, take_more, get_or-drop}
 use Rattle.std.proofs.lemmas.List.Folds.{list_all-append}
 use Rattle.minus_text.specs.Plain.{is_printable}
-use Rattle.minus_text.specs.Pieces.{pieces, is_space, part_len_after, begins_alphanumeric}
+use Rattle.minus_text.specs.Pieces.{pieces, is_space}
+use Rattle.minus_text.specs.Hyphens.{part_len_after, begins_alphanumeric}
 use Rattle.minus_text.specs.Rows.{line_places}
 use Rattle.minus_text.specs.Kept.{moved}
 use Rattle.minus_text.specs.LineCuts.{is_behind_joint, is_cut, HasNoCut, HasSpaces, CutsRow}
-use Rattle.minus_text.specs.declared.wrap.Span.{Span}
+use Rattle.minus_text.specs.declared.rows.Span.{Span}
 use Rattle.minus_text.specs.declared.line_cuts.RowCut.{RowCut}
 use Rattle.minus_text.proofs.CutSeamsLaws.{BeginsWord, pieces_seam, joint_seam, wide_seam, IsOnePart}
 use Rattle.minus_text.proofs.CutRowLaws.{cut_row, last_row, blank_row}

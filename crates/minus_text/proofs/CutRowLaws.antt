@@ -12,11 +12,12 @@ use Rattle.minus_text.specs.Units.{units}
 use Rattle.minus_text.specs.Runs.{IsRun, IsFull}
 use Rattle.minus_text.specs.TheRuns.{the_runs}
 use Rattle.minus_text.specs.Fronts.{fits_front, front_rule}
-use Rattle.minus_text.specs.Pieces.{Piece, pieces, piece_text, piece_columns, fronts, parts, with_spaces, part_len_after, is_space}
+use Rattle.minus_text.specs.Pieces.{Piece, pieces, piece_text, piece_columns, fronts, with_spaces, is_space}
+use Rattle.minus_text.specs.Hyphens.{parts, part_len_after}
 use Rattle.minus_text.specs.RowRuns.{fits_row, run_columns}
 use Rattle.minus_text.specs.Rows.{the_rows, run_text, row_text, line_places, places}
 use Rattle.minus_text.specs.Kept.{moved}
-use Rattle.minus_text.specs.declared.wrap.Span.{Span}
+use Rattle.minus_text.specs.declared.rows.Span.{Span}
 use Rattle.minus_text.proofs.CutsLaws.{cuts-nil, cuts_join}
 use Rattle.minus_text.proofs.WordsLaws.{part_rule}
 use Rattle.minus_text.proofs.UnitsLaws.{units_join}
@@ -149,7 +150,8 @@ full_by : (cols : ℕ) (run : List Piece) (zs : List ℕ) → ((p : Piece) (ps :
 full_by cols run zs h [] e = tt
 full_by cols run zs h (q ∷ qs) e = h q qs e
 
--- a text ends a row, and the spaces behind it too; the pieces of what follows are those of a line of its own, and the first of them does not fit
+-- a text ends a row, and the spaces behind it too; the pieces of what follows are those of a line of its own, and the
+-- first of them does not fit
 pub cut_row : (cols n : ℕ) (vs : List ℕ) (c : ℕ) (ws more : List ℕ) → is_space c ≡ false → list_all is_printable ((vs ++ c ∷ []) ++ replicate n 32) ≡ true → list_all is_printable (ws ++ more) ≡ true
     → length vs + 1 ≤ cols → 0 < length (ws ++ more) → IsOnePart ws → length ws ≤ cols → cols < (length vs + 1 + n) + length ws
     → (let us : List ℕ = (vs ++ c ∷ []) ++ replicate n 32 in pieces cols (us ++ (ws ++ more)) ≡ pieces cols us ++ pieces cols (ws ++ more)

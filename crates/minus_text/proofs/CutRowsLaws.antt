@@ -3,7 +3,7 @@ use Rattle.std.proofs.Common.{◌≡◌, ℕ, ◌+◌, ◌-◌, ◌≤◌, List,
 use Rattle.std.proofs.lemmas.List.{length-take, take-append-le}
 use Rattle.minus_text.specs.Rows.{line_places}
 use Rattle.minus_text.specs.Kept.{moved}
-use Rattle.minus_text.specs.declared.wrap.Span.{Span}
+use Rattle.minus_text.specs.declared.rows.Span.{Span}
 use Rattle.minus_text.specs.declared.line_cuts.RowCut.{RowCut}
 use Rattle.minus_text.proofs.SeamLaws.{moved_twice}
 

@@ -14,7 +14,8 @@ use Rattle.minus_text.specs.Runs.{IsFull, AreRuns}
 use Rattle.minus_text.specs.TheRuns.{the_runs}
 use Rattle.minus_text.specs.Fronts.{is_wide, fits_front, front_rule}
 use Rattle.minus_text.specs.Singles.{singles}
-use Rattle.minus_text.specs.Pieces.{Piece, is_space, body_len, word_len, words, word_pieces, pieces, parts, part_len_after, begins_alphanumeric, fronts, with_spaces}
+use Rattle.minus_text.specs.Pieces.{Piece, is_space, body_len, word_len, words, word_pieces, pieces, fronts, with_spaces}
+use Rattle.minus_text.specs.Hyphens.{parts, part_len_after, begins_alphanumeric}
 use Rattle.minus_text.specs.Rows.{run_text}
 use Rattle.minus_text.proofs.CutsLaws.{cuts-nil, cuts-cons, cuts_first}
 use Rattle.minus_text.proofs.StretchesLaws.{stretch_stops}

@@ -12,7 +12,8 @@ use Rattle.minus_text.specs.Runs.{IsFull, AreRuns}
 use Rattle.minus_text.specs.RunsLaws.{two_fronts}
 use Rattle.minus_text.specs.TheRuns.{the_runs}
 use Rattle.minus_text.specs.Fronts.{fits_front, front_rule}
-use Rattle.minus_text.specs.Pieces.{Piece, pieces, piece_columns, is_space, body_len, word_len, with_spaces, fronts, parts, part_len_after, begins_alphanumeric}
+use Rattle.minus_text.specs.Pieces.{Piece, pieces, piece_columns, is_space, body_len, word_len, with_spaces, fronts}
+use Rattle.minus_text.specs.Hyphens.{parts, part_len_after, begins_alphanumeric}
 use Rattle.minus_text.proofs.CutsLaws.{cuts-nil, cuts-cons}
 use Rattle.minus_text.proofs.UnitsLaws.{unit_rule, unit_sequence, unit_character}
 use Rattle.minus_text.proofs.WordsLaws.{take_some, fronts_some}
@@ -22,7 +23,7 @@ use Rattle.minus_text.proofs.FirstPieceLaws.{pieces_all, after_is}
 
 -- ---- the first part of a text that goes on
 
--- a part of a text that goes on has so many characters more
+-- a part of a text that goes on has this many characters more
 record Longer (old new more : List ℕ) : Type 0 where
   added : List ℕ
   left : List ℕ
@@ -108,7 +109,8 @@ first_longer cs more =
 
 -- ---- its units
 
--- units of a text that goes on: as many as before have the same columns as before, and the others are units of what follows
+-- units of a text that goes on: as many as before have the same columns as before, and the others are units of what
+-- follows
 record MoreUnits (old new : List (List ℕ)) (more : List ℕ) : Type 0 where
   front : List (List ℕ)
   from : ℕ

@@ -3,7 +3,8 @@ use Rattle.std.proofs.Common.{◌≡◌, ℕ, zero, suc, ◌+◌, ◌-◌, ◌<�
 use Rattle.std.specs.List.{concat, flat_map, prefix_len}
 use Rattle.std.proofs.lemmas.Bool.{cases_Bool}
 use Rattle.std.proofs.lemmas.List.{append-nil, append_cancel_left, length-append, length-replicate, take_at, drop_at, drop-drop, take-append-drop}
-use Rattle.minus_text.specs.Pieces.{Piece, pieces, piece_text, is_space, body_len, word_len, word_pieces, with_spaces, fronts, parts, begins_alphanumeric}
+use Rattle.minus_text.specs.Pieces.{Piece, pieces, piece_text, is_space, body_len, word_len, word_pieces, with_spaces, fronts}
+use Rattle.minus_text.specs.Hyphens.{parts, begins_alphanumeric}
 use Rattle.minus_text.specs.Rows.{run_text}
 use Rattle.minus_text.proofs.CutsLaws.{cuts-nil, cuts-cons}
 use Rattle.minus_text.proofs.WordsLaws.{word_rule, take_spaces}
@@ -353,7 +354,7 @@ pieces_go_on cols before (p ∷ ps) back c ys zs e =
     ap (pieces_after cols before) (all (c ∷ zs)) ∙ stays (xs ++ c ∷ zs) at.other at.other_is ∙ ap (λ qs. p ∷ qs) (pieces_go_on cols flag ps back c ys zs rest)
     ∙ ap (λ b. p ∷ (ps ++ pieces_after cols b (c ∷ zs))) (sym (ends_append before (piece_text p) xs))
 
--- a character at which forming can begin anew: no hyphen behind an ASCII letter or digit that ends a part
+-- a character at which forming can begin again: no hyphen behind an ASCII letter or digit that ends a part
 abbrev pub IsSound : List ℕ → ℕ → List ℕ → Type 0
 IsSound xs c zs = (ends_alphanumeric false xs && (eqb c 45 && begins_alphanumeric zs)) ≡ false
 

@@ -7,7 +7,7 @@ use Rattle.regex.specs.Patterns.{Re}
 use Rattle.std.proofs.lemmas.Bool.{cases_Bool, eqb-true, eq-eqb}
 use Rattle.std.proofs.lemmas.Bool.Decides.{nat_tests}
 use Rattle.std.proofs.lemmas.List.{length-drop}
-use Rattle.minus_text.specs.declared.wrap.Span.{Span}
+use Rattle.minus_text.specs.declared.rows.Span.{Span}
 use Rattle.minus_text.specs.declared.formed.Finished.{Finished}
 use Rattle.minus_text.specs.declared.formed.Border.{Border}
 use Rattle.minus_text.specs.declared.formed.Restart.{Restart}
@@ -110,7 +110,7 @@ tells_found r told rows n found d piece numbers cols is keys at h =
     subst (λ x. TellsWith x (jump_rows (found_from m found)) f m clean) (sym is)
     (subst (λ ks. TellsWith (record told { append_search_idx = rows }) ks f m clean) (keys ∙ ap (λ k. jump_rows (found_from k found)) at) (tells_matches told rows d.layout.match_lines f m clean h))
 
--- what is told of all rows, formed anew
+-- what is reported of all rows, formed again
 pub tells_formed : (r told : FormatResult) (rows : BTreeSet ℕ) (term : Option Re) (found : List RowMatches) (d e : Document) → r ≡ record told { append_search_idx = rows } → rows.keys ≡ jump_rows found
     → found ≡ finds term d → d ≡ e → TellsAll told None e → TellsAll r term e
 tells_formed r told rows term found d e is keys by same h =

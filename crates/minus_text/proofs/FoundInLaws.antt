@@ -73,7 +73,7 @@ place_above row (f ∷ fs) (suc n) le h k =
     let one : suc n ≡ 1 + n = omega arith in
     rw t (one ∙ ap (λ m. 1 + m) (place_above row fs n (omega (arith, le)) (λ i d l. h (suc i) d (omega (arith, l))) (λ i d l m. k (suc i) d (omega (arith, l)) (omega (arith, m)))))
 
--- so many rows stand above one: the last of them does, and the first that follows does not
+-- this many rows stand above one: the last of them does, and the first that follows does not
 pub above_here : (row : ℕ) (fs : List FoundRow) (n : ℕ) → Ascend 0 (map matches_of fs) → n ≤ length fs → ((d : FoundRow) → 0 < n → (get_or fs (n - 1) d).row < row) → ((d : FoundRow) → n < length fs → row ≤ (get_or fs n d).row)
     → n ≡ position_or_len (λ (f : RowMatches). nat_le row f.row) (map matches_of fs)
 above_here row fs n h le before behind =

@@ -51,7 +51,7 @@ all_of_some xs start end i last size bound all from past within = elim (cases_lt
       take_all (i - start) (drop start xs) few ∙ sym (take_all (end - start) (drop start xs) (omega (arith, few, within)))
 ]
 
--- the first so many rows
+-- the first this many rows
 of_front : (re : Re) (k m i : ℕ) (rows : List (List ℕ)) → i < m + k → found_of_row i (found_in_rows re m (take k rows)) ≡ found_of_row i (found_in_rows re m rows)
 of_front re zero m i rows lt = sym (none_later i m (found_in_rows re m rows) (omega (arith, lt)) (rows_ascend re m rows))
 of_front re (suc k) m i [] lt = refl

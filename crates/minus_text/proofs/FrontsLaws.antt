@@ -7,7 +7,7 @@ use Rattle.std.proofs.lemmas.List.{append-nil, length_push}
 use Rattle.std.proofs.lemmas.List.Sums.{sum_by-append}
 use Rattle.minus_text.specs.Units.{units, unit_columns}
 use Rattle.minus_text.specs.Fronts.{is_wide, fits_front}
-use Rattle.minus_text.specs.Measures.{SplitsUnit, SplitsFront}
+use Rattle.minus_text.specs.MeasuredPieces.{SplitsUnit, SplitsFront}
 
 pub concat-append : (xs ys : List (List ℕ)) → concat (xs ++ ys) ≡ concat xs ++ concat ys
 concat-append [] ys = refl

@@ -1,4 +1,5 @@
--- The rows of a line that goes on: those before a row stay where the row's first character stays, with no hyphen that joins it to what stands before, and its first piece takes no fewer columns.
+-- The rows of a line that goes on: those before a row stay where the row's first character stays, with no hyphen that
+-- joins it to what stands before, and its first piece takes no fewer columns.
 use Rattle.std.proofs.Common.{◌≡◌, ℕ, suc, ◌+◌, ◌<◌, false, eqb, List, [], ◌∷◌, ◌++◌, length, map, take, chars, arith, refl, sym, ap, ◌∙◌}
 use Rattle.std.specs.Str.{IsUtf8, encode_utf8_all}
 use Rattle.std.proofs.lemmas.Bool.{ne_eqb}
@@ -7,7 +8,7 @@ use Rattle.std.proofs.lemmas.Str.{chars-append, encodes-append, encodes-chars}
 use Rattle.minus_text.specs.Pieces.{Piece, pieces, piece_text}
 use Rattle.minus_text.specs.RowRuns.{fits_row}
 use Rattle.minus_text.specs.Rows.{the_rows, run_text, row_text, line_runs, line_rows, places, line_places}
-use Rattle.minus_text.specs.declared.wrap.Span.{Span}
+use Rattle.minus_text.specs.declared.rows.Span.{Span}
 use Rattle.minus_text.specs.Kept.{moved}
 use Rattle.minus_text.proofs.RestartLaws.{elements, elements_append, runs_elements, BeginsAsWide, rows_stay}
 use Rattle.minus_text.proofs.FirstPieceLaws.{IsSound, pieces_from}
@@ -42,7 +43,8 @@ places_append at (run ∷ before) after =
     ap (λ ss. let s : Span = record { start = at; end = at + length (encode_utf8_all (row_text run)) } in s ∷ ss)
     (places_append (at + length (encode_utf8_all (run_text run))) before after ∙ ap (λ k. places (at + length (encode_utf8_all (run_text run))) before ++ places k after) e)
 
--- a line in two parts, and another text in the place of the second: both go on alike, and the pieces of each are those of a line of its own
+-- a line in two parts, and another text in the place of the second: both go on alike, and the pieces of each are those
+-- of a line of its own
 pub record GoesOnAs (cols : ℕ) (xs rest others : List ℕ) : Type 0 where
   pub text : IsUtf8 xs
   pub next : ℕ

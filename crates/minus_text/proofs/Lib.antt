@@ -4,7 +4,7 @@ pub mod UnitsLaws
 pub mod FrontsLaws
 pub mod PartsLaws
 pub mod WordsLaws
-pub mod JointsLaws
+pub mod HyphensLaws
 pub mod RowsMeasured
 pub mod PiecesLaws
 pub mod RowsLaws
@@ -40,6 +40,7 @@ pub mod CutSeamsLaws
 pub mod CutRowLaws
 pub mod CutPlacesLaws
 pub mod CutRowsLaws
+pub mod AddedColumnsLaws
 pub mod ShownColumnsLaws
 pub mod LineMapLaws
 pub mod LinesLaws
@@ -81,7 +82,9 @@ pub mod LineLaws
 pub mod TextFindsLaws
 pub mod PartsPlacedLaws
 pub mod JumpLaws
+pub mod JumpNumbersLaws
 pub mod FindsGoOnLaws
 pub mod StoredLineLaws
 pub mod LineRangeLaws
+pub mod FirstJumpLaws
 pub mod RowSearchLaws

@@ -8,12 +8,13 @@ use Rattle.std.proofs.lemmas.List.{append-nil, nil_from_length}
 use Rattle.std.proofs.lemmas.List.Folds.{list_all-append}
 use Rattle.std.proofs.lemmas.List.Sums.{sum_by-append}
 use Rattle.std.proofs.lemmas.Str.{chars-append, chars-IsAscii, encodes-chars, encodes-IsAscii, IsUtf8-from_ascii}
-use Rattle.minus_text.specs.Plain.{is_printable, is_unhyphened}
+use Rattle.minus_text.specs.Plain.{is_printable}
+use Rattle.minus_text.specs.Hyphens.{is_unhyphened, parts, part_len_after, begins_alphanumeric}
 use Rattle.minus_text.specs.Units.{units, unit_len, unit_columns}
 use Rattle.minus_text.specs.Singles.{singles}
-use Rattle.minus_text.specs.Pieces.{fronts, parts, with_spaces, part_len_after, begins_alphanumeric}
-use Rattle.minus_text.specs.declared.wrap.Measured.{Measured}
-use Rattle.minus_text.specs.Measures.{measure}
+use Rattle.minus_text.specs.Pieces.{fronts, with_spaces}
+use Rattle.minus_text.specs.declared.pieces.Measured.{Measured}
+use Rattle.minus_text.specs.MeasuredPieces.{measure}
 use Rattle.minus_text.proofs.CutsLaws.{cuts-nil}
 use Rattle.minus_text.proofs.UnitsLaws.{units_join}
 use Rattle.minus_text.proofs.PartsLaws.{part_empty}

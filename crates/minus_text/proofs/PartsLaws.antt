@@ -10,8 +10,8 @@ use Rattle.minus_text.specs.Runs.{AreRuns}
 use Rattle.minus_text.specs.TheRuns.{the_runs}
 use Rattle.minus_text.specs.Fronts.{fits_front, front_rule}
 use Rattle.minus_text.specs.Pieces.{Piece, fronts, with_spaces}
-use Rattle.minus_text.specs.declared.wrap.Measured.{Measured}
-use Rattle.minus_text.specs.Measures.{measure, SplitsFront}
+use Rattle.minus_text.specs.declared.pieces.Measured.{Measured}
+use Rattle.minus_text.specs.MeasuredPieces.{measure, SplitsFront}
 use Rattle.minus_text.proofs.CutsLaws.{cuts-nil}
 use Rattle.minus_text.proofs.StretchesLaws.{text_split}
 

@@ -13,9 +13,10 @@ use Rattle.minus_text.specs.Units.{units}
 use Rattle.minus_text.specs.Runs.{AreRuns}
 use Rattle.minus_text.specs.TheRuns.{the_runs}
 use Rattle.minus_text.specs.Fronts.{fits_front, front_rule}
-use Rattle.minus_text.specs.Pieces.{Piece, is_space, body_len, word_len, part_len_after, parts, fronts, with_spaces, word_pieces, pieces, piece_text}
+use Rattle.minus_text.specs.Pieces.{Piece, is_space, body_len, word_len, fronts, with_spaces, word_pieces, pieces, piece_text}
+use Rattle.minus_text.specs.Hyphens.{part_len_after, parts}
 use Rattle.minus_text.specs.Rows.{run_text, PiecesJoin}
-use Rattle.minus_text.specs.Measures.{measure, size}
+use Rattle.minus_text.specs.MeasuredPieces.{measure, size}
 use Rattle.minus_text.proofs.CutsLaws.{cuts_join}
 use Rattle.minus_text.proofs.UnitsLaws.{units_join}
 use Rattle.minus_text.proofs.FrontsLaws.{concat-append}

@@ -5,7 +5,7 @@ use Rattle.minus_text.specs.Found.{RowMatches, IsPlaced, IsPlacedIn, ArePlaced, 
 use Rattle.minus_text.specs.LineFinds.{outside_before, between, Stretch, first_start, parts_in, begin_count, finds_in_rows, finds_in_line, finds_in_lines}
 use Rattle.regex.specs.Patterns.{Re}
 use Rattle.minus_text.specs.Rows.{ArePlaces}
-use Rattle.minus_text.specs.declared.wrap.Span.{Span}
+use Rattle.minus_text.specs.declared.rows.Span.{Span}
 use Rattle.minus_text.specs.declared.layout.Wrap.{Wrap}
 use Rattle.minus_text.specs.Layouts.{own_rows, own_places}
 use Rattle.minus_text.specs.Document.{rows_of_lines}

@@ -18,7 +18,7 @@ use Rattle.std.specs.List.{count_by}
 use Rattle.minus_text.specs.Pieces.{Piece, pieces, piece_text, fronts}
 use Rattle.minus_text.specs.RowRuns.{fits_row, run_columns}
 use Rattle.minus_text.specs.Rows.{the_rows, run_text, row_text, line_runs, line_places, places}
-use Rattle.minus_text.specs.declared.wrap.Span.{Span}
+use Rattle.minus_text.specs.declared.rows.Span.{Span}
 use Rattle.minus_text.proofs.UnitsLaws.{units_join}
 use Rattle.minus_text.proofs.PiecesLaws.{pieces_join_lem}
 use Rattle.minus_text.proofs.RowsLaws.{empty_places}

@@ -1,4 +1,5 @@
--- Rows that cannot change: what stands before a run stays where the text from the run on changes, if the first piece of it takes no fewer columns.
+-- Rows that cannot change: what stands before a run stays where the text from the run on changes, if the first piece of
+-- it takes no fewer columns.
 use Rattle.std.proofs.Common.{◌≡◌, ℕ, ◌<◌, ◌≤◌, Bool, true, false, nat_le, List, [], ◌∷◌, ◌++◌, length, arith, refl, sym, ap, ◌∙◌, append_assoc, inl, inr}
 use Rattle.std.proofs.lemmas.Bool.{cases_Bool, leb-true, le-leb, or_cases, or_left, or_right}
 use Rattle.std.proofs.lemmas.List.{length-append, append_cancel_left}

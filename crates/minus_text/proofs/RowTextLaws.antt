@@ -6,7 +6,7 @@ use Rattle.std.specs.Str.Lines.{lines, strip_carriage_return}
 use Rattle.std.proofs.lemmas.Bool.{cases_Bool}
 use Rattle.std.proofs.lemmas.Option.{slice_get-map, slice_get_past}
 use Rattle.std.proofs.lemmas.List.{length-map, map-append}
-use Rattle.minus_text.specs.declared.wrap.Span.{Span}
+use Rattle.minus_text.specs.declared.rows.Span.{Span}
 use Rattle.minus_text.specs.declared.formed.Finished.{Finished}
 use Rattle.minus_text.specs.declared.formed.Border.{Border}
 use Rattle.minus_text.specs.declared.layout.Wrap.{Wrap}

@@ -9,7 +9,8 @@ use Rattle.minus_text.specs.Units.{units, unit_columns}
 use Rattle.minus_text.specs.Runs.{AreRuns}
 use Rattle.minus_text.specs.TheRuns.{the_runs}
 use Rattle.minus_text.specs.Fronts.{is_wide, fits_front, front_rule}
-use Rattle.minus_text.specs.Pieces.{Piece, fronts, parts, with_spaces, word_pieces, words, body_len, pieces}
+use Rattle.minus_text.specs.Pieces.{Piece, fronts, with_spaces, word_pieces, words, body_len, pieces}
+use Rattle.minus_text.specs.Hyphens.{parts}
 use Rattle.minus_text.specs.RowRuns.{run_columns, fits_row}
 use Rattle.minus_text.specs.Rows.{the_rows, line_runs, HoldsOneWide, RowsFit}
 

@@ -11,9 +11,9 @@ use Rattle.minus_text.specs.RunsLaws.{same_runs}
 use Rattle.minus_text.specs.Pieces.{Piece, pieces, piece_text, piece_columns}
 use Rattle.minus_text.specs.RowRuns.{run_columns, fits_row}
 use Rattle.minus_text.specs.Rows.{the_rows, run_text, row_text, line_runs, line_rows, places, line_places, IsPlace, ArePlaces}
-use Rattle.minus_text.specs.declared.wrap.Span.{Span}
-use Rattle.minus_text.specs.declared.wrap.Measured.{Measured}
-use Rattle.minus_text.specs.Measures.{measure, size, measured_columns, fits_measured, end_of, measured_places}
+use Rattle.minus_text.specs.declared.rows.Span.{Span}
+use Rattle.minus_text.specs.declared.pieces.Measured.{Measured}
+use Rattle.minus_text.specs.MeasuredPieces.{measure, size, measured_columns, fits_measured, end_of, measured_places}
 use Rattle.minus_text.proofs.WordsLaws.{some_chars}
 use Rattle.minus_text.proofs.PiecesLaws.{pieces_join_lem, pieces_size, piece_size}
 

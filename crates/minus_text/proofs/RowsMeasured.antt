@@ -5,10 +5,10 @@ use Rattle.std.proofs.lemmas.Bool.{le-leb, lt-leb, or_left, or_right, or_from, c
 use Rattle.std.proofs.lemmas.List.{length-append, take_more, drop_more, length-take-le, drop-drop, take-append-drop}
 use Rattle.std.proofs.lemmas.List.Sums.{sum_by-append}
 use Rattle.std.proofs.Math.Seq.{take-add}
-use Rattle.minus_text.specs.declared.wrap.Span.{Span}
-use Rattle.minus_text.specs.declared.wrap.Measured.{Measured}
+use Rattle.minus_text.specs.declared.rows.Span.{Span}
+use Rattle.minus_text.specs.declared.pieces.Measured.{Measured}
 use Rattle.minus_text.specs.Runs.{IsRun, AreRuns}
-use Rattle.minus_text.specs.Measures.{size, measured_columns, end_of, fits_measured, measured_places}
+use Rattle.minus_text.specs.MeasuredPieces.{size, measured_columns, end_of, fits_measured, measured_places}
 
 -- the spaces that end a run
 abbrev pub gap : List Measured → ℕ

@@ -10,7 +10,7 @@ use Rattle.std.proofs.lemmas.Str.{IsCharBoundary-from_rest, IsUtf8-nil, IsUtf8-a
 use Rattle.std.proofs.lemmas.List.{append-nil, length-append, length-map, length-take-le, map-append, take_at, drop_at, drop-drop, drop-append-le}
 use Rattle.std.proofs.lemmas.List.Elements.{All-map}
 use Rattle.std.proofs.lemmas.List.Sums.{sum_by-append, sum_by-cons}
-use Rattle.minus_text.specs.declared.wrap.Span.{Span}
+use Rattle.minus_text.specs.declared.rows.Span.{Span}
 use Rattle.minus_text.specs.declared.formed.Finished.{Finished}
 use Rattle.minus_text.specs.declared.formed.Border.{Border}
 use Rattle.minus_text.specs.declared.formed.Restart.{Restart}
@@ -119,7 +119,7 @@ restart_same text wrap rows firsts finished n b start plan u h kept same ef eb g
   restarts = rw (kept, same) (record { text = open_utf8 text u; one_line = open_whole text; goes_on = g; measured = rw eb h.its_border; behind = rw eb le });
 }
 
--- or forms all anew
+-- or forms all again
 pub restart_anew : (text : List ℕ) (plan : Plan) → plan.keeps ≡ false → IsRestartOf text plan (record { finished = at_start; rows = 0; bytes = 0; border = record { bytes = 0; columns = 0 } })
 restart_anew text plan f = record {
   reaches = rw f (record { by_lines = refl; by_rows = refl; by_bytes = refl; longest_line = refl });

@@ -1,4 +1,4 @@
--- The rows of an unfinished line before one at whose beginning forming can begin anew stay however the line goes on.
+-- The rows of an unfinished line before one at whose beginning forming can begin again stay however the line goes on.
 use Rattle.std.proofs.Common.{◌≡◌, ℕ, zero, suc, ◌+◌, ◌-◌, ◌<◌, ◌&&◌, Bool, true, false, eqb, List, [], ◌∷◌, ◌++◌, length, map, take, drop, get_or, chars, encode_utf8, arith, refl, sym, ap, ◌∙◌, append_assoc, inl, inr, ◌≤◌}
 use Rattle.std.specs.Char.{is_ascii_alphanumeric}
 use Rattle.std.specs.Str.{IsUtf8, IsAscii, IsCharBoundary, encode_utf8_all}
@@ -9,8 +9,9 @@ use Rattle.std.proofs.lemmas.List.{append-nil, length-append, length-drop, lengt
 use Rattle.std.proofs.lemmas.List.Elements.{All-cons, All-drop}
 use Rattle.std.proofs.lemmas.List.Concat.{flat_map-append}
 use Rattle.std.proofs.lemmas.Str.{IsUtf8-take, IsUtf8-drop, IsCharBoundary-start, chars-append, chars-IsAscii, encodes-IsAscii, encodes-append, encodes-chars, length-le-encodes}
-use Rattle.minus_text.specs.declared.wrap.Span.{Span}
-use Rattle.minus_text.specs.Pieces.{Piece, pieces, piece_text, begins_alphanumeric}
+use Rattle.minus_text.specs.declared.rows.Span.{Span}
+use Rattle.minus_text.specs.Pieces.{Piece, pieces, piece_text}
+use Rattle.minus_text.specs.Hyphens.{begins_alphanumeric}
 use Rattle.minus_text.specs.RowRuns.{fits_row}
 use Rattle.minus_text.specs.RunsLaws.{two_fronts}
 use Rattle.minus_text.specs.declared.layout.Wrap.{Wrap}

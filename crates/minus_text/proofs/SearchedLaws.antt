@@ -6,7 +6,7 @@ use Rattle.std.proofs.lemmas.Bool.{cases_lt}
 use Rattle.std.proofs.lemmas.List.{append_cancel_right, length-append, length-drop, length-take-le}
 use Rattle.regex.specs.Patterns.{Re}
 use Rattle.minus_text.specs.declared.layout.Wrap.{Wrap}
-use Rattle.minus_text.specs.Prefixes.{is_on, prefix}
+use Rattle.minus_text.specs.NumberPrefix.{is_on, prefix}
 use Rattle.minus_text.specs.Layouts.{own_rows}
 use Rattle.minus_text.specs.Document.{Document, rows_of_lines, rows_of, line_count, wrap_in, stored_line, stored_lines, stored_rows, IsPrefixOf}
 use Rattle.minus_text.specs.Found.{RowMatches, found_of_row, marked}

@@ -11,7 +11,7 @@ use Rattle.regex.specs.Patterns.{Re}
 use Rattle.minus_text.specs.declared.layout.Wrap.{Wrap}
 use Rattle.minus_text.specs.declared.layout.Wrap.TheVariants.{At, Off}
 use Rattle.minus_text.specs.declared.line_numbers.LineNumbers.{LineNumbers}
-use Rattle.minus_text.specs.Prefixes.{is_on, padding, number_prefix, prefix, prefix_columns}
+use Rattle.minus_text.specs.NumberPrefix.{is_on, padding, number_prefix, prefix, prefix_columns}
 use Rattle.minus_text.specs.Layouts.{own_rows, own_places, margin}
 use Rattle.minus_text.specs.Pieces.{Piece}
 use Rattle.minus_text.specs.Rows.{line_rows, line_places, line_runs, places, run_text, row_text}

@@ -6,7 +6,7 @@ use Rattle.std.proofs.lemmas.Bool.{ne_eqb, eq-eqb}
 use Rattle.std.proofs.lemmas.List.{append-nil, length-map}
 use Rattle.std.proofs.lemmas.Option.{slice_get-map}
 use Rattle.minus_text.specs.declared.layout.Wrap.{Wrap}
-use Rattle.minus_text.specs.Prefixes.{is_on, prefix}
+use Rattle.minus_text.specs.NumberPrefix.{is_on, prefix}
 use Rattle.minus_text.specs.Layouts.{own_rows}
 use Rattle.minus_text.specs.LineMaps.{IsLineOfRow}
 use Rattle.minus_text.specs.Document.{Document, rows_of_lines, first_rows, rows_of, line_map, line_count, wrap_in, stored_line, stored_lines, stored_rows, IsPrefixOf}

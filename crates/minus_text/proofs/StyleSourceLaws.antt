@@ -217,7 +217,7 @@ read_twice kept formed empty one two e f g = ap (λ (r : Reading). r.held) (g �
 pub rest_is : (n : ℕ) (text : List ℕ) → take (length text - n) (drop n text) ≡ drop n text
 rest_is n text = take_all (length text - n) (drop n text) (omega (arith, length-drop n text))
 
--- bytes without ESC are passed over where no sequence has begun
+-- bytes without ESC are skipped where no sequence has begun
 unescaped_front : (at : ℕ) (hay : List ℕ) → at ≤ length hay → Nowhere (Passes (is_byte 27) hay) 0 at → list_all is_unescaped (take at hay) ≡ true
 unescaped_front zero hay l h = refl
 unescaped_front (suc at) [] l h = refl

@@ -8,7 +8,7 @@ use Rattle.std.proofs.lemmas.List.{append-nil, length-map, take_at, drop_at, dro
 use Rattle.std.proofs.lemmas.List.Sums.{sum_by-cons}
 use Rattle.std.proofs.lemmas.Str.{encodes-append}
 use Rattle.regex.specs.Patterns.{Re}
-use Rattle.minus_text.specs.declared.wrap.Span.{Span}
+use Rattle.minus_text.specs.declared.rows.Span.{Span}
 use Rattle.minus_text.specs.declared.layout.Wrap.{Wrap}
 use Rattle.minus_text.specs.declared.layout.Wrap.TheVariants.{At, Off}
 use Rattle.minus_text.specs.Layouts.{own_rows, own_places}

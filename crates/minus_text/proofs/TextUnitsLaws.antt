@@ -9,7 +9,7 @@ use Rattle.std.proofs.lemmas.Str.{chars-append, chars-nil, chars-IsAscii, encode
 use Rattle.std.proofs.lemmas.Str.Ascii.{IsAscii-nil, IsAscii-cons}
 use Rattle.minus_text.specs.Units.{units, unit_len, unit_columns, body_of}
 use Rattle.minus_text.specs.TextUnits.{text_units}
-use Rattle.minus_text.specs.Measures.{SplitsUnit}
+use Rattle.minus_text.specs.MeasuredPieces.{SplitsUnit}
 use Rattle.minus_text.proofs.CutsLaws.{cuts-nil, cuts-cons}
 use Rattle.minus_text.proofs.FrontsLaws.{concat-append}
 use Rattle.minus_text.proofs.PlainLaws.{printable_column}

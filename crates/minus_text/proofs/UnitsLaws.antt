@@ -10,7 +10,7 @@ use Rattle.std.specs.List.{concat, position_or_len}
 use Rattle.std.proofs.lemmas.List.{take-append-drop}
 use Rattle.minus_text.specs.Units.{char_columns, units, unit_len, begins_sequence, is_final}
 use Rattle.minus_text.specs.Cuts.{cuts}
-use Rattle.minus_text.specs.Measures.{SplitsUnit}
+use Rattle.minus_text.specs.MeasuredPieces.{SplitsUnit}
 use Rattle.minus_text.proofs.CutsLaws.{IsCutRule, cuts_first, cuts_join}
 
 ascii_width : (c : ℕ) → c < 128 → unwrap_or (char_width false c) 0 ≤ 2

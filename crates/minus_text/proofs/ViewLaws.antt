@@ -5,7 +5,7 @@ use Rattle.std.specs.List.{position_or_len, slice_get}
 use Rattle.std.proofs.lemmas.Bool.{cases_Bool, cases_lt, ne_eqb}
 use Rattle.std.proofs.lemmas.Bool.Decides.{nat_tests}
 use Rattle.std.proofs.lemmas.List.{take-append-drop}
-use Rattle.minus_text.specs.declared.search.jumps.Jump.{Jump}
+use Rattle.minus_text.specs.declared.search.jump_rows.Jump.{Jump}
 use Rattle.minus_text.specs.declared.line_numbers.LineNumbers.{LineNumbers}
 use Rattle.minus_text.specs.Document.{Document, rows_of, pushed}
 use Rattle.minus_text.specs.Pending.{Pending, IsPending}

@@ -2,7 +2,7 @@
 use Rattle.std.proofs.Common.{◌≡◌, ℕ, ◌+◌, ◌-◌, ◌<◌, ◌≤◌, List, [], ◌∷◌, ◌++◌, map, length, take, drop, get_or, slice_range, chars, sym, ap, ◌∙◌, arith, IsUtf8, IsCharBoundary}
 use Rattle.std.proofs.lemmas.Str.{IsUtf8-take, chars-append, encodes-chars, length-le-encodes}
 use Rattle.std.proofs.lemmas.List.{take-append-drop, take-take, drop-take, length-append, take_more, map-append}
-use Rattle.minus_text.specs.Words.{char_number, AreWithin}
+use Rattle.minus_text.specs.WordStarts.{char_number, AreWithin}
 
 shorter : (text : List ℕ) (at n : ℕ) → take at (take (at + n) text) ≡ take at text
 shorter text at n = take-take at (at + n) text (omega arith)

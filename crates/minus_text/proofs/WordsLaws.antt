@@ -13,9 +13,10 @@ use Rattle.minus_text.specs.Units.{units, unit_len}
 use Rattle.minus_text.specs.TheRuns.{the_runs}
 use Rattle.minus_text.specs.Runs.{AreRuns}
 use Rattle.minus_text.specs.Fronts.{fits_front, front_rule}
-use Rattle.minus_text.specs.Pieces.{fronts, with_spaces, part_len_after, parts, begins_alphanumeric, words, word_len, body_len, is_space, word_pieces}
-use Rattle.minus_text.specs.Measures.{measure, SplitsPart, SplitsWord}
-use Rattle.minus_text.specs.declared.wrap.Measured.{Measured}
+use Rattle.minus_text.specs.Pieces.{fronts, with_spaces, words, word_len, body_len, is_space, word_pieces}
+use Rattle.minus_text.specs.Hyphens.{part_len_after, parts, begins_alphanumeric}
+use Rattle.minus_text.specs.MeasuredPieces.{measure, SplitsPart, SplitsWord}
+use Rattle.minus_text.specs.declared.pieces.Measured.{Measured}
 use Rattle.minus_text.proofs.CutsLaws.{IsCutRule, cuts-nil, cuts-cons, cuts_first}
 use Rattle.minus_text.proofs.UnitsLaws.{unit_rule}
 use Rattle.minus_text.proofs.StretchesLaws.{text_split}

@@ -1,5 +1,6 @@
 -- A block: a text that is formed by itself, behind other lines and rows.
-use Rattle.std.specs.Prelude.{◌≡◌, ℕ, ◌+◌, ◌<◌, ◌^◌, Bool, false, List, [], ◌∷◌, ◌++◌, length, map, Option, None, Some, slice_get, if◌then◌else◌}
+use Rattle.std.specs.Prelude.{◌≡◌, ℕ, ◌+◌, ◌<◌, ◌^◌, Bool, false, List, [], ◌∷◌, ◌++◌, length, map, Option, None, Some}
+use Rattle.std.specs.Prelude.{slice_get, if◌then◌else◌}
 use Rattle.std.specs.Str.Lines.{lines}
 use Rattle.std.specs.Ordering.{nat_cmp}
 use Rattle.std.specs.BTreeSet.{insert_key}
@@ -7,7 +8,7 @@ use Rattle.regex.specs.Patterns.{Re}
 use Rattle.minus_text.specs.declared.layout.Layout.{Layout}
 use Rattle.minus_text.specs.declared.formatted.FormattedRow.{FormattedRow}
 use Rattle.minus_text.specs.declared.screen.FormatResult.{FormatResult}
-use Rattle.minus_text.specs.Prefixes.{is_on}
+use Rattle.minus_text.specs.NumberPrefix.{is_on}
 use Rattle.minus_text.specs.Lines.{unfinished_line}
 use Rattle.minus_text.specs.Layouts.{own_rows, wrap_of}
 use Rattle.minus_text.specs.declared.layout.Wrap.{Wrap}
@@ -30,7 +31,7 @@ pub record Block : Type 0 where
 abbrev pub all_lines : Block → ℕ
 all_lines b = b.lines_before + length (lines b.text)
 
--- the fragment that is formed: its numbers take the columns that so many lines ask for
+-- the fragment that is formed: its numbers take the columns that this many lines ask for
 abbrev pub fragment_of : Block → Fragment
 fragment_of b = record { text = b.text; wrap = wrap_of b.layout (all_lines b) }
 
@@ -38,17 +39,20 @@ fragment_of b = record { text = b.text; wrap = wrap_of b.layout (all_lines b) }
 abbrev pub stored_lines_for : Option Re → Wrap → Bool → ℕ → ℕ → List (List ℕ) → List (List ℕ)
 stored_lines_for term wrap numbers count line [] = []
 stored_lines_for term wrap numbers count line (x ∷ xs) =
-    stored_line numbers count line (map (shown_for term) (own_rows wrap x)) ++ stored_lines_for term wrap numbers count (line + 1) xs
+    stored_line numbers count line (map (shown_for term) (own_rows wrap x))
+    ++ stored_lines_for term wrap numbers count (line + 1) xs
 
 -- its rows as they are stored, under a term
 unfoldable pub block_rows : Option Re → Block → List (List ℕ)
-block_rows term b = stored_lines_for term (fragment_of b).wrap (is_on b.layout.numbers) (all_lines b) (b.lines_before + 1) (lines b.text)
+block_rows term b =
+    stored_lines_for term (fragment_of b).wrap (is_on b.layout.numbers) (all_lines b) (b.lines_before + 1)
+    (lines b.text)
 
 -- the numbers of those of its rows that match a term
 abbrev pub matching_rows : Option Re → Block → List ℕ
 matching_rows term b = map (λ f. f.row) (found_by term b.first_row (rows_in (fragment_of b)))
 
--- a result tells of a block
+-- a result reports a block
 abbrev pub TellsBlock : FormatResult → Option Re → Block → Bool → Type 0
 TellsBlock result term b clean = Tells result term false (fragment_of b) b.first_row clean
 
@@ -79,6 +83,7 @@ one (Some x) = x ∷ []
 abbrev pub keys_noted : Bool → ℕ → List ℕ → List ℕ
 keys_noted matches n keys = if matches then insert_key nat_cmp keys n else keys
 
+-- these numbers of rows, and that of a row if there is one and a term matches it
 abbrev pub keys_with : Option Re → ℕ → Option (List ℕ) → List ℕ → List ℕ
 keys_with term n None keys = keys
 keys_with term n (Some row) keys = keys_noted (row_matches term row) n keys

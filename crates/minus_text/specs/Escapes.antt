@@ -10,7 +10,7 @@ abbrev pub outside : List ℕ → ℕ → List (ℕ × ℕ) → List ℕ
 outside text at [] = drop at text
 outside text at (p ∷ ps) = slice_range text at p.0 ++ outside text p.1 ps
 
--- what stands between these places, each with its place in what is outside of them, where so many bytes stand before
+-- what stands between these places, each with its place in what is outside of them, where this many bytes stand before
 abbrev pub inside : List ℕ → ℕ → ℕ → List (ℕ × ℕ) → List (ℕ × List ℕ)
 inside text at before [] = []
 inside text at before (p ∷ ps) =
@@ -36,7 +36,8 @@ escapes line = inside line 0 0 (escape_places line)
 -- the places lie in order in a text from a place on, each between two characters
 abbrev pub CutsText : List ℕ → ℕ → List (ℕ × ℕ) → Type 0
 CutsText text at [] = IsCharBoundary text at
-CutsText text at (p ∷ ps) = IsCharBoundary text at × (at ≤ p.0) × IsCharBoundary text p.0 × (p.0 ≤ p.1) × CutsText text p.1 ps
+CutsText text at (p ∷ ps) =
+    IsCharBoundary text at × (at ≤ p.0) × IsCharBoundary text p.0 × (p.0 ≤ p.1) × CutsText text p.1 ps
 
 pub CutsText-prop : (text : List ℕ) (at : ℕ) (ps : List (ℕ × ℕ)) → IsProp (CutsText text at ps)
 CutsText-prop text at [] = hlevel le_prop

@@ -17,7 +17,8 @@ found_in (Some pattern) match_lines n f =
 abbrev pub finds : Option Re → Document → List RowMatches
 finds None d = []
 finds (Some pattern) d =
-    if d.layout.match_lines then finds_in_lines pattern (wrap_in d) 0 (lines d.text) else found_in_rows pattern 0 (rows_of d)
+    if d.layout.match_lines then finds_in_lines pattern (wrap_in d) 0 (lines d.text)
+    else found_in_rows pattern 0 (rows_of d)
 
 -- a document as a fragment
 abbrev pub whole : Document → Fragment

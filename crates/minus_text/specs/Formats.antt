@@ -6,17 +6,19 @@ use Rattle.minus_text.specs.declared.format.FormatOpts.{FormatOpts}
 use Rattle.minus_text.specs.FoundRows.{pattern_of}
 use Rattle.minus_text.specs.Blocks.{Block}
 
--- The block that a text makes behind so many lines and rows. What is attached in front of it is the last of these lines, which
--- had so many of the rows: it is formed again with the text.
+-- The block that a text makes behind this many lines and rows. What is attached in front of it is the last of these
+-- lines, which had this many of the rows: it is formed again with the text.
 abbrev pub block_with : Option (List ℕ) → List ℕ → Layout → ℕ → ℕ → ℕ → Block
-block_with None text layout lines rows unterminated = record { text = text; layout = layout; lines_before = lines; first_row = rows }
+block_with None text layout lines rows unterminated =
+    record { text = text; layout = layout; lines_before = lines; first_row = rows }
 block_with (Some front) text layout lines rows unterminated =
     record { text = front ++ text; layout = layout; lines_before = lines - 1; first_row = rows - unterminated }
 
--- so many lines, or rows, are counted before a text at most
+-- this many lines, or rows, are counted before a text at most
 abbrev pub counted_before : ℕ → ℕ
 counted_before n = min n (2 ^ 63 - 1)
 
+-- the block that a call is asked for: a text behind this many lines and rows, in a layout
 abbrev pub block_of : {B : Type 0} → FormatOpts B → Block
 block_of opts =
     let layout : Layout = record {

@@ -1,5 +1,6 @@
 -- What a term finds in rows.
-use Rattle.std.specs.Prelude.{◌≡◌, ℕ, ◌+◌, ◌-◌, ◌≤◌, ◌==◌, false, List, [], ◌∷◌, ◌++◌, length, Option, None, Some, IfSome, take, drop, slice_get, nat_le}
+use Rattle.std.specs.Prelude.{◌≡◌, ℕ, ◌+◌, ◌-◌, ◌≤◌, ◌==◌, false, List, [], ◌∷◌, ◌++◌, length, Option, None, Some}
+use Rattle.std.specs.Prelude.{IfSome, take, drop, slice_get, nat_le}
 use Rattle.std.specs.Prelude.{if◌then◌else◌}
 use Rattle.std.specs.List.{position_or_len, sum_by}
 use Rattle.std.specs.Coded.{le_prop}
@@ -7,8 +8,8 @@ use Rattle.regex.specs.Patterns.{Re}
 use Rattle.minus_text.specs.Escapes.{escape_places, outside, inside, CutsText, CutsText-prop}
 use Rattle.minus_text.specs.Highlight.{line_matches, line_match_places, ordered, put_in}
 
--- a row that shows some of matches: its number, where escape sequences stand in it, where matches stand in the row without these,
--- and how many matches begin in it
+-- a row that shows some of matches: its number, where escape sequences stand in it, where matches stand in the row
+-- without these, and how many matches begin in it
 pub record RowMatches : Type 0 where
   pub row : ℕ
   pub escapes : List (ℕ × ℕ)
@@ -19,7 +20,9 @@ pub record RowMatches : Type 0 where
 abbrev pub found_in_row : Re → ℕ → List ℕ → List RowMatches
 found_in_row pattern n row =
     let ms = line_match_places pattern row in
-    if line_matches pattern row then record { row = n; escapes = escape_places row; matches = ms; begins = length ms } ∷ [] else []
+    if line_matches pattern row
+    then record { row = n; escapes = escape_places row; matches = ms; begins = length ms } ∷ []
+    else []
 
 -- what it finds in rows, of which the first has a number
 abbrev pub found_in_rows : Re → ℕ → List (List ℕ) → List RowMatches
@@ -52,6 +55,7 @@ jump_rows (r ∷ rs) = if r.begins == 0 then jump_rows rs else r.row ∷ jump_ro
 abbrev pub match_total : List RowMatches → ℕ
 match_total found = sum_by (λ r. r.begins) found
 
+-- how many matches begin in the rows above one, counted from 0
 abbrev pub matches_above : ℕ → List RowMatches → ℕ
 matches_above n found = match_total (found_above n found)
 
@@ -78,13 +82,15 @@ IsPlacedSome row (Some r) = IsPlaced row r
 abbrev pub IsPlacedIn : ℕ → List (List ℕ) → RowMatches → Type 0
 IsPlacedIn first rows r = (i : ℕ) (row : List ℕ) → r.row ≡ first + i → slice_get rows i ≡ Some row → IsPlaced row r
 
+-- and so do the places of each row in which something was found
 abbrev pub ArePlaced : ℕ → List (List ℕ) → List RowMatches → Type 0
 ArePlaced first rows [] = Unit {0}
 ArePlaced first rows (r ∷ rs) = IsPlacedIn first rows r × ArePlaced first rows rs
 
 -- what was found in the row at a place of these rows, if something was, stands in it
 abbrev pub ArePlacedAt : List (List ℕ) → ℕ → List RowMatches → Type 0
-ArePlacedAt rows i found = (row : List ℕ) → slice_get rows i ≡ Some row → IfSome (found_of_row i found) (λ r. IsPlaced row r)
+ArePlacedAt rows i found =
+    (row : List ℕ) → slice_get rows i ≡ Some row → IfSome (found_of_row i found) (λ r. IsPlaced row r)
 
 -- their numbers ascend, from one on
 abbrev pub Ascend : ℕ → List RowMatches → Type 0

@@ -3,21 +3,21 @@ use Rattle.std.specs.Prelude.{◌≡◌, ℕ, ◌+◌, ◌≤◌, List, [], ◌+
 use Rattle.regex.specs.Patterns.{Re}
 use Rattle.minus_text.specs.declared.search.found_rows.FoundRows.{FoundRows}
 use Rattle.std.specs.Coded.{Coded-set, coded_list}
-use Rattle.minus_text.specs.contracts.search.jumps.Jump as jump
-use Rattle.minus_text.specs.declared.search.jumps.Jump.{Jump}
+use Rattle.minus_text.specs.contracts.search.jump_rows.Jump as jump
+use Rattle.minus_text.specs.declared.search.jump_rows.Jump.{Jump}
 use Rattle.minus_text.specs.declared.line_numbers.LineNumbers.{LineNumbers}
 use Rattle.minus_text.specs.Document.{Document, pushed}
 use Rattle.minus_text.specs.Pending.{Pending, IsPending, SearchesAlike}
 use Rattle.minus_text.specs.Found.{RowMatches, found_in_row, found_above}
 use Rattle.minus_text.specs.Finds.{found_in, finds}
-use Rattle.minus_text.specs.Jumps.{jumps_behind}
+use Rattle.minus_text.specs.JumpRows.{jumps_behind}
 use Rattle.minus_text.specs.FoundRows.{matches_of}
 
 -- what was found
 abbrev pub found_rows : FoundRows → List RowMatches
 found_rows f = map matches_of f.rows.items
 
--- so many more fit in without more memory
+-- this many more fit in without more memory
 pub record HasRoomFor (f more : FoundRows) : Type 0 where
   pub for_rows : vec_len f.rows + vec_len more.rows ≤ vec_capacity f.rows
   pub for_jumps : vec_len f.jumps + vec_len more.jumps ≤ vec_capacity f.jumps
@@ -31,11 +31,15 @@ abbrev pub found_in_some : Re → ℕ → Option (List ℕ) → List RowMatches
 found_in_some pattern n None = []
 found_in_some pattern n (Some row) = found_in_row pattern n row
 
--- what a term finds in the rows that a push leaves: what it found in those that stay, and what it finds in those that are formed
+-- what a term finds in the rows that a push leaves: what it found in those that stay, and what it finds in those that
+-- are formed
 abbrev pub FoundGoesOn : Type 0
-FoundGoesOn = (term : Option Re) (d : Document) (piece : List ℕ) (numbers : LineNumbers) (cols : ℕ) (p : Pending) → IsPending d piece numbers cols p
+FoundGoesOn =
+    (term : Option Re) (d : Document) (piece : List ℕ) (numbers : LineNumbers) (cols : ℕ) (p : Pending)
+    → IsPending d piece numbers cols p
     → SearchesAlike term d p
-    → found_above p.kept_rows (finds term d) ++ found_in term p.match_lines p.kept_rows p.tail ≡ finds term (pushed d piece numbers cols)
+    → found_above p.kept_rows (finds term d) ++ found_in term p.match_lines p.kept_rows p.tail
+    ≡ finds term (pushed d piece numbers cols)
 
 -- that is a fact
 jumps_set : IsSet (List Jump)

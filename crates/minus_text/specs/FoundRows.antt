@@ -7,6 +7,8 @@ use Rattle.minus_text.specs.declared.search.found.Finder.{Finder}
 use Rattle.minus_text.specs.declared.search.term.Term.{Term}
 use Rattle.minus_text.specs.Found.{RowMatches, ArePlaced}
 
+-- what was found in a row as the code keeps it: places of escape sequences and of matches in bytes, and how many
+-- matches begin there
 abbrev pub matches_of : FoundRow → RowMatches
 matches_of f = record { row = f.row; escapes = f.escapes.items; matches = f.matches.items; begins = f.begins }
 
@@ -14,11 +16,12 @@ matches_of f = record { row = f.row; escapes = f.escapes.items; matches = f.matc
 abbrev pub AddsFound : (old new : List FoundRow) → List RowMatches → Type 0
 AddsFound old new found = map matches_of new ≡ map matches_of old ++ found
 
--- what was found in a row with a number, if there is one, was added to what was found: where the row is one of these, and the old places
--- stand in these rows, so do the new ones
+-- what was found in a row with a number, if there is one, was added to what was found: where the row is one of these,
+-- and the old places stand in these rows, so do the new ones
 abbrev pub StaysPlaced : ℕ → Option (List ℕ) → (old new : List FoundRow) → Type 0
 StaysPlaced n row old new =
-    (first : ℕ) (rows : List (List ℕ)) (i : ℕ) → n ≡ first + i → row ≡ slice_get rows i → ArePlaced first rows (map matches_of old)
+    (first : ℕ) (rows : List (List ℕ)) (i : ℕ) → n ≡ first + i → row ≡ slice_get rows i
+    → ArePlaced first rows (map matches_of old)
     → ArePlaced first rows (map matches_of new)
 
 -- the pattern that it finds

@@ -21,17 +21,20 @@ one_wide u = elim (cases_Bool (is_wide u)) [
   | inr e ↦ rw e (omega arith)
 ]
 
+-- one unit fits in a front, and a front of what fits does, whatever the columns
 pub front_rule : (cols : ℕ) → IsFitRule (fits_front cols)
 front_rule cols = record {
-  one = λ u. or_right (nat_le (sum_by unit_columns (u ∷ [])) cols) (nat_le (count_by is_wide (u ∷ [])) 1) (le-leb (count_by is_wide (u ∷ [])) 1 (one_wide u));
-  front = λ us vs h. elim (or_cases (nat_le (sum_by unit_columns (us ++ vs)) cols) (nat_le (count_by is_wide (us ++ vs)) 1) h) [
-    | inl e ↦
-        let l = leb-true (sum_by unit_columns (us ++ vs)) cols e in
-        or_left (nat_le (sum_by unit_columns us) cols) (nat_le (count_by is_wide us) 1)
-        (le-leb (sum_by unit_columns us) cols (omega (arith, sum_by-append unit_columns us vs)))
-    | inr e ↦
-        let l = leb-true (count_by is_wide (us ++ vs)) 1 e in
-        or_right (nat_le (sum_by unit_columns us) cols) (nat_le (count_by is_wide us) 1)
-        (le-leb (count_by is_wide us) 1 (omega (arith, sum_by-append (λ u. cond (is_wide u) 1 0) us vs)))
-  ];
+  one = λ u. or_right (nat_le (sum_by unit_columns (u ∷ [])) cols) (nat_le (count_by is_wide (u ∷ [])) 1)
+      (le-leb (count_by is_wide (u ∷ [])) 1 (one_wide u));
+  front = λ us vs h. elim
+      (or_cases (nat_le (sum_by unit_columns (us ++ vs)) cols) (nat_le (count_by is_wide (us ++ vs)) 1) h) [
+        | inl e ↦
+            let l = leb-true (sum_by unit_columns (us ++ vs)) cols e in
+            or_left (nat_le (sum_by unit_columns us) cols) (nat_le (count_by is_wide us) 1)
+            (le-leb (sum_by unit_columns us) cols (omega (arith, sum_by-append unit_columns us vs)))
+        | inr e ↦
+            let l = leb-true (count_by is_wide (us ++ vs)) 1 e in
+            or_right (nat_le (sum_by unit_columns us) cols) (nat_le (count_by is_wide us) 1)
+            (le-leb (count_by is_wide us) 1 (omega (arith, sum_by-append (λ u. cond (is_wide u) 1 0) us vs)))
+      ];
 }

@@ -1,5 +1,7 @@
--- A line with the matches of a pattern shown in reverse: the stripped line, with markers and escape sequences put in at places.
-use Rattle.std.specs.Prelude.{◌≡◌, ℕ, Bool, true, false, List, [], ◌∷◌, ◌++◌, map, drop, take, slice_range, codes, is_some, if◌then◌else◌, nat_le}
+-- A line with the matches of a pattern shown in reverse: the stripped line, with markers and escape sequences put in at
+-- places.
+use Rattle.std.specs.Prelude.{◌≡◌, ℕ, Bool, true, false, List, [], ◌∷◌, ◌++◌, map, drop, take, slice_range, codes}
+use Rattle.std.specs.Prelude.{is_some, if◌then◌else◌, nat_le}
 use Rattle.std.specs.Prelude.{IsCharBoundary, ◌≤◌}
 use Rattle.std.specs.List.{position_or_len}
 use Rattle.std.specs.Coded.{le_prop}
@@ -11,6 +13,7 @@ use Rattle.minus_text.specs.FixedPatterns.{match_places}
 abbrev pub reverse_on : List ℕ
 reverse_on = 27 ∷ codes "[7m"
 
+-- what stands at the end of each match: `ESC[27m`
 abbrev pub reverse_off : List ℕ
 reverse_off = 27 ∷ codes "[27m"
 
@@ -22,6 +25,7 @@ count_before place es = position_or_len (λ e. nat_le place e.0) es
 abbrev pub before : ℕ → List (ℕ × List ℕ) → List (ℕ × List ℕ)
 before place es = take (count_before place es) es
 
+-- those of the escape sequences that stand at a place or behind it
 abbrev pub behind : ℕ → List (ℕ × List ℕ) → List (ℕ × List ℕ)
 behind place es = drop (count_before place es) es
 
@@ -92,17 +96,20 @@ pub data AreMerged {A : Type 0} : List A → List A → List A → Type 0 where
   of_first : (x : A) (xs ys zs : List A) → AreMerged xs ys zs → AreMerged (x ∷ xs) ys (x ∷ zs)
   of_second : (y : A) (xs ys zs : List A) → AreMerged xs ys zs → AreMerged xs (y ∷ ys) (y ∷ zs)
 
--- What is put into a line is the markers of its matches and its escape sequences: these keep their order and their texts.
--- In the accurate form they keep their places, so that without the markers the line stands there as it was.
+-- What is put into a line is the markers of its matches and its escape sequences: these keep their order and their
+-- texts. In the accurate form they keep their places, so that without the markers the line stands there as it was.
 pub record AddsMarkersAlone (pattern : Re) (accurate : Bool) (line : List ℕ) : Type 0 where
   pub kept : List (ℕ × List ℕ)
   pub merged : AreMerged (markers (line_match_places pattern line)) kept (put_into_line pattern accurate line)
   pub same_texts : map (λ e. e.1) kept ≡ map (λ e. e.1) (escapes line)
   pub same_line : accurate ≡ true → put_in (stripped line) 0 kept ≡ line
 
+-- a highlight adds markers alone, for each pattern and each line, in the accurate form and in the other
 abbrev pub HighlightsAddMarkersAlone : Type 0
 HighlightsAddMarkersAlone = (pattern : Re) (accurate : Bool) (line : List ℕ) → AddsMarkersAlone pattern accurate line
 
 -- a line that does not match is highlighted as it stands
 abbrev pub OnlyMatchesAreHighlighted : Type 0
-OnlyMatchesAreHighlighted = (pattern : Re) (accurate : Bool) (line : List ℕ) → line_matches pattern line ≡ false → highlighted pattern accurate line ≡ line
+OnlyMatchesAreHighlighted =
+    (pattern : Re) (accurate : Bool) (line : List ℕ) → line_matches pattern line ≡ false
+    → highlighted pattern accurate line ≡ line

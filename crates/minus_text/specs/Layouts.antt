@@ -1,12 +1,12 @@
 -- How the lines of a text fill rows.
 use Rattle.std.specs.Prelude.{ℕ, ◌+◌, ◌-◌, Bool, true, false, List, [], ◌∷◌, length, if◌then◌else◌}
-use Rattle.minus_text.specs.declared.wrap.Span.{Span}
+use Rattle.minus_text.specs.declared.rows.Span.{Span}
 use Rattle.minus_text.specs.declared.layout.Wrap.{Wrap}
 use Rattle.minus_text.specs.declared.layout.Wrap.TheVariants.{At, Off}
 use Rattle.minus_text.specs.declared.layout.Layout.{Layout}
 use Rattle.minus_text.specs.declared.line_numbers.LineNumbers.{LineNumbers}
 use Rattle.minus_text.specs.declared.line_numbers.LineNumbers.TheVariants.{Disabled}
-use Rattle.minus_text.specs.Prefixes.{is_on, prefix_columns}
+use Rattle.minus_text.specs.NumberPrefix.{is_on, prefix_columns}
 use Rattle.minus_text.specs.Rows.{line_rows, line_places}
 
 -- the rows of a line by itself: those that it fills in some columns, or the line as it is where it is not wrapped
@@ -19,7 +19,8 @@ abbrev pub own_places : Wrap → List ℕ → List Span
 own_places (At cols) line = line_places cols line
 own_places Off line = record { start = 0; end = length line } ∷ []
 
--- the columns that numbers take from the text of rows, where there are so many lines: what stands before the text, and one more
+-- the columns that numbers take from the text of rows, where there are this many lines: what stands before the text,
+-- and one more
 abbrev pub margin : LineNumbers → ℕ → ℕ
 margin numbers line_count = if is_on numbers then prefix_columns true line_count + 1 else 0
 
@@ -27,11 +28,11 @@ margin numbers line_count = if is_on numbers then prefix_columns true line_count
 abbrev pub wrapped : Bool → ℕ → Wrap
 wrapped wrapping cols = if wrapping then At cols else Off
 
--- how so many lines fill rows in a layout
+-- how this many lines fill rows in a layout
 abbrev pub wrap_of : Layout → ℕ → Wrap
 wrap_of layout line_count = wrapped layout.wrapping (layout.cols - margin layout.numbers line_count)
 
--- the layout of so many columns in which lines are wrapped and have no numbers
+-- the layout of this many columns in which lines are wrapped and have no numbers
 abbrev pub plain : ℕ → Layout
 plain cols = record { cols = cols; wrapping = true; numbers = Disabled; match_lines = false; carry_style = false }
 

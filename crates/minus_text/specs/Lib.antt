@@ -7,13 +7,13 @@ pub mod Runs
 pub mod RunsLaws
 pub mod TheRuns
 pub mod Fronts
+pub mod Hyphens
 pub mod Pieces
-pub mod Joints
 pub mod RowRuns
 pub mod Rows
-pub mod Measures
+pub mod MeasuredPieces
 pub mod Lines
-pub mod Prefixes
+pub mod NumberPrefix
 pub mod TextUnits
 pub mod Crop
 pub mod Matches
@@ -31,7 +31,7 @@ pub mod WorkedLines
 pub mod Styles
 pub mod WorkedStyles
 pub mod FoundRows
-pub mod Jumps
+pub mod JumpRows
 pub mod Finds
 pub mod Layouts
 pub mod Document
@@ -56,7 +56,7 @@ pub mod StylesStay
 pub mod Searched
 pub mod StoredLines
 pub mod RowSearches
-pub mod Words
+pub mod WordStarts
 pub mod NextPushes
 pub mod Views
 pub mod ViewedRows

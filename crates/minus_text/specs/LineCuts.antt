@@ -1,5 +1,6 @@
 -- Where the rows of a line of printable ASCII may end.
-use Rattle.std.specs.Prelude.{◌≡◌, ℕ, ◌+◌, ◌-◌, ◌<◌, ◌≤◌, ◌∷◌, ◌==◌, ◌&&◌, ◌||◌, Bool, true, false, nat_le, List, map, drop, slice_index}
+use Rattle.std.specs.Prelude.{◌≡◌, ℕ, ◌+◌, ◌-◌, ◌<◌, ◌≤◌, ◌∷◌, ◌==◌, ◌&&◌, ◌||◌, Bool, true, false, nat_le, List, map}
+use Rattle.std.specs.Prelude.{drop, slice_index}
 use Rattle.std.specs.List.{list_all}
 use Rattle.std.specs.Char.{is_ascii_alphanumeric}
 use Rattle.minus_text.specs.declared.line_cuts.RowCut.{RowCut}
@@ -25,7 +26,9 @@ HasNoCut line start from to = (place : ℕ) → from < place → place ≤ to �
 abbrev pub HasSpaces : List ℕ → ℕ → ℕ → Type 0
 HasSpaces line from to = (place : ℕ) → from ≤ place → place < to → slice_index line place ≡ 32
 
--- of what stands from a place on in a line of printable ASCII, the first row ends at this cut, and the others are the rows of what follows it
+-- of what stands from a place on in a line of printable ASCII, the first row ends at this cut, and the others are the
+-- rows of what follows it
 abbrev pub CutsRow : ℕ → List ℕ → ℕ → RowCut → Type 0
 CutsRow cols line start cut = list_all is_printable line ≡ true
-    → line_places cols (drop start line) ≡ record { start = 0; end = cut.end - start } ∷ map (moved (cut.next - start)) (line_places cols (drop cut.next line))
+    → line_places cols (drop start line) ≡ record { start = 0; end = cut.end - start }
+    ∷ map (moved (cut.next - start)) (line_places cols (drop cut.next line))

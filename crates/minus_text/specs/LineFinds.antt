@@ -1,8 +1,10 @@
--- What a pattern finds in lines, and the part of each match that lies in each row of its line. Places count bytes from 0.
-use Rattle.std.specs.Prelude.{◌≡◌, ℕ, ◌+◌, ◌-◌, ◌==◌, ◌&&◌, ◌||◌, Bool, true, nat_le, nat_lt, min, max, List, [], ◌∷◌, ◌++◌, length, Option, None, Some, if◌then◌else◌}
+-- What a pattern finds in lines, and the part of each match that lies in each row of its line. Places count bytes from
+-- 0.
+use Rattle.std.specs.Prelude.{◌≡◌, ℕ, ◌+◌, ◌-◌, ◌==◌, ◌&&◌, ◌||◌, Bool, true, nat_le, nat_lt, min, max, List, [], ◌∷◌}
+use Rattle.std.specs.Prelude.{◌++◌, length, Option, None, Some, if◌then◌else◌}
 use Rattle.std.specs.List.{sum_by}
 use Rattle.regex.specs.Patterns.{Re}
-use Rattle.minus_text.specs.declared.wrap.Span.{Span}
+use Rattle.minus_text.specs.declared.rows.Span.{Span}
 use Rattle.minus_text.specs.declared.layout.Wrap.{Wrap}
 use Rattle.minus_text.specs.Layouts.{own_rows, own_places}
 use Rattle.minus_text.specs.Escapes.{escape_places}
@@ -18,9 +20,11 @@ outside_before at (p ∷ ps) x = (min x p.0 - at) + outside_before p.1 ps x
 abbrev pub between : ℕ → ℕ → List (ℕ × ℕ) → List (ℕ × ℕ)
 between start end [] = []
 between start end (p ∷ ps) =
-    if nat_lt p.0 end && nat_lt start p.1 then (max start p.0 - start, min end p.1 - start) ∷ between start end ps else between start end ps
+    if nat_lt p.0 end && nat_lt start p.1 then (max start p.0 - start, min end p.1 - start) ∷ between start end ps
+    else between start end ps
 
--- a row in its line without the line's escape sequences: where it begins and ends there, and where the next row begins, if one follows
+-- a row in its line without the line's escape sequences: where it begins and ends there, and where the next row begins,
+-- if one follows
 pub record Stretch : Type 0 where
   pub start : ℕ
   pub end : ℕ
@@ -48,6 +52,7 @@ lies_in s m = is_before s.next m.0 && (nat_le s.start m.0 || nat_lt s.start m.1)
 abbrev pub part_in : Stretch → ℕ × ℕ → ℕ × ℕ
 part_in s m = (min m.0 s.end - s.start, min m.1 s.end - s.start)
 
+-- what the row shows of matches, of each that lies in it, counted from the row's start
 abbrev pub parts_in : Stretch → List (ℕ × ℕ) → List (ℕ × ℕ)
 parts_in s [] = []
 parts_in s (m ∷ ms) = if lies_in s m then part_in s m ∷ parts_in s ms else parts_in s ms
@@ -64,22 +69,34 @@ if_some r = if length r.matches == 0 then [] else r ∷ []
 -- what is found in a row with a number, where these escape sequences and matches stand in its line
 abbrev pub finds_in_row : ℕ → List (ℕ × ℕ) → List (ℕ × ℕ) → Span → Stretch → List RowMatches
 finds_in_row n escapes matches s r =
-    if_some (record { row = n; escapes = between s.start s.end escapes; matches = parts_in r matches; begins = begin_count r matches })
+    if_some (record {
+      row = n;
+      escapes = between s.start s.end escapes;
+      matches = parts_in r matches;
+      begins = begin_count r matches;
+    })
 
 -- what is found in the rows of a line, of which the first has a number
 abbrev pub finds_in_rows : ℕ → List (ℕ × ℕ) → List (ℕ × ℕ) → List Span → List RowMatches
 finds_in_rows n escapes matches [] = []
 finds_in_rows n escapes matches (s ∷ ss) =
-    let r : Stretch = record { start = outside_before 0 escapes s.start; end = outside_before 0 escapes s.end; next = first_start escapes ss } in
+    let r : Stretch = record {
+      start = outside_before 0 escapes s.start;
+      end = outside_before 0 escapes s.end;
+      next = first_start escapes ss;
+    } in
     finds_in_row n escapes matches s r ++ finds_in_rows (n + 1) escapes matches ss
 
 -- what a pattern finds in a line whose first row has a number, and in lines
 abbrev pub finds_in_line : Re → Wrap → ℕ → List ℕ → List RowMatches
-finds_in_line pattern wrap n line = finds_in_rows n (escape_places line) (line_match_places pattern line) (own_places wrap line)
+finds_in_line pattern wrap n line =
+    finds_in_rows n (escape_places line) (line_match_places pattern line) (own_places wrap line)
 
+-- what a pattern finds in lines, of which the first row of the first has a number
 abbrev pub finds_in_lines : Re → Wrap → ℕ → List (List ℕ) → List RowMatches
 finds_in_lines pattern wrap n [] = []
-finds_in_lines pattern wrap n (line ∷ more) = finds_in_line pattern wrap n line ++ finds_in_lines pattern wrap (n + length (own_rows wrap line)) more
+finds_in_lines pattern wrap n (line ∷ more) =
+    finds_in_line pattern wrap n line ++ finds_in_lines pattern wrap (n + length (own_rows wrap line)) more
 
 -- how many matches there are does not depend on how lines fill rows
 abbrev pub MatchTotalIsOfLines : Type 0

@@ -20,9 +20,13 @@ UnwrappedLinesAreRows = (pattern : Re) (n : ℕ) (line : List ℕ) → All (λ p
 
 -- of a search in rows jumps go to all rows that match
 abbrev pub JumpsGoToAllRows : Type 0
-JumpsGoToAllRows = (pattern : Re) (n : ℕ) (rows : List (List ℕ)) → jump_rows (found_in_rows pattern n rows) ≡ map (λ f. f.row) (found_in_rows pattern n rows)
+JumpsGoToAllRows =
+    (pattern : Re) (n : ℕ) (rows : List (List ℕ))
+    → jump_rows (found_in_rows pattern n rows) ≡ map (λ f. f.row) (found_in_rows pattern n rows)
 
 -- an unfinished line can be formed again from its start
 abbrev pub LinesFormAgain : Type 0
-LinesFormAgain = (wrap : Wrap) (line : List ℕ) (finished : Finished) (border : Border) → IsUtf8 line → cut line ≡ whole line → IsBorder line border
+LinesFormAgain =
+    (wrap : Wrap) (line : List ℕ) (finished : Finished) (border : Border) → IsUtf8 line → cut line ≡ whole line
+    → IsBorder line border
     → IsRestart wrap line (record { finished = finished; rows = 0; bytes = 0; border = border })

@@ -1,7 +1,8 @@
 -- What the calls of a map from lines to first rows say.
 use Rattle.std.specs.Prelude.{◌≡◌, ◌==◌, ℕ, ◌+◌, ◌-◌, ◌<◌, ◌≤◌, Bool, List, length, take, slice_index, if◌then◌else◌}
 
--- the entries that stay before more are put behind them: all where nothing goes on the last line, and else all but the last
+-- the entries that stay before more are put behind them: all where nothing goes on the last line, and else all but the
+-- last
 abbrev pub entries_kept : List ℕ → Bool → List ℕ
 entries_kept entries clean = if clean then entries else take (length entries - 1) entries
 

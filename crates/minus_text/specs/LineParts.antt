@@ -27,4 +27,5 @@ part_of_lines ls j from k to = drop from (lines_up_to (drop j ls) (k - j) to)
 abbrev pub PartsAreOfLines : Type 0
 PartsAreOfLines = (text : List ℕ) (j from k to : ℕ) → j ≤ k → k < length (all_lines text)
     → from ≤ length (get_or (all_lines text) j []) → to ≤ length (get_or (all_lines text) k [])
-    → joined_lines (slice_range text (line_start text j + from) (line_start text k + to)) ≡ part_of_lines (all_lines text) j from k to
+    → joined_lines (slice_range text (line_start text j + from) (line_start text k + to))
+    ≡ part_of_lines (all_lines text) j from k to

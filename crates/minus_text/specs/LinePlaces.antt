@@ -1,7 +1,7 @@
 -- Places in the lines of a text, and the lines joined.
 use Rattle.std.specs.Prelude.{ℕ, ◌-◌, ◌==◌, List, [], ◌∷◌, ◌++◌, length, take, slice_index, if◌then◌else◌}
 use Rattle.std.specs.Str.Lines.{strip_carriage_return}
-use Rattle.minus_text.specs.declared.wrap.Span.{Span}
+use Rattle.minus_text.specs.declared.rows.Span.{Span}
 use Rattle.minus_text.specs.Lines.{cut, finished_lines, unfinished_line}
 use Rattle.minus_text.specs.Document.{Document, wrap_in}
 use Rattle.minus_text.specs.Kept.{stored_from}
@@ -17,7 +17,9 @@ joined_lines text = with_newlines (finished_lines text) (unfinished_line text)
 
 -- where the last line of a text ends, in bytes: before the newline that ends it, and a carriage return before that
 unfoldable pub last_line_end : List ℕ → ℕ
-last_line_end text = if slice_index text (length text - 1) == 10 then length (strip_carriage_return (take (length text - 1) text)) else length text
+last_line_end text =
+    if slice_index text (length text - 1) == 10 then length (strip_carriage_return (take (length text - 1) text))
+    else length text
 
 -- the place of each row in the text of a document: its place in its line, behind the lines before
 unfoldable pub row_places : Document → List Span

@@ -1,9 +1,10 @@
 -- Which of the matching rows a search goes to.
-use Rattle.std.specs.Prelude.{ℕ, ◌+◌, ◌-◌, ◌%◌, Bool, List, length, Option, Some, None, slice_get, if◌then◌else◌, ◌==◌, nat_lt, nat_le}
+use Rattle.std.specs.Prelude.{ℕ, ◌+◌, ◌-◌, ◌%◌, Bool, List, length, Option, Some, None, slice_get, if◌then◌else◌, ◌==◌}
+use Rattle.std.specs.Prelude.{nat_lt, nat_le}
 use Rattle.std.specs.List.{position}
 use Rattle.std.specs.Option.{unwrap_or}
 
--- a row that a jump by so many matches may count first: above the mark, or for a jump by none at it or above
+-- a row that a jump by this many matches may count first: above the mark, or for a jump by none at it or above
 abbrev pub counts_first : ℕ → ℕ → ℕ → Bool
 counts_first mark jump row = if jump == 0 then nat_le mark row else nat_lt mark row
 

@@ -24,7 +24,8 @@ found_behind found (Some next) = found_above next.pending.now.push.kept_rows fou
 -- what was formed for it is what it would form
 abbrev pub IsPendingBehind : Document → Option NextPush → Type 0
 IsPendingBehind d None = Unit {0}
-IsPendingBehind d (Some next) = IsPending d next.text.now next.pending.now.push.numbers next.pending.now.push.cols next.pending.now.push
+IsPendingBehind d (Some next) =
+    IsPending d next.text.now next.pending.now.push.numbers next.pending.now.push.cols next.pending.now.push
 
 -- each of these is a fact
 rows_set : IsSet (List (List ℕ))
@@ -42,9 +43,12 @@ numbers_set = Coded-set line_numbers.the_row.coded
 wraps_set : IsSet Wrap
 wraps_set = Coded-set wrap.the_row.coded
 
-IsPending-prop : (d : Document) (piece : List ℕ) (numbers : LineNumbers) (cols : ℕ) (p : Pending) → IsProp (IsPending d piece numbers cols p)
-IsPending-prop d piece numbers cols p = hlevel (le_prop, PlacesGoOn-prop, rows_set, entries_set, number_set, numbers_set, wraps_set)
+IsPending-prop : (d : Document) (piece : List ℕ) (numbers : LineNumbers) (cols : ℕ) (p : Pending) → IsProp
+    (IsPending d piece numbers cols p)
+IsPending-prop d piece numbers cols p =
+    hlevel (le_prop, PlacesGoOn-prop, rows_set, entries_set, number_set, numbers_set, wraps_set)
 
 pub IsPendingBehind-prop : (d : Document) (next : Option NextPush) → IsProp (IsPendingBehind d next)
 IsPendingBehind-prop d None = hlevel
-IsPendingBehind-prop d (Some next) = IsPending-prop d next.text.now next.pending.now.push.numbers next.pending.now.push.cols next.pending.now.push
+IsPendingBehind-prop d (Some next) =
+    IsPending-prop d next.text.now next.pending.now.push.numbers next.pending.now.push.cols next.pending.now.push

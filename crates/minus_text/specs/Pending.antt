@@ -10,8 +10,8 @@ use Rattle.minus_text.specs.Fragments.{Fragment, rows_in}
 use Rattle.minus_text.specs.Kept.{IsRestartOf}
 use Rattle.minus_text.specs.PushedPlaces.{PlacesGoOn}
 
--- how many rows and lines stay, the first rows of the lines that follow, where that begins, the fragment whose rows follow, the
--- numbers and columns of the push, and whether the fragment's lines are searched, and not its rows
+-- how many rows and lines stay, the first rows of the lines that follow, where that begins, the fragment whose rows
+-- follow, the numbers and columns of the push, and whether the fragment's lines are searched, and not its rows
 pub record Pending : Type 0 where
   pub kept_rows : ℕ
   pub kept_lines : ℕ
@@ -44,7 +44,8 @@ pub record IsAtLine (start : Restart) : Type 0 where
   pub no_rows : start.rows ≡ 0
   pub no_bytes : start.bytes ≡ 0
 
--- what was formed begins where a push of a piece begins to form, and is formed of what follows that place, as the push forms
+-- what was formed begins where a push of a piece begins to form, and is formed of what follows that place, as the push
+-- forms
 pub record IsPreparedFor (d : Document) (piece : List ℕ) (p : Pending) : Type 0 where
   pub text : IsUtf8 d.text
   pub begins : IsRestartOf d.text (plan_of d piece p.numbers p.cols) p.start
@@ -52,6 +53,7 @@ pub record IsPreparedFor (d : Document) (piece : List ℕ) (p : Pending) : Type 
   pub follows : p.tail.text ≡ drop (p.start.finished.bytes + p.start.bytes) d.text ++ piece
   pub from_line : p.match_lines ≡ true → IsAtLine p.start
 
--- where a term is searched for, it is searched for in the lines of what a push forms just where it is in those of the document
+-- where a term is searched for, it is searched for in the lines of what a push forms just where it is in those of the
+-- document
 abbrev pub SearchesAlike : Option Re → Document → Pending → Type 0
 SearchesAlike term d p = is_some term ≡ true → p.match_lines ≡ d.layout.match_lines

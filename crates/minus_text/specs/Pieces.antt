@@ -1,17 +1,18 @@
 -- The pieces of a line for some columns. A line is here the list of its characters.
-use Rattle.std.specs.Prelude.{◌≡◌, ℕ, ◌+◌, ◌-◌, ◌==◌, ◌&&◌, Bool, false, List, [], ◌∷◌, ◌++◌, length, take, drop, replicate, if◌then◌else◌}
+use Rattle.std.specs.Prelude.{ℕ, ◌+◌, ◌-◌, ◌==◌, Bool, List, [], ◌∷◌, ◌++◌, length, take, drop, replicate}
 use Rattle.std.specs.List.{sum_by, prefix_len, position_or_len, flat_map, concat}
-use Rattle.std.specs.Char.{is_ascii_alphanumeric}
 use Rattle.minus_text.specs.Cuts.{cuts}
 use Rattle.minus_text.specs.Units.{units, unit_columns}
 use Rattle.minus_text.specs.TheRuns.{the_runs}
 use Rattle.minus_text.specs.Fronts.{fits_front, front_rule}
+use Rattle.minus_text.specs.Hyphens.{parts}
 
 -- a part of a line that stays on one row: the units of its body, and how many spaces follow it
 pub record Piece : Type 0 where
   pub body : List (List ℕ)
   pub spaces : ℕ
 
+-- a character is a space
 abbrev pub is_space : ℕ → Bool
 is_space c = c == 32
 
@@ -19,6 +20,7 @@ is_space c = c == 32
 abbrev pub body_len : List ℕ → ℕ
 body_len cs = position_or_len is_space cs
 
+-- how many characters the first word has, with the spaces after it
 abbrev pub word_len : List ℕ → ℕ
 word_len cs = body_len cs + prefix_len is_space (drop (body_len cs) cs)
 
@@ -26,27 +28,8 @@ word_len cs = body_len cs + prefix_len is_space (drop (body_len cs) cs)
 abbrev pub words : List ℕ → List (List ℕ)
 words cs = cuts word_len cs
 
--- an ASCII letter or digit comes first
-abbrev pub begins_alphanumeric : List ℕ → Bool
-begins_alphanumeric [] = false
-begins_alphanumeric (c ∷ cs) = is_ascii_alphanumeric c
-
--- how many characters the first part has, if an ASCII letter or digit stands before the text or not:
--- it ends with the first hyphen between such letters or digits, or with the text
-abbrev pub part_len_after : Bool → List ℕ → ℕ
-part_len_after before [] = 0
-part_len_after before (c ∷ cs) =
-    if before && ((c == 45) && begins_alphanumeric cs) then 1 else 1 + part_len_after (is_ascii_alphanumeric c) cs
-
--- the whole text is its first part
-abbrev pub IsOnePart : List ℕ → Type 0
-IsOnePart cs = part_len_after false cs ≡ length cs
-
--- the parts of a word's body, cut after each hyphen between ASCII letters or digits
-abbrev pub parts : List ℕ → List (List ℕ)
-parts cs = cuts (part_len_after false) cs
-
--- the fronts of a part, of its units each: the longest that takes at most these columns or has one unit with columns at most
+-- the fronts of a part, of its units each: the longest that takes at most these columns or has one unit with columns at
+-- most
 abbrev pub fronts : ℕ → List ℕ → List (List (List ℕ))
 fronts cols part = (the_runs (fits_front cols) (front_rule cols) (units part)).runs
 
@@ -58,7 +41,8 @@ with_spaces (b ∷ c ∷ bs) n = record { body = b; spaces = 0 } ∷ with_spaces
 
 -- the pieces of a word
 abbrev pub word_pieces : ℕ → List ℕ → List Piece
-word_pieces cols word = with_spaces (flat_map (fronts cols) (parts (take (body_len word) word))) (length word - body_len word)
+word_pieces cols word =
+    with_spaces (flat_map (fronts cols) (parts (take (body_len word) word))) (length word - body_len word)
 
 -- the pieces of a line
 unfoldable pub pieces : ℕ → List ℕ → List Piece
@@ -68,5 +52,6 @@ pieces cols line = flat_map (word_pieces cols) (words line)
 abbrev pub piece_columns : Piece → ℕ
 piece_columns p = sum_by unit_columns p.body
 
+-- the text of a piece with its spaces
 abbrev pub piece_text : Piece → List ℕ
 piece_text p = concat p.body ++ replicate p.spaces 32

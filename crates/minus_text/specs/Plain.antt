@@ -1,4 +1,4 @@
--- Printable ASCII, and texts without ESC or without a hyphen.
+-- Printable ASCII, and texts without ESC.
 use Rattle.std.specs.Prelude.{ℕ, ◌==◌, Bool, not}
 use Rattle.std.specs.Int.{is_in_range}
 
@@ -9,7 +9,3 @@ is_printable c = is_in_range 0x20 0x7E c
 -- no ESC, with which alone a sequence begins
 abbrev pub is_unescaped : ℕ → Bool
 is_unescaped c = not (c == 27)
-
--- no hyphen, at which alone a word is cut
-abbrev pub is_unhyphened : ℕ → Bool
-is_unhyphened c = not (c == 45)

@@ -1,6 +1,6 @@
 -- Where the rows of a document stand in its lines. Lines count from 0.
 use Rattle.std.specs.Prelude.{◌≡◌, ℕ, ◌+◌, ◌==◌, Some, List, [], ◌∷◌, ◌++◌, length, map, slice_get, if◌then◌else◌}
-use Rattle.minus_text.specs.declared.wrap.Span.{Span}
+use Rattle.minus_text.specs.declared.rows.Span.{Span}
 use Rattle.minus_text.specs.declared.layout.Wrap.{Wrap}
 use Rattle.minus_text.specs.Lines.{finished_lines, unfinished_line}
 use Rattle.minus_text.specs.Layouts.{own_places}
@@ -28,7 +28,9 @@ open_homes wrap k text = if length text == 0 then [] else line_homes wrap k text
 
 -- the rows of a document, in order
 unfoldable pub row_homes : Document → List RowHome
-row_homes d = homes_from (wrap_in d) 0 (finished_lines d.text) ++ open_homes (wrap_in d) (length (finished_lines d.text)) (unfinished_line d.text)
+row_homes d =
+    homes_from (wrap_in d) 0 (finished_lines d.text)
+    ++ open_homes (wrap_in d) (length (finished_lines d.text)) (unfinished_line d.text)
 
 -- the place of a row in the text is its place in its line, behind where the line begins
 abbrev pub RowsStandInLines : Type 0

@@ -22,15 +22,19 @@ columns_front (a ∷ []) [] = omega arith
 columns_front (a ∷ []) (q ∷ qs) = omega arith
 columns_front (a ∷ b ∷ ps) qs = omega (arith, columns_front (b ∷ ps) qs)
 
+-- one piece fits on a row, and a front of what fits does, whatever the columns
 pub row_rule : (cols : ℕ) → IsFitRule (fits_row cols)
 row_rule cols = record {
-  one = λ p. or_left (nat_le (length (p ∷ [])) 1) (nat_le (run_columns (p ∷ [])) cols) (le-leb (length (p ∷ [])) 1 (omega arith));
+  one = λ p. or_left (nat_le (length (p ∷ [])) 1) (nat_le (run_columns (p ∷ [])) cols)
+      (le-leb (length (p ∷ [])) 1 (omega arith));
   front = λ ps qs h. elim (or_cases (nat_le (length (ps ++ qs)) 1) (nat_le (run_columns (ps ++ qs)) cols) h) [
     | inl e ↦
         let l = leb-true (length (ps ++ qs)) 1 e in
-        or_left (nat_le (length ps) 1) (nat_le (run_columns ps) cols) (le-leb (length ps) 1 (omega (arith, length-append ps qs)))
+        or_left (nat_le (length ps) 1) (nat_le (run_columns ps) cols)
+        (le-leb (length ps) 1 (omega (arith, length-append ps qs)))
     | inr e ↦
         let l = leb-true (run_columns (ps ++ qs)) cols e in
-        or_right (nat_le (length ps) 1) (nat_le (run_columns ps) cols) (le-leb (run_columns ps) cols (omega (arith, columns_front ps qs)))
+        or_right (nat_le (length ps) 1) (nat_le (run_columns ps) cols)
+        (le-leb (run_columns ps) cols (omega (arith, columns_front ps qs)))
   ];
 }

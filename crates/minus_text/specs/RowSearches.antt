@@ -9,10 +9,14 @@ use Rattle.minus_text.specs.ShownMatches.{shown_within, marked_within}
 
 -- a row of a document is put as the term shows it alone
 abbrev pub RowsShowTheirMatches : Type 0
-RowsShowTheirMatches = (term : Option Re) (d : Document) (i : ℕ) (row : List ℕ) → d.layout.match_lines ≡ false → slice_get (rows_of d) i ≡ Some row
+RowsShowTheirMatches =
+    (term : Option Re) (d : Document) (i : ℕ) (row : List ℕ) → d.layout.match_lines ≡ false
+    → slice_get (rows_of d) i ≡ Some row
     → marked (found_of_row i (finds term d)) row ≡ shown_for term row
 
 -- and so is what is shown of it in some columns
 abbrev pub PartsShowTheirMatches : Type 0
-PartsShowTheirMatches = (term : Option Re) (left width : ℕ) (d : Document) (i : ℕ) (row : List ℕ) → d.layout.match_lines ≡ false
-    → slice_get (rows_of d) i ≡ Some row → marked_within left width (found_of_row i (finds term d)) row ≡ shown_within term left width row
+PartsShowTheirMatches =
+    (term : Option Re) (left width : ℕ) (d : Document) (i : ℕ) (row : List ℕ) → d.layout.match_lines ≡ false
+    → slice_get (rows_of d) i ≡ Some row
+    → marked_within left width (found_of_row i (finds term d)) row ≡ shown_within term left width row

@@ -6,12 +6,13 @@ use Rattle.minus_text.specs.Units.{unit_columns}
 use Rattle.minus_text.specs.TheRuns.{TheRuns, the_runs}
 use Rattle.minus_text.specs.Pieces.{Piece, pieces, piece_text}
 use Rattle.minus_text.specs.RowRuns.{fits_row, row_rule, run_columns}
-use Rattle.minus_text.specs.declared.wrap.Span.{Span}
+use Rattle.minus_text.specs.declared.rows.Span.{Span}
 
 -- the one division of pieces into rows
 abbrev pub the_rows : (cols : ℕ) (ps : List Piece) → TheRuns (fits_row cols) ps
 the_rows cols ps = the_runs (fits_row cols) (row_rule cols) ps
 
+-- whatever the columns, pieces are divided into rows in one way
 abbrev pub RowsAreDetermined : Type 0
 RowsAreDetermined = (cols : ℕ) (ps : List Piece) → TheRuns (fits_row cols) ps
 
@@ -19,6 +20,7 @@ RowsAreDetermined = (cols : ℕ) (ps : List Piece) → TheRuns (fits_row cols) p
 abbrev pub run_text : List Piece → List ℕ
 run_text run = flat_map piece_text run
 
+-- the text that is shown on the row of a run: without its last spaces
 abbrev pub row_text : List Piece → List ℕ
 row_text [] = []
 row_text (p ∷ []) = concat p.body
@@ -30,15 +32,21 @@ line_runs cols line = (the_rows cols (pieces cols (chars line))).runs
 
 -- the rows of a line, as texts; an empty line is one empty row
 unfoldable pub line_rows : ℕ → List ℕ → List (List ℕ)
-line_rows cols line = if length (chars line) == 0 then [] ∷ [] else map (λ run. encode_utf8_all (row_text run)) (line_runs cols line)
+line_rows cols line =
+    if length (chars line) == 0 then [] ∷ [] else map (λ run. encode_utf8_all (row_text run)) (line_runs cols line)
 
--- the places of runs in the bytes of their line: a row begins where the run before it ends, and ends where its text does
+-- the places of runs in the bytes of their line: a row begins where the run before it ends, and ends where its text
+-- does
 abbrev pub places : ℕ → List (List Piece) → List Span
 places at [] = []
-places at (run ∷ runs) = record { start = at; end = at + length (encode_utf8_all (row_text run)) } ∷ places (at + length (encode_utf8_all (run_text run))) runs
+places at (run ∷ runs) =
+    record { start = at; end = at + length (encode_utf8_all (row_text run)) }
+    ∷ places (at + length (encode_utf8_all (run_text run))) runs
 
+-- the places of the rows of a line in its bytes; an empty line has one empty row
 unfoldable pub line_places : ℕ → List ℕ → List Span
-line_places cols line = if length (chars line) == 0 then record { start = 0; end = 0 } ∷ [] else places 0 (line_runs cols line)
+line_places cols line =
+    if length (chars line) == 0 then record { start = 0; end = 0 } ∷ [] else places 0 (line_runs cols line)
 
 -- a part of a text that may be cut out, and what it is
 pub record IsPlace (text : List ℕ) (s : Span) (row : List ℕ) : Type 0 where
@@ -47,6 +55,7 @@ pub record IsPlace (text : List ℕ) (s : Span) (row : List ℕ) : Type 0 where
   pub end : IsCharBoundary text s.end
   pub value : slice_range text s.start s.end ≡ row
 
+-- so are these parts of a text and these rows, one by one
 abbrev pub ArePlaces : List ℕ → List Span → List (List ℕ) → Type 0
 ArePlaces text [] [] = Unit {0}
 ArePlaces text [] (r ∷ rs) = ⊥
@@ -69,4 +78,6 @@ pub record HoldsOneWide (cols : ℕ) (us : List (List ℕ)) : Type 0 where
 
 -- each row takes at most the columns, or holds one unit wider than them and otherwise only units without columns
 abbrev pub RowsFit : Type 0
-RowsFit = (cols : ℕ) (line : List ℕ) → All (λ run. (run_columns run ≤ cols) ⊎ HoldsOneWide cols (flat_map (λ p. p.body) run)) (line_runs cols line)
+RowsFit =
+    (cols : ℕ) (line : List ℕ)
+    → All (λ run. (run_columns run ≤ cols) ⊎ HoldsOneWide cols (flat_map (λ p. p.body) run)) (line_runs cols line)

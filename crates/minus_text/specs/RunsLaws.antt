@@ -1,6 +1,7 @@
 -- A list is divided into such runs in one way.
 -- Proofs that the definition of the runs needs: it is a description of what alone meets its relation.
-use Rattle.std.proofs.Common.{◌≡◌, ◌+◌, ◌<◌, Bool, true, false, cond, List, [], ◌∷◌, ◌++◌, length, refl, sym, ap, ◌∙◌, arith, append_assoc, inl, inr, ◌⊎◌}
+use Rattle.std.proofs.Common.{◌≡◌, ◌+◌, ◌<◌, Bool, true, false, cond, List, [], ◌∷◌, ◌++◌, length, refl, sym, ap, ◌∙◌}
+use Rattle.std.proofs.Common.{arith, append_assoc, inl, inr, ◌⊎◌}
 use Rattle.std.proofs.lemmas.Bool.{cases_Bool}
 use Rattle.std.proofs.lemmas.List.{append_cancel_left, append-nil, length-append}
 use Rattle.minus_text.specs.Runs.{IsRun, AreRuns, IsFitRule}
@@ -12,6 +13,7 @@ IsLonger {X} r x s y = (z : List X) × (s ≡ r ++ z) × (x ≡ z ++ y)
 parts_same : {X : Type 0} (a b : X) (xs ys : List X) → a ∷ xs ≡ b ∷ ys → (a ≡ b) × (xs ≡ ys)
 parts_same a b xs ys e = (cc, cc)
 
+-- of two ways to cut a list in two, one has a front that is longer than that of the other, or as long
 pub two_fronts : {X : Type 0} (r x s y : List X) → r ++ x ≡ s ++ y → IsLonger r x s y ⊎ IsLonger s y r x
 two_fronts [] x s y e = inl (s, refl, e)
 two_fronts (a ∷ r) x [] y e = inr (a ∷ r, refl, sym e)
@@ -23,7 +25,8 @@ two_fronts (a ∷ r) x (b ∷ s) y e =
     ]
 
 -- a full run is not a proper front of one that fits
-not_longer : {X : Type 0} (fits : List X → Bool) (r x s y z : List X) → IsFitRule fits → IsRun fits r x → IsRun fits s y → s ≡ r ++ z → x ≡ z ++ y → r ≡ s
+not_longer : {X : Type 0} (fits : List X → Bool) (r x s y z : List X) → IsFitRule fits → IsRun fits r x
+    → IsRun fits s y → s ≡ r ++ z → x ≡ z ++ y → r ≡ s
 not_longer fits r x s y [] rule hr hs e f = sym (e ∙ append-nil r)
 not_longer fits r x s y (p ∷ z) rule hr hs e f =
     let full : fits (r ++ p ∷ []) ≡ false = rw f at hr.full in
@@ -33,7 +36,8 @@ not_longer fits r x s y (p ∷ z) rule hr hs e f =
     let both : true ≡ false = sym front ∙ full in
     cc
 
-same_run : {X : Type 0} (fits : List X → Bool) (r x s y : List X) → IsFitRule fits → IsRun fits r x → IsRun fits s y → r ++ x ≡ s ++ y → r ≡ s
+same_run : {X : Type 0} (fits : List X → Bool) (r x s y : List X) → IsFitRule fits → IsRun fits r x → IsRun fits s y
+    → r ++ x ≡ s ++ y → r ≡ s
 same_run fits r x s y rule hr hs e =
     elim (two_fronts r x s y e) [
       | inl w ↦ not_longer fits r x s y w.0 rule hr hs w.1 w.2
@@ -46,8 +50,10 @@ none_left fits xs r x e f h =
     let some : 0 < length r = h.some in
     omega arith
 
+-- two divisions of a list into runs are the same
 pub same_runs :
-    {X : Type 0} (fits : List X → Bool) (rule : IsFitRule fits) (xs : List X) (rs ss : List (List X)) → AreRuns fits xs rs → AreRuns fits xs ss → rs ≡ ss
+    {X : Type 0} (fits : List X → Bool) (rule : IsFitRule fits) (xs : List X) (rs ss : List (List X))
+    → AreRuns fits xs rs → AreRuns fits xs ss → rs ≡ ss
 same_runs fits rule xs [] [] h k = refl
 same_runs fits rule xs [] (s ∷ ss) h k = absurd (none_left fits xs s k.0 h k.1 k.2)
 same_runs fits rule xs (r ∷ rs) [] h k = absurd (none_left fits xs r h.0 k h.1 h.2)
@@ -61,9 +67,11 @@ same_runs fits rule xs (r ∷ rs) (s ∷ ss) h k =
 -- the runs of a front and of what follows it
 runs_from : {X : Type 0} → (List X → Bool) → List X → List X → List (List X)
 runs_from fits run [] = run ∷ []
-runs_from fits run (x ∷ xs) = cond (fits (run ++ x ∷ [])) (runs_from fits (run ++ x ∷ []) xs) (run ∷ runs_from fits (x ∷ []) xs)
+runs_from fits run (x ∷ xs) =
+    cond (fits (run ++ x ∷ [])) (runs_from fits (run ++ x ∷ []) xs) (run ∷ runs_from fits (x ∷ []) xs)
 
-runs_from-are : {X : Type 0} (fits : List X → Bool) (rule : IsFitRule fits) (run xs : List X) → 0 < length run → fits run ≡ true
+runs_from-are : {X : Type 0} (fits : List X → Bool) (rule : IsFitRule fits) (run xs : List X) → 0 < length run
+    → fits run ≡ true
     → AreRuns fits (run ++ xs) (runs_from fits run xs)
 unfolding runs_from
 runs_from-are fits rule run [] some fitting = ([], refl, record { some = some; fitting = fitting; full = tt }, refl)
@@ -74,18 +82,26 @@ runs_from-are fits rule run (x ∷ xs) some fitting =
           = runs_from-are fits rule (run ++ x ∷ []) xs (omega (arith, length-append run (x ∷ []))) e in
           rw e (rw (append_assoc run (x ∷ []) xs) at h)
       | inr e ↦
-          rw e (x ∷ xs, refl, record { some = some; fitting = fitting; full = e }, runs_from-are fits rule (x ∷ []) xs (omega arith) (rule.one x))
+          rw e (
+            x ∷ xs,
+            refl,
+            record { some = some; fitting = fitting; full = e },
+            runs_from-are fits rule
+                (x ∷ []) xs (omega arith) (rule.one x),
+          )
     ]
 
 runs_of : {X : Type 0} → (List X → Bool) → List X → List (List X)
 runs_of fits [] = []
 runs_of fits (x ∷ xs) = runs_from fits (x ∷ []) xs
 
-runs_of-are : {X : Type 0} (fits : List X → Bool) (rule : IsFitRule fits) (xs : List X) → AreRuns fits xs (runs_of fits xs)
+runs_of-are : {X : Type 0} (fits : List X → Bool) (rule : IsFitRule fits) (xs : List X) → AreRuns fits xs
+    (runs_of fits xs)
 unfolding runs_of
 runs_of-are fits rule [] = refl
 runs_of-are fits rule (x ∷ xs) = runs_from-are fits rule (x ∷ []) xs (omega arith) (rule.one x)
 
 -- there is a division into runs
-pub divided : {X : Type 0} (fits : List X → Bool) (rule : IsFitRule fits) (xs : List X) → (runs : List (List X)) × AreRuns fits xs runs
+pub divided : {X : Type 0} (fits : List X → Bool) (rule : IsFitRule fits) (xs : List X) →
+    (runs : List (List X)) × AreRuns fits xs runs
 divided fits rule xs = (runs_of fits xs, runs_of-are fits rule xs)

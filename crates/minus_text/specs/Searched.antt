@@ -1,9 +1,10 @@
 -- A document as a function of a term: what that finds in it, and its rows with that shown in reverse.
-use Rattle.std.specs.Prelude.{◌≡◌, ℕ, ◌+◌, ◌≤◌, ◌<◌, Bool, false, List, [], ◌∷◌, ◌++◌, length, take, drop, Option, None, Some, option_map, slice_get}
+use Rattle.std.specs.Prelude.{◌≡◌, ℕ, ◌+◌, ◌≤◌, ◌<◌, Bool, false, List, [], ◌∷◌, ◌++◌, length, take, drop, Option, None}
+use Rattle.std.specs.Prelude.{Some, option_map, slice_get}
 use Rattle.std.specs.Str.Lines.{lines}
 use Rattle.regex.specs.Patterns.{Re}
 use Rattle.minus_text.specs.declared.layout.Wrap.{Wrap}
-use Rattle.minus_text.specs.Prefixes.{is_on}
+use Rattle.minus_text.specs.NumberPrefix.{is_on}
 use Rattle.minus_text.specs.Layouts.{own_rows}
 use Rattle.minus_text.specs.Document.{Document, rows_of, wrap_in, line_count, stored_line, pushed}
 use Rattle.minus_text.specs.Pending.{Pending}
@@ -41,6 +42,7 @@ IsFoundBy term s = s.found ≡ finds term s.document
 abbrev pub IsFoundAt : Option Re → Searched → ℕ → Type 0
 IsFoundAt term s i = found_of_row i s.found ≡ found_of_row i (finds term s.document)
 
+-- what was found in the rows from one on up to but without another, counted from 0, is what a term finds in them
 abbrev pub IsFoundBetween : Option Re → Searched → ℕ → ℕ → Type 0
 IsFoundBetween term s start end = (i : ℕ) → start ≤ i → i < end → IsFoundAt term s i
 
@@ -57,7 +59,8 @@ abbrev pub shown_for : Option Re → List ℕ → List ℕ
 shown_for None row = row
 shown_for (Some pattern) row = highlighted pattern false row
 
--- what is put for a row of a document with a number: the style that is carried to it, and its text with what was found in it in reverse
+-- what is put for a row of a document with a number: the style that is carried to it, and its text with what was found
+-- in it in reverse
 abbrev pub put_row : List RowMatches → Document → ℕ → List ℕ → List ℕ
 put_row found d n row = carried_style d n ++ marked (found_of_row n found) row
 
@@ -66,24 +69,27 @@ abbrev pub put_rows : List RowMatches → Document → ℕ → List (List ℕ) �
 put_rows found d n [] = []
 put_rows found d n (row ∷ rows) = put_row found d n row ∷ put_rows found d (n + 1) rows
 
--- these are put for the rows of lines, of which the first has a number: what stands before each row, and what is put for it
+-- these are put for the rows of lines, of which the first has a number: what stands before each row, and what is put
+-- for it
 abbrev pub stored_with : Wrap → Bool → ℕ → ℕ → List (List ℕ) → List (List ℕ) → List (List ℕ)
 stored_with wrap numbers count line [] rows = []
 stored_with wrap numbers count line (x ∷ xs) rows =
     let n = length (own_rows wrap x) in
     stored_line numbers count line (take n rows) ++ stored_with wrap numbers count (line + 1) xs (drop n rows)
 
--- the stored rows of a document under a term: what stands before each row, the style that is carried to it, and its text with what the term
--- finds in it in reverse
+-- the stored rows of a document under a term: what stands before each row, the style that is carried to it, and its
+-- text with what the term finds in it in reverse
 unfoldable pub stored_rows_for : Option Re → Document → List (List ℕ)
 stored_rows_for term d =
-    stored_with (wrap_in d) (is_on d.layout.numbers) (line_count d) 1 (lines d.text) (put_rows (finds term d) d 0 (rows_of d))
+    stored_with (wrap_in d) (is_on d.layout.numbers) (line_count d) 1 (lines d.text)
+    (put_rows (finds term d) d 0 (rows_of d))
 
--- a row, if there is one, with what is found in it in reverse, the style that is carried to it before that, and this before both, under
--- whatever term the document was searched for
+-- a row, if there is one, with what is found in it in reverse, the style that is carried to it before that, and this
+-- before both, under whatever term the document was searched for
 abbrev pub IsRowBehind : List ℕ → Searched → ℕ → Option (List ℕ) → Type 0
 IsRowBehind before s i row = (term : Option Re) → IsFoundAt term s i
-    → row ≡ option_map (λ text. before ++ carried_style s.document i ++ marked (found_of_row i (finds term s.document)) text)
+    → row ≡ option_map (λ text. before ++ carried_style s.document i
+    ++ marked (found_of_row i (finds term s.document)) text)
     (slice_get (rows_of s.document) i)
 
 -- such a row with nothing before it but the style that is carried to it

@@ -11,5 +11,6 @@ text_units cs = units (body_of cs) ++ replicate (length cs - length (body_of cs)
 unfoldable pub units_left : Units → List (List ℕ)
 units_left u = units (chars u.body.now) ++ replicate u.spaces (32 ∷ [])
 
+-- the bytes of the units that are left
 unfoldable pub bytes_left : Units → List ℕ
 bytes_left u = u.body.now ++ replicate u.spaces 32

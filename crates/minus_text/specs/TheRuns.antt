@@ -9,6 +9,7 @@ pub record TheRuns {X : Type 0} (fits : List X → Bool) (xs : List X) : Type 0 
   pub are : AreRuns fits xs runs
   pub only : (others : List (List X)) → AreRuns fits xs others → others ≡ runs
 
+-- the runs that a list is divided into by what fits, and that there are no others
 pub the_runs : {X : Type 0} (fits : List X → Bool) → IsFitRule fits → (xs : List X) → TheRuns fits xs
 the_runs fits rule xs =
     let it = divided fits rule xs in

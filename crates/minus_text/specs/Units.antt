@@ -1,5 +1,6 @@
 -- The units of a text and their columns. A text is here the list of its characters.
-use Rattle.std.specs.Prelude.{ℕ, ◌+◌, ◌-◌, ◌==◌, ◌&&◌, Bool, false, List, [], ◌∷◌, length, drop, unwrap_or, if◌then◌else◌, chars}
+use Rattle.std.specs.Prelude.{ℕ, ◌+◌, ◌-◌, ◌==◌, ◌&&◌, Bool, false, List, [], ◌∷◌, length, drop, unwrap_or}
+use Rattle.std.specs.Prelude.{if◌then◌else◌, chars}
 use Rattle.std.specs.List.{sum_by, position_or_len}
 use Rattle.std.specs.Int.{is_in_range}
 use Rattle.unicode_width.specs.Width.{char_width}

@@ -8,4 +8,5 @@ use Rattle.minus_text.specs.StyleSources.{source_style}
 
 -- what stands before its text, the style that is carried to it, and its text with what was found in it in reverse
 abbrev pub viewed_text : ViewedRow → List ℕ
-viewed_text r = prefix_of r.row.prefix ++ source_style r.style ++ marked (option_map (λ f. matches_of f.now) r.found) r.row.row.now
+viewed_text r =
+    prefix_of r.row.prefix ++ source_style r.style ++ marked (option_map (λ f. matches_of f.now) r.found) r.row.row.now

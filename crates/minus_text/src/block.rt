@@ -9,12 +9,13 @@ ghost use Rattle.minus_text.specs.Formatted.{prefix_of};
 ghost use Rattle.minus_text.specs.Blocks.{Block, fragment_of, block_rows, matching_rows, TellsBlock, IsPrefixIn, IsRowIn, one, keys_noted, noted_in, GrowsByRows};
 
 use crate::buffers::AppendableBuffer;
-use crate::formatted::{FormattedRow, RowPrefix, finder_of, search_row};
+use crate::formatted::{FormattedRow, finder_of, search_row};
 use crate::formed::{Border, Finished, Restart, form};
 use crate::formed_push::FormedPush;
 use crate::layout::{Layout, Wrap};
 use crate::line_numbers::{LineNumbers, prefix_columns};
 use crate::lines::newlines;
+use crate::number_prefix::RowPrefix;
 use crate::row_text::escapes_end;
 use crate::screen::FormatResult;
 use crate::search::{Finder, Term};
@@ -33,7 +34,7 @@ fn line_count(text: &str) -> usize
     newlines(text) + usize::from(!text.ends_with('\n'))
 }
 
-// The columns that numbers take from the text of rows, where there are so many lines.
+// The columns that numbers take from the text of rows, where there are this many lines.
 fn margin(numbers: LineNumbers, line_count: usize) -> usize
     ensures { result ≡ margin numbers line_count }
 {
@@ -53,7 +54,7 @@ fn note(found: &mut BTreeSet<usize>, row: usize, matches: bool) -> Result<(), Al
     Ok(())
 }
 
-// A text with its rows, formed behind so many lines; how many rows its unfinished line has, and the
+// A text with its rows, formed behind this many lines; how many rows its unfinished line has, and the
 // columns of its longest line.
 pub(crate) struct FormattedBlock {
     formed: FormedPush,
@@ -63,7 +64,7 @@ pub(crate) struct FormattedBlock {
     longest: usize,
 }
 
-// By hand: a derived drop would stand anew in the proof of each function that lets one go.
+// Hand-written: a derived drop would stand again in the proof of each function that lets one go.
 impl Drop for FormattedBlock {
     fn drop(self) {
         let FormattedBlock {
@@ -92,7 +93,7 @@ impl Model for FormattedBlock {
 }
 
 impl FormattedBlock {
-    // Forms a text behind so many lines, from a row with a number on.
+    // Forms a text behind this many lines, from a row with a number on.
     pub(crate) fn new(
         alloc: Global,
         text: String,
@@ -266,7 +267,7 @@ fn put_rows<B: AppendableBuffer>(
     Ok(found)
 }
 
-// Puts the rows of a block at the end of a buffer, and tells of it. An `Err` changes no row.
+// Puts the rows of a block at the end of a buffer, and reports it. An `Err` changes no row.
 pub(crate) fn put_block<B: AppendableBuffer>(
     alloc: Global,
     buffer: &mut B,

@@ -7,11 +7,11 @@ ghost use Rattle.minus_text.specs.Units.{unit_columns, columns, begins_sequence}
 ghost use Rattle.minus_text.specs.ShownMatches.{meets, IsPlainTo};
 ghost use Rattle.minus_text.specs.Crop.{is_inside, columns_inside, is_shown_behind, is_shown, shown_unit_text, cropped, fitted, CroppedFits, FittedTextsFill};
 
+use crate::plain::{are_printable, are_unescaped};
 use crate::row_text::RowText;
 use crate::screen::Row;
 use crate::spaces::push_spaces;
 use crate::units::{Unit, Units};
-use crate::wrap::{are_printable, are_unescaped};
 use std::alloc::{AllocError, Global};
 
 /// Columns of a text that are shown: how many, from the column `left` on, counted from 0.
@@ -24,7 +24,7 @@ pub struct Window {
 }
 
 impl Window {
-    /// Whether so many columns from the column `at` on are all shown.
+    /// Whether this many columns from the column `at` on are all shown.
     pub fn is_inside(self, at: usize, columns: usize) -> bool
         ensures { result ≡ is_inside self.left self.width at columns }
     {
@@ -195,7 +195,7 @@ pub(crate) fn push_units(
     }
 }
 
-// Adds to a row what is shown of a text, as `crop_columns` gives it. An `Err` is for want of memory alone; it may leave
+// Adds to a row what is shown of a text, as `crop_columns` gives it. An `Err` only means out of memory; it may leave
 // some of it behind.
 fn push_cropped(row: &mut String, text: &str, left: usize, width: usize) -> Result<(), AllocError>
     ensures { OnOk result (string_bytes row.new ≡ string_bytes row.old ++ cropped left width text.now) }
@@ -208,8 +208,8 @@ impl<'t> RowText<'t> {
     ghost use Rattle.minus_text.specs.ShownMatches.{IsPlainTo};
     ghost use Rattle.minus_text.specs.Crop.{cropped};
 
-    /// What is shown of it in so many columns from the column `left` on, as [`crop_columns`] gives it, where that is a
-    /// part of it: where no other characters than printable ASCII stand in the columns up to the first behind these,
+    /// What is shown of it in this many columns from the column `left` on, as [`crop_columns`] gives it, where that is
+    /// a part of it: where no other characters than printable ASCII stand in the columns up to the first behind these,
     /// and no escape sequence behind. Nothing of that is read where it is known to have none.
     pub fn shown_part(self, left: usize, width: usize) -> Option<&'t str>
         ensures { IfSome result (λ part. part.now ≡ cropped left width self.entry.text.now) }
@@ -224,8 +224,8 @@ impl<'t> RowText<'t> {
         is_plain_in(self.text, window, self.escapes_end)
     }
 
-    /// Adds to a row what is shown of it in so many columns from the column `left` on, as [`crop_columns`] gives it. An
-    /// `Err` is for want of memory alone; it may leave some of it behind.
+    /// Adds to a row what is shown of it in this many columns from the column `left` on, as [`crop_columns`] gives it.
+    /// An `Err` is only since memory runs out; it may leave some of it behind.
     pub fn push_cropped(self, row: &mut String, left: usize, width: usize) -> Result<(), AllocError>
         ensures { OnOk result (string_bytes row.new
             ≡ string_bytes row.old ++ cropped left width self.entry.text.now) }
@@ -238,10 +238,10 @@ impl<'t> RowText<'t> {
     }
 }
 
-/// What is shown of a text, taken as one piece, in so many columns from the column `left` on, counted from
+/// What is shown of a text, taken as one piece, in this many columns from the column `left` on, counted from
 /// 0. A unit with columns is shown if they are all among these, and else as a space for each of its columns
 /// that is; each `ESC[` sequence is shown; any other character without columns is shown with the last unit
-/// with columns before it, and with none before it where `left` is 0. Fails for want of memory alone.
+/// with columns before it, and with none before it where `left` is 0. Fails only if memory runs out.
 pub fn crop_columns(alloc: Global, text: &str, left: usize, width: usize) -> Result<Row, AllocError>
     ensures row { IfOk result (λ row. string_bytes row ≡ cropped left width text.now) }
     ensures fits { IfOk result (λ row. columns (string_bytes row) ≤ width) }
@@ -251,8 +251,8 @@ pub fn crop_columns(alloc: Global, text: &str, left: usize, width: usize) -> Res
     Ok(row)
 }
 
-/// A text, taken as one piece, cut to its longest front of whole units that takes at most so many columns,
-/// and filled with spaces to as many. Fails for want of memory alone.
+/// A text, taken as one piece, cut to its longest front of whole units that takes at most this many columns,
+/// and filled with spaces to as many. Fails only if memory runs out.
 pub fn fit_columns(alloc: Global, text: &str, cols: usize) -> Result<Row, AllocError>
     ensures row { IfOk result (λ row. string_bytes row ≡ fitted cols text.now) }
     ensures fills { IfOk result (λ row. columns (string_bytes row) ≡ cols) }

@@ -13,7 +13,7 @@ use crate::search::Term;
 use minus_term::error::MinusError;
 use std::alloc::{AllocError, Global};
 
-// So many lines and rows are counted before a text at most: no text in memory has more.
+// This many lines and rows are counted before a text at most: no text in memory has more.
 const MOST_BEFORE: usize = 0x7fff_ffff_ffff_ffff;
 
 /// A text that is to be formatted, and what takes its rows.
@@ -27,9 +27,9 @@ pub struct FormatOpts<'a, B> {
     pub attachment: Option<TextBlock<'a>>,
     /// Whether rows begin with the numbers of their lines.
     pub line_numbers: LineNumbers,
-    /// How many lines there are before the text, with the attachment. More than 2^63 - 1 count as so many.
+    /// How many lines there are before the text, with the attachment. More than 2^63 - 1 count as this many.
     pub lines_count: usize,
-    /// How many rows these lines have. More than 2^63 - 1 count as so many.
+    /// How many rows these lines have. More than 2^63 - 1 count as this many.
     pub formatted_lines_count: usize,
     /// The columns of a row.
     pub cols: usize,
@@ -41,7 +41,7 @@ pub struct FormatOpts<'a, B> {
     pub line_wrapping: bool,
 }
 
-// Forms a text behind so many lines and rows, with what is attached in front of it.
+// Forms a text behind this many lines and rows, with what is attached in front of it.
 fn form_with(
     alloc: Global,
     attachment: Option<&str>,
@@ -70,7 +70,7 @@ fn form_with(
 }
 
 /// Puts the rows of a text at the end of a buffer, as they are stored: numbers before them where these
-/// are on, the matches of the term in reverse. The result tells of the attachment and the text.
+/// are on, the matches of the term in reverse. The result reports the attachment and the text.
 ///
 /// # Errors
 ///

@@ -1,113 +1,17 @@
 //! Rows that print as they are stored.
-ghost use Rattle.std.specs.Prelude.{◌≡◌, ◌+◌, ◌-◌, ◌++◌, length, string_bytes, map, option_map, replicate, false, IfOk, OnOk, Some};
-ghost use Rattle.std.specs.Fmt.{decimal};
-ghost use Rattle.minus_text.specs.Prefixes.{prefix, numbered};
+ghost use Rattle.std.specs.Prelude.{◌≡◌, map, option_map, false, IfOk, Some};
 ghost use Rattle.minus_text.specs.Highlight.{highlighted, line_matches};
 ghost use Rattle.minus_text.specs.Shown.{shown_line};
 ghost use Rattle.minus_text.specs.FoundRows.{finder_pattern, pattern_of};
-ghost use Rattle.minus_text.specs.Formatted.{prefix_of, printed_row, printed_under, printed_searched, row_matches};
+ghost use Rattle.minus_text.specs.Formatted.{printed_row, printed_under, printed_searched, row_matches};
 
-use crate::line_numbers::{digits, prefix_columns};
+use crate::number_prefix::RowPrefix;
 use crate::push_text::PushText;
 use crate::screen::Row;
 use crate::search::escapes::part;
 use crate::search::{Finder, HighlightMatchesArgs, Term};
-use crate::spaces::push_spaces;
-use itoa::Buffer;
 use std::alloc::{AllocError, Global};
 use std::fmt;
-
-// Bytes enough for what stands before a row.
-const ROOM: usize = 48;
-
-// So many blanks.
-#[derive(Clone, Copy)]
-struct Blanks(usize);
-
-impl fmt::Display for Blanks {
-    ghost output = { λ b. Some (replicate b.0 32) };
-
-    fn fmt<W: fmt::Write>(&self, f: &mut fmt::Formatter<W>) -> fmt::Result {
-        for _i in 0..self.0 {
-            write!(f, " ")?;
-        }
-        Ok(())
-    }
-}
-
-// What stands before a row.
-#[derive(Clone, Copy)]
-pub(crate) struct RowPrefix {
-    pub(crate) numbers: bool,
-    pub(crate) line_count: usize,
-    pub(crate) line: usize,
-    pub(crate) is_first: bool,
-}
-
-// Adds a line's number in bold and with a stop, at the right of so many columns with a blank behind it.
-fn push_number<T: PushText>(out: &mut T, columns: usize, line: usize) -> Result<(), AllocError>
-    ensures { OnOk result (T.bytes out.new ≡ T.bytes out.old
-        ++ numbered (columns - (length (decimal line) + 2)) line) }
-{
-    let mut buffer = Buffer::new();
-    let number = buffer.format(line);
-    push_spaces(out, columns.saturating_sub(number.len() + 2))?;
-    out.push_text("\x1b[1m")?;
-    out.push_text(number)?;
-    out.push_text(".\x1b[0m ")?;
-    Ok(())
-}
-
-impl RowPrefix {
-    ghost use Rattle.std.specs.Prelude.{◌≡◌, ◌++◌, OnOk};
-    ghost use Rattle.minus_text.specs.Formatted.{prefix_of};
-
-    pub(crate) const NONE: RowPrefix = RowPrefix {
-        numbers: false,
-        line_count: 0,
-        line: 0,
-        is_first: false,
-    };
-
-    // Bytes enough for it.
-    pub(crate) fn room(self) -> usize {
-        if self.numbers { ROOM } else { 0 }
-    }
-
-    // Adds it to a row. An `Err` is for want of memory alone; it may leave some of it behind.
-    pub(crate) fn push_to<T: PushText>(self, out: &mut T) -> Result<(), AllocError>
-        ensures { OnOk result (T.bytes out.new ≡ T.bytes out.old ++ prefix_of self) }
-    {
-        if !self.numbers {
-            return Ok(());
-        }
-        let columns = prefix_columns(true, self.line_count);
-        if self.is_first {
-            push_number(out, columns, self.line)?;
-            return Ok(());
-        }
-        push_spaces(out, columns)?;
-        Ok(())
-    }
-}
-
-impl fmt::Display for RowPrefix {
-    ghost output = { λ p. Some (prefix_of p) };
-
-    fn fmt<W: fmt::Write>(&self, f: &mut fmt::Formatter<W>) -> fmt::Result {
-        if !self.numbers {
-            return Ok(());
-        }
-        let columns = prefix_columns(true, self.line_count);
-        if self.is_first {
-            let line = self.line;
-            let before = Blanks(columns.saturating_sub(digits(line) + 2));
-            return write!(f, "{before}\x1b[1m{line}.\x1b[0m ");
-        }
-        let blanks = Blanks(columns);
-        write!(f, "{blanks}")
-    }
-}
 
 /// A row of a line. It prints what stands before it, and its own text.
 #[derive(Clone, Copy)]
@@ -118,7 +22,7 @@ pub struct FormattedRow<'a> {
 
 impl<'a> FormattedRow<'a> {
     ghost use Rattle.std.specs.Prelude.{◌≡◌, ◌++◌, string_bytes, IfOk, OnOk};
-    ghost use Rattle.minus_text.specs.Prefixes.{prefix};
+    ghost use Rattle.minus_text.specs.NumberPrefix.{prefix};
     ghost use Rattle.minus_text.specs.Formatted.{prefix_of, printed_row};
 
     /// A row with this text of its own. Where numbers are on it has the number of its line before it,
@@ -146,7 +50,7 @@ impl<'a> FormattedRow<'a> {
         }
     }
 
-    // Adds it to a row, or to the bytes of a drawing. An `Err` is for want of memory alone; it may leave some of it
+    // Adds it to a row, or to the bytes of a drawing. An `Err` only means out of memory; it may leave some of it
     // behind.
     fn push_to<T: PushText>(self, out: &mut T) -> Result<(), AllocError>
         ensures { OnOk result (T.bytes out.new ≡ T.bytes out.old ++ printed_row self.entry) }
@@ -271,7 +175,7 @@ pub(crate) fn search_row<'a>(
 }
 
 /// Each of these rows with the matches of a term in reverse, and whether it matches; as they are
-/// without a term. One search serves all rows. Fails for want of memory alone.
+/// without a term. One search serves all rows. Fails only if memory runs out.
 pub fn format_search_rows<'a>(
     alloc: Global,
     rows: &[FormattedRow<'a>],

@@ -11,7 +11,10 @@ use crate::layout::Wrap;
 use crate::line_cuts::push_printable;
 use crate::lines::{split_line, without_return};
 use crate::lines_row_map::LinesRowMap;
-use crate::wrap::{Span, columns, is_unescaped, settled, wrap_line};
+use crate::plain::is_unescaped;
+use crate::rows::{Span, wrap_line};
+use crate::settled::settled;
+use crate::units::columns;
 use std::alloc::{AllocError, Global};
 
 // How far lines go that a newline ends: how many lines, rows and bytes, and the columns of the
@@ -44,7 +47,7 @@ impl Finished {
     }
 }
 
-// How far the unfinished line is measured: so many bytes of it take so many columns, whatever
+// How far the unfinished line is measured: this many bytes of it take this many columns, whatever
 // follows them.
 #[derive(Clone, Copy, Debug)]
 pub(crate) struct Border {
@@ -60,7 +63,7 @@ impl Border {
     };
 }
 
-// Where forming goes on: behind finished lines, and behind so many rows and bytes of the
+// Where forming goes on: behind finished lines, and behind this many rows and bytes of the
 // unfinished line that stay whatever follows it.
 #[derive(Clone, Copy, Debug)]
 pub(crate) struct Restart {

@@ -113,7 +113,8 @@ impl FormedPush {
     ) -> Result<Vec<FoundRow>, AllocError>
         requires { self.now.match_lines ≡ true }
         ensures found { IfOk result (λ f. map matches_of f.items
-            ≡ finds_in_lines (finder_pattern finder.old) self.now.tail.wrap self.now.kept_rows (lines self.now.tail.text)) }
+            ≡ finds_in_lines (finder_pattern finder.old) self.now.tail.wrap self.now.kept_rows
+            (lines self.now.tail.text)) }
         ensures stand { IfOk result (λ f.
             AreFoundIn self.now.kept_rows (rows_in self.now.tail) (map matches_of f.items)) }
     {

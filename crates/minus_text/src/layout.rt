@@ -14,17 +14,17 @@ pub struct Layout {
     pub wrapping: bool,
     /// Whether rows begin with the numbers of their lines.
     pub numbers: LineNumbers,
-    /// Whether a term is searched for in each line. Otherwise it is searched for in each row by itself, so that a match does not go
-    /// over the end of a row.
+    /// Whether a term is searched for in each line. Otherwise it is searched for in each row by itself, so that a match
+    /// does not go over the end of a row.
     pub match_lines: bool,
     /// Whether each row is put with the style that its line carries to it: the style sequences, `ESC[..m`, before the
-    /// row in its line since the last reset, `ESC[m` or `ESC[0m`. No style goes on from a line into the next one. Blocks of
-    /// rows that stand by themselves carry none.
+    /// row in its line since the last reset, `ESC[m` or `ESC[0m`. No style goes on from a line into the next one.
+    /// Blocks of rows that stand by themselves carry none.
     pub carry_style: bool,
 }
 
 impl Layout {
-    /// So many columns, in which lines are wrapped and have no numbers.
+    /// This many columns, in which lines are wrapped and have no numbers.
     pub fn plain(cols: usize) -> Layout
         ensures { result ≡ plain cols }
     {
@@ -59,7 +59,7 @@ pub(crate) enum Wrap {
 }
 
 impl Wrap {
-    // What it is for so many columns, if lines are wrapped.
+    // What it is for this many columns, if lines are wrapped.
     pub(crate) fn of(wrapping: bool, cols: usize) -> Wrap
         ensures { result ≡ wrapped wrapping cols }
     {

@@ -9,31 +9,37 @@ mod format;
 mod formatted;
 mod formed;
 mod formed_push;
+mod hyphens;
 pub mod layout;
 mod line_cuts;
 pub mod line_numbers;
 pub mod lines;
 pub mod lines_row_map;
 mod matched_text;
+mod number_prefix;
 pub mod pending;
+mod pieces;
+mod plain;
 mod push_text;
 pub mod row_text;
+pub mod rows;
 pub mod screen;
 mod seams;
 pub mod search;
+mod settled;
 mod spaces;
 mod store;
 mod stored_line;
 pub mod units;
 pub mod view;
 mod viewed_row;
-pub mod wrap;
 
 pub use buffers::{AppendableBuffer, ReusableRows};
 pub use carried_style::{carried_styles_stay, styles_stand_before};
 pub use crop::{Window, crop_columns, cropped_texts_fit, fit_columns, fitted_texts_fill};
 pub use format::{FormatOpts, format_lines_into, format_text_block};
 pub use formatted::{FormattedRow, SearchFormattedRow, format_search_rows};
+pub use hyphens::words_are_cut_at_joints;
 pub use layout::Layout;
 pub use line_numbers::{LineNumbers, digits, numbers_toggle_twice, prefix_columns};
 pub use lines::{
@@ -42,7 +48,9 @@ pub use lines::{
 pub use lines_row_map::LinesRowMap;
 pub use matched_text::MatchedText;
 pub use pending::PendingPush;
+pub use pieces::pieces_join;
 pub use row_text::RowText;
+pub use rows::{Span, format_line, rows_are_determined, rows_fit, wrap_line};
 pub use screen::pieces::{join_pieces, pieces_push_joined};
 pub use screen::searching::Findings;
 pub use screen::{
@@ -54,10 +62,6 @@ pub use search::{
     highlights_add_markers_alone, next_nth_match, only_matches_are_highlighted,
     parts_show_their_matches, rows_show_their_matches, strip_escapes, word_starts,
 };
-pub use units::{Unit, Units};
+pub use units::{Unit, Units, columns};
 pub use view::RowsView;
 pub use viewed_row::{RowPlace, ViewedRow};
-pub use wrap::{
-    Span, columns, format_line, pieces_join, rows_are_determined, rows_fit,
-    words_are_cut_at_joints, wrap_line,
-};

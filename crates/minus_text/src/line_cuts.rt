@@ -6,7 +6,8 @@ ghost use Rattle.minus_text.specs.Kept.{moved};
 ghost use Rattle.minus_text.specs.Rows.{line_places};
 ghost use Rattle.minus_text.specs.LineCuts.{is_cut, HasNoCut, HasSpaces, CutsRow};
 
-use crate::wrap::{Span, are_printable};
+use crate::plain::are_printable;
+use crate::rows::Span;
 use std::alloc::AllocError;
 
 // Where a row ends, and where the next one begins.

@@ -1,7 +1,7 @@
-//! The numbers of lines, and what stands before the rows of a text that has them.
+//! The numbers of lines, and the columns of what stands before the rows of a text that has them.
 ghost use Rattle.std.specs.Prelude.{◌≡◌, ◌≤◌, length};
 ghost use Rattle.std.specs.Fmt.{decimal};
-ghost use Rattle.minus_text.specs.Prefixes.{is_on, toggled, padding, prefix_columns, NumbersToggleTwice};
+ghost use Rattle.minus_text.specs.NumberPrefix.{is_on, toggled, padding, prefix_columns, NumbersToggleTwice};
 
 use std::ops::Not;
 
@@ -32,7 +32,7 @@ impl Not for LineNumbers {
     type Output = LineNumbers;
 
     ghost use Rattle.std.specs.Prelude.{◌≡◌};
-    ghost use Rattle.minus_text.specs.Prefixes.{toggled};
+    ghost use Rattle.minus_text.specs.NumberPrefix.{toggled};
 
     ghost not_gives = { λ numbers r. r ≡ toggled numbers };
 
@@ -57,7 +57,7 @@ pub fn digits(number: usize) -> usize
     }
 }
 
-// The columns of a number with its stop, where the text has so many lines.
+// The columns of a number with its stop, where the text has this many lines.
 fn padding(line_count: usize) -> usize
     ensures value { result ≡ padding line_count }
     ensures few { result ≤ 26 }
@@ -65,7 +65,7 @@ fn padding(line_count: usize) -> usize
     digits(line_count) + 6
 }
 
-/// The columns before the text of a row, where numbers are on or not and the text has so many lines.
+/// The columns before the text of a row, where numbers are on or not and the text has this many lines.
 pub fn prefix_columns(numbers: bool, line_count: usize) -> usize
     ensures value { result ≡ prefix_columns numbers line_count }
     ensures few { result ≤ 27 }

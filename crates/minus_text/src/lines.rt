@@ -46,7 +46,7 @@ pub(crate) fn split_line(text: &str) -> Option<(&str, &str)>
 }
 
 /// The lines of a text, joined by newlines: the text without the carriage return at the end of each line
-/// that a newline ends. Fails for want of memory alone.
+/// that a newline ends. Fails only if memory runs out.
 pub fn join_lines(alloc: Global, text: &str) -> Result<String, AllocError>
     ensures { IfOk result (λ joined. string_bytes joined ≡ joined_lines text.now) }
 {

@@ -29,7 +29,7 @@ impl PendingPush {
     ghost use Rattle.std.specs.Prelude.{◌≡◌, ◌+◌, ◌++◌, length, slice_get};
     ghost use Rattle.minus_text.specs.Fragments.{rows_in};
     ghost use Rattle.minus_text.specs.Found.{AreFoundIn, Ascend, found_above, jump_rows, match_total, matches_above};
-    ghost use Rattle.minus_text.specs.Jumps.{counted};
+    ghost use Rattle.minus_text.specs.JumpRows.{counted};
     ghost use Rattle.minus_text.specs.FoundBy.{found_rows, AreJumps};
 
     /// The number of rows once it is made: those that stay, and those formed. It takes no memory.
@@ -55,8 +55,8 @@ impl PendingPush {
         &self.found
     }
 
-    // The number of rows in which matches begin once it is made, where these are found before: those that stay, and those
-    // formed.
+    // The number of rows in which matches begin once it is made, where these are found before: those that stay, and
+    // those formed.
     pub(crate) fn match_count(&self, found: &FoundRows) -> usize
         requires ascend { Ascend 0 (found_rows found.now) }
         requires jumps { AreJumps found.now }

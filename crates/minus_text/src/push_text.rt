@@ -8,7 +8,7 @@ pub(crate) trait PushText {
     // Its bytes.
     ghost bytes: { Self → List ℕ };
 
-    // Adds a text. An `Err` is for want of memory alone.
+    // Adds a text. An `Err` only means out of memory.
     fn push_text(&mut self, text: &str) -> Result<(), AllocError>
         ensures { OnOk result (bytes self.new ≡ bytes self.old ++ text.now) };
 }

@@ -6,7 +6,7 @@ use memchr::memrchr;
 
 const ESC: u8 = 0x1b;
 
-// A place of a text with a piece behind it, from which on no byte is ESC. Such a place of the text, which has so many
+// A place of a text with a piece behind it, from which on no byte is ESC. Such a place of the text, which has this many
 // bytes, is known, so that the piece alone is read.
 pub(crate) fn escapes_end(known: usize, len: usize, piece: &str) -> usize
     requires { len + length piece.now < 2 ^ 64 }

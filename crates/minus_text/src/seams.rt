@@ -7,7 +7,7 @@ ghost use Rattle.minus_text.specs.Kept.{GoesOn, open_stored};
 ghost use Rattle.minus_text.specs.Seams.{StandsAlone, NoneAlone, RowsGoOn};
 
 use crate::layout::Wrap;
-use crate::wrap::Span;
+use crate::rows::Span;
 
 // A place in a line, in bytes, and how many rows stand before it.
 #[derive(Clone, Copy)]

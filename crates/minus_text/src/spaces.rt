@@ -8,7 +8,7 @@ use std::alloc::AllocError;
 const SPACES: &str =
     "                                                                                ";
 
-// Adds so many spaces. An `Err` is for want of memory alone; it may leave some of them behind.
+// Adds this many spaces. An `Err` only means out of memory; it may leave some of them behind.
 pub(crate) fn push_spaces<T: PushText>(out: &mut T, count: usize) -> Result<(), AllocError>
     ensures { OnOk result (T.bytes out.new ≡ T.bytes out.old ++ replicate count 32) }
 {

@@ -5,7 +5,7 @@ ghost use Rattle.minus_text.specs.Lines.{cut};
 ghost use Rattle.minus_text.specs.LineSplits.{lines_of};
 
 use crate::lines::{split_line, without_return};
-use crate::wrap::Span;
+use crate::rows::Span;
 
 // A line, the number of its first row, where it begins in the bytes of the text, and the places of its rows there.
 #[derive(Clone, Copy)]

@@ -6,9 +6,10 @@ ghost use Rattle.minus_text.specs.FoundBy.{found_rows, AreJumps, AreJumps-prop};
 ghost use Rattle.minus_text.specs.NextPushes.{IsPendingBehind, IsPendingBehind-prop};
 ghost use Rattle.minus_text.specs.ViewedRows.{viewed_text};
 
-use crate::formatted::{FormattedRow, RowPrefix};
+use crate::formatted::FormattedRow;
 use crate::layout::Layout;
 use crate::matched_text::MatchedText;
+use crate::number_prefix::RowPrefix;
 use crate::pending::PendingPush;
 use crate::row_text::RowText;
 use crate::screen::Row;
@@ -53,7 +54,7 @@ impl<'s> RowsView<'s> {
     ghost use Rattle.minus_text.specs.Document.{rows_of, line_count, IsPrefixOf};
     ghost use Rattle.minus_text.specs.Formatted.{prefix_of};
     ghost use Rattle.minus_text.specs.Found.{Ascend, ArePlacedAt, found_of_row, jump_rows, match_total, matches_above};
-    ghost use Rattle.minus_text.specs.Jumps.{counted};
+    ghost use Rattle.minus_text.specs.JumpRows.{counted};
     ghost use Rattle.minus_text.specs.MatchedTexts.{IsMatchedRow};
     ghost use Rattle.minus_text.specs.Matches.{counts_first, nearest, nth_match};
     ghost use Rattle.minus_text.specs.Searched.{IsRowBehind, IsStoredRow, IsHighlightedRow};
@@ -188,9 +189,9 @@ impl<'s> RowsView<'s> {
         })
     }
 
-    /// A row as it is stored, counted from 0, if there is one: what stands before its text, the style that is carried to
-    /// it, and its text with its matches in reverse. It takes no memory. It is looked for near a place first, which is
-    /// moved on to it. Where styles are carried, its line is read back from it as far as the last reset.
+    /// A row as it is stored, counted from 0, if there is one: what stands before its text, the style that is carried
+    /// to it, and its text with its matches in reverse. It takes no memory. It is looked for near a place first, which
+    /// is moved on to it. Where styles are carried, its line is read back from it as far as the last reset.
     pub fn row(self, i: usize, place: &mut RowPlace) -> Option<ViewedRow<'s>>
         ensures { IsStoredRow (viewed self.entry) i (option_map viewed_text result) }
     {
@@ -199,8 +200,8 @@ impl<'s> RowsView<'s> {
         self.row_behind(prefix, i, &mut place.found)
     }
 
-    /// A row as it is stored, counted from 0, if there is one: what stands before its text, the style that is carried to
-    /// it, and its text with its matches in reverse.
+    /// A row as it is stored, counted from 0, if there is one: what stands before its text, the style that is carried
+    /// to it, and its text with its matches in reverse.
     ///
     /// # Errors
     ///
@@ -227,8 +228,8 @@ impl<'s> RowsView<'s> {
         row_of(alloc, row)
     }
 
-    /// The text of a row, counted from 0, if there is one, nothing was found in it, and no style is carried to it: so it
-    /// is with its matches in reverse. It takes no memory.
+    /// The text of a row, counted from 0, if there is one, nothing was found in it, and no style is carried to it: so
+    /// it is with its matches in reverse. It takes no memory.
     pub fn plain_text(self, i: usize) -> Option<&'s str>
         ensures { IfSome result (λ text. IsHighlightedRow (viewed self.entry) i (Some text.now)) }
     {
@@ -263,8 +264,8 @@ impl<'s> RowsView<'s> {
         Some(MatchedText { text, found })
     }
 
-    /// A row, counted from 0, if there is one that is stored as its own text: it has no number, nothing was found in it,
-    /// and no style is carried to it. It takes no memory.
+    /// A row, counted from 0, if there is one that is stored as its own text: it has no number, nothing was found in
+    /// it, and no style is carried to it. It takes no memory.
     pub fn plain_row(self, i: usize) -> Option<&'s str>
         ensures { IfSome result (λ row. IsStoredRow (viewed self.entry) i (Some row.now)) }
     {
@@ -285,8 +286,8 @@ impl<'s> RowsView<'s> {
         }
     }
 
-    /// The number, counted from 0, of a row in which matches begin. Such rows are counted from 0 in their order. It takes
-    /// no memory.
+    /// The number, counted from 0, of a row in which matches begin. Such rows are counted from 0 in their order. It
+    /// takes no memory.
     pub fn match_row(self, i: usize) -> Option<usize>
         ensures { result ≡ slice_get (jump_rows (viewed self.entry).found) i }
     {
@@ -317,7 +318,8 @@ impl<'s> RowsView<'s> {
         }
     }
 
-    // The number of rows in which matches begin before the first that a jump by this number of matches from a mark may count.
+    // The number of rows in which matches begin before the first that a jump by this number of matches from a mark may
+    // count.
     fn matches_before(self, mark: usize, jump: usize) -> usize
         ensures { result ≡ position_or_len (counts_first mark jump) (jump_rows (viewed self.entry).found) }
     {
@@ -343,9 +345,9 @@ impl<'s> RowsView<'s> {
         0
     }
 
-    /// The place, counted from 0 among the rows in which matches begin, of the one that a jump by this number of them from
-    /// a row goes to; a jump by 0 stays at a match that begins right there. Past the last the jump goes on at the first.
-    /// `None` where there is none. It takes no memory, and halves these rows.
+    /// The place, counted from 0 among the rows in which matches begin, of the one that a jump by this number of them
+    /// from a row goes to; a jump by 0 stays at a match that begins right there. Past the last the jump goes on at the
+    /// first. `None` where there is none. It takes no memory, and halves these rows.
     pub fn nth_match(self, mark: usize, jump: usize) -> Option<usize>
         ensures { result ≡ nth_match (jump_rows (viewed self.entry).found) mark jump }
     {

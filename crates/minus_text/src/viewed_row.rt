@@ -86,8 +86,8 @@ impl<'s> ViewedRow<'s> {
         Ok(())
     }
 
-    /// Adds it to the bytes of a drawing: what stands before its text, the style that is carried to it, and its text with its
-    /// matches in reverse.
+    /// Adds it to the bytes of a drawing: what stands before its text, the style that is carried to it, and its text
+    /// with its matches in reverse.
     ///
     /// # Errors
     ///
@@ -98,8 +98,8 @@ impl<'s> ViewedRow<'s> {
         self.push_to(alloc, out)
     }
 
-    /// It as a row of its own: what stands before its text, the style that is carried to it, and its text with its matches
-    /// in reverse.
+    /// It as a row of its own: what stands before its text, the style that is carried to it, and its text with its
+    /// matches in reverse.
     ///
     /// # Errors
     ///

@@ -4,8 +4,8 @@ use Rattle.std.proofs.lemmas.List.{append_assoc, take-append-drop, drop-drop, ta
 use Rattle.std.proofs.lemmas.List.Elements.{filter_map-append}
 use Rattle.minus_term.specs.declared.event.Event.{Event}
 use Rattle.std.proofs.Math.Seq.{take-append_seam, drop-append_seam}
-use Rattle.minus_view.proofs.UnitLaws.{unit_stays}
-use Rattle.minus_view.specs.Units.{unit_len}
+use Rattle.minus_view.proofs.KeySequencesLaws.{unit_stays}
+use Rattle.minus_view.specs.KeySequences.{unit_len}
 use Rattle.minus_view.specs.Meaning.{meaning}
 use Rattle.minus_view.specs.Events.{Reads, events_of}
 

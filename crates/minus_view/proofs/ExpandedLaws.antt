@@ -1,5 +1,5 @@
 -- Laws of tabs and of columns.
-use Rattle.std.proofs.Common.{ℕ, ◌≡◌, ◌<◌, ◌+◌, ◌-◌, ◌%◌, ◌==◌, ◌++◌, List, [], ◌∷◌, Bool, true, false, Some, refl, ap, sym, ◌∙◌, arith, length, take, drop, cond, if◌then◌else◌, replicate, subst, zero, suc, get_or, encode_utf8}
+use Rattle.std.proofs.Common.{ℕ, ◌≡◌, ◌<◌, ◌+◌, ◌-◌, ◌%◌, ◌==◌, ◌++◌, List, [], ◌∷◌, Bool, true, false, Some, refl, ap, sym, ◌∙◌, arith, length, take, drop, cond, if◌then◌else◌, subst, zero, suc, get_or, encode_utf8}
 use Rattle.std.specs.List.{list_all, prefix_len}
 use Rattle.std.proofs.lemmas.Bool.{and_parts, and_from}
 use Rattle.std.proofs.lemmas.Bool.Decides.{nat_tests}
@@ -12,22 +12,24 @@ use Rattle.unicode_width.specs.Width.{char_width}
 use Rattle.minus_view.specs.declared.prepare.Preparation.{Preparation}
 use Rattle.minus_view.specs.declared.prepare.Shape.{Shape}
 use Rattle.minus_view.specs.Shown.{is_control, is_plain}
-use Rattle.minus_view.specs.Prepared.{apart, char_columns, column_after, expanded, next_column, tab_len, held, IsAt, IsPlain, IsText, Takes, is_text}
+use Rattle.minus_view.specs.TabMarks.{tab_text}
+use Rattle.minus_view.specs.Prepared.{char_columns, expanded, held, IsAt, IsPlain, IsText, Takes, is_text}
+use Rattle.minus_view.specs.TabColumns.{apart, column_after, next_column, tab_len}
 
 no_tab : (b : ℕ) → is_plain true b ≡ true → (b == 9) ≡ false
 no_tab b h = grind (arith, nat_tests)
 
 -- plain bytes stay, and what follows them is expanded behind them
-pub expand_plain : (tabs col : ℕ) (xs ys : List ℕ) → list_all (is_plain true) xs ≡ true
-    → expanded tabs col (xs ++ ys) ≡ xs ++ expanded tabs (column_after tabs col xs) ys
-expand_plain tabs col [] ys h = refl
-expand_plain tabs col (x ∷ xs) ys h =
+pub expand_plain : (m : Bool) (tabs col : ℕ) (xs ys : List ℕ) → list_all (is_plain true) xs ≡ true
+    → expanded m tabs col (xs ++ ys) ≡ xs ++ expanded m tabs (column_after tabs col xs) ys
+expand_plain m tabs col [] ys h = refl
+expand_plain m tabs col (x ∷ xs) ys h =
     let parts = and_parts (is_plain true x) (list_all (is_plain true) xs) h in
-    ap (λ t. if t then replicate (tab_len tabs col) 32 ++ expanded tabs (next_column tabs col x) (xs ++ ys) else x ∷ expanded tabs (next_column tabs col x) (xs ++ ys)) (no_tab x parts.0)
-    ∙ ap (λ rest. x ∷ rest) (expand_plain tabs (next_column tabs col x) xs ys parts.1)
+    ap (λ t. if t then tab_text m (tab_len tabs col) ++ expanded m tabs (next_column tabs col x) (xs ++ ys) else x ∷ expanded m tabs (next_column tabs col x) (xs ++ ys)) (no_tab x parts.0)
+    ∙ ap (λ rest. x ∷ rest) (expand_plain m tabs (next_column tabs col x) xs ys parts.1)
 
-pub plain_stays : (tabs col : ℕ) (bytes : List ℕ) → list_all (is_plain true) bytes ≡ true → expanded tabs col bytes ≡ bytes
-plain_stays tabs col bytes h = ap (expanded tabs col) (sym (append-nil bytes)) ∙ expand_plain tabs col bytes [] h ∙ append-nil bytes
+pub plain_stays : (m : Bool) (tabs col : ℕ) (bytes : List ℕ) → list_all (is_plain true) bytes ≡ true → expanded m tabs col bytes ≡ bytes
+plain_stays m tabs col bytes h = ap (expanded m tabs col) (sym (append-nil bytes)) ∙ expand_plain m tabs col bytes [] h ∙ append-nil bytes
 
 pub column_after-append : (tabs col : ℕ) (xs ys : List ℕ) → column_after tabs col (xs ++ ys) ≡ column_after tabs (column_after tabs col xs) ys
 column_after-append tabs col [] ys = refl
@@ -109,10 +111,15 @@ printed_column b h other = (ap (λ o. unwrap_or o 0) (printed_width b h other), 
 pub printed_shown : (b : ℕ) → is_plain true b ≡ true → (b ≡ 10 → ⊥) → (is_control b ≡ false) × (encode_utf8 b ≡ b ∷ [])
 printed_shown b h other = (grind (arith, nat_tests), encode_ascii b (grind (arith, nat_tests)))
 
+-- no bytes are left
+pub no_bytes : (xs : List ℕ) → length xs ≡ 0 → xs ≡ []
+no_bytes [] h = refl
+no_bytes (x ∷ xs) h = absurd (omega (arith, h))
+
 -- what is taken in two steps
-pub taken_twice : (tabs col : ℕ) (a b c : Preparation) (bytes rest left : List ℕ) (one : Takes tabs col a b bytes rest)
-    → Takes tabs one.next b c rest left → Takes tabs col a c bytes left
-taken_twice tabs col a b c bytes rest left one two = record {
+pub taken_twice : (m : Bool) (tabs col : ℕ) (a b c : Preparation) (bytes rest left : List ℕ) (one : Takes m tabs col a b bytes rest)
+    → Takes m tabs one.next b c rest left → Takes m tabs col a c bytes left
+taken_twice m tabs col a b c bytes rest left one two = record {
   next = two.next;
   plain = two.plain;
   is_at = two.is_at;
@@ -132,10 +139,10 @@ front_is : (b : ℕ) (bytes : List ℕ) → 0 < length bytes → get_or bytes 0 
 front_is b [] h e = absurd (omega (arith, h))
 front_is b (x ∷ xs) h e = ap (λ y. y ∷ xs) e
 
-pub tab_taken : (tabs col : ℕ) (old new : Preparation) (bytes : List ℕ) → 0 < length bytes → get_or bytes 0 0 ≡ 9
-    → IsPlain new × (held new ≡ held old ++ replicate (tab_len tabs col) 32) → IsAt tabs (col + tab_len tabs col) new → IsText bytes
-    → Takes tabs col old new bytes (drop 1 bytes)
-tab_taken tabs col old new bytes some tab plain is_at text =
+pub tab_taken : (m : Bool) (tabs col : ℕ) (old new : Preparation) (bytes : List ℕ) → 0 < length bytes → get_or bytes 0 0 ≡ 9
+    → IsPlain new × (held new ≡ held old ++ tab_text m (tab_len tabs col)) → IsAt m tabs (col + tab_len tabs col) new → IsText bytes
+    → Takes m tabs col old new bytes (drop 1 bytes)
+tab_taken m tabs col old new bytes some tab plain is_at text =
     let rest = drop 1 bytes in
     let next = col + tab_len tabs col in
     let front = front_is 9 bytes some tab in
@@ -144,16 +151,16 @@ tab_taken tabs col old new bytes some tab plain is_at text =
       plain = plain.0;
       is_at = is_at;
       left = list_all-drop is_text 1 bytes text;
-      text = ap (λ xs. xs ++ expanded tabs next rest) plain.1 ∙ append_assoc (held old) (replicate (tab_len tabs col) 32) (expanded tabs next rest)
-          ∙ ap (λ xs. held old ++ xs) (sym (ap (expanded tabs col) front));
+      text = ap (λ xs. xs ++ expanded m tabs next rest) plain.1 ∙ append_assoc (held old) (tab_text m (tab_len tabs col)) (expanded m tabs next rest)
+          ∙ ap (λ xs. held old ++ xs) (sym (ap (expanded m tabs col) front));
       ends = sym (ap (column_after tabs col) front);
     }
 
 -- plain bytes are taken
-pub run_taken : (tabs col n : ℕ) (old new : Preparation) (bytes : List ℕ) → list_all (is_plain true) (take n bytes) ≡ true
-    → IsPlain new × (held new ≡ held old ++ take n bytes) → IsAt tabs (column_after tabs col (take n bytes)) new → IsText bytes
-    → Takes tabs col old new bytes (drop n bytes)
-run_taken tabs col n old new bytes all plain is_at text =
+pub run_taken : (m : Bool) (tabs col n : ℕ) (old new : Preparation) (bytes : List ℕ) → list_all (is_plain true) (take n bytes) ≡ true
+    → IsPlain new × (held new ≡ held old ++ take n bytes) → IsAt m tabs (column_after tabs col (take n bytes)) new → IsText bytes
+    → Takes m tabs col old new bytes (drop n bytes)
+run_taken m tabs col n old new bytes all plain is_at text =
     let front = take n bytes in
     let rest = drop n bytes in
     let next = column_after tabs col front in
@@ -162,8 +169,8 @@ run_taken tabs col n old new bytes all plain is_at text =
       plain = plain.0;
       is_at = is_at;
       left = list_all-drop is_text n bytes text;
-      text = ap (λ xs. xs ++ expanded tabs next rest) plain.1 ∙ append_assoc (held old) front (expanded tabs next rest)
-          ∙ ap (λ xs. held old ++ xs) (sym (expand_plain tabs col front rest all) ∙ ap (expanded tabs col) (take-append-drop n bytes));
+      text = ap (λ xs. xs ++ expanded m tabs next rest) plain.1 ∙ append_assoc (held old) front (expanded m tabs next rest)
+          ∙ ap (λ xs. held old ++ xs) (sym (expand_plain m tabs col front rest all) ∙ ap (expanded m tabs col) (take-append-drop n bytes));
       ends = sym (column_after-append tabs col front rest) ∙ ap (column_after tabs col) (take-append-drop n bytes);
     }
 

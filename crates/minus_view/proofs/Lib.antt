@@ -1,5 +1,5 @@
 pub mod CleanLaws
-pub mod CutLaws
+pub mod OptionWordsLaws
 pub mod EventLaws
 pub mod ExpandedLaws
 pub mod HistoryLaws
@@ -8,5 +8,7 @@ pub mod PlainLaws
 pub mod PreparedLaws
 pub mod ReadingLaws
 pub mod ShownLaws
+pub mod TabLaws
+pub mod TabsBackLaws
 pub mod TextQueueLaws
-pub mod UnitLaws
+pub mod KeySequencesLaws

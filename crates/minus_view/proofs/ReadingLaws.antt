@@ -4,10 +4,10 @@ use Rattle.std.proofs.lemmas.List.{drop-drop, length-drop, take_all}
 use Rattle.std.proofs.lemmas.Bool.Decides.{nat_tests}
 use Rattle.minus_view.specs.declared.arguments.reading.Item.{Item}
 use Rattle.minus_view.specs.declared.arguments.reading.Reading.{Reading}
-use Rattle.minus_view.specs.declared.arguments.table.Kind.{Kind}
+use Rattle.minus_view.specs.declared.arguments.option_table.Kind.{Kind}
 use Rattle.minus_view.specs.declared.arguments.reading.Class.TheVariants.{Name}
-use Rattle.minus_view.specs.Cuts.{cut, run_of}
-use Rattle.minus_view.specs.Options.{name_kind}
+use Rattle.minus_view.specs.OptionWords.{cut, run_of}
+use Rattle.minus_view.specs.OptionTable.{name_kind}
 use Rattle.minus_view.specs.Paging.{begins_with}
 use Rattle.minus_view.specs.Reading.{ended_at, known, named_end, long_item, item_of, with_item, read_options}
 

@@ -35,6 +35,15 @@ pub read_reset : (styled : Bool) → read (chars (27 ∷ 91 ∷ 48 ∷ 109 ∷ [
 unfolding chars
 read_reset styled = refl
 
+-- the marks of a tab: one where no style is open, and the one in a style
+pub read_mark : read (chars (27 ∷ 91 ∷ 109 ∷ [])) (Some (Line false)) ≡ Some (Line false)
+unfolding chars
+read_mark = refl
+
+pub read_styled_mark : read (chars (27 ∷ 91 ∷ 58 ∷ 109 ∷ [])) (Some (Line true)) ≡ Some (Line true)
+unfolding chars
+read_styled_mark = refl
+
 -- a line's end
 pub read_newline : read (chars (10 ∷ [])) (Some (Line false)) ≡ Some (Line false)
 unfolding chars

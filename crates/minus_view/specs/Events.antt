@@ -3,7 +3,7 @@ use Rattle.std.specs.Prelude.{ℕ, ◌≡◌, List, [], ◌∷◌, ◌++◌, len
 use Rattle.minus_term.specs.declared.event.Event.{Event}
 use Rattle.minus_term.specs.declared.event.KeyCode.TheVariants.{Esc}
 use Rattle.minus_view.specs.Keys.{press}
-use Rattle.minus_view.specs.Units.{unit_len}
+use Rattle.minus_view.specs.KeySequences.{unit_len}
 use Rattle.minus_view.specs.Meaning.{meaning}
 
 -- bytes are these units, each whole, and then a rest: no byte is lost and none is read twice

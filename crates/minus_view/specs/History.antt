@@ -1,6 +1,6 @@
 -- The queries that were taken, and where among them the reader of a search prompt is.
-use Rattle.std.specs.Prelude.{ℕ, ◌≡◌, ◌+◌, ◌-◌, ◌<◌, ◌==◌, ◌||◌, Bool, false, List, [], ◌∷◌, ◌++◌, Option, Some, None, length, nat_lt, slice_get, bytes_eq}
-use Rattle.std.specs.Prelude.{if◌then◌else◌}
+use Rattle.std.specs.Prelude.{ℕ, ◌≡◌, ◌+◌, ◌-◌, ◌<◌, ◌==◌, ◌||◌, Bool, false, List, [], ◌∷◌, ◌++◌, Option, Some, None}
+use Rattle.std.specs.Prelude.{length, nat_lt, slice_get, bytes_eq, if◌then◌else◌}
 
 -- the queries, oldest first; how many of them, from the newest on, the reader has gone back; what they had typed before
 pub record Queries : Type 0 where
@@ -12,7 +12,7 @@ pub record Queries : Type 0 where
 abbrev pub no_queries : Queries
 no_queries = record { taken = []; back = 0; typed = [] }
 
--- the query that is so many steps back, the newest one at 1
+-- the query that is this number of steps back, the newest one at 1
 abbrev pub query_back : List (List ℕ) → ℕ → Option (List ℕ)
 query_back taken back = slice_get taken (length taken - back)
 
@@ -25,10 +25,11 @@ query_or otherwise (Some query) = query
 abbrev pub shown_query : Queries → List ℕ
 shown_query h = if h.back == 0 then h.typed else query_or h.typed (query_back h.taken h.back)
 
--- whether there is an older query, and whether there is a newer one, or what was typed
+-- whether there is an older query than the one that the prompt shows
 abbrev pub has_older : Queries → Bool
 has_older h = nat_lt h.back (length h.taken)
 
+-- whether the reader has gone back, so that a newer query, or what was typed, can be shown again
 abbrev pub has_newer : Queries → Bool
 has_newer h = nat_lt 0 h.back
 
@@ -45,11 +46,12 @@ newer h = record h { back = h.back - 1 }
 abbrev pub begun : Queries → Queries
 begun h = record h { back = 0; typed = [] }
 
--- whether a query is the newest one
+-- whether there is a query, and it has these bytes
 abbrev pub is_query : List ℕ → Option (List ℕ) → Bool
 is_query query None = false
 is_query query (Some other) = bytes_eq other query
 
+-- whether the query is the one that was taken last
 abbrev pub is_newest : Queries → List ℕ → Bool
 is_newest h query = is_query query (query_back h.taken 1)
 

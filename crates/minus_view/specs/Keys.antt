@@ -1,11 +1,13 @@
 -- The keys that a sequence stands for, as xterm, tmux and the Linux console send them, by what follows `ESC`.
-use Rattle.std.specs.Prelude.{◌-◌, bit_and, option_and_then, ℕ, ◌+◌, ◌==◌, List, [], ◌∷◌, Option, Some, None, if◌then◌else◌, bytes_eq, codes, option_map}
+use Rattle.std.specs.Prelude.{◌-◌, bit_and, option_and_then, ℕ, ◌+◌, ◌==◌, List, [], ◌∷◌, Option, Some, None}
+use Rattle.std.specs.Prelude.{if◌then◌else◌, bytes_eq, codes, option_map}
 use Rattle.std.specs.Int.{is_in_range}
 use Rattle.minus_view.specs.Numbers.{number, past_number, past_semicolon}
 use Rattle.minus_term.specs.declared.event.Event.{Event}
 use Rattle.minus_term.specs.declared.event.Event.TheVariants.{FocusGained, FocusLost, Key}
 use Rattle.minus_term.specs.declared.event.KeyCode.{KeyCode}
-use Rattle.minus_term.specs.declared.event.KeyCode.TheVariants.{Left, Right, Up, Down, Home, End, PageUp, PageDown, BackTab, Delete, Insert, F}
+use Rattle.minus_term.specs.declared.event.KeyCode.TheVariants.{Left, Right, Up, Down, Home, End, PageUp, PageDown}
+use Rattle.minus_term.specs.declared.event.KeyCode.TheVariants.{BackTab, Delete, Insert, F}
 use Rattle.minus_term.specs.declared.event.KeyEventKind.TheVariants.{Press}
 
 -- a press of a key; SHIFT is 1, CONTROL is 2 and ALT is 4
@@ -75,6 +77,8 @@ number_key n =
     else (if is_in_range 11 15 n then Some (F (n - 10)) else (if is_in_range 17 21 n then Some (F (n - 11))
     else (if is_in_range 23 24 n then Some (F (n - 12)) else None))))))))
 
+-- the key that the number n and the last byte of a sequence mean: `~` ends a key of a number,
+-- and a letter ends its key only where n is 1
 abbrev pub ended_key : ℕ → List ℕ → Option KeyCode
 ended_key n (c ∷ []) = if c == 126 then number_key n else (if n == 1 then letter_key c else None)
 ended_key n other = None

@@ -35,6 +35,7 @@ abbrev pub one_of : List ℕ → Option ℕ
 one_of (c ∷ []) = Some c
 one_of other = None
 
+-- the one character that the bytes encode in UTF-8; nothing where they are no UTF-8, or not one character
 abbrev pub character : List ℕ → Option ℕ
 character bytes = if is_utf8 bytes then one_of (chars bytes) else None
 

@@ -1,7 +1,8 @@
 -- The options that a text says, from the left.
-use Rattle.std.specs.Prelude.{ℕ, ◌+◌, ◌-◌, ◌==◌, Bool, true, false, not, List, [], ◌∷◌, Option, Some, None, if◌then◌else◌, length, drop, slice_index}
-use Rattle.minus_view.specs.Cuts.{cut, run_of, value_len}
-use Rattle.minus_view.specs.Options.{letter_kind, name_kind}
+use Rattle.std.specs.Prelude.{ℕ, ◌+◌, ◌-◌, ◌==◌, Bool, true, false, not, List, [], ◌∷◌, Option, Some, None}
+use Rattle.std.specs.Prelude.{if◌then◌else◌, length, drop, slice_index}
+use Rattle.minus_view.specs.OptionWords.{cut, run_of, value_len}
+use Rattle.minus_view.specs.OptionTable.{letter_kind, name_kind}
 use Rattle.minus_view.specs.Paging.{bare_paging, begins_with, with_setting, with_value}
 use Rattle.minus_view.specs.declared.arguments.Paging.{Paging}
 use Rattle.minus_view.specs.declared.arguments.reading.Class.TheVariants.{Blank, Name, Word}
@@ -9,9 +10,10 @@ use Rattle.minus_view.specs.declared.arguments.reading.Item.{Item}
 use Rattle.minus_view.specs.declared.arguments.reading.Ending.{Ending}
 use Rattle.minus_view.specs.declared.arguments.reading.Ending.TheVariants as ending
 use Rattle.minus_view.specs.declared.arguments.reading.Reading.{Reading}
-use Rattle.minus_view.specs.declared.arguments.table.Valued.{Valued}
-use Rattle.minus_view.specs.declared.arguments.table.Kind.{Kind}
-use Rattle.minus_view.specs.declared.arguments.table.Kind.TheVariants.{Sets, Takes, Begins, Help, Version, Unknown}
+use Rattle.minus_view.specs.declared.arguments.option_table.Valued.{Valued}
+use Rattle.minus_view.specs.declared.arguments.option_table.Kind.{Kind}
+use Rattle.minus_view.specs.declared.arguments.option_table.Kind.TheVariants.{Sets, Takes, Begins, Help}
+use Rattle.minus_view.specs.declared.arguments.option_table.Kind.TheVariants.{Version, Unknown}
 
 -- an option whose value begins at a place
 abbrev pub begun_at : Valued → List ℕ → ℕ → Item
@@ -53,13 +55,16 @@ item_of bytes =
     else (if begins_with 43 (drop 1 bytes) then ended_at (Begins true) bytes 2
     else ended_at (Begins false) bytes 1))
 
+-- what was read so far, without the places in memory of its texts
 abbrev pub bare_reading : Reading → Reading
 bare_reading r = record r { paging = bare_paging r.paging }
 
+-- the reading before any option: the options are as `paging` says, options are set and
+-- not reset, and nothing has ended the reading
 abbrev pub new_reading : Paging → Reading
 new_reading paging = record { paging = paging; resets = false; ending = ending.Nothing }
 
--- the first thing stays that is no option
+-- how the reading ends, by how it ended before and how it ends now: the first ending stays
 abbrev pub first_of : Ending → Ending → Ending
 first_of ending.Nothing now = now
 first_of ending.Help now = ending.Help
@@ -68,14 +73,17 @@ first_of ending.Unknown now = ending.Unknown
 first_of ending.BadNumber now = ending.BadNumber
 first_of (ending.Waits valued) now = ending.Waits valued
 
+-- the reading with this ending, or with the one that it has already
 abbrev pub ends_with : Reading → Ending → Reading
 ends_with so_far ending = record so_far { ending = first_of so_far.ending ending }
 
--- an option that has a value, which may be to come
+-- the reading after an option with its value: what the value sets, or a bad number where the option does not take it
 abbrev pub valued_with : Reading → Option Paging → Reading
 valued_with so_far (Some paging) = record so_far { paging = paging }
 valued_with so_far None = ends_with so_far ending.BadNumber
 
+-- the reading after an option that has a value: where the bytes end before the value, the
+-- option waits for it in the next word
 abbrev pub with_valued : Reading → Valued → List ℕ → Bool → Reading
 with_valued so_far valued value ends =
     if ends then ends_with so_far (ending.Waits valued)

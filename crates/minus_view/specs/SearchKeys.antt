@@ -8,7 +8,8 @@ use Rattle.minus_term.specs.declared.event.KeyEventKind.TheVariants.{Press}
 use Rattle.minus_term.specs.declared.event.KeyCode.{KeyCode}
 use Rattle.minus_term.specs.declared.event.KeyCode.TheVariants as keys
 use Rattle.minus_view.specs.declared.search_keys.SearchKey.{SearchKey}
-use Rattle.minus_view.specs.declared.search_keys.SearchKey.TheVariants.{Types, Takes, Repeats, Leaves, Suspends, Older, Newer}
+use Rattle.minus_view.specs.declared.search_keys.SearchKey.TheVariants.{Types, Takes, Repeats, Leaves, Suspends, Older}
+use Rattle.minus_view.specs.declared.search_keys.SearchKey.TheVariants.{Newer}
 
 -- a key without a modifier: with nothing typed there is no query to take, and no character to remove
 abbrev pub plain_key : KeyCode → Bool → SearchKey
@@ -23,6 +24,8 @@ plain_key code is_empty = Types
 abbrev pub control_letter : ℕ → SearchKey
 control_letter letter = if letter == 99 then Leaves else (if letter == 122 then Suspends else Types)
 
+-- what a key with control does: control with `c` leaves the prompt, control with `z` suspends the
+-- program, and any other key is the prompt's own
 abbrev pub control_key : KeyCode → SearchKey
 control_key (keys.Char letter) = control_letter letter
 control_key code = Types
@@ -33,6 +36,7 @@ pressed_key key is_empty =
     if key.modifiers.0 == 0 then plain_key key.code is_empty
     else (if key.modifiers.0 == 2 then control_key key.code else Types)
 
+-- what a key event does: only a press has a meaning of its own; a repeat and a release are the prompt's own
 abbrev pub key_of_kind : KeyEventKind → KeyEvent → Bool → SearchKey
 key_of_kind Press key is_empty = pressed_key key is_empty
 key_of_kind kind key is_empty = Types

@@ -1,7 +1,8 @@
 -- What a shown text is: characters that are no control characters, newlines, and sequences `ESC [ digits, : and ; m`,
 -- each whole. No line ends, and neither does the text, where a style is open. A text is here the list of its
 -- characters.
-use Rattle.std.specs.Prelude.{ℕ, ◌≡◌, chars, ◌==◌, ◌&&◌, ◌||◌, Bool, true, false, not, List, [], ◌∷◌, ◌++◌, Option, Some, None, if◌then◌else◌, option_and_then}
+use Rattle.std.specs.Prelude.{ℕ, ◌≡◌, chars, ◌==◌, ◌&&◌, ◌||◌, Bool, true, false, not, List, [], ◌∷◌, ◌++◌, Option}
+use Rattle.std.specs.Prelude.{Some, None, if◌then◌else◌, option_and_then}
 use Rattle.std.specs.Str.{IsUtf8}
 use Rattle.std.specs.Int.{is_in_range}
 use Rattle.minus_view.specs.declared.shown.Spot.{Spot}
@@ -45,14 +46,18 @@ ShownTextsJoin =
     IsShown []
     × ((first second : List ℕ) → IsUtf8 first → IsShown first → IsShown second → IsShown (first ++ second))
 
--- the only control characters of a shown text are the newline and `ESC`, and behind each `ESC` stands `[`
+-- whether a character is allowed in a text whose only control characters are newlines and `ESC`s that a `[` follows;
+-- `escaped` says that an `ESC` stands right before it
 abbrev pub follows : ℕ → Bool → Bool
 follows c escaped = if escaped then c == 91 else (not (is_control c) || (c == 10) || (c == 27))
 
+-- whether a text, right behind an `ESC` if `escaped`, has no control characters but
+-- newlines and `ESC`s that a `[` follows
 abbrev pub is_clean : Bool → List ℕ → Bool
 is_clean escaped [] = not escaped
 is_clean escaped (c ∷ cs) = follows c escaped && is_clean (c == 27) cs
 
+-- a shown text has no control characters but newlines and `ESC`s that a `[` follows
 abbrev pub ShownTextsAreClean : Type 0
 ShownTextsAreClean = (bytes : List ℕ) → IsShown bytes → is_clean false (chars bytes) ≡ true
 
@@ -60,6 +65,8 @@ ShownTextsAreClean = (bytes : List ℕ) → IsShown bytes → is_clean false (ch
 abbrev pub is_plain : Bool → ℕ → Bool
 is_plain newlines b = is_in_range 0x20 0x7E b || (newlines && (b == 10))
 
--- a text that leads from a line, in which a style is open or not, to a place in a line, was added to a text, and a style is open then or not
+-- a text that leads from a line, in which a style is open or not, to a place in a line, was added
+-- to a text, and a style is open then or not
 abbrev pub PutsLine : (text : List ℕ) → (was : Bool) → (before after : List ℕ) → (styled : Bool) → Type 0
-PutsLine text was before after styled = (s : Bool) → read (chars text) (Some (Line was)) ≡ Some (Line s) → (after ≡ before ++ text) × (styled ≡ s)
+PutsLine text was before after styled =
+    (s : Bool) → read (chars text) (Some (Line was)) ≡ Some (Line s) → (after ≡ before ++ text) × (styled ≡ s)

@@ -8,9 +8,9 @@ ghost use Rattle.std.specs.Prelude.{◌≡◌};
 ghost use Rattle.minus_view.specs.Arguments.{bare_answer, default_paging, arguments_of};
 ghost use Rattle.minus_view.specs.Paging.{bare_paging, texts_of};
 
-mod options;
+mod option_effects;
+mod option_table;
 mod reading;
-mod table;
 mod words;
 
 use reading::read_options;
@@ -125,7 +125,7 @@ fn default_paging<'a>() -> Paging<'a>
 }
 
 /// What the words behind the program's name ask for, where a variable sets options, as `-R -S` or `RS`. What there is
-/// not in `set` is passed over there, and so is what asks for help or the version, or lacks its value.
+/// not in `set` is skipped there, and so is what asks for help or the version, or lacks its value.
 ///
 /// # Errors
 ///

@@ -1,11 +1,11 @@
 //! All events that some bytes make, and how many of the bytes they are.
 ghost use Rattle.std.specs.Prelude.{◌≡◌, ◌+◌, ◌++◌, ◌∷◌, [], ◌≤◌, drop, take, length, IfOk, IfErr, None};
-ghost use Rattle.minus_view.specs.Units.{unit_len};
+ghost use Rattle.minus_view.specs.KeySequences.{unit_len};
 ghost use Rattle.minus_view.specs.Events.{AddsEvents, events_of, late_events, PiecesJoin, UnitsAreDetermined};
 
+use crate::key_sequences::unit_len;
 use crate::keys::press;
 use crate::meaning::meaning;
-use crate::units::unit_len;
 use minus_term::{Event, KeyCode};
 use std::alloc::AllocError;
 

@@ -15,7 +15,7 @@ pub struct History {
     typed: String,
 }
 
-// By hand: a derived drop would stand anew in the proof of each function that lets one go.
+// Hand-written: a derived drop would stand again in the proof of each function that lets one go.
 impl Drop for History {
     fn drop(self) {
         let History {

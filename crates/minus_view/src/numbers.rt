@@ -2,7 +2,7 @@
 ghost use Rattle.std.specs.Prelude.{◌≡◌, ◌+◌, ◌-◌, ◌*◌, ◌≤◌, min, option_map};
 ghost use Rattle.minus_view.specs.Numbers.{number, past_number, past_semicolon};
 
-use crate::units::run_len;
+use crate::key_sequences::run_len;
 
 /// The number that the digits at the front make, at most 65535.
 pub(crate) fn number(bytes: &[u8]) -> u16

@@ -4,22 +4,24 @@
 //! dropped. Any other control character is shown as `^A`, and each byte of what is no character in UTF-8 as `<E4>`, in
 //! reverse video as all marks; a backspace that strikes over a character aside: the same character twice is bold, and
 //! one with `_` is underlined. Sequences `ESC[..m` are kept, with `:` too: styles are reset at each newline and opened
-//! again behind it, and behind a mark. Any other sequence is dropped whole. Where tabs stand 8 columns apart,
+//! again behind it, and behind a mark of bytes. Any other sequence is dropped whole. Where tabs stand 8 columns apart,
 //! `a\tb\r\n` becomes `a       b\n`.
 //!
 //! [`Preparation::add`] takes the bytes in pieces that are cut anywhere, and each text that it hands out is reset at
 //! its end. It holds back the last character, since a backspace may follow, and what was begun;
 //! [`Preparation::pause`] hands out the character, and [`Preparation::finish`] all of it.
-ghost use Rattle.std.specs.Prelude.{ℕ, ◌≡◌, ◌++◌, ◌≤◌, ◌<◌, [], true, false, length, string_bytes, IfOk, IfErr};
+ghost use Rattle.std.specs.Prelude.{ℕ, Bool, ◌≡◌, ◌++◌, ◌≤◌, ◌<◌, [], true, false, length, string_bytes, IfOk, IfErr};
 ghost use Rattle.std.specs.List.{prefix_len};
 ghost use Rattle.minus_view.specs.Shown.{is_plain, IsShown};
-ghost use Rattle.minus_view.specs.Prepared.{apart, glyph_bytes, held, IsAt, IsPlain, IsPlainAt, IsText, PlainTextStays, Takes};
+ghost use Rattle.minus_view.specs.Prepared.{glyph_bytes, held, IsAt, IsPlain, IsPlainAt, IsText, PlainTextStays, Takes};
+ghost use Rattle.minus_view.specs.TabColumns.{apart};
 ghost use Rattle.minus_view.specs.Prepared.{HandsOut, HandsOutHeld, TakesFront};
 
 mod begun;
 mod bytes;
 mod characters;
 mod sequences;
+mod tab_columns;
 
 use self::begun::Begun;
 use crate::look::{Glyph, Look};
@@ -50,6 +52,9 @@ enum Place {
     Command,
     // Behind an `ESC` in such a text.
     CommandEscape,
+    // A command that may open a link, or end one, and behind an `ESC` in it.
+    Link,
+    LinkEscape,
     // A sequence with bytes 0x20 to 0x2F before its last byte.
     Designation,
 }
@@ -61,6 +66,10 @@ pub struct Shape {
     pub tabs: usize,
     /// Whether one empty line is shown for several that follow one another.
     pub squeezes: bool,
+    /// Whether the spaces that stand for a tab stand between marks, for [`crate::take_marks`].
+    pub marks_tabs: bool,
+    /// Whether links (`ESC]8;..`) are kept, as sequences that a writer of `minus_app` turns into links again.
+    pub links: bool,
 }
 
 /// What is prepared, as far as it was read.
@@ -80,6 +89,8 @@ pub struct Preparation {
     // The sequence that is read, and those that hold.
     sequence: String,
     colours: String,
+    // The sequence of the link that is open.
+    link: String,
     // Whether the colours hold at the end of the sheet.
     is_open: bool,
     // Whether nothing was put in the line, and whether the line before it is empty.
@@ -105,7 +116,7 @@ fn plain_len(newlines: bool, bytes: &[u8]) -> usize
 impl Preparation {
     /// A preparation that has read nothing: tabs stand 8 columns apart, and all lines are shown.
     pub fn new(alloc: Global) -> Preparation
-        ensures plain { IsPlainAt 8 0 result }
+        ensures plain { IsPlainAt false 8 0 result }
         ensures held { held result ≡ [] }
     {
         Preparation::with(
@@ -113,13 +124,15 @@ impl Preparation {
             Shape {
                 tabs: 8,
                 squeezes: false,
+                marks_tabs: false,
+                links: false,
             },
         )
     }
 
     /// A preparation of a text in this shape that has read nothing.
     pub fn with(alloc: Global, shape: Shape) -> Preparation
-        ensures plain { shape.squeezes ≡ false → IsPlainAt (apart shape) 0 result }
+        ensures plain { shape.squeezes ≡ false → IsPlainAt shape.marks_tabs (apart shape) 0 result }
         ensures held { held result ≡ [] }
         ensures shape { result.shape ≡ shape }
     {
@@ -133,6 +146,7 @@ impl Preparation {
             look: Look::Plain,
             sequence: String::new(alloc),
             colours: String::new(alloc),
+            link: String::new(alloc),
             is_open: false,
             is_blank: true,
             is_behind_blank: false,
@@ -147,6 +161,7 @@ impl Preparation {
         self.is_text()
             && matches!(self.look, Look::Plain)
             && self.colours.is_empty()
+            && self.link.is_empty()
             && !self.sheet.is_styled()
             && self.holds_plain()
             && !self.shape.squeezes
@@ -177,8 +192,9 @@ impl Preparation {
 
     // Takes the bytes.
     fn take(&mut self, bytes: &[u8]) -> Result<(), AllocError>
-        ensures text { IfOk result (λ _. (tabs col : ℕ) → IsPlain self.old → IsAt tabs col self.old
-            → IsText bytes.now → Takes tabs col self.old self.new bytes.now []) }
+        ensures text { IfOk result (λ _. (marks : Bool) (tabs col : ℕ)
+            → IsPlain self.old → IsAt marks tabs col self.old → IsText bytes.now
+            → Takes marks tabs col self.old self.new bytes.now []) }
     {
         let mut rest = bytes;
         while !rest.is_empty() {
@@ -194,7 +210,8 @@ impl Preparation {
         ensures kept { IfErr result (λ _. string_bytes out.new ≡ string_bytes out.old) }
         ensures glyph { IfOk result (λ _. held self.new ≡ glyph_bytes self.old.held) }
         ensures waits { IfOk result (λ _. length (held self.new) ≤ 4) }
-        ensures column { (tabs col : ℕ) → IsAt tabs col self.old → IsAt tabs col self.new }
+        ensures column { (marks : Bool) (tabs col : ℕ)
+            → IsAt marks tabs col self.old → IsAt marks tabs col self.new }
         ensures plain { IfOk result (λ _. IsPlain self.old
             → IsPlain self.new × (string_bytes out.new ++ held self.new ≡ string_bytes out.old ++ held self.old)) }
     {

@@ -3,6 +3,7 @@ ghost use Rattle.std.specs.Prelude.{encode_utf8, ◌≡◌, ◌++◌, [], true, 
 ghost use Rattle.std.specs.Char.{IsScalar};
 ghost use Rattle.std.specs.List.{list_all};
 ghost use Rattle.minus_view.specs.Shown.{read, is_control, is_plain, IsShown, PutsLine};
+ghost use Rattle.minus_view.specs.TabMarks.{tab_mark, tab_text};
 ghost use Rattle.minus_view.specs.declared.shown.Spot.TheVariants.{Line};
 
 use crate::shown::{Spot, is_control, read};
@@ -10,6 +11,12 @@ use std::alloc::{AllocError, Global};
 
 /// The sequence that resets all styles.
 pub(crate) const RESET: &str = "\x1b[0m";
+
+// What stands before and behind the spaces of a marked tab, where no style is open and where one is: neither changes
+// that.
+const MARK: &str = "\x1b[m";
+
+const STYLED_MARK: &str = "\x1b[:m";
 
 /// A shown text, but that a style may be open at its end.
 #[derive(Debug, Drop)]
@@ -91,10 +98,11 @@ impl Sheet {
         Ok(())
     }
 
-    /// Puts so many spaces on it.
+    /// Puts this many spaces on it.
     pub(crate) fn put_spaces(&mut self, count: usize) -> Result<(), AllocError>
         ensures styled { self.new.styled ≡ self.old.styled }
-        ensures put { IfOk result (λ _. string_bytes self.new.text ≡ string_bytes self.old.text ++ replicate count 32) }
+        ensures put { IfOk result (λ _.
+            string_bytes self.new.text ≡ string_bytes self.old.text ++ replicate count 32) }
     {
         let mut left = count;
         while 0 < left {
@@ -102,6 +110,33 @@ impl Sheet {
             left -= 1;
         }
         Ok(())
+    }
+
+    // Puts a mark on it.
+    fn put_mark(&mut self) -> Result<(), AllocError>
+        ensures styled { IfOk result (λ _. self.new.styled ≡ self.old.styled) }
+        ensures put { IfOk result (λ _. self.old.styled ≡ false
+            → string_bytes self.new.text ≡ string_bytes self.old.text ++ tab_mark) }
+    {
+        if self.styled {
+            self.put(STYLED_MARK)
+        } else {
+            self.put(MARK)
+        }
+    }
+
+    /// Puts a tab on it, as this many spaces, between marks or not.
+    pub(crate) fn put_tab(&mut self, marked: bool, count: usize) -> Result<(), AllocError>
+        ensures styled { IfOk result (λ _. self.new.styled ≡ self.old.styled) }
+        ensures put { IfOk result (λ _. self.old.styled ≡ false
+            → string_bytes self.new.text ≡ string_bytes self.old.text ++ tab_text marked count) }
+    {
+        if !marked {
+            return self.put_spaces(count);
+        }
+        self.put_mark()?;
+        self.put_spaces(count)?;
+        self.put_mark()
     }
 
     /// Puts a character on it; U+FFFD stands for a control character.

@@ -19,7 +19,7 @@ pub struct TextQueue {
     last: String,
 }
 
-// By hand: a derived drop would stand anew in the proof of each function that lets one go.
+// Hand-written: a derived drop would stand again in the proof of each function that lets one go.
 impl Drop for TextQueue {
     fn drop(self) {
         let TextQueue {

@@ -16,7 +16,7 @@ fn past_char(text: &str) -> &str
     }
 }
 
-// A text in two parts, the first of so many characters, or of all where there are fewer.
+// A text in two parts, the first of this many characters, or of all where there are fewer.
 fn split_at_char(text: &str, n: usize) -> (&str, &str)
     ensures front { chars result.0.now ≡ take n (chars text.now) }
     ensures back { chars result.1.now ≡ drop n (chars text.now) }

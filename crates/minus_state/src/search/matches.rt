@@ -1,8 +1,8 @@
 //! The rows that match: those in which a match begins.
 use minus_text::RowsView;
 
-/// The rows that match a term, in their order: those in which a match begins. Their places in it are counted from 0, and
-/// so are the rows.
+/// The rows that match a term, in their order: those in which a match begins. Their places in it are counted from 0,
+/// and so are the rows.
 #[derive(Clone, Copy)]
 pub struct Matches<'s> {
     pub(crate) view: RowsView<'s>,

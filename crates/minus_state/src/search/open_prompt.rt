@@ -19,7 +19,7 @@ pub struct OpenPrompt {
     editor: QueryEditor,
 }
 
-// By hand: a derived drop would stand anew in the proof of each function that lets one go.
+// Hand-written: a derived drop would stand again in the proof of each function that lets one go.
 impl Drop for OpenPrompt {
     fn drop(self) {
         let OpenPrompt {
@@ -52,7 +52,7 @@ fn typed(alloc: Global, character: char, query: &str) -> Result<String, AllocErr
 impl OpenPrompt {
     ghost use Rattle.std.specs.Prelude.{◌≡◌, ◌+◌, ◌≤◌, Some, false, length, chars, string_bytes, OnOk, OnErr, IfOk, IfErr};
     ghost use Rattle.minus_term.specs.Refusals.{refusal_of};
-    ghost use Rattle.minus_text.specs.Words.{AreWithin};
+    ghost use Rattle.minus_text.specs.WordStarts.{AreWithin};
     ghost use Rattle.minus_state.specs.OpenPrompts.{prompt_of, fed, cursor_moved, IsUnopened};
     ghost use Rattle.minus_state.specs.QueryEditor.{told_of, moved, starts_of, refuses, takes_memory, most, IsRefusedEdit};
     ghost use Rattle.minus_state.specs.QueryKeys.{edit_of};

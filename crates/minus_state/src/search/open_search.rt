@@ -18,7 +18,7 @@ pub struct OpenSearch {
     pub preview: Option<Rc<Regex>>,
 }
 
-// By hand: a derived drop would stand anew in the proof of each function that lets one go.
+// Hand-written: a derived drop would stand again in the proof of each function that lets one go.
 impl Drop for OpenSearch {
     fn drop(self) {
         let OpenSearch {

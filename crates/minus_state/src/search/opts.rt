@@ -1,6 +1,6 @@
 //! What the condition of an incremental search sees.
 ghost use Rattle.std.specs.Prelude.{◌≡◌, is_some, IfOk, IfSome};
-ghost use Rattle.minus_text.specs.Words.{AreWithin};
+ghost use Rattle.minus_text.specs.WordStarts.{AreWithin};
 ghost use Rattle.minus_state.specs.OpenPrompts.{fed};
 ghost use Rattle.minus_state.specs.QueryKeys.{edit_of};
 ghost use Rattle.minus_state.specs.SearchMode.{char_of};

@@ -54,7 +54,7 @@ fn row_found(alloc: Global, state: &PagerState, query: &Regex) -> Result<Option<
 }
 
 /// The rows of text that the page shows once a query's pattern is the term, from the match on that the search goes to,
-/// or from the mark on where no row matches. The state stays as it is, and no row is formed anew.
+/// or from the mark on where no row matches. The state stays as it is, and no row is formed again.
 ///
 /// # Errors
 ///
@@ -70,7 +70,7 @@ pub fn confirmed_rows(alloc: Global, state: &PagerState, query: &Regex) -> Resul
 
 /// The rows of text that the page shows of a query before it is taken: those that it shows once the query's pattern is
 /// the term, from the match on that the search goes to; `None` where no row matches. The state stays as it is, and no
-/// row is formed anew: rows are searched as far as that match, and then those of its page.
+/// row is formed again: rows are searched as far as that match, and then those of its page.
 ///
 /// # Errors
 ///

@@ -36,7 +36,7 @@ pub struct QueryEditor {
     starts: Vec<usize>,
 }
 
-// By hand: a derived drop would stand anew in the proof of each function that lets one go.
+// Hand-written: a derived drop would stand again in the proof of each function that lets one go.
 impl Drop for QueryEditor {
     fn drop(self) {
         let QueryEditor {
@@ -64,7 +64,7 @@ impl QueryEditor {
     ghost use Rattle.std.specs.Prelude.{◌≡◌, ◌+◌, ◌≤◌, false, length, string_bytes, chars};
     ghost use Rattle.std.specs.Prelude.{OnOk, OnErr, IfOk, IfErr};
     ghost use Rattle.minus_term.specs.Refusals.{refusal_of};
-    ghost use Rattle.minus_text.specs.Words.{AreWithin};
+    ghost use Rattle.minus_text.specs.WordStarts.{AreWithin};
     ghost use Rattle.minus_state.specs.QueryKeys.{edit_of};
     ghost use Rattle.minus_state.specs.QueryEditor.{first_editor, editor_of, edited, moved, told_of, refuses, takes_memory};
     ghost use Rattle.minus_state.specs.QueryEditor.{told_between, starts_of, most, without, is_too_long};
@@ -261,8 +261,8 @@ impl QueryEditor {
     /// character, and a move to where the cursor is, are [`Fed::Unchanged`]. The query stays as it is where it is taken
     /// or dropped.
     ///
-    /// An edit takes time linear in the query, whose text and starts of words are formed anew. A move by a character or
-    /// to an end takes constant time; one from word to word looks through the starts of the words.
+    /// An edit takes time linear in the query, whose text and starts of words are formed again. A move by a character
+    /// or to an end takes constant time; one from word to word looks through the starts of the words.
     ///
     /// # Errors
     ///

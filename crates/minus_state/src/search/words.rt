@@ -1,6 +1,6 @@
 //! The starts of words around a cursor.
 ghost use Rattle.std.specs.Prelude.{◌≡◌, ◌≤◌, ℕ};
-ghost use Rattle.minus_text.specs.Words.{AreWithin};
+ghost use Rattle.minus_text.specs.WordStarts.{AreWithin};
 ghost use Rattle.minus_state.specs.QueryEditor.{last_below, first_above};
 
 // The last of these places that is below another place, or 1 where there is none.

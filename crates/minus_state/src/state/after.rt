@@ -42,7 +42,6 @@ fn text_after<'a>(next: &'a Option<String>, before: &'a String) -> &'a str
 impl PagerState {
     ghost use Rattle.std.specs.Prelude.{◌≡◌, None, true, string_bytes, IfOk};
     ghost use Rattle.std.specs.Option.{option_map, unwrap_or};
-    ghost use Rattle.minus_state.specs.Control.{first_changed};
     ghost use Rattle.minus_state.specs.ShownPrompt.{prompt_row, row_or};
     ghost use Rattle.minus_state.specs.PromptRow.{seen_prompt};
     ghost use Rattle.minus_state.specs.States.{control_of, IsFormed};
@@ -65,7 +64,7 @@ impl PagerState {
         }
     }
 
-    /// The prompt row after a change; empty where it is hidden. Fails for want of memory alone.
+    /// The prompt row after a change; empty where it is hidden. Fails only if memory runs out.
     pub fn prompt_row_after(&self, alloc: Global, change: &Change) -> Result<String, AllocError>
         ensures row { IfOk result (λ row. string_bytes row ≡ prompt_row_after self.now change.now) }
         ensures formed { IfOk result (λ row. WhereLed self.now change.now
@@ -76,7 +75,7 @@ impl PagerState {
         Ok(text)
     }
 
-    /// The text of the prompt row; empty where it is hidden. Fails for want of memory alone.
+    /// The text of the prompt row; empty where it is hidden. Fails only if memory runs out.
     pub fn displayed_prompt(&self, alloc: Global) -> Result<String, AllocError>
         ensures row { IfOk result (λ row. string_bytes row ≡ displayed_prompt self.now) }
         ensures formed { IfOk result (λ row. IsFormed self.now →
@@ -86,7 +85,7 @@ impl PagerState {
         self.prompt_row_after(alloc, &stays)
     }
 
-    // What the prompt row tells of matches.
+    // What the prompt row reports matches.
     fn told(&self) -> Told
         ensures place { result.place ≡ (shown_prompt self.now).search_mark }
         ensures count { result.count ≡ (shown_prompt self.now).match_count }
@@ -129,16 +128,6 @@ impl PagerState {
         let row = self.prompt_row_after(alloc, change)?;
         Ok(Some(row))
     }
-
-    /// The first row that an append may change, counted from 0: the first one of the line that no newline ends, or the
-    /// first new one.
-    pub fn first_changed(&self) -> usize
-        ensures { IsFormed self.now → result ≡ first_changed (control_of self.now) }
-    {
-        self.screen
-            .formatted_lines_count()
-            .saturating_sub(self.screen.unterminated())
-    }
 }
 
 /// How many rows of text the page has that a change leads to.
@@ -167,7 +156,7 @@ fn showing<'a>(state: &'a PagerState, change: &'a Change) -> ShownRows<'a>
 }
 
 /// The texts of the rows of text on the page that a change leads to, from one of them on and before another, both
-/// counted from 0 at the top of the page. Fails for want of memory alone.
+/// counted from 0 at the top of the page. Fails only if memory runs out.
 pub fn shown_between<'a>(
     state: &'a PagerState,
     alloc: Global,
@@ -191,7 +180,7 @@ pub fn shown_between<'a>(
 }
 
 /// The texts of the rows of text on the page that a change leads to, from one of them on, counted from 0 at the
-/// top of the page. Fails for want of memory alone.
+/// top of the page. Fails only if memory runs out.
 pub fn shown_after<'a>(
     state: &'a PagerState,
     alloc: Global,

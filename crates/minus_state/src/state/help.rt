@@ -12,10 +12,10 @@ use std::alloc::{AllocError, Global};
 // What the prompt says while help is open.
 const PROMPT: &str = "HELP -- Press q or Shift-m to return to pager";
 
-/// What is put aside while help is open.
+/// What is saved while help is open.
 #[derive(Debug, Drop)]
 pub struct Saved {
-    /// The text that was on show, as it was replaced or added to since.
+    /// The text that was displayed, as it was replaced or added to since.
     pub text: String,
     /// Whether lines that are too long for the columns are wrapped.
     pub wrapping: bool,
@@ -34,11 +34,11 @@ pub struct Saved {
 /// Whether help is opened or left.
 #[derive(Drop)]
 pub enum HelpChange {
-    /// Neither: what is put aside stays so.
+    /// Neither: what is saved stays so.
     Stays,
-    /// Help is opened: this is put aside. It stands in a box, since it is large and most changes have none.
+    /// Help is opened: this is saved. It stands in a box, since it is large and most changes have none.
     Opens(Box<Saved>),
-    /// Help is left: nothing is put aside.
+    /// Help is left: nothing is saved.
     Closes,
 }
 
@@ -47,7 +47,7 @@ impl HelpChange {
     ghost use Rattle.minus_state.specs.Aside.{aside_of};
     ghost use Rattle.minus_state.specs.Changes.{help_after};
 
-    // Puts what is put aside in its place.
+    // Puts what is saved in its place.
     pub(crate) fn put(self, place: &mut Option<Saved>)
         ensures { aside_of place.new ≡ help_after self (aside_of place.old) }
     {
@@ -59,7 +59,7 @@ impl HelpChange {
     }
 }
 
-// Puts another text in the place of the one that is put aside, if one is.
+// Puts another text in the place of the one that is saved, if one is.
 pub(crate) fn replace_aside(saved: &mut Option<Saved>, text: String)
     ensures { aside_of saved.new ≡ text_aside (string_bytes text) (aside_of saved.old) }
 {
@@ -68,7 +68,7 @@ pub(crate) fn replace_aside(saved: &mut Option<Saved>, text: String)
     }
 }
 
-// Adds a text to the one that is put aside, if one is. An `Err` changes nothing.
+// Adds a text to the one that is saved, if one is. An `Err` changes nothing.
 pub(crate) fn add_aside(saved: &mut Option<Saved>, text: &str) -> Result<(), MinusError>
     ensures ok { OnOk result (aside_of saved.new ≡ more_aside text.now (aside_of saved.old)) }
     ensures err { OnErr result (aside_of saved.new ≡ aside_of saved.old) }
@@ -88,7 +88,7 @@ impl PagerState {
     ghost use Rattle.minus_state.specs.Aside.{aside_in};
     ghost use Rattle.minus_state.specs.States.{control_of, IsFormed};
     ghost use Rattle.minus_state.specs.Appending.{with_more};
-    ghost use Rattle.minus_state.specs.Redraws.{whole_where, added_redraw};
+    ghost use Rattle.minus_state.specs.RedrawExtent.{whole_where, added_redraw};
 
     /// Whether help is open.
     pub fn help_open(&self) -> bool
@@ -97,7 +97,7 @@ impl PagerState {
         self.saved.is_some()
     }
 
-    // What is put aside as help is opened.
+    // What is saved as help is opened.
     fn put_aside(&self, alloc: Global) -> Result<Saved, AllocError>
         ensures { IfOk result (λ s. aside_in s ≡ put_aside (control_of self.now)) }
     {
@@ -137,7 +137,7 @@ impl PagerState {
         Ok(change)
     }
 
-    // The state with help left, of what was put aside.
+    // The state with help left, of what was saved.
     fn unhelped(&self, alloc: Global, saved: &Saved) -> Result<Change, MinusError>
         ensures next { IfOk result (λ c. Leads self.now c
             (closed (control_of self.now) (aside_in saved.now))) }
@@ -213,7 +213,7 @@ impl PagerState {
         self.helped(alloc, text.unwrap_or(String::new(alloc)))
     }
 
-    /// The state with another text; while help is open, with another one put aside.
+    /// The state with another text; while help is open, with another one saved.
     ///
     /// # Errors
     ///
@@ -232,7 +232,7 @@ impl PagerState {
         self.with_text(alloc, text)
     }
 
-    /// The state with a text added to its text; while help is open, to the one put aside, for which `place` takes
+    /// The state with a text added to its text; while help is open, to the one saved, for which `place` takes
     /// memory. Its mark stays.
     ///
     /// # Errors
@@ -253,7 +253,7 @@ impl PagerState {
         self.appended(alloc, text)
     }
 
-    /// Opens help on a text, at its first row; what was on show is put aside. Where help is open, all stays as it is.
+    /// Opens help on a text, at its first row; what was displayed is saved. Where help is open, all stays as it is.
     ///
     /// # Errors
     ///
@@ -272,7 +272,7 @@ impl PagerState {
         self.place(alloc, change)
     }
 
-    /// Leaves help: what was put aside returns, the mark too, and the message goes. Where help is not open, all stays
+    /// Leaves help: what was saved returns, the mark too, and the message goes. Where help is not open, all stays
     /// as it is.
     ///
     /// # Errors

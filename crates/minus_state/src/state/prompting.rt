@@ -29,7 +29,7 @@ impl PagerState {
         self.open_search.as_ref()
     }
 
-    /// The state with a search prompt that is open for a direction, its query empty, and with the first match told of;
+    /// The state with a search prompt that is open for a direction, its query empty, and with the first match reported;
     /// as it is, where the direction is [`SearchMode::Unknown`].
     ///
     /// # Errors

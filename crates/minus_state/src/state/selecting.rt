@@ -1,6 +1,6 @@
 //! What is selected by events of the mouse, formed beside a state.
 ghost use Rattle.std.specs.Prelude.{◌≡◌};
-ghost use Rattle.minus_state.specs.Redraws.{whole_where};
+ghost use Rattle.minus_state.specs.RedrawExtent.{whole_where};
 
 use crate::change::{Change, Redraw};
 use crate::selection::{Selection, SelectionEnds};
@@ -21,7 +21,7 @@ fn whole_where(changed: bool) -> Redraw
 impl PagerState {
     ghost use Rattle.std.specs.Prelude.{◌≡◌, ◌-◌, ◌==◌, ◌<◌, ◌&&◌, min, is_some};
     ghost use Rattle.minus_state.specs.Selecting.{no_ends, has_ends, end_at, ends_begun, is_led, mark_led_to, mark_led, ends_led_to, ends_led, is_same_end};
-    ghost use Rattle.minus_state.specs.Redraws.{whole_where, led_redraw};
+    ghost use Rattle.minus_state.specs.RedrawExtent.{whole_where, led_redraw};
     ghost use Rattle.minus_state.specs.States.{control_of, ends_of, IsFormed};
     ghost use Rattle.minus_state.specs.Changes.{Leads};
 
@@ -78,7 +78,7 @@ impl PagerState {
         self.begun(self.end_at(self.upper_mark, x, y))
     }
 
-    // Whether a selection is led on; none is while a term is searched for.
+    // Whether a selection is dragged; none is while a term is searched for.
     fn is_led(&self) -> bool
         ensures { result ≡ is_led (control_of self.now) }
     {

@@ -6,7 +6,7 @@ use minus_term::MinusError;
 impl PagerState {
     ghost use Rattle.std.specs.Prelude.{◌≡◌, true, false, string_bytes, OnOk, OnErr, IfOk, IfErr};
     ghost use Rattle.minus_state.specs.Changes.{Leads};
-    ghost use Rattle.minus_state.specs.Control.{with_message, with_prompt_shown, without_message};
+    ghost use Rattle.minus_state.specs.Control.{with_message, with_prompt_shown, without_message, with_follow};
     ghost use Rattle.minus_state.specs.Help.{with_prompt};
     ghost use Rattle.minus_state.specs.States.{control_of};
     ghost use Rattle.minus_state.specs.ShownPrompt.{has_newline, IsNewlineRefused};
@@ -105,5 +105,15 @@ impl PagerState {
         let mut change = self.redrawn(Redraw::Stays);
         change.message = MessageChange::Says(message);
         Ok(change)
+    }
+
+    /// The state that goes on with what is appended from now on, or no longer. Its mark stays.
+    pub fn with_follow(&self, follow: bool) -> Change
+        ensures next { Leads self.now result (with_follow (control_of self.now) follow) }
+        ensures redraw { result.redraw ≡ Redraw.Moved }
+    {
+        let mut change = self.redrawn(Redraw::Moved);
+        change.follow = follow;
+        change
     }
 }

@@ -5,7 +5,8 @@ ghost use Rattle.minus_state.specs.States.{pattern_kept};
 
 use crate::change::{Change, NextText, Redraw};
 use crate::search::matches::Matches;
-use crate::state::{PagerState, search_mark_anew, searching};
+use crate::state::search_mark::search_mark_anew;
+use crate::state::{PagerState, searching};
 use minus_term::MinusError;
 use minus_text::screen::searching::view_of;
 use minus_text::{Findings, Patterns, Term};
@@ -27,6 +28,16 @@ pub(crate) fn kept_pattern(term: &Option<KeptTerm>) -> Option<&Regex>
     match term {
         Some(KeptTerm::Own(pattern)) => Some(pattern),
         Some(KeptTerm::Shown(pattern)) => Some(&**pattern),
+        None => None,
+    }
+}
+
+// The pattern that is pointed at, if one is.
+pub(crate) fn shared_pattern(pattern: &Option<Rc<Regex>>) -> Option<&Regex>
+    ensures { option_map (λ p. regex_pattern p.now) result ≡ option_map (λ p. regex_pattern p.value) pattern.now }
+{
+    match pattern {
+        Some(pattern) => Some(&**pattern),
         None => None,
     }
 }
@@ -61,14 +72,14 @@ impl PagerState {
         }
     }
 
-    /// The place, counted from 0 among the rows that match, of the one that the prompt row tells of.
+    /// The place, counted from 0 among the rows that match, of the one that the prompt row reports.
     pub fn search_mark(&self) -> usize
         ensures { result ≡ (control_of self.now).search_mark }
     {
         self.search_mark
     }
 
-    /// Lets the prompt row tell of the match at another place, counted from 0. The page stays where it is.
+    /// Lets the prompt row report the match at another place, counted from 0. The page stays where it is.
     pub fn set_search_mark(&mut self, search_mark: usize)
         ensures { self.new ≡ record self.old { search_mark = search_mark } }
     {
@@ -103,7 +114,7 @@ impl PagerState {
             .search(alloc, searching(&self.patterns, Some(pattern)))
     }
 
-    /// Searches for another term from now on, or for none: the rows are formed anew, and the prompt row tells of the
+    /// Searches for another term from now on, or for none: the rows are formed again, and the prompt row reports the
     /// first match at the mark or behind it. The mark stays where it is.
     ///
     /// # Errors
@@ -144,7 +155,27 @@ impl PagerState {
         let mut change = self.redrawn(Redraw::Whole);
         change.mark = mark.min(self.top());
         change.search_mark = search_mark;
-        change.text = NextText::Found(query, findings);
+        change.text = NextText::Found(Some(query), findings);
+        Ok(change)
+    }
+
+    /// The state with another term, or with none: the prompt row reports the first match at the mark or behind it. The
+    /// mark stays where it is, and no row is formed again.
+    ///
+    /// # Errors
+    ///
+    /// [`AllocError`] where there is no memory for what is found.
+    pub fn searched(&self, alloc: Global, term: Option<Rc<Regex>>) -> Result<Change, AllocError>
+        ensures next { IfOk result (λ c. Leads self.now c
+            (searched_for (control_of self.now) (option_map (λ t. regex_pattern t.value) term))) }
+        ensures redraw { IfOk result (λ c. c.redraw ≡ Redraw.Whole) }
+    {
+        let searched = searching(&self.patterns, shared_pattern(&term));
+        let findings = self.screen.search(alloc, searched)?;
+        let search_mark = search_mark_anew(view_of(&self.screen, &findings), self.upper_mark);
+        let mut change = self.redrawn(Redraw::Whole);
+        change.search_mark = search_mark;
+        change.text = NextText::Found(term, findings);
         Ok(change)
     }
 

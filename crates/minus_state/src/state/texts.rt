@@ -1,7 +1,8 @@
 //! Changes of a state's text and of its layout, each at once.
 use crate::change::AppendStyle;
+use crate::state::search_mark::search_mark_anew;
 use crate::state::term::kept_pattern;
-use crate::state::{PagerState, search_mark_anew, searching};
+use crate::state::{PagerState, searching};
 use minus_term::MinusError;
 use minus_text::Layout;
 use std::alloc::Global;
@@ -14,7 +15,7 @@ impl PagerState {
     ghost use Rattle.minus_state.specs.Control.{reformed, laid_as};
     ghost use Rattle.minus_state.specs.States.{control_of, IsFormed};
 
-    /// Makes room for this number of bytes of text more: in the text on show, or, while help is open, in the one that
+    /// Makes room for this number of bytes of text more: in the displayed text, or, while help is open, in the one that
     /// is saved. All that a caller reads stays as it is, whether there is room or not. The room is used by appends; it
     /// goes where the text is formed again, as at another size.
     ///
@@ -45,7 +46,7 @@ impl PagerState {
         AppendStyle::FullRedraw
     }
 
-    /// Adds this text at the end of the text on show, and answers how. The mark stays where it is; the rows that are
+    /// Adds this text at the end of the displayed text, and answers how. The mark stays where it is; the rows that are
     /// formed, and no others, are searched for the term.
     ///
     /// # Errors
@@ -71,7 +72,7 @@ impl PagerState {
         Ok(self.append_style(first, keeps_rows))
     }
 
-    // Forms the rows anew in a layout, and searches them for the term.
+    // Forms the rows again in a layout, and searches them for the term.
     fn reform(&mut self, alloc: Global, layout: Layout) -> Result<(), MinusError>
         requires cols { layout.cols ≡ self.old.cols }
         requires numbers { layout.numbers ≡ self.old.line_numbers }
@@ -88,7 +89,7 @@ impl PagerState {
         Ok(())
     }
 
-    /// Puts another text in the place of the one on show. The mark stays where it is.
+    /// Puts another text in the place of the displayed one. The mark stays where it is.
     ///
     /// # Errors
     ///
@@ -127,8 +128,8 @@ impl PagerState {
         self.reform(alloc, layout)
     }
 
-    /// Puts each row with the style that its line carries to it, and ends the row with a reset where it leaves a style open;
-    /// or puts rows as their texts are. A style does not go on from line to line. The mark stays where it is.
+    /// Puts each row with the style that its line carries to it, and ends the row with a reset where it leaves a style
+    /// open; or puts rows as their texts are. A style does not go on from line to line. The mark stays where it is.
     ///
     /// # Errors
     ///
@@ -147,8 +148,8 @@ impl PagerState {
         self.reform(alloc, layout)
     }
 
-    /// Searches for the term in each line, so that matches go over the ends of rows, or in each row by itself. The mark stays
-    /// where it is, and the prompt row tells of the first row that matches at it or behind it.
+    /// Searches for the term in each line, so that matches go over the ends of rows, or in each row by itself. The mark
+    /// stays where it is, and the prompt row reports the first row that matches at it or behind it.
     ///
     /// # Errors
     ///
@@ -167,7 +168,7 @@ impl PagerState {
         self.reform(alloc, layout)
     }
 
-    /// Forms the rows anew, for the columns and the numbers that the state has now.
+    /// Forms the rows again, for the columns and the numbers that the state has now.
     ///
     /// # Errors
     ///

@@ -42,7 +42,7 @@ impl Model for Findings {
 impl Findings {
     ghost use Rattle.std.specs.Prelude.{◌≡◌, length, slice_get};
     ghost use Rattle.minus_text.specs.Found.{jump_rows, match_total, matches_above};
-    ghost use Rattle.minus_text.specs.Jumps.{counted};
+    ghost use Rattle.minus_text.specs.JumpRows.{counted};
 
     /// The number of rows in which matches begin.
     pub fn match_count(&self) -> usize
@@ -106,7 +106,7 @@ pub fn view_after<'s>(
 impl Screen {
     ghost use Rattle.std.specs.Prelude.{◌++◌, length, slice_get};
     ghost use Rattle.minus_text.specs.Found.{found_above, jump_rows, match_total, matches_above};
-    ghost use Rattle.minus_text.specs.Jumps.{counted};
+    ghost use Rattle.minus_text.specs.JumpRows.{counted};
     ghost use Rattle.minus_text.specs.Views.{viewed};
 
     /// Its rows, with what is kept as found in them.
@@ -120,8 +120,8 @@ impl Screen {
         }
     }
 
-    /// The number of rows in which matches begin once a push is made, whichever text it was prepared for: those that are
-    /// kept as found above the rows that it forms, and those that were found in these. It takes no memory.
+    /// The number of rows in which matches begin once a push is made, whichever text it was prepared for: those that
+    /// are kept as found above the rows that it forms, and those that were found in these. It takes no memory.
     pub fn match_count_after(&self, pending: &PendingPush) -> usize
         ensures { result
             ≡ length (jump_rows (found_above pending.now.push.kept_rows self.now.found ++ pending.now.found)) }
@@ -129,7 +129,8 @@ impl Screen {
         pending.match_count(&self.found)
     }
 
-    /// The number of a row in which matches begin then. Such rows are counted from 0 in their order. It takes no memory.
+    /// The number of a row in which matches begin then. Such rows are counted from 0 in their order. It takes no
+    /// memory.
     pub fn match_row_after(&self, pending: &PendingPush, i: usize) -> Option<usize>
         ensures { result ≡ slice_get (jump_rows (found_above pending.now.push.kept_rows self.now.found
             ++ pending.now.found)) i }
@@ -145,8 +146,8 @@ impl Screen {
         pending.match_total(&self.found)
     }
 
-    /// How many matches begin then in the rows above one, counted from 0. It takes no memory, and halves the rows in which
-    /// matches begin.
+    /// How many matches begin then in the rows above one, counted from 0. It takes no memory, and halves the rows in
+    /// which matches begin.
     pub fn matches_above_after(&self, pending: &PendingPush, row: usize) -> usize
         ensures { result ≡ counted
             (matches_above row (found_above pending.now.push.kept_rows self.now.found ++ pending.now.found)) }
@@ -191,11 +192,11 @@ impl Screen {
         })
     }
 
-    /// The row that a search for a term from a mark goes to, counted from 0: the first row in which a match begins, at the
-    /// mark or behind it, or else the first of all such rows; `None` where there is none. The search reads the rows from
-    /// the mark on and then those above it, each at most once, and reads no row further than the one that it answers;
-    /// where a term is searched for in lines, it reads lines so, and the mark's own line twice. What is kept as found
-    /// stays.
+    /// The row that a search for a term from a mark goes to, counted from 0: the first row in which a match begins, at
+    /// the mark or behind it, or else the first of all such rows; `None` where there is none. The search reads the rows
+    /// from the mark on and then those above it, each at most once, and reads no row further than the one that it
+    /// answers; where a term is searched for in lines, it reads lines so, and the mark's own line twice. What is kept
+    /// as found stays.
     ///
     /// # Errors
     ///
@@ -213,8 +214,8 @@ impl Screen {
     }
 
     /// Keeps what a term was found to match as found, where it stands in these rows. Where it does not, since it was
-    /// found in the rows of another text, the rows are searched for the term anew. The check looks at places alone, and
-    /// not at what the term matches there: the term is to be the one that was searched for. So the check runs no
+    /// found in the rows of another text, the rows are searched for the term again. The check looks at places alone,
+    /// and not at what the term matches there: the term is to be the one that was searched for. So the check runs no
     /// pattern, reads only the rows in which something was found, and takes memory only while it reads one that has
     /// escape sequences.
     ///

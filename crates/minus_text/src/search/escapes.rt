@@ -18,7 +18,7 @@ pub(crate) fn has_escape_start(text: &str) -> bool
     text.contains("\u{1B}") || text.contains("\u{9B}")
 }
 
-// The match that follows one that ends at a place. An empty one right there is passed over.
+// The match that follows one that ends at a place. An empty one right there is skipped.
 fn following<'h>(matcher: &mut Matcher<'_>, text: &'h str, end: usize) -> Option<Match<'h>>
     requires { end ≤ length text.now }
     ensures found { option_map match_span result

@@ -142,7 +142,8 @@ fn first_of_rows(
     Ok(above)
 }
 
-// What a term finds in lines of a text from one on up to but without another, counted from 0, as far as there are lines.
+// What a term finds in lines of a text from one on up to but without another, counted from 0, as far as there are
+// lines.
 fn find_in_lines(
     alloc: Global,
     term: Term<'_>,
@@ -197,8 +198,8 @@ fn first_jump(found: &[FoundRow], row: usize) -> Option<usize>
     None
 }
 
-// The first row from one on in which a match begins, of lines from one on up to but without another. No line behind that
-// is searched.
+// The first row from one on in which a match begins, of lines from one on up to but without another. No line behind
+// that is searched.
 fn first_in_lines(
     alloc: Global,
     finder: &mut Finder<'_>,
@@ -263,8 +264,8 @@ pub(crate) fn find_all(
     find_in_rows(alloc, term, store, 0, store.formatted_lines_count())
 }
 
-// What a term finds in the rows of a text from `start` on up to but without `end`, as far as there are rows: no other row
-// is searched, or no other line than those of these rows.
+// What a term finds in the rows of a text from `start` on up to but without `end`, as far as there are rows: no other
+// row is searched, or no other line than those of these rows.
 pub(crate) fn find_between(
     alloc: Global,
     term: Term<'_>,

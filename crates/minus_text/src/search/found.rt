@@ -12,7 +12,8 @@ use crate::search::term::Term;
 use regex::Matcher;
 use std::alloc::{AllocError, Global};
 
-// A row, the places of its escape sequences, those of matches in the row without these, and how many matches begin in it.
+// A row, the places of its escape sequences, those of matches in the row without these, and how many matches begin in
+// it.
 #[derive(Debug, Drop)]
 pub(crate) struct FoundRow {
     pub(crate) row: usize,
@@ -29,7 +30,7 @@ pub(crate) struct Finder<'p> {
     ghost escape_matches: { ForSome escapes (λ m. MatchesAs (matcher_pattern m) escape_sequence) },
 }
 
-// By hand: a derived drop would stand anew in the proof of each function that lets one go.
+// Hand-written: a derived drop would stand again in the proof of each function that lets one go.
 impl Drop for Finder<'_> {
     fn drop(self) {
         let Finder {
@@ -40,8 +41,8 @@ impl Drop for Finder<'_> {
     }
 }
 
-// Where a matcher's pattern matches in what is outside of these places of a row. It stands in each of its callers, since a
-// call costs as much as a search in a short row.
+// Where a matcher's pattern matches in what is outside of these places of a row. It stands in each of its callers,
+// since a call costs as much as a search in a short row.
 #[inline(always)]
 pub(crate) fn outside_matches(
     alloc: Global,

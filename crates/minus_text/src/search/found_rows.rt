@@ -7,7 +7,7 @@ ghost use Rattle.minus_text.specs.Fragments.{rows_in};
 ghost use Rattle.minus_text.specs.Found.{found_above, found_from, jump_rows, matches_above, match_total, found_of_row};
 ghost use Rattle.minus_text.specs.Found.{Ascend, AreFoundIn};
 ghost use Rattle.minus_text.specs.Finds.{finds, found_in, StaysFound};
-ghost use Rattle.minus_text.specs.Jumps.{counted};
+ghost use Rattle.minus_text.specs.JumpRows.{counted};
 ghost use Rattle.minus_text.specs.FoundRows.{matches_of, pattern_of};
 ghost use Rattle.minus_text.specs.declared.search.found.FoundRow.{FoundRow};
 ghost use Rattle.minus_text.specs.FoundBy.{found_rows, AreJumps, HasRoomFor, FoundGoesOn};
@@ -17,7 +17,7 @@ ghost use Rattle.minus_text.specs.RowSearches.{RowsShowTheirMatches, PartsShowTh
 use crate::formed_push::FormedPush;
 use crate::search::finding::{find_all, find_between, find_formed};
 use crate::search::found::FoundRow;
-use crate::search::jumps::{Jump, add_numbers, count_before, count_behind, ended_at, jumps_of};
+use crate::search::jump_rows::{Jump, add_numbers, count_behind, ended_at, jumps_before, jumps_of};
 use crate::search::standing::all_stand;
 use crate::search::term::Term;
 use crate::store::Store;
@@ -41,7 +41,7 @@ fn count_above(found: &[FoundRow], row: usize) -> usize
     found.partition_point(|f| f.row < row)
 }
 
-// Whether the last of so many of these rows, if there is one, stands above a row.
+// Whether the last of this many of these rows, if there is one, stands above a row.
 fn is_last_above(found: &[FoundRow], row: usize, count: usize) -> bool
     requires { count ≤ length found.now }
     ensures { result ≡ true → (d : FoundRow) → 0 < count → (slice_index_or found.now (count - 1) d).row < row }
@@ -52,7 +52,7 @@ fn is_last_above(found: &[FoundRow], row: usize, count: usize) -> bool
     found[count - 1].row < row
 }
 
-// Whether the row behind so many of these, if there is one, stands not above a row.
+// Whether the row behind this many of these, if there is one, stands not above a row.
 fn is_next_not_above(found: &[FoundRow], row: usize, count: usize) -> bool
     requires { count ≤ length found.now }
     ensures { result ≡ true → (d : FoundRow) → count < length found.now →
@@ -64,7 +64,7 @@ fn is_next_not_above(found: &[FoundRow], row: usize, count: usize) -> bool
     row <= found[count].row
 }
 
-// Whether so many of these rows stand above one.
+// Whether this many of these rows stand above one.
 fn are_above(found: &[FoundRow], row: usize, count: usize) -> bool
     requires { Ascend 0 (map matches_of found.now) }
     ensures value { result ≡ true → count ≡ position_or_len (λ f. nat_le row f.row) (map matches_of found.now) }
@@ -215,7 +215,7 @@ impl FoundRows {
             mut jumps,
         } = fresh;
         self.rows.truncate(count_above(self.rows.as_slice(), row));
-        let staying = count_before(self.jumps.as_slice(), row, 0);
+        let staying = jumps_before(self.jumps.as_slice(), row, 0);
         count_behind(&mut jumps, ended_at(self.jumps.as_slice(), staying));
         self.jumps.truncate(staying);
         match self.rows.append(&mut rows) {
@@ -246,8 +246,8 @@ impl FoundRows {
             ++ found_rows fresh.now))) }
     {
         let jumps = self.jumps.as_slice();
-        let from = count_before(jumps, first, 0);
-        let staying = count_before(jumps, row, 0);
+        let from = jumps_before(jumps, first, 0);
+        let staying = jumps_before(jumps, row, 0);
         let mut numbers = BTreeSet::new(alloc);
         add_numbers(&mut numbers, &jumps[from..staying])?;
         add_numbers(&mut numbers, fresh.jumps.as_slice())?;
@@ -290,7 +290,7 @@ impl FoundRows {
         ensures value { result ≡ length (jump_rows (found_above row (found_rows self.now))) }
         ensures few { result < 2 ^ 63 }
     {
-        count_before(self.jumps.as_slice(), row, 0)
+        jumps_before(self.jumps.as_slice(), row, 0)
     }
 
     // In how many rows they do before the first that a jump by this number of matches from a mark may count.
@@ -300,7 +300,7 @@ impl FoundRows {
         ensures value { result ≡ position_or_len (counts_first mark jump) (jump_rows (found_rows self.now)) }
         ensures few { result < 2 ^ 63 }
     {
-        count_before(self.jumps.as_slice(), mark, jump)
+        jumps_before(self.jumps.as_slice(), mark, jump)
     }
 
     // The number of one of these rows, which are counted from 0.
@@ -321,7 +321,7 @@ impl FoundRows {
         ensures { result ≡ counted (matches_above row (found_rows self.now)) }
     {
         let jumps = self.jumps.as_slice();
-        ended_at(jumps, count_before(jumps, row, 0))
+        ended_at(jumps, jumps_before(jumps, row, 0))
     }
 
     // How many matches there are.

@@ -112,7 +112,7 @@ fn ordered<'l>(
     Ok(puts)
 }
 
-// Adds a text with what stands between these places in reverse, to a row. An `Err` is for want of memory alone; it may
+// Adds a text with what stands between these places in reverse, to a row. An `Err` only means out of memory; it may
 // leave some of it behind.
 pub(crate) fn push_marked<T: PushText>(
     out: &mut T,
@@ -144,7 +144,7 @@ pub struct HighlightMatchesArgs<'l> {
     ghost stand: { StandIn (string_bytes text) 0 (map insert_of puts.items) } by { StandIn-prop (string_bytes text) 0 (map insert_of puts.items) },
 }
 
-// By hand: a derived drop would stand anew in the proof of each function that lets one go.
+// Hand-written: a derived drop would stand again in the proof of each function that lets one go.
 impl Drop for HighlightMatchesArgs<'_> {
     fn drop(self) {
         let HighlightMatchesArgs {
@@ -161,7 +161,7 @@ impl<'l> HighlightMatchesArgs<'l> {
 
     /// Finds the matches of a pattern in a line, which are those of the line without its escape
     /// sequences. These stay where they stand if the highlight is to be accurate; else those inside
-    /// a match come right behind it. Fails for want of memory alone.
+    /// a match come right behind it. Fails only if memory runs out.
     pub fn new(
         alloc: Global,
         patterns: &Patterns,
@@ -276,7 +276,7 @@ impl fmt::Display for HighlightMatchesArgs<'_> {
 
 /// A line with each match of a pattern shown in reverse, and whether it matches. Matches are those
 /// of the line without its escape sequences. These stay where they stand if the highlight is to be
-/// accurate; else those inside a match come right behind it. Fails for want of memory alone.
+/// accurate; else those inside a match come right behind it. Fails only if memory runs out.
 pub fn highlight_line_matches(
     alloc: Global,
     patterns: &Patterns,

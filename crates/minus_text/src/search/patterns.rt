@@ -21,7 +21,7 @@ pub struct Patterns {
     ghost word_matches: { MatchesAs (regex_pattern word) query_word },
 }
 
-// By hand: a derived drop would stand anew in the proof of each function that lets one go.
+// Hand-written: a derived drop would stand again in the proof of each function that lets one go.
 impl Drop for Patterns {
     fn drop(self) {
         let Patterns { escape: _, word: _ } = self;

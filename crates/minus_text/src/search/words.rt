@@ -1,7 +1,7 @@
-//! The words of a query.
+//! Where the words of a query start.
 ghost use Rattle.std.specs.Prelude.{◌≡◌, ◌≤◌, ◌+◌, length, take, chars, IfOk, IsCharBoundary};
 ghost use Rattle.minus_text.specs.Escapes.{CutsText};
-ghost use Rattle.minus_text.specs.Words.{word_places, word_starts, AreWithin};
+ghost use Rattle.minus_text.specs.WordStarts.{word_places, word_starts, AreWithin};
 
 use crate::search::escapes::match_places;
 use crate::search::patterns::Patterns;

@@ -3,14 +3,14 @@ ghost use Rattle.std.specs.Prelude.{◌≡◌, ◌+◌, ◌<◌, ◌≤◌, leng
 ghost use Rattle.std.specs.List.{prefix_len};
 ghost use Rattle.std.specs.Str.{IsCharBoundary};
 ghost use Rattle.minus_view.specs.Paging.{bare_paging};
-ghost use Rattle.minus_view.specs.Cuts.{is_between, cut, is_of, number_len, value_len};
+ghost use Rattle.minus_view.specs.OptionWords.{is_between, cut, is_of, number_len, value_len};
 ghost use Rattle.minus_view.specs.Paging.{begins_with};
 ghost use Rattle.minus_view.specs.Reading.{begun_at, ended_at, known, named_end, long_item, item_of, bare_reading, first_of};
 ghost use Rattle.minus_view.specs.Reading.{with_valued, with_kind, with_item, new_reading, read_options};
 
 use super::Paging;
-use super::options::{with_setting, with_value};
-use super::table::{Kind, Valued, letter_kind, name_kind};
+use super::option_effects::{with_setting, with_value};
+use super::option_table::{Kind, Valued, letter_kind, name_kind};
 
 /// What stands in options.
 #[derive(Clone, Copy, Debug)]

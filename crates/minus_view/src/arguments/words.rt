@@ -4,9 +4,9 @@ ghost use Rattle.minus_view.specs.Arguments.{bare_answer, bare_words, bare_step,
 ghost use Rattle.minus_view.specs.Arguments.{read_value, next_word, paged, new_words, read_words};
 ghost use Rattle.minus_view.specs.Paging.{bare_paging, texts_of};
 
-use super::options::with_value;
+use super::option_effects::with_value;
+use super::option_table::Valued;
 use super::reading::{Ending, read_options};
-use super::table::Valued;
 use super::{ArgumentFault, Arguments, Paging};
 
 /// What the words so far ask for.

@@ -1,6 +1,6 @@
 //! The bytes of a character that has begun.
 
-/// So many bytes, from the first on.
+/// This many bytes, from the first on.
 #[derive(Clone, Copy, Debug)]
 pub(super) struct Begun {
     bytes: [u8; 4],

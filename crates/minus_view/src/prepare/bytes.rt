@@ -29,6 +29,8 @@ impl Preparation {
             Place::Sequence => self.in_sequence(byte),
             Place::Command => self.in_command(byte),
             Place::CommandEscape => self.after_command(byte),
+            Place::Link => self.in_link(byte),
+            Place::LinkEscape => self.after_link(byte),
             Place::Designation => self.in_designation(byte),
         }
     }

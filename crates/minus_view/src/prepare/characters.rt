@@ -1,12 +1,14 @@
 //! Characters on their way to the sheet.
-ghost use Rattle.std.specs.Prelude.{ℕ, ◌≡◌, ◌+◌, ◌%◌, ◌<◌, ◌≤◌, ◌++◌, [], true, false, string_bytes, IfOk, None};
+ghost use Rattle.std.specs.Prelude.{ℕ, Bool, ◌≡◌, ◌+◌, ◌%◌, ◌≤◌, ◌++◌, [], true, false, string_bytes, IfOk, None};
 ghost use Rattle.std.specs.List.{list_all};
 ghost use Rattle.minus_view.specs.Shown.{is_plain};
-ghost use Rattle.minus_view.specs.Prepared.{apart, char_columns, column_after, tab_len, held, IsAt, IsPlain, IsPlainGlyph, TakesTab};
+ghost use Rattle.minus_view.specs.Prepared.{char_columns, held, IsAt, IsPlain, IsPlainGlyph};
+ghost use Rattle.minus_view.specs.TabColumns.{apart, column_after};
 ghost use Rattle.minus_view.specs.declared.look.Look.TheVariants.{Plain};
 ghost use Rattle.minus_view.specs.declared.prepare.Place.TheVariants.{Text};
 
-use super::{Place, Preparation, Shape};
+use super::tab_columns::{apart, column_after};
+use super::{Place, Preparation};
 use crate::look::{Glyph, Look, struck, turn};
 use crate::sheet::RESET;
 use crate::shown::is_control;
@@ -21,37 +23,6 @@ pub(crate) fn columns(c: char) -> usize
     match c.width() {
         Some(columns) => columns,
         None => 0,
-    }
-}
-
-/// How far tabs stand apart at most.
-const MOST_TABS: usize = 65535;
-
-// How far tabs stand apart.
-fn apart(shape: Shape) -> usize
-    ensures is { result ≡ apart shape }
-    ensures some { 0 < result }
-    ensures most { result ≤ 65535 }
-{
-    shape.tabs.max(1).min(MOST_TABS)
-}
-
-// The column behind these characters, as far as tabs can tell.
-fn column_after(tabs: usize, column: usize, plain: &[u8]) -> usize
-    requires plain { list_all (is_plain true) plain.now ≡ true }
-    requires some { 0 < tabs }
-    requires most { tabs ≤ 65535 }
-    ensures { result % tabs ≡ column_after tabs column plain.now % tabs }
-{
-    let mut start = plain.len();
-    while 0 < start && plain[start - 1] != b'\n' {
-        start -= 1;
-    }
-    let line = (plain.len() - start) % tabs;
-    if start == 0 {
-        column % tabs + line
-    } else {
-        line
     }
 }
 
@@ -111,13 +82,15 @@ impl Preparation {
     }
 
     // Opens what holds for a character of this look.
-    fn open(&mut self, look: Look) -> Result<(), AllocError>
+    pub(super) fn open(&mut self, look: Look) -> Result<(), AllocError>
         ensures held { self.new.held ≡ self.old.held }
         ensures column { self.new.column ≡ self.old.column }
         ensures shape { self.new.shape ≡ self.old.shape }
-        ensures kept { string_bytes self.old.colours ≡ [] → self.old.look ≡ look → self.new ≡ self.old }
+        ensures kept { string_bytes self.old.colours ≡ [] → string_bytes self.old.link ≡ []
+            → self.old.look ≡ look → self.new ≡ self.old }
     {
-        if !self.is_open && !self.colours.is_empty() {
+        if !self.is_open && !(self.colours.is_empty() && self.link.is_empty()) {
+            self.sheet.put(self.link.as_str())?;
             self.sheet.put(self.colours.as_str())?;
             self.is_open = true;
         }
@@ -125,7 +98,10 @@ impl Preparation {
             return Ok(());
         }
         self.end_mark()?;
-        let sequence = if matches!(look, Look::Plain) && self.colours.is_empty() {
+        let sequence = if matches!(look, Look::Plain)
+            && self.colours.is_empty()
+            && self.link.is_empty()
+        {
             RESET
         } else {
             turn(self.look, look)
@@ -139,7 +115,8 @@ impl Preparation {
     pub(super) fn release(&mut self) -> Result<(), AllocError>
         ensures none { IfOk result (λ _. self.new.held ≡ None) }
         ensures plain { IfOk result (λ _. IsPlain self.old → IsPlain self.new × (held self.new ≡ held self.old)) }
-        ensures column { IfOk result (λ _. (tabs col : ℕ) → IsAt tabs col self.old → IsAt tabs col self.new) }
+        ensures column { IfOk result (λ _. (marks : Bool) (tabs col : ℕ) → IsAt marks tabs col self.old
+            → IsAt marks tabs col self.new) }
     {
         self.is_back = false;
         if let Some(glyph) = self.held {
@@ -196,8 +173,8 @@ impl Preparation {
         requires begun { newlines ≡ true → IsPlain self.old }
         ensures plain { IfOk result (λ _. newlines ≡ true
             → IsPlain self.new × (held self.new ≡ held self.old ++ bytes.now)) }
-        ensures column { IfOk result (λ _. (tabs col : ℕ) → IsAt tabs col self.old
-            → IsAt tabs (column_after tabs col bytes.now) self.new) }
+        ensures column { IfOk result (λ _. (marks : Bool) (tabs col : ℕ) → IsAt marks tabs col self.old
+            → IsAt marks tabs (column_after tabs col bytes.now) self.new) }
     {
         self.release()?;
         match bytes.split_last() {
@@ -210,21 +187,6 @@ impl Preparation {
             }
             _ => self.put_plain(newlines, bytes)?,
         }
-        Ok(())
-    }
-
-    // A tab.
-    pub(super) fn tab(&mut self) -> Result<(), AllocError>
-        ensures plain { IfOk result (λ _. TakesTab self.old self.new) }
-        ensures column { IfOk result (λ _. (tabs col : ℕ) → IsAt tabs col self.old
-            → IsAt tabs (col + tab_len tabs col) self.new) }
-    {
-        self.release()?;
-        self.open(Look::Plain)?;
-        let tabs = apart(self.shape);
-        self.sheet.put_spaces(tabs - self.column % tabs)?;
-        self.is_blank = false;
-        self.column = 0;
         Ok(())
     }
 

@@ -1,4 +1,4 @@
-//! Sequences: those that set styles are kept, all others are dropped.
+//! Sequences: those that set styles are kept, and links where these are asked for; all others are dropped.
 use super::{Place, Preparation};
 use crate::look::Look;
 use std::alloc::AllocError;
@@ -9,6 +9,15 @@ const MOST_SEQUENCE: usize = 64;
 /// The most that is kept of the sequences that hold, in bytes: behind that, the oldest are forgotten.
 const MOST_COLOURS: usize = 256;
 
+/// The longest command that opens a link, in bytes.
+const MOST_LINK: usize = 1024;
+
+// What the command that opens a link, or ends one, links to: nothing where it ends one. `None` for any other command.
+fn linked(command: &str) -> Option<&str> {
+    let (_, link) = command.strip_prefix("8;")?.split_once(';')?;
+    Some(link)
+}
+
 impl Preparation {
     // A byte behind `ESC`.
     pub(super) fn after_escape(&mut self, byte: u8) -> Result<(), AllocError> {
@@ -17,6 +26,10 @@ impl Preparation {
                 self.sequence.clear();
                 self.sequence.push_str("\x1b[")?;
                 self.place = Place::Numbers;
+            }
+            b']' if self.shape.links => {
+                self.sequence.clear();
+                self.place = Place::Link;
             }
             b']' | b'P' | b'X' | b'^' | b'_' => self.place = Place::Command,
             0x20..=0x2F => self.place = Place::Designation,
@@ -71,6 +84,69 @@ impl Preparation {
         self.after_escape(byte)
     }
 
+    // A byte in a command that may open a link, or end one.
+    pub(super) fn in_link(&mut self, byte: u8) -> Result<(), AllocError> {
+        match byte {
+            b'\n' => return self.first(byte),
+            7 => {
+                self.place = Place::Text;
+                return self.turn_link();
+            }
+            0x1B => self.place = Place::LinkEscape,
+            0x21..=0x7E if self.sequence.len() < MOST_LINK => self.sequence.push(char::from(byte))?,
+            _ => {
+                self.place = Place::Command;
+                if self.sequence.starts_with("8;") {
+                    self.end_link()?;
+                }
+            }
+        }
+        Ok(())
+    }
+
+    // A byte behind an `ESC` in such a command.
+    pub(super) fn after_link(&mut self, byte: u8) -> Result<(), AllocError> {
+        if byte == b'\\' {
+            self.place = Place::Text;
+            return self.turn_link();
+        }
+        self.after_escape(byte)
+    }
+
+    // Ends the link that is open: what follows begins again behind a reset.
+    fn end_link(&mut self) -> Result<(), AllocError> {
+        self.release()?;
+        if !self.link.is_empty() {
+            self.link.clear();
+            self.look = Look::Plain;
+            self.is_open = false;
+            self.sheet.close()?;
+        }
+        Ok(())
+    }
+
+    // Opens the link of the command that was read, or ends the one that is open.
+    fn turn_link(&mut self) -> Result<(), AllocError> {
+        if linked(self.sequence.as_str()).is_none() {
+            return Ok(());
+        }
+        self.end_link()?;
+        if let Some(link) = linked(self.sequence.as_str()) {
+            if !link.is_empty() {
+                self.is_open = false;
+                self.link.push_str("\x1b[;")?;
+                for byte in link.bytes() {
+                    self.link.push(';')?;
+                    self.link.push(char::from(b'0' + byte / 100))?;
+                    self.link.push(char::from(b'0' + byte / 10 % 10))?;
+                    self.link.push(char::from(b'0' + byte % 10))?;
+                }
+                self.link.push('m')?;
+            }
+        }
+        Ok(())
+    }
+
     // A byte in a sequence with bytes 0x20 to 0x2F before its last one.
     pub(super) fn in_designation(&mut self, byte: u8) -> Result<(), AllocError> {
         match byte {
@@ -90,6 +166,10 @@ impl Preparation {
             self.look = Look::Plain;
             self.is_open = false;
             return self.sheet.close();
+        }
+        // (which would be taken for the mark of a tab, or for a link)
+        if sequence == "\x1b[:m" || self.shape.links && sequence.starts_with("\x1b[;;") {
+            return Ok(());
         }
         let resets = sequence.starts_with("\x1b[0;");
         if resets || self.colours.len() > MOST_COLOURS {

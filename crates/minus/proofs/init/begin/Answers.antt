@@ -1,8 +1,8 @@
--- What the commands handed over is kept first.
+-- What the commands registered is kept first.
 use Rattle.std.proofs.Common.{Some, subst}
 use Rattle.std.proofs.lemmas.Result.{IfOk-weaker}
 use Rattle.minus_term.specs.declared.hooks.Hook.TheVariants.{PrePagerStart}
-use Rattle.minus.specs.Callbacks.{Callbacks, callbacks_of, with_commands, CallsHook}
+use Rattle.minus_commands.specs.Callbacks.{Callbacks, callbacks_of, with_commands, CallsHook}
 use Rattle.minus.proofs.BeginLaws.{begins, begins_not}
 use Rattle.minus.proofs.init.begin.Goals as goal
 

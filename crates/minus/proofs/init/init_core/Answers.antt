@@ -3,7 +3,7 @@ use Rattle.std.proofs.Common.{map}
 use Rattle.minus_term.specs.Refusals.{refusal_of}
 use Rattle.minus_input.specs.DefaultClassifier.{IsDefault}
 use Rattle.minus_input.specs.declared.classifier.Classifier.TheVariants.{Register}
-use Rattle.minus.specs.Reads.{wanted_of}
+use Rattle.minus_commands.specs.Reads.{wanted_of}
 use Rattle.minus.proofs.StartLaws.{first_start, refused_with, unregistered}
 use Rattle.minus.proofs.init.init_core.Goals as goal
 

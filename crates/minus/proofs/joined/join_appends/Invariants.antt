@@ -1,8 +1,8 @@
 -- The texts so far are joined.
 use Rattle.std.proofs.Common.{◌≤◌, length, map, string_bytes}
 use Rattle.minus.specs.Joined.{AreJoined}
-use Rattle.minus.specs.Reads.{wanted_of}
-use Rattle.minus.specs.Table.{appends_data}
+use Rattle.minus_commands.specs.Reads.{wanted_of}
+use Rattle.minus_commands.specs.Table.{appends_data}
 use Rattle.minus.proofs.joined.join_appends.Given as goal
 
 abbrev pub invariant-loop-command : goal.invariant-loop-command

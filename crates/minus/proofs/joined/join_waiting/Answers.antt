@@ -1,7 +1,7 @@
 -- The text of one more append is joined.
 use Rattle.std.proofs.Common.{◌≡◌, ◌∷◌, length, map, string_bytes, rules, arith, ap}
 use Rattle.minus.specs.Joined.{append_told}
-use Rattle.minus.specs.Reads.{told_of}
+use Rattle.minus_commands.specs.Reads.{told_of}
 use Rattle.minus.proofs.JoinedLaws.{one_more}
 use Rattle.minus.proofs.joined.join_waiting.Goals as goal
 

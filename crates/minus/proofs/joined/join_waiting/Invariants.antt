@@ -1,7 +1,7 @@
 -- The texts so far are joined.
 use Rattle.std.proofs.Common.{◌≤◌, length, map, string_bytes}
 use Rattle.minus.specs.Joined.{AreJoined, append_told}
-use Rattle.minus.specs.Reads.{told_of}
+use Rattle.minus_commands.specs.Reads.{told_of}
 use Rattle.minus.proofs.joined.join_waiting.Given as goal
 
 abbrev pub invariant-loop-input : goal.invariant-loop-input

@@ -5,7 +5,7 @@ use Rattle.std.specs.Str.Lines.{lines}
 use Rattle.minus_state.specs.Control.{Control}
 use Rattle.minus_state.specs.States.{control_of}
 use Rattle.minus.specs.Joined.{append_told}
-use Rattle.minus.specs.Reads.{told_of}
+use Rattle.minus_commands.specs.Reads.{told_of}
 use Rattle.minus.proofs.JoinedKindsLaws.{lines_few}
 use Rattle.minus.proofs.joined.joined_behind.Goals as goal
 

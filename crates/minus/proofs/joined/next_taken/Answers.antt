@@ -2,9 +2,10 @@
 use Rattle.std.proofs.Common.{◌∷◌, map, string_bytes, sym, ap, subst, ◌∙◌}
 use Rattle.minus_state.specs.Control.{Control}
 use Rattle.minus_state.specs.States.{control_of}
-use Rattle.minus.specs.Reads.{wanted_of}
-use Rattle.minus.specs.Starts.{taken_all, CanTakeAll}
-use Rattle.minus.specs.Unmoved.{unmoved_by}
+use Rattle.minus_commands.specs.Reads.{wanted_of}
+use Rattle.minus.specs.Starts.{taken_all}
+use Rattle.minus_commands.specs.WaitingRegistrations.{CanTakeAll}
+use Rattle.minus_commands.specs.Unmoved.{unmoved_by}
 use Rattle.minus.proofs.JoinedLaws.{joined_leads, joined_can}
 use Rattle.minus.proofs.joined.next_taken.Goals as goal
 

@@ -4,7 +4,7 @@ use Rattle.minus_state.specs.Control.{Control}
 use Rattle.minus_input.specs.DefaultAnswers.{max, steps_of}
 use Rattle.minus_input.specs.EventTables.{register_of}
 use Rattle.minus_input.proofs.DefaultBindingsLaws.{j_asks}
-use Rattle.minus.specs.Table.{moves_mark}
+use Rattle.minus_commands.specs.Table.{moves_mark}
 use Rattle.minus.proofs.DefaultKeysLaws.{default_of, one_default_answer}
 use Rattle.minus.proofs.laws.j_moves_by_the_prefix.Goals as goal
 

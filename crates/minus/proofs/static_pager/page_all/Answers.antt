@@ -4,7 +4,7 @@ use Rattle.minus_term.specs.Refusals.{refusal_of}
 use Rattle.minus_state.specs.declared.state.RunMode.TheVariants.{Static}
 use Rattle.minus_input.specs.DefaultClassifier.{IsDefault}
 use Rattle.minus_input.specs.declared.classifier.Classifier.TheVariants.{Register}
-use Rattle.minus.specs.Reads.{wanted_of}
+use Rattle.minus_commands.specs.Reads.{wanted_of}
 use Rattle.minus.specs.Starts.{IsFormRefused}
 use Rattle.minus.proofs.PrintLaws.{first_paged, unpaged_early}
 use Rattle.minus.proofs.StartLaws.{unregistered}

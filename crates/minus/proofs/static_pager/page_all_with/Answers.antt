@@ -3,7 +3,7 @@ use Rattle.std.proofs.Common.{map, inr, sym, subst}
 use Rattle.minus_term.specs.Refusals.{refusal_of}
 use Rattle.minus_term.specs.declared.error.MinusError.{MinusError}
 use Rattle.minus_state.specs.declared.state.RunMode.TheVariants.{Static}
-use Rattle.minus.specs.Reads.{wanted_of}
+use Rattle.minus_commands.specs.Reads.{wanted_of}
 use Rattle.minus.specs.Starts.{IsFormRefused}
 use Rattle.minus.proofs.PrintLaws.{pages, pages_not, unpaged_early}
 use Rattle.minus.proofs.static_pager.page_all_with.Goals as goal

@@ -4,7 +4,7 @@ use Rattle.minus_term.specs.FullRedraw.{row_ops}
 use Rattle.minus_term.specs.Written.{written_all}
 use Rattle.minus_state.specs.States.{control_of}
 use Rattle.minus.proofs.PrintLaws.{printed_is, printed_not}
-use Rattle.minus.proofs.KeepLaws.{on_ok}
+use Rattle.minus_commands.proofs.KeepLaws.{on_ok}
 use Rattle.minus.proofs.static_pager.push_printed_row.Goals as goal
 
 pub returns-in-Some : goal.returns-in-Some

@@ -1,4 +1,4 @@
--- So many have gone.
+-- This many have gone.
 use Rattle.std.proofs.Common.{◌≡◌, ◌≤◌, drop}
 use Rattle.std.specs.VecDeque.{deque_len}
 use Rattle.minus.proofs.waiting.let_first_go.Given as goal

@@ -1,4 +1,4 @@
--- What was passed over is neither ESC nor a newline.
+-- What was skipped is neither ESC nor a newline.
 use Rattle.std.proofs.Common.{◌≡◌, ◌<◌, false, eqb, get_or, length, take, drop, refl, subst, arith}
 use Rattle.std.proofs.lemmas.List.{length-take-le}
 use Rattle.minus_text.specs.StyleSources.{EndsStyles}

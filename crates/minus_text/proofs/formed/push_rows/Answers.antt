@@ -1,6 +1,6 @@
 use Rattle.std.proofs.Common.{◌≡◌, ◌+◌, ◌++◌, length, map, take, sym, subst, ap, arith, ◌∙◌}
 use Rattle.std.proofs.lemmas.List.{length-append, length-map, take_all}
-use Rattle.minus_text.specs.declared.wrap.Span.{Span}
+use Rattle.minus_text.specs.declared.rows.Span.{Span}
 use Rattle.minus_text.specs.Layouts.{own_rows, own_places}
 use Rattle.minus_text.specs.Rows.{line_places, ArePlaces}
 use Rattle.minus_text.specs.Kept.{moved}

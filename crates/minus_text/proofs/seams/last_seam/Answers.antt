@@ -1,7 +1,7 @@
 -- A row that stands alone, or the line's start.
 use Rattle.std.proofs.Common.{◌≡◌, ℕ, ◌+◌, ◌-◌, ◌<◌, ◌≤◌, true, false, length, drop, get_or, arith, sym, ap, ◌∙◌}
 use Rattle.std.proofs.lemmas.List.{length-drop, get_or-drop, drop_all}
-use Rattle.minus_text.specs.declared.wrap.Span.{Span}
+use Rattle.minus_text.specs.declared.rows.Span.{Span}
 use Rattle.minus_text.specs.Seams.{StandsAlone}
 use Rattle.minus_text.proofs.SeamLaws.{start_goes_on, stored_seam, none_from, none_further}
 use Rattle.minus_text.proofs.seams.last_seam.Goals as goal

@@ -1,7 +1,7 @@
 use Rattle.std.proofs.Common.{◌-◌, take, drop, length, sym, arith}
 use Rattle.std.proofs.lemmas.List.{length-take, length-drop}
 use Rattle.minus_view.proofs.EventLaws.{one_more}
-use Rattle.minus_view.proofs.UnitLaws.{unit_waits}
+use Rattle.minus_view.proofs.KeySequencesLaws.{unit_waits}
 use Rattle.minus_view.proofs.events.push_events.Goals as goal
 
 pub loop-len-preserved : goal.loop-len-preserved

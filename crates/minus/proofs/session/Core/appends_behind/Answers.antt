@@ -5,7 +5,7 @@ use Rattle.std.proofs.lemmas.Option.{IfSome_then}
 use Rattle.minus_state.specs.Control.{Control}
 use Rattle.minus.specs.Core.{seen_of}
 use Rattle.minus.specs.Joined.{MayGoWith}
-use Rattle.minus.specs.Reads.{Told, told_of}
+use Rattle.minus_commands.specs.Reads.{Told, told_of}
 use Rattle.minus.proofs.JoinedTakeLaws.{goes_longer}
 use Rattle.minus.proofs.session.Core.appends_behind.Goals as goal
 

@@ -2,13 +2,14 @@
 use Rattle.std.proofs.Common.{◌≡◌, ℕ, List, string_bytes, sym, ap, subst, ◌∙◌}
 use Rattle.std.specs.Option.{option_map, unwrap_or}
 use Rattle.minus_state.specs.Changes.{IsChange}
-use Rattle.minus_state.specs.Control.{Control, IsClamped}
+use Rattle.minus_state.specs.Control.{Control}
+use Rattle.minus_state.specs.ClampedMark.{IsClamped}
 use Rattle.minus_state.specs.ShownPrompt.{prompt_row}
 use Rattle.minus_state.specs.States.{control_of}
 use Rattle.minus_state.specs.declared.change.Change.{Change}
 use Rattle.minus_state.specs.declared.state.PagerState.{PagerState}
 use Rattle.minus.specs.declared.session.Core.{Core}
-use Rattle.minus.proofs.PromptLaws.{row_kept}
+use Rattle.minus_draw.proofs.PromptLaws.{row_kept}
 use Rattle.minus.proofs.session.Core.apply.Goals as goal
 
 pub invariant_of-self-2 : goal.invariant_of-self-2

@@ -5,15 +5,15 @@ use Rattle.minus_state.proofs.RefusalLaws.{passed_on}
 use Rattle.minus_term.specs.declared.hooks.Hook.{Hook}
 use Rattle.minus_state.specs.Control.{Control}
 use Rattle.minus_state.specs.States.{control_of}
-use Rattle.minus.specs.Callbacks.{Callbacks, callbacks_of, CallsHook}
-use Rattle.minus.specs.Table.{end_hook, is_at_end}
+use Rattle.minus_commands.specs.Callbacks.{Callbacks, callbacks_of, CallsHook}
+use Rattle.minus_commands.specs.Table.{end_hook, is_at_end}
 use Rattle.minus.specs.Core.{seen_of}
-use Rattle.minus.specs.Outcomes.{IsTakenBy}
-use Rattle.minus.specs.Reads.{Told}
+use Rattle.minus.specs.Works.{IsTakenBy}
+use Rattle.minus_commands.specs.Reads.{Told}
 use Rattle.minus.specs.Says.{says_of}
 use Rattle.minus.specs.Seen.{Seen}
 use Rattle.minus.specs.SessionSteps.{IsUntakenOf}
-use Rattle.minus.specs.Works.{Work}
+use Rattle.minus_draw.specs.Drawn.{Work}
 use Rattle.minus.proofs.StepLaws.{drawable_by, drawn_take, broken_take}
 use Rattle.minus.proofs.session.Core.change.Goals as goal
 

@@ -1,6 +1,6 @@
 -- The key comes to a change that is applied.
 use Rattle.std.proofs.lemmas.Result.{IfOk-weaker, IfErr-weaker}
-use Rattle.minus.specs.Reads.{an_event}
+use Rattle.minus_commands.specs.Reads.{an_event}
 use Rattle.minus.proofs.session.Core.edit.Goals as goal
 
 pub returns-clause-taken : goal.returns-clause-taken

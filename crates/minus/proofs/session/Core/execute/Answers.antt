@@ -1,15 +1,15 @@
--- What is handed over is kept; an exit leaves the control, but for the typed prefix; and all else is applied.
+-- What is registered is kept; an exit leaves the control, but for the typed prefix; and all else is applied.
 use Rattle.std.proofs.Common.{◌≡◌, ℕ, Bool, Option, None, is_some, refl, sym, ap, subst, arith, ◌∙◌}
 use Rattle.std.proofs.lemmas.Result.{IfOk-weaker, IfErr-weaker}
 use Rattle.minus.specs.Core.{seen_of}
-use Rattle.minus.specs.Outcomes.{IsOutcome}
-use Rattle.minus.specs.Reads.{wanted_by}
+use Rattle.minus_commands.specs.Outcomes.{IsOutcome}
+use Rattle.minus_commands.specs.Reads.{wanted_by}
 use Rattle.minus_term.specs.declared.hooks.Hook.{Hook}
 use Rattle.minus_state.specs.Control.{Control}
-use Rattle.minus.specs.Callbacks.{Callbacks, callbacks_of, CallsHook}
-use Rattle.minus.specs.Table.{handed, control_after, changed_by, effect_of, hook_after, end_hook, is_at_end}
+use Rattle.minus_commands.specs.Callbacks.{Callbacks, callbacks_of, CallsHook}
+use Rattle.minus_commands.specs.Table.{handed, control_after, changed_by, effect_of, hook_after, end_hook, is_at_end}
 use Rattle.minus.proofs.CalledLaws.{called_on, uncalled_at, end_cleared}
-use Rattle.minus.proofs.RequestLaws.{none_handed, none_kept}
+use Rattle.minus_commands.proofs.RequestLaws.{none_handed, none_kept}
 use Rattle.minus.proofs.StepLaws.{exits_with, worked_by}
 use Rattle.minus.proofs.UnformedLaws.{untaken_unformed}
 use Rattle.minus_state.proofs.RefusalLaws.{passed_on}

@@ -3,14 +3,14 @@ use Rattle.std.proofs.Common.{rules, refl, sym, ap, subst, ◌∙◌}
 use Rattle.minus_state.specs.declared.change.Change.{Change}
 use Rattle.minus_state.specs.Changes.{IsChange}
 use Rattle.minus_state.specs.Control.{Control}
-use Rattle.minus_state.specs.Keying.{keyed, told_by, redraw_at, MayFind, MayLead, IsUnkeyedAt}
+use Rattle.minus_state.specs.PromptKeys.{keyed, told_by, redraw_at, MayFind, MayLead, IsUnkeyedAt}
 use Rattle.minus_state.specs.OpenPrompts.{fed}
 use Rattle.minus_state.specs.QueryKeys.{edit_of}
 use Rattle.minus_term.specs.Refusals.{refusal_of}
 use Rattle.minus.specs.Says.{says_of}
 use Rattle.minus.specs.Core.{seen_of}
 use Rattle.minus.specs.Seen.{Seen}
-use Rattle.minus.proofs.KeyedLaws.{keyed_clamped}
+use Rattle.minus_draw.proofs.KeyedLaws.{keyed_clamped}
 use Rattle.minus.proofs.LoopLaws.{some_of}
 use Rattle.minus.proofs.StepLaws.{keyed_by, unkeyed_take}
 use Rattle.minus.proofs.session.Core.keyed.Goals as goal

@@ -1,9 +1,9 @@
--- What is told of those that are left.
+-- What is reported of those that are left.
 use Rattle.std.proofs.Common.{map, sym, ap, ◌∙◌}
 use Rattle.std.proofs.lemmas.List.{drop-map}
 use Rattle.minus.specs.Core.{seen_of}
-use Rattle.minus.specs.Reads.{told_of}
-use Rattle.minus.specs.Works.{leaving}
+use Rattle.minus_commands.specs.Reads.{told_of}
+use Rattle.minus.specs.Waiting.{leaving}
 use Rattle.minus.proofs.session.Core.let_go.Goals as goal
 
 pub returns-clause-seen : goal.returns-clause-seen

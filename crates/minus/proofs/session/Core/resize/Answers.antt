@@ -4,9 +4,9 @@ use Rattle.minus_term.specs.Written.{written_all}
 use Rattle.minus_state.specs.Control.{Control}
 use Rattle.minus_state.specs.declared.change.Redraw.{Redraw}
 use Rattle.minus.specs.Core.{seen_of}
-use Rattle.minus.specs.Drawings.{whole_page, ops_of_step, IsDrawable}
+use Rattle.minus_draw.specs.Drawings.{whole_page, ops_of_step, IsDrawable, drawing_by}
 use Rattle.minus.specs.Seen.{Seen}
-use Rattle.minus.specs.Table.{effect_of, changed_by, drawing_by, resizes}
+use Rattle.minus_commands.specs.Table.{effect_of, changed_by, resizes}
 use Rattle.minus.proofs.session.Core.resize.Goals as goal
 
 pub returns-clause-seen : goal.returns-clause-seen

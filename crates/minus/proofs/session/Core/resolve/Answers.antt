@@ -5,13 +5,13 @@ use Rattle.minus_term.specs.declared.event.Event.{Event}
 use Rattle.minus_state.specs.declared.input.InputEvent.{InputEvent}
 use Rattle.minus_state.specs.declared.input.InputEvent.TheVariants.{ShowHelp, Ignore}
 use Rattle.minus.specs.Says.{Says, says_of}
-use Rattle.minus_state.specs.Events.{event_clears}
-use Rattle.minus.specs.Asked.{IsRequest, clears_prefix}
+use Rattle.minus_state.specs.TypedPrefix.{event_clears}
+use Rattle.minus_commands.specs.Reads.{IsRequest, event_wanted, answer_wanted, an_event, wanted_by}
+use Rattle.minus.specs.Asked.{clears_prefix}
 use Rattle.minus.specs.Core.{seen_of}
-use Rattle.minus.specs.Reads.{event_wanted, answer_wanted, an_event, wanted_by}
 use Rattle.minus.specs.Seen.{Seen}
-use Rattle.minus.specs.Table.{Wanted, hook_after}
-use Rattle.minus.proofs.RequestLaws.{due_as}
+use Rattle.minus_commands.specs.Table.{Wanted, hook_after}
+use Rattle.minus_commands.proofs.RequestLaws.{due_as}
 use Rattle.minus.proofs.session.Core.resolve.Goals as goal
 
 asked_as : {Q K : Type 0} (answer : Option InputEvent) → event_wanted {Q = Q} {K = K} (unwrap_or answer Ignore) ≡ answer_wanted answer

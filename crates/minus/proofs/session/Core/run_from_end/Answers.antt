@@ -1,8 +1,8 @@
--- How far the list was worked off, at each end.
+-- How far the list was performed, at each end.
 use Rattle.std.proofs.Common.{length, reverse, sym, ap, ◌∙◌, arith}
 use Rattle.std.proofs.lemmas.List.{length-append, length-reverse}
 use Rattle.minus_term.proofs.SinkLaws.{Stays-trans}
-use Rattle.minus.specs.Reads.{told_of}
+use Rattle.minus_commands.specs.Reads.{told_of}
 use Rattle.minus.specs.Core.{seen_of}
 use Rattle.minus.proofs.StartLaws.{Stays-refl, Stays-rises}
 use Rattle.minus.proofs.RunLaws.{not_yet, one_step, run_over, run_ended, run_stopped}

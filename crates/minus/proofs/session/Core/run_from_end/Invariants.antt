@@ -1,8 +1,8 @@
--- The inputs that are gone were worked off, in order.
+-- The inputs that are gone were performed, in order.
 use Rattle.std.proofs.Common.{length, reverse}
 use Rattle.minus_term.specs.Counts.{Stays}
 use Rattle.minus.specs.Says.{says_of}
-use Rattle.minus.specs.Reads.{told_of}
+use Rattle.minus_commands.specs.Reads.{told_of}
 use Rattle.minus.specs.Core.{seen_of}
 use Rattle.minus.proofs.RunLaws.{RunSoFar}
 use Rattle.minus.proofs.session.Core.run_from_end.Given as goal

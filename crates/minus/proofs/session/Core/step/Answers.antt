@@ -1,4 +1,4 @@
--- What was worked off so far, at each end of the step.
+-- What was performed so far, at each end of the step.
 use Rattle.std.proofs.Common.{rules, ◌≡◌, ◌++◌, ◌∷◌, [], ℕ, List, Option, None, is_some, map, true, false, option_map, string_bytes, sym, ap, subst, ◌∙◌, arith, inl, inr, ◌⊎◌, ◌↔◌, Err}
 use Rattle.std.proofs.lemmas.List.{map-append}
 use Rattle.minus_term.specs.Counts.{Stays}
@@ -11,14 +11,14 @@ use Rattle.minus.specs.declared.status.Status.TheVariants as status
 use Rattle.std.specs.VecDeque.{deque_len}
 use Rattle.minus.specs.declared.session.Core.{Core}
 use Rattle.minus.specs.Core.{seen_of}
-use Rattle.minus.specs.Reads.{told_of}
+use Rattle.minus_commands.specs.Reads.{told_of}
 use Rattle.minus.specs.Seen.{Seen}
 use Rattle.minus.specs.SessionSteps.{IsTakenOf, IsTakenWithOf, IsRefusedStepOf}
 use Rattle.minus.specs.Steps.{goes_on, has_exited, is_passed}
 use Rattle.minus.specs.declared.done.Done.{Done}
-use Rattle.minus.specs.Handing.{Exit}
-use Rattle.minus.specs.Callbacks.{CallsTaken, CallsUntaken, exit_in}
-use Rattle.minus.specs.Works.{leaving}
+use Rattle.minus_commands.specs.Registration.{Exit}
+use Rattle.minus.specs.SessionCallbacks.{CallsTaken, CallsUntaken, exit_in}
+use Rattle.minus.specs.Waiting.{leaving}
 use Rattle.minus.proofs.CalledLaws.{called_still, rests_after, none_next}
 use Rattle.minus.proofs.StartLaws.{Stays-refl}
 use Rattle.minus.proofs.LoopLaws.{SoFar, begun, one_more, passed_over, step_rests, step_exits, step_exits_later, refused_at_once, took_as, fails_as, refused_so, passed_no_fault, late_rises, late_stays, has_changed, runs_on, refused_by, failed_never, ended_never, err_only, passed_whole}

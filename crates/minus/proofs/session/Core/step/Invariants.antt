@@ -1,13 +1,13 @@
--- The inputs that were taken are worked off, and drawn.
+-- The inputs that were taken are performed, and drawn.
 use Rattle.std.proofs.Common.{◌≡◌, None, [], map, option_map, string_bytes}
 use Rattle.std.specs.VecDeque.{deque_len}
 use Rattle.minus_term.specs.Counts.{Stays}
 use Rattle.minus_term.specs.Refusals.{refusal_of}
 use Rattle.minus.specs.Says.{says_of}
-use Rattle.minus.specs.Callbacks.{CallsTaken}
+use Rattle.minus.specs.SessionCallbacks.{CallsTaken}
 use Rattle.minus.specs.Core.{seen_of}
-use Rattle.minus.specs.Reads.{told_of}
-use Rattle.minus.specs.Works.{IsAtRest}
+use Rattle.minus_commands.specs.Reads.{told_of}
+use Rattle.minus.specs.Waiting.{IsAtRest}
 use Rattle.minus.proofs.LoopLaws.{SoFar}
 use Rattle.minus.proofs.session.Core.step.Given as goal
 

@@ -2,7 +2,7 @@
 use Rattle.std.proofs.lemmas.Result.{IfOk-weaker, IfErr-weaker}
 use Rattle.minus_term.specs.Refusals.{refusal_of}
 use Rattle.minus.specs.Core.{seen_of}
-use Rattle.minus.specs.Reads.{told_of}
+use Rattle.minus_commands.specs.Reads.{told_of}
 use Rattle.minus.specs.SessionSteps.{ending_of}
 use Rattle.minus.proofs.JoinedTakeLaws.{took_alone, fails_alone}
 use Rattle.minus.proofs.session.Core.take_next.Goals as goal

@@ -2,7 +2,7 @@
 use Rattle.std.proofs.Common.{sym, subst}
 use Rattle.std.proofs.lemmas.Result.{IfOk-weaker, IfErr-weaker}
 use Rattle.minus.specs.Says.{says_of}
-use Rattle.minus.specs.Reads.{Told, told_of}
+use Rattle.minus_commands.specs.Reads.{Told, told_of}
 use Rattle.minus.specs.SessionSteps.{IsTakenOf, IsUntakenOf}
 use Rattle.minus.proofs.WaitLaws.{kept_take, unkept_take}
 use Rattle.minus.proofs.session.Core.take_searching.Goals as goal

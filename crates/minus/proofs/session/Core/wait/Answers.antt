@@ -3,7 +3,7 @@ use Rattle.std.proofs.Common.{rules, ◌≡◌, ◌∷◌, ◌++◌, [], List, m
 use Rattle.std.proofs.lemmas.List.{map-append}
 use Rattle.minus_state.proofs.RefusalLaws.{passed_on}
 use Rattle.minus.specs.Core.{seen_of}
-use Rattle.minus.specs.Reads.{Told, told_of}
+use Rattle.minus_commands.specs.Reads.{Told, told_of}
 use Rattle.minus.specs.Seen.{Seen}
 use Rattle.minus.specs.SessionSteps.{IsNotKept}
 use Rattle.minus.proofs.session.Core.wait.Goals as goal

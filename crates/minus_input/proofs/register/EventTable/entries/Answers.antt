@@ -2,7 +2,7 @@ use Rattle.std.proofs.Common.{◌≡◌, ◌<◌, ◌∙◌, sym, ap, length, ar
 use Rattle.std.proofs.lemmas.List.{take_all}
 use Rattle.std.specs.Option.{option_map}
 use Rattle.minus_input.specs.HelpTable.{entry_of}
-use Rattle.minus_input.specs.RegisterAnswers.{key_entries}
+use Rattle.minus_input.specs.RegisterHelp.{key_entries}
 use Rattle.minus_input.specs.EventTables.{register_of}
 use Rattle.minus_input.specs.Resolved.{binding_at}
 use Rattle.minus_input.proofs.RegisterLaws.{length-read_each, pushed}

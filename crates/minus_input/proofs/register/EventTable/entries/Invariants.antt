@@ -1,6 +1,6 @@
 use Rattle.std.proofs.Common.{◌≡◌, map, take}
 use Rattle.minus_input.specs.HelpTable.{entry_of}
-use Rattle.minus_input.specs.RegisterAnswers.{key_entries}
+use Rattle.minus_input.specs.RegisterHelp.{key_entries}
 use Rattle.minus_input.specs.EventTables.{register_of}
 use Rattle.minus_input.proofs.register.EventTable.entries.Given as goal
 

@@ -1,7 +1,7 @@
 use Rattle.std.proofs.Common.{◌≡◌, ◌∙◌, sym, ap, subst, is_some, true}
 use Rattle.std.specs.Option.{option_map, option_and_then}
 use Rattle.minus_input.specs.HelpTable.{entry_of}
-use Rattle.minus_input.specs.RegisterAnswers.{binding_entry, key_entry}
+use Rattle.minus_input.specs.RegisterHelp.{binding_entry, key_entry}
 use Rattle.minus_input.specs.Resolved.{binding_at}
 use Rattle.minus_input.proofs.RegisterLaws.{EachIsRead-at, read_at, read_past, some_is, some_of}
 use Rattle.minus_input.proofs.register.EventTable.entry_at.Goals as goal

@@ -1,6 +1,6 @@
 -- What stands before a line in a frame of the document.
 use Rattle.std.proofs.Common.{◌+◌, true, ap, ◌∙◌}
-use Rattle.minus_text.specs.Prefixes.{is_on, prefix}
+use Rattle.minus_text.specs.NumberPrefix.{is_on, prefix}
 use Rattle.minus_state.specs.declared.frame.Frame.{Frame}
 use Rattle.minus_state.proofs.frame.Frame.line.Goals as goal
 

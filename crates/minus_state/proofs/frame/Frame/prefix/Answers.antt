@@ -1,6 +1,6 @@
 -- What a prefix takes in a frame of the document.
 use Rattle.std.proofs.Common.{ap, ◌∙◌}
-use Rattle.minus_text.specs.Prefixes.{is_on, prefix_columns}
+use Rattle.minus_text.specs.NumberPrefix.{is_on, prefix_columns}
 use Rattle.minus_state.specs.declared.frame.Frame.{Frame}
 use Rattle.minus_state.proofs.frame.Frame.prefix.Goals as goal
 

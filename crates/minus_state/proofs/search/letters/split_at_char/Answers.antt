@@ -1,4 +1,4 @@
--- The place behind so many characters.
+-- The place behind this many characters.
 use Rattle.std.proofs.Common.{◌≡◌, ◌+◌, ◌-◌, arith, ap, length, sym, ◌∙◌, refl, drop, chars}
 use Rattle.std.proofs.lemmas.Str.{IsCharBoundary-start, IsCharBoundary-from_rest}
 use Rattle.std.proofs.lemmas.List.{drop-drop, length-drop}

@@ -1,4 +1,4 @@
--- So many characters are passed.
+-- This many characters are passed.
 use Rattle.std.proofs.Common.{◌≡◌, ℕ, chars, drop, IsCharBoundary}
 use denote.Text.{Utf8}
 use denote.Shadow.{shadow}

@@ -1,6 +1,6 @@
 -- The places so far, and those to come, of which each is small.
 use Rattle.std.proofs.Common.{◌≡◌, take, drop}
-use Rattle.minus_text.specs.Words.{AreWithin}
+use Rattle.minus_text.specs.WordStarts.{AreWithin}
 use Rattle.minus_state.proofs.search.opts.narrowed.Given as goal
 
 abbrev pub invariant-loop-place : goal.invariant-loop-place

@@ -3,7 +3,8 @@ use Rattle.std.proofs.Common.{ℕ, Option, Some, ap, ◌∙◌}
 use Rattle.std.specs.Option.{unwrap_or}
 use Rattle.std.proofs.lemmas.Result.{IfOk-weaker}
 use Rattle.regex.specs.Strings.{regex_pattern}
-use Rattle.minus_state.specs.Control.{Control, clamp, searched_for}
+use Rattle.minus_state.specs.Control.{Control, searched_for}
+use Rattle.minus_state.specs.ClampedMark.{clamp}
 use Rattle.minus_state.specs.Page.{shown}
 use Rattle.minus_state.specs.States.{control_of}
 use Rattle.minus_state.proofs.search.preview.confirmed_rows.Goals as goal

@@ -5,7 +5,8 @@ use Rattle.regex.specs.Strings.{regex_pattern}
 use Rattle.minus_text.specs.Document.{Document, rows_of}
 use Rattle.minus_text.specs.Searched.{Searched, IsFoundBetween}
 use Rattle.minus_text.specs.Views.{viewed}
-use Rattle.minus_state.specs.Control.{Control, clamp, document_of, searched_for}
+use Rattle.minus_state.specs.Control.{Control, document_of, searched_for}
+use Rattle.minus_state.specs.ClampedMark.{clamp}
 use Rattle.minus_state.specs.Page.{shown_of}
 use Rattle.minus_state.specs.Selection.{ends_in_order}
 use Rattle.minus_state.specs.ShownRow.{shown_rows}

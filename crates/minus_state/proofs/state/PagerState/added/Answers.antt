@@ -1,8 +1,8 @@
--- While help is open, what is put aside goes on; else the text on show does.
+-- While help is open, what is saved goes on; else the displayed text does.
 use Rattle.std.proofs.Common.{Bool, string_bytes, if◌then◌else◌, ap, rules, sym, ◌∙◌}
 use Rattle.std.proofs.lemmas.Result.{IfOk-weaker}
 use Rattle.minus_state.specs.declared.change.Redraw.TheVariants.{Stays}
-use Rattle.minus_state.specs.Redraws.{append_redraw}
+use Rattle.minus_state.specs.RedrawExtent.{append_redraw}
 use Rattle.minus_state.specs.States.{control_of}
 use Rattle.minus_state.proofs.ChangeLaws.{leads_to}
 use Rattle.minus_state.proofs.HelpTextLaws.{text_added}

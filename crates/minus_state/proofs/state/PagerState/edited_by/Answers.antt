@@ -6,14 +6,14 @@ use Rattle.minus_state.specs.declared.search.query.Fed.{Fed}
 use Rattle.minus_state.specs.declared.search.query.Fed.TheVariants as told
 use Rattle.minus_state.specs.Changes.{Leads}
 use Rattle.minus_state.specs.Control.{Control}
-use Rattle.minus_state.specs.Keying.{left_by, redraw_by, told_by, MayFindBy}
+use Rattle.minus_state.specs.PromptKeys.{left_by, redraw_by, told_by, MayFindBy}
 use Rattle.minus_state.specs.OpenPrompts.{Prompt, fed}
 use Rattle.minus_state.specs.OpenSearches.{OpenSearch, seen_search}
 use Rattle.minus_state.specs.Prompting.{edited}
 use Rattle.minus_state.specs.QueryEditor.{told_of}
 use Rattle.minus_state.specs.QueryKeys.{edit_of}
 use Rattle.minus_state.specs.States.{control_of}
-use Rattle.minus_state.proofs.KeyingLaws.{told_stays, never_moved}
+use Rattle.minus_state.proofs.PromptKeysLaws.{told_stays, never_moved}
 use Rattle.minus_state.proofs.state.PagerState.edited_by.Goals as goal
 
 -- the copy is fed as the prompt is

@@ -5,7 +5,7 @@ use Rattle.minus_state.specs.declared.search.keys.QueryEdit.{QueryEdit}
 use Rattle.minus_state.specs.declared.search.keys.QueryEdit.TheVariants as edits
 use Rattle.minus_state.specs.Changes.{Leads}
 use Rattle.minus_state.specs.Control.{Control}
-use Rattle.minus_state.specs.Keying.{keyed, told_by, MayFindBy}
+use Rattle.minus_state.specs.PromptKeys.{keyed, told_by, MayFindBy}
 use Rattle.minus_state.specs.OpenSearches.{OpenSearch, seen_search}
 use Rattle.minus_state.specs.QueryKeys.{edit_of}
 use Rattle.minus_state.specs.States.{control_of}

@@ -1,4 +1,4 @@
--- The text is formed anew.
+-- The text is formed again.
 use Rattle.std.proofs.Common.{ℕ, string_bytes, refl, ap, ◌∙◌}
 use Rattle.minus_text.specs.Document.{Document}
 use Rattle.minus_state.specs.Aside.{aside_of}

@@ -8,7 +8,8 @@ use Rattle.minus_text.specs.Document.{Document, rows_of}
 use Rattle.minus_text.specs.Found.{RowMatches, AreFoundIn}
 use Rattle.minus_text.specs.Finds.{finds}
 use Rattle.minus_text.specs.Searched.{Searched}
-use Rattle.minus_state.specs.Control.{Control, document_of, first_match, matches_in}
+use Rattle.minus_state.specs.Control.{Control, document_of, matches_in}
+use Rattle.minus_state.specs.SearchMark.{first_match}
 use Rattle.minus_state.specs.Changes.{settings_after, help_after}
 use Rattle.minus_state.specs.OpenSearches.{search_after}
 use Rattle.minus_state.specs.declared.change.Change.{Change}

@@ -6,7 +6,7 @@ use Rattle.regex.specs.Strings.{regex_pattern}
 use Rattle.regex.specs.declared.string.regex.Regex.{Regex}
 use Rattle.minus_state.specs.Conditions.{MayShow}
 use Rattle.minus_state.specs.QueryPatterns.{IsPatternOf}
-use Rattle.minus_state.proofs.KeyingLaws.{may_preview}
+use Rattle.minus_state.proofs.PromptKeysLaws.{may_preview}
 use Rattle.minus_state.proofs.state.PagerState.found_for.Goals as goal
 
 pub returns-clause-found : goal.returns-clause-found

@@ -1,4 +1,4 @@
--- The text of help is formed anew, and what was on show is put aside.
+-- The text of help is formed again, and what was displayed is saved.
 use Rattle.std.proofs.Common.{List, ℕ, Bool, Some, false, string_bytes, ap, ap₂, ◌∙◌}
 use Rattle.minus_state.specs.Changes.{settings_after}
 use Rattle.minus_state.specs.Control.{Control, Saved, Settings, reformed}

@@ -1,7 +1,7 @@
 -- The margins are as wide where the prefixes are.
 use Rattle.std.proofs.Common.{Bool, ℕ, ◌==◌, ap, ap₂, ◌∙◌}
 use Rattle.minus_text.specs.Document.{Document, line_count}
-use Rattle.minus_text.specs.Prefixes.{is_on, prefix_columns}
+use Rattle.minus_text.specs.NumberPrefix.{is_on, prefix_columns}
 use Rattle.minus_text.specs.Searched.{Searched}
 use Rattle.minus_text.specs.declared.layout.Layout.{Layout}
 use Rattle.minus_state.specs.NextTexts.{next_document}

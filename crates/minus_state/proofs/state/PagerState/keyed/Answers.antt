@@ -1,6 +1,6 @@
 -- Where none is open, nothing changes.
 use Rattle.std.proofs.Common.{◌≡◌, Option, None, option_map, sym, ap, subst, ◌∙◌}
-use Rattle.minus_state.specs.Keying.{MayLead}
+use Rattle.minus_state.specs.PromptKeys.{MayLead}
 use Rattle.minus_state.specs.OpenSearches.{OpenSearch, seen_search}
 use Rattle.minus_state.specs.States.{search_of}
 use Rattle.minus_state.proofs.state.PagerState.keyed.Goals as goal

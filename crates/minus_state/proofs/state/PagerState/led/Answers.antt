@@ -1,4 +1,4 @@
--- It is led on, or it stays.
+-- It is dragged, or it stays.
 use Rattle.std.proofs.Common.{◌≡◌, ℕ, ◌-◌, ◌==◌, ◌&&◌, min, Bool, true, false, sym, ap, ap₂, subst, ◌∙◌}
 use Rattle.std.specs.Prelude.{not}
 use Rattle.minus_state.specs.declared.selection.SelectionEnds.{SelectionEnds}
@@ -6,7 +6,7 @@ use Rattle.minus_state.specs.Control.{Control}
 use Rattle.minus_state.specs.Changes.{IsChange}
 use Rattle.minus_state.specs.States.{control_of}
 use Rattle.minus_state.specs.Selecting.{is_led, end_at, mark_led, ends_led_to, ends_led, is_same_end}
-use Rattle.minus_state.specs.Redraws.{whole_where}
+use Rattle.minus_state.specs.RedrawExtent.{whole_where}
 use Rattle.minus_state.proofs.ChangeLaws.{at_mark, leads_to}
 use Rattle.minus_state.proofs.SelectingLaws.{led_mark, led_ends, unled_mark, unled_ends, unled_stays}
 use Rattle.minus_state.proofs.state.PagerState.led.Goals as goal

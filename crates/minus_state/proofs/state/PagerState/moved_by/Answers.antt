@@ -4,11 +4,11 @@ use Rattle.minus_state.specs.declared.search.query.Fed.{Fed}
 use Rattle.minus_state.specs.declared.search.query.Fed.TheVariants as told
 use Rattle.minus_state.specs.Changes.{Leads}
 use Rattle.minus_state.specs.Control.{Control}
-use Rattle.minus_state.specs.Keying.{left_by, told_by}
+use Rattle.minus_state.specs.PromptKeys.{left_by, told_by}
 use Rattle.minus_state.specs.OpenPrompts.{fed}
 use Rattle.minus_state.specs.OpenSearches.{OpenSearch, seen_search}
 use Rattle.minus_state.specs.States.{control_of}
-use Rattle.minus_state.proofs.KeyingLaws.{told_still, told_goes, moves_own}
+use Rattle.minus_state.proofs.PromptKeysLaws.{told_still, told_goes, moves_own}
 use Rattle.minus_state.proofs.state.PagerState.moved_by.Goals as goal
 
 pub returns-then-cursor_after-cursor-clause-next : goal.returns-then-cursor_after-cursor-clause-next

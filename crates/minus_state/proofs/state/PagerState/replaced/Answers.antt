@@ -1,4 +1,4 @@
--- While help is open, what is put aside is replaced; else the text on show is.
+-- While help is open, what is saved is replaced; else the displayed text is.
 use Rattle.std.proofs.Common.{string_bytes, rules, sym, ◌∙◌}
 use Rattle.std.proofs.lemmas.Result.{IfOk-weaker}
 use Rattle.minus_state.specs.States.{control_of}

@@ -1,4 +1,4 @@
--- The text is formed anew.
+-- The text is formed again.
 use Rattle.std.proofs.Common.{List, ℕ, refl, ap, ap₂, ◌∙◌}
 use Rattle.minus_text.specs.Document.{Document}
 use Rattle.minus_text.specs.declared.layout.Layout.{Layout}

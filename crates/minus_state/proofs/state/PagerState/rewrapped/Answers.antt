@@ -1,4 +1,4 @@
--- The text on show is formed anew in another layout.
+-- The displayed text is formed again in another layout.
 use Rattle.std.proofs.Common.{List, ℕ, ap₂}
 use Rattle.std.proofs.lemmas.Result.{IfOk-weaker}
 use Rattle.minus_text.specs.declared.layout.Layout.{Layout}

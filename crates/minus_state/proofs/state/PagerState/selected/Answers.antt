@@ -5,7 +5,7 @@ use Rattle.minus_state.specs.Control.{Control}
 use Rattle.minus_state.specs.Changes.{IsChange}
 use Rattle.minus_state.specs.States.{control_of}
 use Rattle.minus_state.specs.Selecting.{ends_begun}
-use Rattle.minus_state.specs.Redraws.{whole_where}
+use Rattle.minus_state.specs.RedrawExtent.{whole_where}
 use Rattle.minus_state.proofs.state.PagerState.selected.Goals as goal
 
 pub returns-clause-next : goal.returns-clause-next

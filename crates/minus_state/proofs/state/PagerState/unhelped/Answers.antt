@@ -1,4 +1,4 @@
--- What was put aside is formed anew.
+-- What was saved is formed again.
 use Rattle.std.proofs.Common.{List, ℕ, Bool, None, Some, string_bytes, refl, ap, ap₂, ◌∙◌}
 use Rattle.minus_state.specs.Changes.{settings_after}
 use Rattle.minus_state.specs.Control.{Control, Settings, reformed}

@@ -1,4 +1,4 @@
--- Another text is formed anew in the layout as it is.
+-- Another text is formed again in the layout as it is.
 use Rattle.std.proofs.Common.{string_bytes, ap}
 use Rattle.std.proofs.lemmas.Result.{IfOk-weaker}
 use Rattle.minus_text.specs.declared.layout.Layout.{Layout}

@@ -1,7 +1,7 @@
 -- What stands before a row is that of its line.
 use Rattle.std.proofs.Common.{◌≡◌, ◌+◌, [], length, refl, ap, subst, ◌∙◌}
 use Rattle.std.specs.Str.Lines.{lines}
-use Rattle.minus_text.specs.Prefixes.{prefix}
+use Rattle.minus_text.specs.NumberPrefix.{prefix}
 use Rattle.minus_text.specs.Document.{first_rows}
 use Rattle.minus_text.specs.Blocks.{Block, fragment_of, all_lines, IsPrefixIn}
 use Rattle.minus_text.proofs.DocumentLaws.{length-first_rows}

@@ -1,4 +1,5 @@
--- The style is read of what stands before the row in its line: in what is formed, and before that in the text that stays.
+-- The style is read of what stands before the row in its line: in what is formed, and before that in the text that
+-- stays.
 use Rattle.std.proofs.Common.{◌≡◌, ◌+◌, ◌++◌, [], take, ap, ◌∙◌}
 use Rattle.minus_text.specs.Lines.{unfinished_line}
 use Rattle.minus_text.specs.Pending.{Pending}

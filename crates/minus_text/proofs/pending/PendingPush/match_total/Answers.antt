@@ -1,6 +1,6 @@
 use Rattle.std.proofs.Common.{◌+◌, ◌^◌, ◌-◌, min, ap, ap₂, sym, ◌∙◌}
 use Rattle.minus_text.specs.Found.{found_above, match_total, matches_above}
-use Rattle.minus_text.specs.Jumps.{counted}
+use Rattle.minus_text.specs.JumpRows.{counted}
 use Rattle.minus_text.proofs.LineFindsLaws.{total_both}
 use Rattle.minus_text.specs.FoundBy.{found_rows}
 use Rattle.minus_text.specs.Searched.{SearchedPush}

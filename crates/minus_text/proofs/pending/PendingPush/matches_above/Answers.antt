@@ -1,6 +1,6 @@
 use Rattle.std.proofs.Common.{◌+◌, ◌^◌, ◌-◌, min, ap, ap₂, sym, subst, ◌∙◌, arith}
 use Rattle.minus_text.specs.Found.{Ascend, matches_above}
-use Rattle.minus_text.specs.Jumps.{counted}
+use Rattle.minus_text.specs.JumpRows.{counted}
 use Rattle.minus_text.proofs.FoundInLaws.{weaker}
 use Rattle.minus_text.specs.FoundBy.{found_rows}
 use Rattle.minus_text.specs.Searched.{SearchedPush}

@@ -7,7 +7,8 @@ use Rattle.minus_text.specs.Document.{line_map, line_count, wrap_in}
 use Rattle.minus_text.specs.Found.{jump_rows}
 use Rattle.minus_text.specs.FoundRows.{finder_pattern, matches_of}
 use Rattle.minus_text.specs.StoredLines.{finds_in_line_at, first_from}
-use Rattle.minus_text.proofs.LineRangeLaws.{none_between, up_to_end, still_nothing, early}
+use Rattle.minus_text.proofs.LineRangeLaws.{none_between, up_to_end}
+use Rattle.minus_text.proofs.FirstJumpLaws.{still_nothing, early}
 use Rattle.minus_text.proofs.search.finding.first_in_lines.Goals as goal
 
 pub loop-line-init : goal.loop-line-init

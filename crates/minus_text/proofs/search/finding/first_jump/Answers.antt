@@ -1,6 +1,6 @@
 -- One entry more.
 use Rattle.std.proofs.Common.{◌≡◌, arith}
-use Rattle.minus_text.proofs.LineRangeLaws.{no_jump, jump_above, jump_here}
+use Rattle.minus_text.proofs.FirstJumpLaws.{no_jump, jump_above, jump_here}
 use Rattle.minus_text.proofs.search.finding.first_jump.Goals as goal
 use Rattle.minus_text.proofs.search.finding.first_jump.Goals.{else-found-gt0-via-then-found-gt0+else-found-row, else-found-gt0-via-else-found-gt0}
 

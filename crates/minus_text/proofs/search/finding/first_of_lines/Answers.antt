@@ -9,7 +9,8 @@ use Rattle.minus_text.specs.LineMaps.{IsLineOfRow}
 use Rattle.minus_text.specs.Matches.{match_at}
 use Rattle.minus_text.specs.StoredLines.{finds_between, first_from}
 use Rattle.minus_text.proofs.DocumentLaws.{length-first_rows}
-use Rattle.minus_text.proofs.LineRangeLaws.{no_lines, goes_behind, goes_above}
+use Rattle.minus_text.proofs.LineRangeLaws.{no_lines}
+use Rattle.minus_text.proofs.FirstJumpLaws.{goes_behind, goes_above}
 use Rattle.minus_text.proofs.search.finding.first_of_lines.Goals as goal
 
 pub returns-in_default : goal.returns-in_default

@@ -1,6 +1,6 @@
 use Rattle.std.proofs.Common.{◌∙◌, ap}
 use Rattle.minus_text.specs.FixedPatterns.{match_places}
-use Rattle.minus_text.specs.Words.{word_places}
+use Rattle.minus_text.specs.WordStarts.{word_places}
 use Rattle.minus_text.proofs.search.words.word_places.Goals as goal
 
 pub returns-clause-found : goal.returns-clause-found

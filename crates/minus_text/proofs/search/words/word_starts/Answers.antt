@@ -3,7 +3,7 @@ use Rattle.std.proofs.Common.{◌≡◌, ◌≤◌, ◌+◌, ℕ, length, map, g
 use Rattle.std.proofs.lemmas.Str.{chars-nil}
 use Rattle.std.proofs.lemmas.List.{take_all}
 use Rattle.minus_text.specs.Escapes.{CutsText}
-use Rattle.minus_text.specs.Words.{char_number, word_starts}
+use Rattle.minus_text.specs.WordStarts.{char_number, word_starts}
 use Rattle.minus_text.proofs.PartedLaws.{cuts_at, cuts_here}
 use Rattle.minus_text.proofs.WordStartsLaws.{within_snoc, one_more_start}
 use Rattle.minus_text.proofs.search.words.word_starts.Goals as goal

@@ -1,7 +1,7 @@
 -- What stands before the words that are passed.
 use Rattle.std.proofs.Common.{◌≡◌, ◌+◌, map, take, drop, length, chars}
 use Rattle.minus_text.specs.Escapes.{CutsText}
-use Rattle.minus_text.specs.Words.{char_number, AreWithin}
+use Rattle.minus_text.specs.WordStarts.{char_number, AreWithin}
 use Rattle.minus_text.proofs.search.words.word_starts.Given as goal
 
 abbrev pub invariant-loop-place : goal.invariant-loop-place

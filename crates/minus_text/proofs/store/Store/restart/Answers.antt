@@ -1,4 +1,4 @@
--- A push goes on in the unfinished line where it keeps the rows, and else forms all anew.
+-- A push goes on in the unfinished line where it keeps the rows, and else forms all again.
 use Rattle.std.proofs.Common.{◌≡◌, ◌≤◌, ◌<◌, ◌+◌, length, drop, refl, sym, ap, subst, arith, ◌∙◌}
 use Rattle.std.specs.Str.{IsUtf8, IsCharBoundary}
 use Rattle.std.specs.Str.Lines.{lines}

@@ -1,6 +1,6 @@
 -- What stands before a row is that of its line.
 use Rattle.std.proofs.Common.{string_bytes, sym, ap, ◌∙◌}
-use Rattle.minus_text.specs.Prefixes.{is_on}
+use Rattle.minus_text.specs.NumberPrefix.{is_on}
 use Rattle.minus_text.specs.Document.{Document}
 use Rattle.minus_text.proofs.ScreenLaws.{formed-map, formed-lines}
 use Rattle.minus_text.proofs.StoredLaws.{prefix_of_line, no_line}

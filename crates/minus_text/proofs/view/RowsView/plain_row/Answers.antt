@@ -1,6 +1,6 @@
 -- Without a number the row is its text.
 use Rattle.std.proofs.Common.{◌≡◌, [], false, sym, ap, ◌∙◌}
-use Rattle.minus_text.specs.Prefixes.{is_on}
+use Rattle.minus_text.specs.NumberPrefix.{is_on}
 use Rattle.minus_text.specs.declared.layout.Layout.{Layout}
 use Rattle.minus_text.specs.Searched.{Searched}
 use Rattle.minus_text.specs.Views.{viewed}

@@ -1,7 +1,7 @@
 -- What stands before a row is that of its line in the text with the push.
 use Rattle.std.proofs.Common.{◌≡◌, ◌+◌, ◌++◌, length, take, sym, subst, ap, ap₂, ◌∙◌, arith}
 use Rattle.minus_text.specs.declared.line_numbers.LineNumbers.{LineNumbers}
-use Rattle.minus_text.specs.Prefixes.{is_on}
+use Rattle.minus_text.specs.NumberPrefix.{is_on}
 use Rattle.minus_text.specs.declared.layout.Layout.{Layout}
 use Rattle.minus_text.specs.Views.{viewed}
 use Rattle.minus_text.proofs.StoredKeptLaws.{nothing_before}

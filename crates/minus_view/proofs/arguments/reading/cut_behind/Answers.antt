@@ -1,5 +1,5 @@
 use Rattle.std.proofs.Common.{◌∙◌}
-use Rattle.minus_view.proofs.CutLaws.{cut_drop}
+use Rattle.minus_view.proofs.OptionWordsLaws.{cut_drop}
 use Rattle.minus_view.proofs.arguments.reading.cut_behind.Goals as goal
 
 pub returns : goal.returns

@@ -1,7 +1,7 @@
 -- The bytes so far are of these.
 use Rattle.std.proofs.Common.{◌≡◌, ◌+◌, drop}
 use Rattle.std.specs.List.{prefix_len}
-use Rattle.minus_view.specs.Cuts.{is_of}
+use Rattle.minus_view.specs.OptionWords.{is_of}
 use Rattle.minus_view.proofs.arguments.reading.run_of.Given as goal
 
 abbrev pub invariant-loop-at : goal.invariant-loop-at

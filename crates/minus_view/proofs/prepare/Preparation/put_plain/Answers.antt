@@ -1,5 +1,5 @@
 use Rattle.std.proofs.Common.{ap, ◌∙◌}
-use Rattle.minus_view.specs.Prepared.{apart}
+use Rattle.minus_view.specs.TabColumns.{apart}
 use Rattle.minus_view.proofs.ExpandedLaws.{all_plain, column_moves}
 use Rattle.minus_view.proofs.prepare.Preparation.put_plain.Goals as goal
 

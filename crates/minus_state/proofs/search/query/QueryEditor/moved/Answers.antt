@@ -1,6 +1,6 @@
 -- A word starts at a character.
 use Rattle.std.proofs.Common.{rules, ◌≤◌, ◌+◌, length, chars, string_bytes, sym, subst, arith}
-use Rattle.minus_text.specs.Words.{AreWithin}
+use Rattle.minus_text.specs.WordStarts.{AreWithin}
 use Rattle.minus_state.specs.QueryEditor.{Editor}
 use Rattle.minus_state.proofs.search.query.QueryEditor.moved.Goals as goal
 

@@ -1,7 +1,7 @@
 -- Nothing is typed yet.
 use Rattle.std.proofs.Common.{◌≡◌, ◌+◌, refl, [], List, ℕ, length, chars, string_bytes, sym, subst, ap, ◌∙◌, arith}
 use Rattle.std.proofs.lemmas.Str.{chars-nil}
-use Rattle.minus_text.specs.Words.{AreWithin}
+use Rattle.minus_text.specs.WordStarts.{AreWithin}
 use Rattle.minus_state.specs.QueryEditor.{Editor, IsEditor}
 use Rattle.minus_state.proofs.search.query.QueryEditor.new.Goals as goal
 

@@ -1,7 +1,7 @@
 -- The starts are those of the text, which was counted.
 use Rattle.std.proofs.Common.{rules, ◌≡◌, ◌+◌, List, ℕ, length, chars, string_bytes, sym, subst, ap, ◌∙◌, arith}
 use Rattle.std.proofs.lemmas.Str.{encodes-chars, IsUtf8-string_bytes}
-use Rattle.minus_text.specs.Words.{word_starts, AreWithin}
+use Rattle.minus_text.specs.WordStarts.{word_starts, AreWithin}
 use Rattle.minus_state.proofs.search.query.QueryEditor.of_query.Goals as goal
 
 pub invariant_of-result : goal.invariant_of-result

@@ -1,7 +1,7 @@
 -- The new starts are those of the new text.
 use Rattle.std.proofs.Common.{◌+◌, List, ℕ, length, chars, string_bytes, sym, subst, ap, ◌∙◌}
 use Rattle.std.proofs.lemmas.Str.{encodes-chars, IsUtf8-string_bytes}
-use Rattle.minus_text.specs.Words.{word_starts, AreWithin}
+use Rattle.minus_text.specs.WordStarts.{word_starts, AreWithin}
 use Rattle.minus_state.proofs.search.query.QueryEditor.take.Goals as goal
 
 pub invariant_of-self : goal.invariant_of-self

@@ -1,6 +1,6 @@
 -- The words start in the query, which is not too long.
 use Rattle.std.proofs.Common.{◌+◌, length, chars, string_bytes, subst, sym, arith}
-use Rattle.minus_text.specs.Words.{AreWithin}
+use Rattle.minus_text.specs.WordStarts.{AreWithin}
 use Rattle.minus_state.specs.QueryEditor.{most}
 use Rattle.minus_state.proofs.QueryEditorLaws.{within_later}
 use Rattle.minus_state.proofs.search.query.QueryEditor.word_index.Goals as goal

@@ -1,5 +1,5 @@
 use Rattle.std.proofs.Common.{length, ap, ◌∙◌, arith}
-use Rattle.minus_text.specs.Jumps.{ended_at}
+use Rattle.minus_text.specs.JumpRows.{ended_at}
 use Rattle.minus_text.specs.FoundBy.{found_rows}
 use Rattle.minus_text.proofs.JumpLaws.{end_of_total}
 use Rattle.minus_text.proofs.search.found_rows.FoundRows.match_total.Goals as goal

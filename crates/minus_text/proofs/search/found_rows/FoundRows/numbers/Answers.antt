@@ -1,8 +1,9 @@
 use Rattle.std.proofs.Common.{map, ap, ap₂, ◌∙◌}
 use Rattle.minus_text.specs.Found.{jump_rows}
-use Rattle.minus_text.specs.Jumps.{numbers_with}
+use Rattle.minus_text.specs.JumpRows.{numbers_with}
 use Rattle.minus_text.specs.FoundBy.{found_rows}
-use Rattle.minus_text.proofs.JumpLaws.{row_of, rows_are, rising_numbers, jumps_rise}
+use Rattle.minus_text.proofs.JumpLaws.{row_of, rows_are, jumps_rise}
+use Rattle.minus_text.proofs.JumpNumbersLaws.{rising_numbers}
 use Rattle.minus_text.proofs.search.found_rows.FoundRows.numbers.Goals as goal
 
 pub returns : goal.returns

@@ -5,12 +5,12 @@ use Rattle.std.proofs.lemmas.List.{map-append, take-map}
 use Rattle.minus_text.specs.Found.{RowMatches, found_above, match_total, matches_above}
 use Rattle.minus_text.specs.FoundBy.{found_rows}
 use Rattle.minus_text.specs.FoundRows.{matches_of}
-use Rattle.minus_text.specs.Jumps.{counted, jumps_behind, jump_behind, ended_at}
+use Rattle.minus_text.specs.JumpRows.{counted, jumps_behind, jump_behind, ended_at}
 use Rattle.minus_text.proofs.JumpLaws.{below, rows_are, rise_of, above_jumps, end_above, moved, behind_both}
 use Rattle.minus_text.proofs.search.found_rows.FoundRows.replace_from.Goals as goal
 
-pub count_before-staying-requires : goal.count_before-staying-requires
-count_before-staying-requires c = rise_of c.as_slice-2.result.now (found_rows c.args.self.now) (c.as_slice-2.ensures.value ∙ c.requires.jumps) c.requires.ascend
+pub jumps_before-staying-requires : goal.jumps_before-staying-requires
+jumps_before-staying-requires c = rise_of c.as_slice-2.result.now (found_rows c.args.self.now) (c.as_slice-2.ensures.value ∙ c.requires.jumps) c.requires.ascend
 
 pub returns-clause-found : goal.returns-clause-found
 returns-clause-found c =
@@ -27,8 +27,8 @@ returns-clause-jumps c =
     let old = found_rows c.args.self.now in
     let fresh = found_rows c.args.fresh in
     let above = found_above row old in
-    let n = c.count_before-staying.result in
-    let at = c.count_before-staying.ensures.value ∙ ap (below row) (rows_are c.as_slice-2.result.now old (c.as_slice-2.ensures.value ∙ c.requires.jumps)) in
+    let n = c.jumps_before-staying.result in
+    let at = c.jumps_before-staying.ensures.value ∙ ap (below row) (rows_are c.as_slice-2.result.now old (c.as_slice-2.ensures.value ∙ c.requires.jumps)) in
     let total : c.ended_at.result ≡ counted (matches_above row old) = c.ended_at.ensures ∙ ap (λ js. ended_at 0 js n) (c.as_slice-3.ensures.value ∙ c.requires.jumps) ∙ end_above row 0 n old c.requires.ascend at in
     let front : c.truncate-2.new.self.items ≡ jumps_behind 0 above =
     c.truncate-2.ensures.items ∙ ap (take n) c.requires.jumps ∙ ap (λ k. take k (jumps_behind 0 old)) at ∙ above_jumps 0 row 0 old c.requires.ascend in

@@ -1,4 +1,4 @@
--- What is passed over has no ESC, and no sequence has begun.
+-- What is skipped has no ESC, and no sequence has begun.
 use Rattle.std.proofs.Common.{rules, ◌≡◌, ◌≤◌, length, string_bytes, sym, ap, ◌∙◌, arith}
 use Rattle.std.specs.String.{string_len}
 use Rattle.minus_text.specs.Styles.{Reading, read_all}

@@ -1,6 +1,0 @@
--- The lists, one after the other.
-use Rattle.minus.proofs.JoinLaws.{drawings_join_lem}
-use Rattle.minus.proofs.laws.drawings_join.Goals as goal
-
-pub returns : goal.returns
-returns c = drawings_join_lem

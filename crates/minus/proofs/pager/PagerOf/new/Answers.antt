@@ -1,6 +1,0 @@
--- Found by search.
-use Rattle.std.proofs.Common.{rules}
-use Rattle.minus.proofs.pager.PagerOf.new.Goals as goal
-
-pub returns : goal.returns
-returns g c = search rules

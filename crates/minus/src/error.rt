@@ -1,4 +1,0 @@
-//! Why calls are refused.
-pub use minus_term::error::{
-    CleanupError, DescriptionError, MinusError, RegexError, SetupError, TermError,
-};

@@ -1,0 +1,9 @@
+pub mod TableLaws
+pub mod OutcomeLaws
+pub mod HelpLaws
+pub mod CommandLaws
+pub mod PagerLaws
+pub mod RequestLaws
+pub mod KeepLaws
+pub mod EventLaws
+pub mod ByHandLaws

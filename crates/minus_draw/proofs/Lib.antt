@@ -1,0 +1,11 @@
+pub mod DrawingLaws
+pub mod DrawnLaws
+pub mod PageLaws
+pub mod KeyedLaws
+pub mod KeyLaws
+pub mod PromptLaws
+pub mod AppendLaws
+pub mod LeavesLaws
+pub mod JoinLaws
+pub mod RefusalLaws
+pub mod WrittenRowsLaws

@@ -1,0 +1,8 @@
+-- What is seen so far passes.
+use Rattle.std.proofs.Common.{◌≡◌, take}
+use Rattle.std.specs.List.{list_all}
+use Rattle.minus_text.specs.Plain.{is_printable}
+use Rattle.minus_text.proofs.plain.are_printable.Given as goal
+
+abbrev pub invariant-loop-b : goal.invariant-loop-b
+invariant-loop-b l = l.printable ≡ list_all is_printable (take l.b-index l.bytes)

@@ -1,6 +1,0 @@
-use Rattle.std.proofs.Common.{◌≡◌, ◌++◌, map, take, drop}
-use Rattle.minus_text.specs.Jumps.{jump_behind}
-use Rattle.minus_text.proofs.search.jumps.count_behind.Given as goal
-
-abbrev pub invariant-loop-i : goal.invariant-loop-i
-invariant-loop-i l = l.jumps.items ≡ map (jump_behind l.fn.matches) (take l.i l.fn.jumps.items) ++ drop l.i l.fn.jumps.items

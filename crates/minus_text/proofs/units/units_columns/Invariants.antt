@@ -1,0 +1,17 @@
+-- The columns so far and those of the rest.
+use Rattle.std.proofs.Common.{◌≡◌, ◌+◌, ◌*◌, ◌≤◌, length, chars}
+use denote.Text.{Utf8}
+use denote.Shadow.{shadow}
+use Rattle.std.specs.List.{sum_by}
+use Rattle.minus_text.specs.Units.{units, unit_columns}
+use Rattle.minus_text.proofs.units.units_columns.Given as goal
+
+abbrev pub invariant-loop-more : goal.invariant-loop-more
+invariant-loop-more l = record {
+  utf8 : shadow (Utf8 l.rest);
+  sum : l.width + sum_by unit_columns (units (chars l.rest)) ≡ sum_by unit_columns (units (chars l.text));
+  room : l.width + 2 * length l.rest ≤ 2 * length l.text;
+}
+
+abbrev pub decreases-loop-more : goal.decreases-loop-more
+decreases-loop-more l = length l.rest

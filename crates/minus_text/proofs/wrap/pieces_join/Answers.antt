@@ -1,5 +1,0 @@
-use Rattle.minus_text.proofs.PiecesLaws.{pieces_join_lem}
-use Rattle.minus_text.proofs.wrap.pieces_join.Goals as goal
-
-pub returns : goal.returns
-returns c = pieces_join_lem

@@ -1,5 +1,0 @@
-use Rattle.minus_text.specs.Rows.{the_rows}
-use Rattle.minus_text.proofs.wrap.rows_are_determined.Goals as goal
-
-pub returns : goal.returns
-returns c = the_rows
