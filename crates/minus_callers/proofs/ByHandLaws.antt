@@ -1,4 +1,4 @@
--- What a command leaves that is worked off by hand, with all that waited for it.
+-- What a command leaves that is performed manually, with all that waited for it.
 use Rattle.std.proofs.Common.{◌≡◌, List, [], ◌∷◌, map, false, Option, None, Some, refl, sym, ap, subst, ◌∙◌}
 use Rattle.std.specs.Prelude.{string_bytes}
 use Rattle.std.specs.Option.{option_map}
@@ -7,19 +7,18 @@ use Rattle.minus_term.specs.Refusals.{Refusal, for_memory, for_newline, for_size
 use Rattle.minus_state.specs.Classifying.{Classifies}
 use Rattle.minus_state.specs.Control.{Control, Saved}
 use Rattle.minus_state.specs.States.{control_of, IsFormed}
-use Rattle.minus.specs.declared.commands.CommandOf.{CommandOf}
-use Rattle.minus.specs.declared.commands.CommandOf.TheVariants.{SetData, AppendData, SetPrompt, SendMessage, ShowPrompt, SetLineNumbers, LineWrapping, SetMatchLines, SetCarryStyle, FollowOutput, UserInput, Io, SetExitStrategy, SetRunNoOverflow, AddExitCallback, AddHook, RemoveHook, IncrementalSearchCondition, SetInputClassifier}
-use Rattle.minus.specs.declared.commands.IoCommand.{IoCommand}
-use Rattle.minus.specs.declared.commands.IoCommand.TheVariants.{RedrawPrompt, RedrawDisplay, DrawAppendedText, SetUpperMark, FetchSearchQuery}
-use Rattle.minus.specs.declared.ev_handler.Handled.{Handled}
-use Rattle.minus.specs.declared.parts.PartsOf.{PartsOf}
-use Rattle.minus.specs.Asked.{IsRequest}
-use Rattle.minus.specs.EvHandler.{HandlesAs, IsIoUndone, IsRequestTo, io_left, all_io_left}
-use Rattle.minus.specs.Handing.{Handing, kept_after, classifier_after, condition_after}
-use Rattle.minus.specs.Queued.{queued}
-use Rattle.minus.specs.Reads.{as_command, io_of, io_wanted, kept_of}
-use Rattle.minus.specs.Table.{effect_of, handed}
-use Rattle.minus.proofs.ByHandLaws.{by_hand_lem}
+use Rattle.minus_commands.specs.declared.commands.CommandOf.{CommandOf}
+use Rattle.minus_commands.specs.declared.commands.CommandOf.TheVariants.{SetData, AppendData, SetPrompt, SendMessage, ShowPrompt, SetLineNumbers, LineWrapping, SetMatchLines, SetCarryStyle, FollowOutput, UserInput, Io, SetExitStrategy, SetRunNoOverflow, AddExitCallback, AddHook, RemoveHook, IncrementalSearchCondition, SetInputClassifier}
+use Rattle.minus_commands.specs.declared.commands.IoCommand.{IoCommand}
+use Rattle.minus_commands.specs.declared.commands.IoCommand.TheVariants.{RedrawPrompt, RedrawDisplay, DrawAppendedText, SetUpperMark, FetchSearchQuery}
+use Rattle.minus_commands.specs.declared.ev_handler.Handled.{Handled}
+use Rattle.minus_commands.specs.declared.parts.PartsOf.{PartsOf}
+use Rattle.minus_commands.specs.Reads.{IsRequest, as_command, io_of, io_wanted, kept_of}
+use Rattle.minus_commands.specs.EvHandler.{HandlesAs, IsIoUndone, IsRequestTo, io_left, all_io_left}
+use Rattle.minus_commands.specs.Registration.{Handing, kept_after, classifier_after, condition_after}
+use Rattle.minus_commands.specs.Queued.{queued}
+use Rattle.minus_commands.specs.Table.{effect_of, handed}
+use Rattle.minus_commands.proofs.ByHandLaws.{by_hand_lem}
 use Rattle.minus_callers.specs.ByHand.{left_by, left_by_all, IsIoFault, IsWorkedOff}
 
 -- a command that asks for a drawing

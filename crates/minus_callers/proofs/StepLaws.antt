@@ -4,15 +4,18 @@ use Rattle.std.proofs.Math.Nat.{min-eq_left}
 use Rattle.std.proofs.lemmas.List.{map_more, flat_map_more}
 use Rattle.minus_term.specs.Refusals.{Refusal}
 use Rattle.minus.specs.Says.{Says}
-use Rattle.minus_state.specs.Control.{Control, Saved, top}
+use Rattle.minus_state.specs.Control.{Control, Saved}
+use Rattle.minus_state.specs.ClampedMark.{top}
 use Rattle.minus.specs.declared.answer.Answer.{Answer}
 use Rattle.minus.specs.Asked.{Asks}
-use Rattle.minus.specs.Reads.{Told, a_command}
+use Rattle.minus_commands.specs.Reads.{Told, a_command}
 use Rattle.minus.specs.Seen.{Seen}
 use Rattle.minus.specs.Steps.{IsStep, Ends}
-use Rattle.minus.specs.Handing.{Exit}
-use Rattle.minus.specs.Table.{Wanted, appends_data, follows, effect_of, changed_by}
-use Rattle.minus.specs.Works.{Work, after, Takes, worked, waited, Exits, Comes, at_once, later, IsReady}
+use Rattle.minus_commands.specs.Registration.{Exit}
+use Rattle.minus_commands.specs.Table.{Wanted, appends_data, follows, effect_of, changed_by}
+use Rattle.minus_draw.specs.Drawn.{Work}
+use Rattle.minus.specs.Works.{after, Takes, worked, waited, Exits, Comes, at_once, later}
+use Rattle.minus.specs.Waiting.{IsReady}
 use Rattle.minus.proofs.WorksLaws.{alone_lem}
 use Rattle.minus_callers.specs.Fetcher.{TakesText}
 use Rattle.minus_callers.specs.Follower.{Follows, ended}
@@ -21,7 +24,7 @@ use Rattle.minus_callers.specs.Follower.{Follows, ended}
 abbrev AsksAlone : {Q K : Type 0} → Says Q K → Seen Q K → Wanted Q K → Type 0
 AsksAlone says old asked = (w : Wanted _ _) → Asks says old (a_command asked) w → w ≡ asked
 
--- what is worked off alone leaves what the table says of it
+-- what is performed alone leaves what the table says of it
 worked_so : {Q K : Type 0} (says : Says Q K) (old new : Seen Q K) (asked : Wanted Q K) (work : Work) (copied : Option (List ℕ)) → AsksAlone says old asked → IsReady old → Takes says old (a_command asked) work copied new → new ≡ after false old asked
 worked_so says old new asked work copied alone ready (worked w closed asks possible free on) = ap (λ (x : Wanted _ _). after false old x) (alone w asks)
 worked_so says old new asked work copied alone ready (waited o w searching wants possible) = absurd (let both : None ≡ Some o = sym ready.closed ∙ searching in cc)
@@ -57,7 +60,7 @@ now_follows says old new answer a b s closed ready =
     subst (λ (seen : Seen _ _). Follows old.control.text seen) (sym (step_leaves says old new (follows true) answer a b (λ w asks. asks) ready refl s))
     (record { shows = refl; last_page = top_stays (top old.control); goes_on = refl; no_help = closed; ready = record { closed = ready.closed; none_waits = ready.none_waits } })
 
--- where help is not open, a text that is added is on show behind the one before
+-- where help is not open, a text that is added is displayed behind the one before
 pub adds_text : {Q K : Type 0} (says : Says Q K) (old new : Seen Q K) (answer : Answer) (a b : Option (List ℕ)) (more : List ℕ) → IsStep says old (a_command (appends_data more)) new answer a b → TakesText old → new.control.text ≡ old.control.text ++ more
 adds_text says old new answer a b more s t =
     let c : Control = old.control in

@@ -4,7 +4,7 @@ use Rattle.minus_state.specs.HookIds.{id_of}
 use Rattle.minus_state.specs.declared.hooks.HookId.{HookId}
 use Rattle.minus_term.specs.declared.hooks.Hook.TheVariants.{EofReached}
 use Rattle.minus.specs.Seen.{Seen}
-use Rattle.minus.specs.Works.{IsReady}
+use Rattle.minus.specs.Waiting.{IsReady}
 
 -- the hook that is called at the end of the text holds one callback, under the first id that is free
 abbrev pub one_at_end : List HookId

@@ -1,15 +1,16 @@
 -- A text that is followed.
 use Rattle.std.specs.Prelude.{◌≡◌, ℕ, ◌++◌, ◌∷◌, [], List, true, None}
 use Rattle.std.specs.List.{flat_map}
-use Rattle.minus_state.specs.Control.{top}
+use Rattle.minus_state.specs.ClampedMark.{top}
 use Rattle.minus.specs.Seen.{Seen}
-use Rattle.minus.specs.Works.{IsReady}
+use Rattle.minus.specs.Waiting.{IsReady}
 
 -- a line with the newline that ends it
 abbrev pub ended : List ℕ → List ℕ
 ended line = line ++ 10 ∷ []
 
--- this is the text on show, its last page is the page, the page goes on with what is pushed, and what is pushed does not wait
+-- this is the displayed text, its last page is the page, the page goes on with what is
+-- pushed, and what is pushed does not wait
 pub record Follows {Q K : Type 0} (text : List ℕ) (seen : Seen Q K) : Type 0 where
   pub shows : seen.control.text ≡ text
   pub last_page : seen.control.mark ≡ top seen.control

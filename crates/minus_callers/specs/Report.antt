@@ -12,6 +12,7 @@ use Rattle.minus_state.specs.declared.state.PagerState.{PagerState}
 use Rattle.minus_text.specs.Document.{line_map}
 use Rattle.minus_callers.specs.declared.report.GoToLine.{GoToLine}
 
+-- the page is asked to begin at a row, if there is one, and else nothing is asked for
 abbrev pub row_answer : Option ℕ → InputEvent
 row_answer None = Ignore
 row_answer (Some row) = UpdateUpperMark row
@@ -26,4 +27,5 @@ summary_key line = record { line = line }
 
 -- a register of the default bindings in which `s` is bound so
 abbrev pub HasSummaryKey : ℕ → Register EventWrapper (ActionOf GoToLine) → Type 0
-HasSummaryKey line register = IsAdded IsKey (codes "s" ∷ []) true (summary_key line) (codes "go to the summary") default_register register
+HasSummaryKey line register =
+    IsAdded IsKey (codes "s" ∷ []) true (summary_key line) (codes "go to the summary") default_register register

@@ -1,9 +1,9 @@
-//! A program that works commands off by hand, on parts of its own and on a sink that no session has.
+//! A program that runs commands manually, on parts of its own and on a sink that no session has.
 ghost use Rattle.std.specs.Prelude.{◌≡◌, [], OnOk, IfOk, IfErr};
 ghost use Rattle.minus_term.specs.Refusals.{refusal_of};
 ghost use Rattle.minus_state.specs.States.{control_of, IsFormed};
-ghost use Rattle.minus.specs.Queued.{waiting_in};
-ghost use Rattle.minus.specs.Reads.{io_of, kept_of};
+ghost use Rattle.minus_commands.specs.Queued.{waiting_in};
+ghost use Rattle.minus_commands.specs.Reads.{io_of, kept_of};
 ghost use Rattle.minus_callers.specs.ByHand.{LeavesBy, left_by_all, CannotWorkOff, IsIoFault, IsWorkedOff};
 
 use minus::{

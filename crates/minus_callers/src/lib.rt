@@ -1,5 +1,5 @@
 //! How programs call the pager: one that pushes lines while the text is followed, one that fetches more of a text when
-//! the reader comes to its end, one with a key of its own, and one that works commands off by hand.
+//! the reader comes to its end, one with a key of its own, and one that runs commands manually.
 #![tactic(auto)]
 
 mod by_hand;

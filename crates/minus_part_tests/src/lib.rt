@@ -1,5 +1,5 @@
-//! Tests of what no contract says of the crates below `minus`, in a module of each, and what the tests of `minus` stand on
-//! too.
+//! Tests of what no contract says of the crates below `minus`, in a module of each, and what the tests of `minus` stand
+//! on too.
 #![tactic(auto)]
 
 pub mod asked;

@@ -1,8 +1,9 @@
 //! Tests of `minus_state`: worked rows.
 mod copies;
+mod full_queries;
 mod hooks;
-mod keying;
 mod previews;
+mod prompt_keys;
 mod prompts;
 mod queries;
 mod rows;

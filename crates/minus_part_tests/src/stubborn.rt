@@ -20,7 +20,7 @@ pub enum Refusal {
 pub struct Refused {
     /// This write.
     pub write: usize,
-    /// So many writes from that one on.
+    /// This many writes from that one on.
     pub writes: usize,
     /// How they are refused.
     pub refusal: Refusal,
@@ -70,7 +70,7 @@ impl Stubborn {
         WithTty::new(Stubborn::new(alloc, refused), true)
     }
 
-    /// Whether it holds these bytes, and was asked for so many writes and flushes.
+    /// Whether it holds these bytes, and was asked for this many writes and flushes.
     pub fn has_taken(&self, bytes: &[u8], writes: usize, flushes: usize) -> bool {
         self.held.as_slice() == bytes && self.writes == writes && self.flushes == flushes
     }

@@ -1,5 +1,5 @@
-//! Tests of `minus_term`: the bytes and texts as a terminal's manual has them, which error comes, what is settled, and which keys
-//! are equal.
+//! Tests of `minus_term`: the bytes and texts as a terminal's manual has them, which error comes, what is settled, and
+//! which keys are equal.
 mod errors;
 mod events;
 mod operations;

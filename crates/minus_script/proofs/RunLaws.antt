@@ -18,14 +18,15 @@ use Rattle.minus.specs.Answers.{IsAnswer, ends_run}
 use Rattle.minus.specs.Asked.{Wants}
 use Rattle.std.specs.List.{last_or}
 use Rattle.minus_script.specs.Keys.{script_says}
-use Rattle.minus.specs.Reads.{Told}
-use Rattle.minus.specs.Works.{passed_in}
+use Rattle.minus_commands.specs.Reads.{Told}
+use Rattle.minus_draw.specs.Drawn.{passed_in}
 use Rattle.minus.specs.Starts.{IsStarted, IsStartRefused, IsSetupRefused}
 use Rattle.minus.specs.Seen.{Seen}
 use Rattle.minus.specs.Runs.{IsRun, Stops, StopsSo, StopsAfter}
-use Rattle.minus.specs.Steps.{Steps, none, more, Refuses, status_after, cleanup_after}
-use Rattle.minus.specs.Handing.{Exit}
-use Rattle.minus.specs.Table.{Wanted}
+use Rattle.minus.specs.Steps.{Steps, none, more, status_after, cleanup_after}
+use Rattle.minus.specs.RefusedSteps.{Refuses}
+use Rattle.minus_commands.specs.Registration.{Exit}
+use Rattle.minus_commands.specs.Table.{Wanted}
 use Rattle.minus_script.specs.declared.arguments.Mode.{Mode}
 use Rattle.minus_script.specs.declared.arguments.Mode.TheVariants.{Page, Bytes}
 use Rattle.minus_script.specs.declared.fault.ScriptFault.{ScriptFault}
@@ -80,7 +81,7 @@ worked_more old mid new all answers left ts rest cs more_answers a b c h s e = r
   all = h.all ∙ ap (λ (l : List (Told NeverShows DefaultKeys)). h.taken ++ l) e ∙ sym (append_assoc h.taken ts rest);
 }
 
--- ---- a run after what was worked off
+-- ---- a run after what was performed
 
 -- whether inputs are left, by their count
 pub some_left : {A : Type 0} (left : List A) (count : ℕ) → count ≡ length left → false ≡ eqb count 0 → 0 < length left
@@ -134,7 +135,7 @@ ran_steps {told = told} {mid = mid} {new = new} {b = b} {c = c} h =
 left_by : {A : Type 0} (told : A → Told NeverShows DefaultKeys) (inputs taken refused these rest : List A) → inputs ≡ taken ++ (refused ++ rest) → refused ≡ these → map told inputs ≡ map told taken ++ map told (these ++ rest)
 left_by told inputs taken refused these rest e f = ap (map told) (e ∙ ap (λ l. taken ++ (l ++ rest)) f) ∙ map-append told taken (these ++ rest)
 
--- what was worked off, and a run
+-- what was performed, and a run
 pub ran_on : {A : Type 0} {told : A → Told NeverShows DefaultKeys} {mid new : Seen NeverShows DefaultKeys} {inputs rest : List A} {done : ℕ} {last : Option Answer} {b c : Option (List ℕ)} (old : Seen NeverShows DefaultKeys) (all : List (Told NeverShows DefaultKeys)) (answers : List Answer) (a : Option (List ℕ)) → IsWorkedOff old mid all answers (map told inputs) a b →
     (h : IsRun script_says told mid new inputs done last None rest b c) → IsWorkedOff old new all (answers ++ h.answers) (map told rest) a c
 ran_on {told = told} {mid = mid} {new = new} {inputs = inputs} {rest = rest} {b = b} {c = c} old all answers a worked h =
@@ -182,7 +183,7 @@ ran_running runs goes h = runs_by (ran_steps h) runs (subst (λ (o : Option Answ
 pub whole_by_exit : (answers : List Answer) (last : Option Answer) (rest : List (Told NeverShows DefaultKeys)) → last ≡ last_or None answers → is_some (exit_code last) ≡ true → IsWhole answers rest
 whole_by_exit answers last rest is exits = inr (subst (λ (o : Option Answer). is_some (exit_code o) ≡ true) is exits)
 
--- what was worked off, and a run that was stopped
+-- what was performed, and a run that was stopped
 pub ran_into : {A : Type 0} {told : A → Told NeverShows DefaultKeys} {mid new : Seen NeverShows DefaultKeys} {inputs rest : List A} {done : ℕ} {last : Option Answer} {b c : Option (List ℕ)} (e : MinusError) (old : Seen NeverShows DefaultKeys) (all : List (Told NeverShows DefaultKeys)) (answers : List Answer) (a : Option (List ℕ)) → IsWorkedOff old mid all answers (map told inputs) a b → mid.status ≡ status.Running →
     IsRun script_says told mid new inputs done last (Some e) rest b c → IsStoppedBy (refusal_of e) old new all a c
 ran_into {told = told} {mid = mid} {new = new} {inputs = inputs} {rest = rest} {b = b} {c = c} e old all answers a worked runs h =

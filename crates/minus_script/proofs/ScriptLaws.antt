@@ -10,7 +10,7 @@ use Rattle.std.proofs.lemmas.Option.{none-some}
 use Rattle.std.proofs.lemmas.List.Sums.{prefix_len-le-length}
 use Rattle.minus_state.specs.declared.search.condition.NeverShows.{NeverShows}
 use Rattle.minus_script.specs.declared.keys.DefaultKeys.{DefaultKeys}
-use Rattle.minus.specs.Reads.{Told}
+use Rattle.minus_commands.specs.Reads.{Told}
 use Rattle.minus_script.specs.Script.{is_newline, is_blank, has_blank, word_told, line_told, without_empty_last, script_lines, then_told}
 
 -- a part that others follow is a line
@@ -56,7 +56,7 @@ line_told-at line text at =
     sym (cond-true (is_utf8 line && has_blank line) (word_told (before_first is_blank line) (after_first is_blank line)) None
     (and_from (is_utf8 line) (has_blank line) (is_utf8-from_IsUtf8 line text) (lt-ltb (position_or_len is_blank line) (length line) at)))
 
--- what some lines tell, so many, and then what follows them
+-- what some lines tell, this many, and then what follows them
 abbrev pub told_after : List (Told NeverShows DefaultKeys) → ℕ → Result (List (Told NeverShows DefaultKeys)) ℕ → Result (List (Told NeverShows DefaultKeys)) ℕ
 told_after done lines (Ok later) = Ok (done ++ later)
 told_after done lines (Err number) = Err (lines + number)

@@ -2,10 +2,12 @@
 use Rattle.std.specs.Prelude.{ℕ, ◌==◌, List, [], ◌∷◌, Option, Some, None, if◌then◌else◌}
 use Rattle.std.specs.Option.{option_map, option_and_then}
 
--- the byte that an escape's letter stands for: `n` a newline, `r` a carriage return, `e` the escape character, and a backslash itself
+-- the byte that an escape's letter stands for: `n` a newline, `r` a carriage return, `e`
+-- the escape character, and a backslash itself
 abbrev pub escape_byte : ℕ → Option ℕ
 escape_byte letter =
-    if letter == 110 then Some 10 else if letter == 114 then Some 13 else if letter == 101 then Some 27 else if letter == 92 then Some 92 else None
+    if letter == 110 then Some 10 else if letter == 114 then Some 13 else if letter == 101 then Some 27
+    else if letter == 92 then Some 92 else None
 
 -- the text that is written with escapes, if each backslash begins a known one
 abbrev pub unescaped : List ℕ → Option (List ℕ)

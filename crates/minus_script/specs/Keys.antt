@@ -3,7 +3,7 @@ use Rattle.std.specs.Prelude.{◌≡◌, false, Some}
 use Rattle.minus_state.specs.declared.search.condition.NeverShows.{NeverShows}
 use Rattle.minus_state.specs.Classifying.{Classifies}
 use Rattle.minus_input.specs.DefaultBindings.{default_asks, default_register}
-use Rattle.minus_input.specs.RegisterAnswers.{help_text}
+use Rattle.minus_input.specs.RegisterHelp.{help_text}
 use Rattle.minus.specs.Says.{Says, says_of}
 use Rattle.minus_script.specs.declared.keys.DefaultKeys.{DefaultKeys}
 use Rattle.minus_script.specs.declared.keys.NoCallback.{NoCallback}

@@ -2,9 +2,11 @@
 use Rattle.std.specs.Prelude.{◌≡◌, ℕ, ◌==◌, List, [], ◌∷◌, ◌++◌, flat_map, Some, if◌then◌else◌}
 use Rattle.minus_script.specs.Escapes.{unescaped}
 
--- a byte as it is printed: the escape character as `\e`, a carriage return as `\r`, a backslash as `\\`, and any other as it is
+-- a byte as it is printed: the escape character as `\e`, a carriage return as `\r`, a
+-- backslash as `\\`, and any other as it is
 abbrev pub escaped_byte : ℕ → List ℕ
-escaped_byte b = if b == 27 then 92 ∷ 101 ∷ [] else if b == 13 then 92 ∷ 114 ∷ [] else if b == 92 then 92 ∷ 92 ∷ [] else b ∷ []
+escaped_byte b =
+    if b == 27 then 92 ∷ 101 ∷ [] else if b == 13 then 92 ∷ 114 ∷ [] else if b == 92 then 92 ∷ 92 ∷ [] else b ∷ []
 
 -- a row's bytes as they are printed
 abbrev pub escaped : List ℕ → List ℕ

@@ -7,7 +7,8 @@ use Rattle.minus_script.specs.declared.arguments.Arguments.{Arguments}
 
 -- the mode with a name
 abbrev pub mode_named : List ℕ → Option Mode
-mode_named name = if bytes_eq name (codes "page") then Some Page else if bytes_eq name (codes "bytes") then Some Bytes else None
+mode_named name =
+    if bytes_eq name (codes "page") then Some Page else if bytes_eq name (codes "bytes") then Some Bytes else None
 
 -- the arguments of a mode, a number of columns and a number of rows, if all of them are there
 abbrev pub arguments_from : Option Mode → Option ℕ → Option ℕ → Option Arguments

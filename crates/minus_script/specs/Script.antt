@@ -1,6 +1,6 @@
 -- The script: its lines, and what each of them tells the session.
-use Rattle.std.specs.Prelude.{ℕ, ◌+◌, ◌==◌, ◌++◌, nat_lt, List, [], ◌∷◌, length, map, Bool, true, false, Option, Some, None, Result, Ok, Err, bytes_eq, codes}
-use Rattle.std.specs.Prelude.{◌&&◌, if◌then◌else◌}
+use Rattle.std.specs.Prelude.{ℕ, ◌+◌, ◌==◌, ◌++◌, nat_lt, List, [], ◌∷◌, length, map, Bool, true, false, Option, Some}
+use Rattle.std.specs.Prelude.{None, Result, Ok, Err, bytes_eq, codes, ◌&&◌, if◌then◌else◌}
 use Rattle.std.specs.Option.{option_map}
 use Rattle.std.specs.Str.{is_utf8, chars}
 use Rattle.std.specs.List.{slice_split, before_first, after_first, position_or_len}
@@ -13,9 +13,10 @@ use Rattle.minus_text.specs.declared.line_numbers.LineNumbers.{LineNumbers}
 use Rattle.minus_text.specs.declared.line_numbers.LineNumbers.TheVariants.{AlwaysOn, Enabled, Disabled, AlwaysOff}
 use Rattle.minus_state.specs.declared.search.condition.NeverShows.{NeverShows}
 use Rattle.minus_script.specs.declared.keys.DefaultKeys.{DefaultKeys}
-use Rattle.minus.specs.Reads.{Told, a_command, an_event}
-use Rattle.minus.specs.Table.{Wanted, sets_data, appends_data, moves_mark, resizes, sets_prompt, sends_message, follows, shows_prompt, sets_numbers}
-use Rattle.minus.specs.Table.{sets_wrapping, sets_match_lines, sets_carry_style}
+use Rattle.minus_commands.specs.Reads.{Told, a_command, an_event}
+use Rattle.minus_commands.specs.Table.{Wanted, sets_data, appends_data, moves_mark, resizes, sets_prompt, sends_message}
+use Rattle.minus_commands.specs.Table.{follows, shows_prompt, sets_numbers, sets_wrapping, sets_match_lines}
+use Rattle.minus_commands.specs.Table.{sets_carry_style}
 use Rattle.minus_input.specs.Number.{usize_of}
 use Rattle.minus_script.specs.DescribedEvents.{key_described, mouse_said}
 use Rattle.minus_script.specs.Escapes.{unescaped}
@@ -44,7 +45,13 @@ has_blank line = nat_lt (position_or_len is_blank line) (length line)
 
 -- a character typed: the press of its key, without a modifier
 abbrev pub typed : ℕ → Told NeverShows DefaultKeys
-typed character = an_event (Key (record { code = Char character; modifiers = record { 0 = 0 }; kind = Press; state = record { 0 = 0 } }))
+typed character =
+    an_event (Key (record {
+      code = Char character;
+      modifiers = record { 0 = 0 };
+      kind = Press;
+      state = record { 0 = 0 };
+    }))
 
 -- two numbers ask for a size
 abbrev pub size_asked : Option ℕ → Option ℕ → Option (Wanted NeverShows DefaultKeys)
@@ -54,11 +61,14 @@ size_asked None rows = None
 
 -- a size is two numbers with one blank between them
 abbrev pub resize_asked : List ℕ → Option (Wanted NeverShows DefaultKeys)
-resize_asked argument = if has_blank argument then size_asked (usize_of (before_first is_blank argument)) (usize_of (after_first is_blank argument)) else None
+resize_asked argument =
+    if has_blank argument
+    then size_asked (usize_of (before_first is_blank argument)) (usize_of (after_first is_blank argument)) else None
 
 -- whether an argument says on or off
 abbrev pub switch_of : List ℕ → Option Bool
-switch_of argument = if bytes_eq argument (codes "on") then Some true else if bytes_eq argument (codes "off") then Some false else None
+switch_of argument =
+    if bytes_eq argument (codes "on") then Some true else if bytes_eq argument (codes "off") then Some false else None
 
 -- the numbers that an argument asks for
 abbrev pub numbers_of : List ℕ → Option LineNumbers
@@ -99,10 +109,11 @@ one_command wanted = a_command wanted ∷ []
 abbrev pub all_typed : List ℕ → List (Told NeverShows DefaultKeys)
 all_typed text = map typed (chars text)
 
--- a key, or an event of the mouse, is one input
+-- a key is one input
 abbrev pub key_told : KeyEvent → List (Told NeverShows DefaultKeys)
 key_told key = an_event (Key key) ∷ []
 
+-- an event of the mouse is one input
 abbrev pub mouse_told : MouseEvent → List (Told NeverShows DefaultKeys)
 mouse_told mouse = an_event (Mouse mouse) ∷ []
 
@@ -114,13 +125,16 @@ word_told word argument =
     else if bytes_eq word (codes "mouse") then option_map mouse_told (mouse_said argument)
     else option_map one_command (command_asked word argument)
 
--- what a line tells: it is UTF-8, and its first blank ends its word and begins the argument; a faulty line tells nothing
+-- what a line tells: it is UTF-8, and its first blank ends its word and begins the
+-- argument; a faulty line tells nothing
 abbrev pub line_told : List ℕ → Option (List (Told NeverShows DefaultKeys))
-line_told line = if is_utf8 line && has_blank line then word_told (before_first is_blank line) (after_first is_blank line) else None
+line_told line =
+    if is_utf8 line && has_blank line then word_told (before_first is_blank line) (after_first is_blank line) else None
 
 -- what a first line tells, and then the later ones, or the number of the first faulty line
 abbrev pub then_told :
-    Option (List (Told NeverShows DefaultKeys)) → Result (List (Told NeverShows DefaultKeys)) ℕ → Result (List (Told NeverShows DefaultKeys)) ℕ
+    Option (List (Told NeverShows DefaultKeys)) → Result (List (Told NeverShows DefaultKeys)) ℕ
+    → Result (List (Told NeverShows DefaultKeys)) ℕ
 then_told None later = Err 1
 then_told (Some first) (Ok later) = Ok (first ++ later)
 then_told (Some first) (Err number) = Err (number + 1)

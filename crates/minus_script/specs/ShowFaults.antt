@@ -2,7 +2,7 @@
 use Rattle.std.specs.Prelude.{ℕ, List}
 use Rattle.minus_state.specs.declared.search.condition.NeverShows.{NeverShows}
 use Rattle.minus_script.specs.declared.keys.DefaultKeys.{DefaultKeys}
-use Rattle.minus.specs.Reads.{Told}
+use Rattle.minus_commands.specs.Reads.{Told}
 use Rattle.minus_term.specs.Refusals.{Refusal, at_cleanup, refusal_of}
 use Rattle.minus_script.specs.Runs.{IsRefusal}
 use Rattle.minus_script.specs.declared.fault.ScriptFault.{ScriptFault}
@@ -19,6 +19,7 @@ abbrev pub IsUncleaned : Refusal → Type 0
 IsUncleaned (at_cleanup cause) = Unit {0}
 IsUncleaned refusal = ⊥
 
+-- a script ended with this fault since the sink refused a cleanup
 abbrev pub IsCleanupFault : ScriptFault → Type 0
 IsCleanupFault (Io stream cause) = ⊥
 IsCleanupFault (Line number) = ⊥

@@ -17,7 +17,7 @@ const MOST_READS: usize = 1_048_576;
 const BUFFER_LEN: usize = 4096;
 
 /// The bytes of a script up to its end. An interrupted read is tried again, and counts as a read;
-/// so many reads without an end are a fault of the reader.
+/// this many reads without an end are a fault of the reader.
 pub fn read_script<R: Read>(alloc: Global, reader: &mut R) -> Result<Vec<u8>, ScriptFault>
     ensures bytes { IfOk result (λ script. Consumes (R.remaining reader.old) (R.remaining reader.new) script.items) }
     ensures end { IfOk result (λ _. IsAtEnd (R.remaining reader.new)) }

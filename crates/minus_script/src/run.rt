@@ -1,7 +1,7 @@
 //! A run of a script.
 ghost use Rattle.std.specs.Prelude.{◌≡◌, map, Some, IfOk, IfErr, OnOk};
 ghost use Rattle.std.specs.Io.KnownBytes.{Appends};
-ghost use Rattle.minus.specs.Reads.{told_of};
+ghost use Rattle.minus_commands.specs.Reads.{told_of};
 ghost use Rattle.minus.specs.Core.{seen_of};
 ghost use Rattle.minus.specs.Steps.{cleanup_after};
 ghost use Rattle.minus.specs.declared.status.Status.TheVariants.{Running};
@@ -141,7 +141,7 @@ fn show(
     }
 }
 
-/// Reads a script to its end, runs it on a pager of so many columns and rows, and prints what the mode asks for: the
+/// Reads a script to its end, runs it on a pager of this many columns and rows, and prints what the mode asks for: the
 /// rows of the last page, or, after an exit, `exit` and its code; or all bytes that the terminal was sent, with those
 /// that clean it up at the end. What follows an exit in the script is not run; what follows a copied text is.
 ///

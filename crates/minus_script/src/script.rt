@@ -7,8 +7,8 @@ ghost use Rattle.minus_script.specs.Script.{key_told, mouse_told};
 ghost use Rattle.minus_script.specs.Escapes.{unescaped, escape_byte, split_escape_of};
 ghost use Rattle.minus_script.specs.ScriptLines.{told_by};
 ghost use Rattle.minus_script.specs.ScriptFaults.{IsScriptFault};
-ghost use Rattle.minus.specs.Reads.{told_of, wanted_of};
-ghost use Rattle.minus.specs.Table.{sets_data, appends_data, moves_mark, sets_prompt, sends_message, follows, shows_prompt, sets_numbers, sets_wrapping, sets_match_lines, sets_carry_style};
+ghost use Rattle.minus_commands.specs.Reads.{told_of, wanted_of};
+ghost use Rattle.minus_commands.specs.Table.{sets_data, appends_data, moves_mark, sets_prompt, sends_message, follows, shows_prompt, sets_numbers, sets_wrapping, sets_match_lines, sets_carry_style};
 
 use crate::described_events::{parse_key, parse_mouse};
 use crate::fault::ScriptFault;

@@ -181,7 +181,7 @@ fn is_numbered(came: &Came, script: &Script<'_>) -> bool {
     }
 }
 
-// How many calls of a sink that takes so many bytes a put a script makes, where it comes to all its bytes with none
+// How many calls of a sink that takes this many bytes a put a script makes, where it comes to all its bytes with none
 // refused.
 fn count_of(alloc: Global, script: &Script<'_>, most: usize) -> Option<usize> {
     let whole = came_of(

@@ -11,7 +11,7 @@ mod searches;
 
 type Session = Core<WithTty<Vec<u8>>, Plain>;
 
-// A session of 20 columns and so many rows.
+// A session of 20 columns and this many rows.
 fn session_of(alloc: Global, rows: usize) -> Option<Session> {
     match start(alloc, WithTty::new(Vec::new(alloc), true), 20, rows) {
         Ok(session) => Some(session),
@@ -27,7 +27,7 @@ fn line(alloc: Global, number: usize) -> Option<String> {
     }
 }
 
-// A text of so many lines, each its number from 0.
+// A text of this many lines, each its number from 0.
 fn lines(alloc: Global, count: usize) -> Option<String> {
     let mut text = String::new(alloc);
     for number in 0..count {
@@ -39,7 +39,7 @@ fn lines(alloc: Global, count: usize) -> Option<String> {
     Some(text)
 }
 
-// So many letters.
+// This many letters.
 fn letters(alloc: Global, count: usize) -> Option<String> {
     let mut text = String::new(alloc);
     for _ in 0..count {

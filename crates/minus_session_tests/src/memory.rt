@@ -124,6 +124,22 @@ pub struct Script<'a> {
     may_fail: bool,
 }
 
+impl<'a> Script<'a> {
+    // One of which no step fails the session.
+    const fn new(
+        begun: &'a [Asked<'a>],
+        page: [&'a str; 4],
+        tried: &'a [&'a Tried<'a>],
+    ) -> Script<'a> {
+        Script {
+            begun,
+            page,
+            tried,
+            may_fail: false,
+        }
+    }
+}
+
 // How steps end: each at once, one when it was asked for again, or not as they should; or they have failed the session.
 #[derive(Clone, Copy, PartialEq, Eq)]
 enum End {
@@ -143,7 +159,7 @@ fn add_exit(pager: &mut Pager, log: &Log) -> Result<(), MinusError> {
     pager.add_exit_callback(Counting::of(&log.calls)?)
 }
 
-// A session that writes into a log; none where its start is refused for want of memory.
+// A session that writes into a log; none where its start is refused since memory ran out.
 fn session_in<'a>(alloc: Global, log: &'a Log) -> Option<Lent<'a>> {
     let mut pager = PagerOf::new(alloc);
     if add_hook(&mut pager, Hook::EofReached, log).is_err() {
@@ -156,7 +172,7 @@ fn session_in<'a>(alloc: Global, log: &'a Log) -> Option<Lent<'a>> {
     }
 }
 
-// How a step ends that is asked for again where it is refused for want of memory.
+// How a step ends that is asked for again where it is refused since memory ran out.
 fn end_of(
     alloc: Global,
     log: &Log,

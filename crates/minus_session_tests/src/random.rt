@@ -139,7 +139,7 @@ fn begin(alloc: Global, held: &RefCell<Vec<u8>>) -> Option<Run<'_>> {
     })
 }
 
-// The first of so many steps after which something is wrong, if there is one; a run ends with its session.
+// The first of this many steps after which something is wrong, if there is one; a run ends with its session.
 fn first_fault(alloc: Global, seed: u64, steps: u64) -> Option<u64> {
     let held = RefCell::new(Vec::new(alloc));
     let Some(mut run) = begin(alloc, &held) else {

@@ -114,7 +114,8 @@ pub fn start<S: OutputSink + Drop>(
     init_core_with(PagerOf::new(alloc), RunMode::Static, sink, cols, rows, Keys)
 }
 
-/// The number by which a session refuses what is asked of it, or the want of memory to ask for it; 0 where it does it.
+/// The number by which a session refuses what is asked of it, or 1 if there is no memory to ask for it; 0 where it does
+/// it.
 pub fn number_of<S: OutputSink + Drop, P: Calls>(
     alloc: Global,
     session: &mut Core<S, P>,

@@ -1,7 +1,7 @@
 //! What a session shares with its test while it runs: the bytes of its sink, and how often its callbacks were called.
 use crate::facts::assert_holds;
 use crate::sessions::{Asked, PROMPT_ROW, has_page, number_of, start};
-use minus::{ExitCall, HookCall, OutputSink, PagerState, WithTty};
+use minus::{ExitCall, HookCall, PagerState, WithTty};
 use std::alloc::{AllocError, Global};
 use std::cell::{Cell, RefCell};
 use std::io;
@@ -39,20 +39,6 @@ impl<'a> Write for Shared<'a> {
 
     fn flush(&mut self) -> io::Result<()> {
         Ok(())
-    }
-}
-
-impl<'a> OutputSink for Shared<'a> {
-    fn put(&mut self, bytes: &[u8]) -> io::Result<usize> {
-        self.write(bytes)
-    }
-
-    fn settle(&mut self) -> io::Result<()> {
-        self.flush()
-    }
-
-    fn is_tty(&self) -> bool {
-        false
     }
 }
 
@@ -96,7 +82,7 @@ pub fn count_held(held: &RefCell<Vec<u8>>) -> usize {
     }
 }
 
-/// Whether a cell holds this behind so many bytes.
+/// Whether a cell holds this behind this many bytes.
 pub fn holds_behind(held: &RefCell<Vec<u8>>, before: usize, bytes: &[u8]) -> bool {
     match held.try_borrow() {
         Ok(held) => held.get(before..) == Some(bytes),

@@ -1,5 +1,5 @@
-//! How often a session asks its classifier about an event, and for the text of help. Where memory runs out, each answer is
-//! `false` or none.
+//! How often a session asks its classifier about an event, and for the text of help. Where memory runs out, each answer
+//! is `false` or none.
 use crate::facts::assert_holds;
 use crate::sessions::Asked::{Does, Exit, Key, Mark, Pressed, Push, Restored, Told};
 use crate::sessions::{Asked, TEN_LINES, input, terminal};
@@ -204,7 +204,7 @@ const EVENTS: [(&[Asked<'static>], (u32, u32)); 20] = [
     (&[SEARCH, Told(Event::FocusGained)], (0, 0)),
     (&[SEARCH, Key('l'), Pressed(KeyCode::Enter)], (0, 0)),
     (&[SEARCH, ESC], (0, 0)),
-    // but a new size, which is asked about once it is worked off
+    // but a new size, which is asked about once it is performed
     (&[SEARCH, RESIZE], (0, 0)),
     (&[SEARCH, RESIZE, RESIZE, Push("a"), ESC], (2, 0)),
     // an ended session asks nothing
@@ -282,7 +282,7 @@ fn a_run_asks_once_for_each_event(rt: HostRuntime) {
     assert_holds(&rt, asks_in_a_run(rt.alloc(), &RUN) == Some((4, 1)));
 }
 
-// How often a command asks that is handled by hand.
+// How often a command asks that is handled manually.
 fn asks_by_hand(alloc: Global, event: InputEvent) -> Option<(u32, u32)> {
     let calls = cell(alloc)?;
     let state = PagerState::new(alloc, 20, 4).ok()?;

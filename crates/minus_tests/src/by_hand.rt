@@ -1,4 +1,4 @@
-//! Parts that are driven by hand: what waits for a command that was handled, and what is drawn then. Where memory runs
+//! Parts that are driven manually: what waits for a command that was handled, and what is drawn then. Where memory runs
 //! out, each answer is `false`.
 ghost use Rattle.minus_state.specs.States.{IsFormed};
 
@@ -29,7 +29,7 @@ pub(crate) fn without_text(alloc: Global) -> Option<Driven> {
     of_size(alloc, 20, 4)
 }
 
-// Parts without a text, for so many columns and rows.
+// Parts without a text, for this many columns and rows.
 pub(crate) fn of_size(alloc: Global, cols: usize, rows: usize) -> Option<Driven> {
     let (Ok(state), Ok(keys)) = (PagerState::new(alloc, cols, rows), DefaultKeys::new(alloc)) else {
         return None;
@@ -170,7 +170,7 @@ const DONE: [Asked<'static>; 9] = [
     Asked::Io(IoCommand::RedrawPrompt),
 ];
 
-// Whether what is done by hand leaves the page of a session that does the same.
+// Whether what is done manually leaves the page of a session that does the same.
 fn is_a_sessions_page(alloc: Global) -> bool {
     let (Some(mut driven), Some(mut session)) = (
         without_text(alloc),

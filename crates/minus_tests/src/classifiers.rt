@@ -48,8 +48,8 @@ fn leads_to(session: &mut Moving, input: InputOf<Own>, mark: usize) -> bool {
     session.step(input).is_ok() && session.state().upper_mark == mark
 }
 
-// Whether an event moves to row 2, another classifier moves nothing when it is set, and the next event moves as far as the
-// text goes, since it asks for more than that.
+// Whether an event moves to row 2, another classifier moves nothing when it is set, and the next event moves as far as
+// the text goes, since it asks for more than that.
 fn are_exchanged(alloc: Global) -> bool {
     let Some(mut session) = moving_to(alloc, TEN_LINES, 2) else {
         return false;
@@ -65,7 +65,7 @@ fn the_classifier_last_set_decides(rt: HostRuntime) {
     assert_holds(&rt, are_exchanged(rt.alloc()));
 }
 
-// Whether commands that hand over two classifiers are equal, and one is shown by its name alone.
+// Whether commands that register two classifiers are equal, and one is shown by its name alone.
 fn are_alike(alloc: Global) -> bool {
     let one: CommandOf<Own> = CommandOf::SetInputClassifier(ToRow(2));
     let other: CommandOf<Own> = CommandOf::SetInputClassifier(ToRow(5));

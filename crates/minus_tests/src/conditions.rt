@@ -1,6 +1,6 @@
 //! Conditions of incremental search: boxed ones, and what one sees. Where memory runs out, each answer is `false`.
 use crate::facts::assert_holds;
-use crate::sessions::{TEN_LINES, terminal};
+use crate::sessions::{TEN_LINES, takes, terminal};
 use minus::{
     Calls, Command, CommandOf, Core, InputOf, KeptCondition, NeverShows, OutputSink, Pager,
     RunMode, SearchCondition, SearchOpts, init_core,
@@ -18,16 +18,6 @@ macro_rules! boxed {
             opts.string.as_str() == $query
         })
     };
-}
-
-// Whether a session takes these keys.
-fn takes<S: OutputSink + Drop, P: Calls>(session: &mut Core<S, P>, keys: &[&str]) -> bool {
-    for key in keys {
-        if session.step(InputOf::Event(press(key))).is_err() {
-            return false;
-        }
-    }
-    true
 }
 
 // Whether these are the rows of text on a session's page, which has a prompt row below them.
@@ -127,44 +117,43 @@ fn is_shown(opts: &SearchOpts<'_>, key: &str, cursor: u16) -> bool {
         && (opts.cols, opts.rows) == (20, 4)
 }
 
+// Whether a session of ten lines that asks a condition takes these keys, and has this text on its page then, at each
+// stop. It is a macro, so that the box is made where it is used.
+macro_rules! leads_by {
+    ($alloc:expr, $condition:expr, $($keys:expr => $rows:expr),*) => {{
+        let Ok(condition) = Box::new($alloc, $condition) else {
+            return false;
+        };
+        let condition: SearchCondition = condition;
+        let mut pager = Pager::new($alloc);
+        let is_told = pager
+            .set_incremental_search_condition(KeptCondition::new(condition))
+            .is_ok()
+            && pager.set_text(TEN_LINES).is_ok();
+        match init_core(pager, RunMode::Static, terminal($alloc), 20, 4) {
+            Ok(mut session) => is_told $(&& leads_to(&mut session, &$keys, &$rows))*,
+            Err(_) => false,
+        }
+    }};
+}
+
 // Whether a condition sees the cursor before it follows an insertion.
 fn sees_an_insertion(alloc: Global) -> bool {
-    let Ok(condition) = Box::new(alloc, |opts: &SearchOpts<'_>| is_shown(opts, "7", 2)) else {
-        return false;
-    };
-    let condition: SearchCondition = condition;
-    let mut pager = Pager::new(alloc);
-    let is_told = pager
-        .set_incremental_search_condition(KeptCondition::new(condition))
-        .is_ok()
-        && pager.set_text(TEN_LINES).is_ok();
-    match init_core(pager, RunMode::Static, terminal(alloc), 20, 4) {
-        Ok(mut session) => is_told && leads_to(&mut session, &["/", "l", "7"], &AT_L7),
-        Err(_) => false,
-    }
+    leads_by!(
+        alloc,
+        |opts: &SearchOpts<'_>| is_shown(opts, "7", 2),
+        ["/", "l", "7"] => AT_L7
+    )
 }
 
 // Whether it sees the cursor where a removal has left it.
 fn sees_a_removal(alloc: Global) -> bool {
-    let Ok(condition) = Box::new(alloc, |opts: &SearchOpts<'_>| {
-        is_shown(opts, "backspace", 3)
-    }) else {
-        return false;
-    };
-    let condition: SearchCondition = condition;
-    let mut pager = Pager::new(alloc);
-    let is_told = pager
-        .set_incremental_search_condition(KeptCondition::new(condition))
-        .is_ok()
-        && pager.set_text(TEN_LINES).is_ok();
-    match init_core(pager, RunMode::Static, terminal(alloc), 20, 4) {
-        Ok(mut session) => {
-            is_told
-                && leads_to(&mut session, &["/", "l", "7", "x"], &FIRST)
-                && leads_to(&mut session, &["backspace"], &AT_L7)
-        }
-        Err(_) => false,
-    }
+    leads_by!(
+        alloc,
+        |opts: &SearchOpts<'_>| is_shown(opts, "backspace", 3),
+        ["/", "l", "7", "x"] => FIRST,
+        ["backspace"] => AT_L7
+    )
 }
 
 #[test]
@@ -173,7 +162,7 @@ fn a_condition_sees_the_edit(rt: HostRuntime) {
     assert_holds(&rt, sees_a_removal(rt.alloc()));
 }
 
-// Whether a command that hands over a condition is shown by its name alone.
+// Whether a command that registers a condition is shown by its name alone.
 fn is_told_by_its_name(alloc: Global) -> bool {
     let command: CommandOf<ScriptKinds> = CommandOf::IncrementalSearchCondition(NeverShows);
     is_debugged(alloc, &command, "IncrementalSearchCondition")

@@ -173,7 +173,7 @@ fn a_state_is_drawn_by_itself(rt: HostRuntime) {
     assert_holds(&rt, is_drawn_by_itself(rt.alloc(), texts));
 }
 
-// Whether the rows of a state of one line are drawn so from a row on, where there were so many.
+// Whether the rows of a state of one line are drawn so from a row on, where there were this many.
 fn is_drawn_from(alloc: Global, first: usize, old_count: usize, drawn: &str) -> bool {
     let mut sink = Vec::new(alloc);
     let is_drawn = match state_of(alloc, "a") {

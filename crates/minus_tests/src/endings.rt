@@ -8,7 +8,7 @@ use minus_part_tests::shown::is_debugged;
 use minus_part_tests::stubborn::{NOTHING, Refusal, Refused, Stubborn, write};
 use std::alloc::Global;
 
-// So many writes a start on 6 columns and 2 rows takes, the setup and the first page, and so many a cleanup.
+// This many writes a start on 6 columns and 2 rows takes, the setup and the first page, and this many a cleanup.
 const START_WRITES: usize = 54 + 41;
 
 const CLEANUP_WRITES: usize = 54;
@@ -90,7 +90,7 @@ fn a_refused_cleanup_fails_the_session(rt: HostRuntime) {
     assert_holds(&rt, is_refused(rt.alloc()));
 }
 
-// Whether the second step of a run exited, and so many inputs are left.
+// Whether the second step of a run exited, and this many inputs are left.
 fn has_exited(ran: &Ran, left: usize) -> bool {
     let exited = match &ran.last {
         Some(answer) => answer.exited,

@@ -1,6 +1,6 @@
 //! A session's sink is exchanged for another one. Where memory runs out, each answer is `false`.
 use crate::facts::assert_holds;
-use crate::sessions::{Asked, Session, number_of, session_on, terminal};
+use crate::sessions::{Asked, Session, number_of, on_stubborn, session_on, terminal};
 use minus::{KeyCode, OutputSink, WithTty};
 use minus_part_tests::stubborn::{NOTHING, Refusal, Stubborn, write};
 use std::alloc::Global;
@@ -102,8 +102,7 @@ fn an_exchange_is_refused(rt: HostRuntime) {
 
 // Whether a sink that refuses the page fails the session, the old one comes back, and later exchanges are refused.
 fn is_broken_off(alloc: Global) -> bool {
-    let sink = Stubborn::terminal(alloc, NOTHING);
-    let Some(mut session) = session_on(alloc, sink, 20, 3) else {
+    let Some(mut session) = on_stubborn(alloc) else {
         return false;
     };
     let given = Stubborn::terminal(alloc, write(3, Refusal::Broken));

@@ -1,5 +1,5 @@
-//! Commands that are handled by hand, one behind the other, and what they leave of the parts. Where memory runs out, each
-//! answer is `false`.
+//! Commands that are handled manually, one behind the other, and what they leave of the parts. Where memory runs out,
+//! each answer is `false`.
 use crate::by_hand::{Driven, of_size};
 use crate::facts::{assert_at, assert_holds};
 use crate::sessions::Asked::{Does, Exit, Mark, Message, Prompt, Push, Set, Start, Update};
@@ -8,6 +8,7 @@ use minus::{
     CommandOf, CommandQueueOf, Handled, InputEvent, IoCommand, PagerState, PartsOf, Selection,
     handle_event,
 };
+use minus_part_tests::shown::{has_prompt_row, has_rows};
 use minus_script::{DefaultKeys, ScriptKinds};
 use std::alloc::Global;
 
@@ -31,24 +32,6 @@ fn handles(driven: &mut Driven, asked: &[Asked<'_>]) -> bool {
         };
     }
     true
-}
-
-// Whether a state has these rows of text.
-fn has_rows(state: &PagerState, rows: &[&str]) -> bool {
-    for (i, row) in rows.iter().enumerate() {
-        if state.screen.row_text(i) != Some(*row) {
-            return false;
-        }
-    }
-    state.screen.formatted_lines_count() == rows.len()
-}
-
-// Whether its prompt row is this one.
-fn has_prompt_row(alloc: Global, state: &PagerState, row: &str) -> bool {
-    match state.displayed_prompt(alloc) {
-        Ok(text) => text.as_str() == row,
-        Err(_) => false,
-    }
 }
 
 // Whether what is handled leaves this.
@@ -167,8 +150,8 @@ const TEN: &str =
 
 const SIX: &str = "line 0\nline 1\nline 2\nline 3\nline 4\nline 5\n";
 
-// A text on five rows, the mark, the row of the page that a selection from its first row is led to, and the mark and the
-// row of the text that this leads to.
+// A text on five rows, the mark, the row of the page that a selection from its first row is led to, and the mark and
+// the row of the text that this leads to.
 const MOVES: [(&str, usize, u16, usize, usize); 3] = [
     (TEN, 3, 0, 2, 2),
     (TEN, 3, 4, 4, 7),

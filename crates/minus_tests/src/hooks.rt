@@ -1,21 +1,21 @@
 //! Hooks and callbacks of an exit in a session: who is called, when and in which order, and what is kept. Where memory
 //! runs out, each answer is `false`.
+mod by_hand;
+mod calls;
+mod starts;
+
 use crate::facts::assert_holds;
-use crate::sessions::TEN_LINES;
+use crate::sessions::{TEN_LINES, takes};
 use minus::{
-    CommandOf, CommandQueueOf, Core, Event, ExitCall, ExitStrategy, Hook, HookCall,
-    InputClassifier, InputEvent, InputOf, IoCommand, Kinds, MinusError, NeverShows, PagerOf,
-    PagerState, PartsOf, RunMode, SearchMode, StartErrorOf, WithTty, handle_event,
-    handle_io_command, init_core_with,
+    CommandOf, Core, Event, ExitCall, ExitStrategy, Hook, HookCall, InputClassifier, InputEvent,
+    InputOf, Kinds, MinusError, NeverShows, PagerOf, PagerState, PartsOf, RunMode, SearchMode,
+    StartErrorOf, WithTty, init_core_with,
 };
 use minus_part_tests::asked::press;
-use minus_part_tests::shown::is_debugged;
 use std::alloc::{AllocError, Global};
 use std::cell::Cell;
 use std::io::{self, Write};
 use std::rc::Rc;
-
-mod calls;
 
 // Writes a digit behind a number.
 fn write_digit(log: &Cell<u64>, digit: u64) {
@@ -114,6 +114,14 @@ fn start(
     Some(init_core_with(pager, RunMode::Static, sink, 20, 4, Still))
 }
 
+// What a pager of four rows without a text has, for commands that are handled manually.
+fn parts_of(alloc: Global) -> Option<PartsOf<Own>> {
+    match PagerState::new(alloc, 20, 4) {
+        Ok(state) => Some(PartsOf::keeping(alloc, state, Still, None)),
+        Err(_) => None,
+    }
+}
+
 // A session of ten lines.
 fn session_of(alloc: Global, log: &Rc<Cell<u64>>) -> Option<Session> {
     match start(pager_of(alloc)?, log) {
@@ -205,16 +213,6 @@ fn a_text_of_as_many_rows_has_no_end(rt: HostRuntime) {
         return;
     };
     assert_holds(&rt, is_not_called_at_the_end(rt.alloc(), &log));
-}
-
-// Whether a session takes these keys.
-fn takes(session: &mut Session, keys: &[&str]) -> bool {
-    for key in keys {
-        if session.step(InputOf::Event(press(key))).is_err() {
-            return false;
-        }
-    }
-    true
 }
 
 // Whether a query that is taken, and leads to the last page, calls none at the end.
@@ -354,202 +352,4 @@ fn waits(pager: &mut PagerOf<Own>, log: &Rc<Cell<u64>>, hook: Hook, id: u64, dig
         Ok(log) => pager.add_hook(hook, id, Writes { digit, log }).is_ok(),
         Err(_) => false,
     }
-}
-
-// Whether a start calls before the setup and after the first page, and then goes to the last page without a call.
-fn is_started_in_order(alloc: Global, log: &Rc<Cell<u64>>) -> bool {
-    let Some(mut pager) = pager_of(alloc) else {
-        return false;
-    };
-    let is_told = waits(&mut pager, log, Hook::PostPagerStart, 0, 2)
-        && waits(&mut pager, log, Hook::EofReached, 0, 3)
-        && waits(&mut pager, log, Hook::PrePagerStart, 0, 1)
-        && pager.follow_output(true).is_ok();
-    match start(pager, log) {
-        Some(Ok(session)) => { is_told && log.get() == 109_209 && session.state().upper_mark == 7 }
-        _ => false,
-    }
-}
-
-#[test]
-fn a_start_calls_in_its_order(rt: HostRuntime) {
-    let Ok(log) = Rc::new(rt.alloc(), Cell::new(0)) else {
-        return;
-    };
-    assert_holds(&rt, is_started_in_order(rt.alloc(), &log));
-}
-
-// Whether a session keeps what waited in its pager for the end and for an exit.
-fn keeps_what_waited(alloc: Global, log: &Rc<Cell<u64>>) -> bool {
-    let (Some(mut pager), Ok(at_exit)) = (pager_of(alloc), shared(log)) else {
-        return false;
-    };
-    let callback = Writes {
-        digit: 4,
-        log: at_exit,
-    };
-    let is_told = waits(&mut pager, log, Hook::EofReached, 0, 3)
-        && pager.add_exit_callback(callback).is_ok()
-        && pager.set_exit_strategy(ExitStrategy::ProcessQuit).is_ok()
-        && waits(&mut pager, log, Hook::EofReached, 0, 5)
-        && pager.remove_hook(Hook::EofReached, 2).is_ok();
-    match start(pager, log) {
-        Some(Ok(mut it)) => {
-            is_told
-                && logs(&mut it, log, to_row(100), 957)
-                && exits(&mut it, log, (ExitStrategy::ProcessQuit, 1), 49)
-        }
-        _ => false,
-    }
-}
-
-#[test]
-fn a_session_keeps_what_waited_in_its_pager(rt: HostRuntime) {
-    let Ok(log) = Rc::new(rt.alloc(), Cell::new(0)) else {
-        return;
-    };
-    assert_holds(&rt, keeps_what_waited(rt.alloc(), &log));
-}
-
-// Whether a start whose callbacks ask for these ids is refused by a number, and hands its pager back before anything is
-// called or written, twice.
-fn is_start_refused(alloc: Global, log: &Rc<Cell<u64>>, ids: &[(Hook, u64)], number: u8) -> bool {
-    let Some(mut pager) = pager_of(alloc) else {
-        return false;
-    };
-    for (hook, id) in ids {
-        if !waits(&mut pager, log, *hook, *id, 1) {
-            return false;
-        }
-    }
-    for _ in 0..2 {
-        let Some(Err(refused)) = start(pager, log) else {
-            return false;
-        };
-        let StartErrorOf {
-            sink: _,
-            pager: back,
-            cause,
-        } = refused;
-        let Some(back) = back else {
-            return false;
-        };
-        if cause.number() != number || log.get() != 0 {
-            return false;
-        }
-        pager = back;
-    }
-    true
-}
-
-// Ids that are asked for, and the number by which a start is refused then.
-const UNFREE: [(&[(Hook, u64)], u8); 3] = [
-    (&[(Hook::EofReached, 0), (Hook::EofReached, 2)], 3),
-    (&[(Hook::PostPagerExit, 1)], 3),
-    (&[(Hook::EofReached, u64::MAX), (Hook::EofReached, 0)], 4),
-];
-
-#[test]
-fn a_start_refuses_ids_that_are_not_free(rt: HostRuntime) {
-    for (ids, number) in &UNFREE {
-        let Ok(log) = Rc::new(rt.alloc(), Cell::new(0)) else {
-            return;
-        };
-        assert!(rt;
-            is_start_refused(rt.alloc(), &log, ids, *number),
-            "by {number}"
-        );
-    }
-}
-
-// Whether a move that is done by hand calls the hook of the end where it comes there, and only there.
-fn is_called_by_hand(alloc: Global, log: &Rc<Cell<u64>>) -> bool {
-    let (Ok(state), Ok(text), Ok(log_of_hook)) = (
-        PagerState::new(alloc, 20, 4),
-        String::from_str(alloc, TEN_LINES),
-        shared(log),
-    ) else {
-        return false;
-    };
-    let mut parts: PartsOf<Own> = PartsOf::keeping(alloc, state, Still, None);
-    let mut queue = CommandQueueOf::new_zero(alloc);
-    let mut sink = WithTty::new(Vec::new(alloc), true);
-    let writes = Writes {
-        digit: 5,
-        log: log_of_hook,
-    };
-    parts
-        .hooks
-        .add_callback(Hook::EofReached, 0, writes)
-        .is_ok()
-        && handle_event(alloc, CommandOf::SetData(text), &mut parts, &mut queue).is_ok()
-        && handle_io_command(alloc, IoCommand::SetUpperMark(2), &mut sink, &mut parts).is_ok()
-        && handle_io_command(alloc, IoCommand::SetUpperMark(100), &mut sink, &mut parts).is_ok()
-        && log.get() == 57
-}
-
-#[test]
-fn a_move_by_hand_calls_at_the_end(rt: HostRuntime) {
-    let Ok(log) = Rc::new(rt.alloc(), Cell::new(0)) else {
-        return;
-    };
-    assert_holds(&rt, is_called_by_hand(rt.alloc(), &log));
-}
-
-// Whether a callback of an exit is kept as its command is handled, and not called.
-fn is_kept_by_hand(alloc: Global, log: &Rc<Cell<u64>>) -> bool {
-    let (Ok(state), Ok(at_exit)) = (PagerState::new(alloc, 20, 4), shared(log)) else {
-        return false;
-    };
-    let mut parts: PartsOf<Own> = PartsOf::keeping(alloc, state, Still, None);
-    let mut queue = CommandQueueOf::new_zero(alloc);
-    let adds = CommandOf::AddExitCallback(Writes {
-        digit: 1,
-        log: at_exit,
-    });
-    handle_event(alloc, adds, &mut parts, &mut queue).is_ok()
-        && parts.exit_callbacks.len() == 1
-        && queue.is_empty()
-        && log.get() == 0
-}
-
-#[test]
-fn a_callback_of_an_exit_is_kept_by_hand(rt: HostRuntime) {
-    let Ok(log) = Rc::new(rt.alloc(), Cell::new(0)) else {
-        return;
-    };
-    assert_holds(&rt, is_kept_by_hand(rt.alloc(), &log));
-}
-
-// Whether commands with callbacks are shown by what stands beside those, and are equal by that.
-fn are_told_without_callbacks(alloc: Global, log: &Rc<Cell<u64>>) -> bool {
-    let (Ok(one), Ok(other), Ok(third)) = (shared(log), shared(log), shared(log)) else {
-        return false;
-    };
-    let one: Command = CommandOf::AddHook(Hook::EofReached, 2, Writes { digit: 1, log: one });
-    let other: Command = CommandOf::AddHook(
-        Hook::EofReached,
-        2,
-        Writes {
-            digit: 2,
-            log: other,
-        },
-    );
-    let exit: Command = CommandOf::AddExitCallback(Writes {
-        digit: 1,
-        log: third,
-    });
-    let remove: Command = CommandOf::RemoveHook(Hook::EofReached, 2);
-    one == other
-        && is_debugged(alloc, &one, "AddHook(EofReached, 2)")
-        && is_debugged(alloc, &exit, "AddExitCallback")
-        && is_debugged(alloc, &remove, "RemoveHook(EofReached, 2)")
-}
-
-#[test]
-fn commands_do_not_tell_their_callbacks(rt: HostRuntime) {
-    let Ok(log) = Rc::new(rt.alloc(), Cell::new(0)) else {
-        return;
-    };
-    assert_holds(&rt, are_told_without_callbacks(rt.alloc(), &log));
 }

@@ -6,4 +6,5 @@ mod exact;
 mod helps;
 mod presses;
 mod registers;
+mod tables;
 mod wide;

@@ -1,5 +1,5 @@
-//! Tests of what no contract says, for each crate: worked sessions with the pages and the bytes that they must have, and
-//! sinks that refuse, for `minus`; those of the crates below it, and of `minus_script`, in a module of each.
+//! Tests of what no contract says, for each crate: worked sessions with the pages and the bytes that they must have,
+//! and sinks that refuse, for `minus`; those of the crates below it, and of `minus_script`, in a module of each.
 #![tactic(auto)]
 
 #[cfg(test)]
@@ -8,6 +8,8 @@ mod asks;
 mod by_hand;
 #[cfg(test)]
 mod callers;
+#[cfg(test)]
+mod calls;
 #[cfg(test)]
 mod classifiers;
 #[cfg(test)]
@@ -66,6 +68,8 @@ mod starts;
 mod states;
 #[cfg(test)]
 mod table_rows;
+#[cfg(test)]
+mod term_changes;
 #[cfg(test)]
 mod told;
 #[cfg(test)]

@@ -8,8 +8,8 @@ use minus_part_tests::asked::{At, press, set_term, state_of};
 use minus_script::DefaultKeys;
 use std::alloc::Global;
 
-// A term, if there is one, the mark and the match that is told of, counted from 0; a typed prefix and a key, after a search
-// forward; the mark that it leads to, and the match that is told of then. The last mark of the text is 7.
+// A term, if there is one, the mark and the match that is reported, counted from 0; a typed prefix and a key, after a
+// search forward; the mark that it leads to, and the match that is reported then. The last mark of the text is 7.
 struct Jump<'a> {
     name: &'a str,
     term: Option<&'a str>,

@@ -82,7 +82,7 @@ fn a_control_sequence_in_a_text_is_text(rt: HostRuntime) {
     assert_holds(&rt, keeps_a_sequence(rt.alloc()));
 }
 
-// Whether a page may have so many rows.
+// Whether a page may have this many rows.
 fn may_have_rows(alloc: Global, rows: usize) -> bool {
     match session_on(alloc, terminal(alloc), 20, rows) {
         Some(session) => has_len(&session, rows),
@@ -95,7 +95,7 @@ fn a_page_may_have_hundreds_of_rows(rt: HostRuntime) {
     assert_holds(&rt, may_have_rows(rt.alloc(), 300));
 }
 
-// Whether a session of four rows is led to a text of so many rows, and to this mark.
+// Whether a session of four rows is led to a text of this many rows, and to this mark.
 fn ends_at(alloc: Global, asked: &[Asked<'_>], rows: usize, mark: usize) -> bool {
     let Some(mut session) = session_on(alloc, terminal(alloc), 20, 4) else {
         return false;
@@ -118,7 +118,7 @@ fn the_last_page_begins_at_the_mark(rt: HostRuntime) {
     }
 }
 
-// Whether a screen has one row, and its longest line so many columns.
+// Whether a screen has one row, and its longest line this many columns.
 fn has_one_row(screen: &Screen, row: &str, longest: usize) -> bool {
     screen.formatted_lines_count() == 1
         && screen.row_text(0) == Some(row)

@@ -7,7 +7,7 @@ use std::alloc::Global;
 use std::cell::Cell;
 use std::rc::Rc;
 
-// A pager with a text, which is paged all the same where it fits, or not.
+// A pager with a text, which is paged anyway where it fits, or not.
 fn pager_of(alloc: Global, text: &str, is_paged: bool) -> Option<Pager> {
     let mut pager = Pager::new(alloc);
     let is_told = pager.set_text(text).is_ok() && pager.set_run_no_overflow(is_paged).is_ok();

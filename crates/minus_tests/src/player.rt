@@ -1,5 +1,5 @@
-//! A plain player of what a terminal is sent, apart from the definitions: it plays bytes on a screen of texts. Where memory
-//! runs out, each answer is `false`.
+//! A plain player of what a terminal is sent, apart from the definitions: it plays bytes on a screen of texts. Where
+//! memory runs out, each answer is `false`.
 use minus_input::parse_usize;
 use std::alloc::Global;
 use std::collections::VecDeque;
@@ -14,7 +14,7 @@ pub struct Screen {
     begun: Option<String>,
 }
 
-/// Plays bytes on a blank screen of so many rows; none where they end in an escape sequence, or are no text.
+/// Plays bytes on a blank screen of this many rows; none where they end in an escape sequence, or are no text.
 pub fn played(alloc: Global, rows: usize, bytes: &[u8]) -> Option<Screen> {
     let mut screen = blank(alloc, rows)?;
     let Ok(text) = str::from_utf8(bytes) else {
@@ -28,7 +28,7 @@ pub fn played(alloc: Global, rows: usize, bytes: &[u8]) -> Option<Screen> {
     screen.begun.is_none().then_some(screen)
 }
 
-// A blank screen of so many rows.
+// A blank screen of this many rows.
 fn blank(alloc: Global, rows: usize) -> Option<Screen> {
     let mut texts = VecDeque::new(alloc);
     for _row in 0..rows {

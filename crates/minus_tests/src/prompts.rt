@@ -13,18 +13,21 @@ const THIRD_ROW: &str = "\x1b[3;1H\r\x1b[2K";
 // The prompt row of 20 columns in which `12` is typed.
 const TYPED: &str = "\x1b[2;40;37mminus           \x1b[30;43m 12 \x1b[0m";
 
+// Ten lines whose prompt row is hidden, scrolled by two rows and back by one.
+const SCROLLED_UNDER_NO_PROMPT: &[Asked<'static>] = &[
+    Asked::Push(TEN_LINES),
+    Asked::Shown(false),
+    Asked::Mark(2),
+    Asked::Mark(1),
+];
+
 // The pages that sessions lead to.
 const SHOWN: [&Worked<'static>; 8] = [
     &Worked {
         name: "a scroll leaves a hidden prompt's row blank",
         cols: 20,
         rows: 4,
-        asked: &[
-            Asked::Push(TEN_LINES),
-            Asked::Shown(false),
-            Asked::Mark(2),
-            Asked::Mark(1),
-        ],
+        asked: SCROLLED_UNDER_NO_PROMPT,
         texts: &["l1", "l2", "l3", ""],
     },
     &Worked {
@@ -99,12 +102,7 @@ const DRAWN: [&Worked<'static>; 8] = [
         name: "a scroll under a hidden prompt clears its row",
         cols: 20,
         rows: 4,
-        asked: &[
-            Asked::Push(TEN_LINES),
-            Asked::Shown(false),
-            Asked::Mark(2),
-            Asked::Mark(1),
-        ],
+        asked: SCROLLED_UNDER_NO_PROMPT,
         texts: &["\x1b[1T\x1b[1;1H\rl1\n\x1b[5;1H\r\x1b[2K"],
     },
     &Worked {

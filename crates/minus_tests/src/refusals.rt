@@ -9,7 +9,7 @@ use minus_part_tests::stubborn::{NOTHING, Refusal, Refused, Stubborn, write};
 use std::alloc::Global;
 use std::io::ErrorKind;
 
-// So many writes and flushes a start on 20 columns and 5 rows takes: the setup, and the first page.
+// This many writes and flushes a start on 20 columns and 5 rows takes: the setup, and the first page.
 const START_WRITES: usize = 54 + 55;
 
 const START_FLUSHES: usize = 4;
@@ -25,7 +25,7 @@ fn is_over<S: OutputSink + Drop>(alloc: Global, session: &mut Session<S>) -> boo
         && session.mode() == RunMode::Uninitialized
 }
 
-// Whether these texts stand in a sink behind a start, and it refused so many calls.
+// Whether these texts stand in a sink behind a start, and it refused this many calls.
 fn holds(sink: &WithTty<Stubborn>, refusals: u64, texts: &[&str]) -> bool {
     match sink.inner.held.get(START_WRITES..) {
         Some(behind) => sink.refusals == refusals && are_bytes(behind, texts),
@@ -174,7 +174,7 @@ fn a_run_stops_at_a_refused_write(rt: HostRuntime) {
     assert_holds(&rt, stops_on_its_way(rt.alloc()));
 }
 
-// Whether a session does this, or refuses it for want of memory and does it when it is asked for again.
+// Whether a session does this, or refuses it since memory ran out and does it when it is asked for again.
 fn does_at_last<S: OutputSink + Drop>(
     alloc: Global,
     session: &mut Session<S>,
@@ -190,8 +190,8 @@ fn scrolls<S: OutputSink + Drop>(alloc: Global, session: &mut Session<S>) -> boo
         && does_at_last(alloc, session, Asked::Mark(2))
 }
 
-// Whether a session of four rows does, so that its sink holds these texts at the end, or its start is refused for want of
-// memory. The sink has its room before, so that it refuses nothing.
+// Whether a session of four rows does, so that its sink holds these texts at the end, or its start is refused for want
+// of memory. The sink has its room before, so that it refuses nothing.
 fn writes_once(alloc: Global, texts: &[&str]) -> bool {
     let Ok(held) = Vec::with_capacity(alloc, 4096) else {
         return true;

@@ -1,20 +1,19 @@
 //! Searches in a session: what is typed at the open search prompt, where it leads, and what waits behind it.
+mod waiting;
+
 use crate::facts::{assert_at, assert_holds};
 use crate::sessions::{
     Asked, PROMPT_ROW, Session, TEN_LINES, Worked, assert_drawn, does, has_page, has_page_with,
-    is_played, number_of, pressed, session_on, terminal,
+    is_played, session_on, terminal,
 };
-use minus::{
-    CommandOf, Core, Event, InputClassifier, InputEvent, InputOf, IoCommand, KeyCode, Kinds,
-    NeverCalled, NeverShows, PagerOf, PagerState, RunMode, SearchMode, WithTty, init_core_with,
-};
-use std::alloc::{AllocError, Global};
+use minus::{InputEvent, IoCommand, KeyCode, WithTty};
+use std::alloc::Global;
 
 const ENTER: Asked<'static> = Asked::Pressed(KeyCode::Enter);
 
 const ESC: Asked<'static> = Asked::Pressed(KeyCode::Esc);
 
-// A jump on, or back, by so many matches.
+// A jump on, or back, by this many matches.
 macro_rules! next {
     ($matches:expr) => {
         Asked::Does(InputEvent::MoveToNextMatch($matches))
@@ -27,8 +26,8 @@ macro_rules! previous {
     };
 }
 
-// A search on ten lines and four rows: what is asked for, one part behind the other, the mark and the page that this leads
-// to, and the column of its cursor, if it has one.
+// A search on ten lines and four rows: what is asked for, one part behind the other, the mark and the page that this
+// leads to, and the column of its cursor, if it has one.
 struct Search<'a> {
     name: &'a str,
     asked: &'a [&'a [Asked<'a>]],
@@ -87,6 +86,21 @@ const INVALID: &str = "\x1b[30;1;41mInvalid regular expr\x1b[0m";
 
 const INVALID_AFTER_A_MATCH: &str = "\x1b[30;1;41mInvalid regular\x1b[30;44m 1/1 \x1b[0m";
 
+// The page of the first match of ten, and of the fourth.
+const AT_0: [&str; 4] = [
+    "\x1b[7ml\x1b[27m0",
+    "\x1b[7ml\x1b[27m1",
+    "\x1b[7ml\x1b[27m2",
+    FIRST_OF_TEN,
+];
+
+const AT_3: [&str; 4] = [
+    "\x1b[7ml\x1b[27m3",
+    "\x1b[7ml\x1b[27m4",
+    "\x1b[7ml\x1b[27m5",
+    FOURTH_OF_TEN,
+];
+
 // An empty match before each character of a row of two, and behind the last.
 macro_rules! everywhere {
     ($first:expr, $second:expr) => {
@@ -113,24 +127,14 @@ const LED_TO: [&Search<'static>; 17] = [
         name: "and taken",
         asked: &[TAKEN_L],
         mark: 0,
-        page: [
-            "\x1b[7ml\x1b[27m0",
-            "\x1b[7ml\x1b[27m1",
-            "\x1b[7ml\x1b[27m2",
-            FIRST_OF_TEN,
-        ],
+        page: AT_0,
         cursor: None,
     },
     &Search {
         name: "three matches on",
         asked: &[TAKEN_L, &[next!(3)]],
         mark: 3,
-        page: [
-            "\x1b[7ml\x1b[27m3",
-            "\x1b[7ml\x1b[27m4",
-            "\x1b[7ml\x1b[27m5",
-            FOURTH_OF_TEN,
-        ],
+        page: AT_3,
         cursor: None,
     },
     &Search {
@@ -149,12 +153,7 @@ const LED_TO: [&Search<'static>; 17] = [
         name: "and twelve on, past the last one",
         asked: &[TAKEN_L, &[next!(3), previous!(2), next!(12)]],
         mark: 3,
-        page: [
-            "\x1b[7ml\x1b[27m3",
-            "\x1b[7ml\x1b[27m4",
-            "\x1b[7ml\x1b[27m5",
-            FOURTH_OF_TEN,
-        ],
+        page: AT_3,
         cursor: None,
     },
     &Search {
@@ -173,12 +172,7 @@ const LED_TO: [&Search<'static>; 17] = [
         name: "and as many back",
         asked: &[TAKEN_L, &[next!(4_294_967_295), previous!(4_294_967_295)]],
         mark: 0,
-        page: [
-            "\x1b[7ml\x1b[27m0",
-            "\x1b[7ml\x1b[27m1",
-            "\x1b[7ml\x1b[27m2",
-            FIRST_OF_TEN,
-        ],
+        page: AT_0,
         cursor: None,
     },
     &Search {
@@ -278,219 +272,36 @@ fn queries_lead_to_their_matches(rt: HostRuntime) {
     }
 }
 
-// What waits behind the open search prompt, and is done when it closes.
-const WAITED: [&Search<'static>; 6] = [
-    &Search {
-        name: "a text and a prompt wait",
-        asked: &[&[
-            Asked::Mark(7),
-            Asked::Key('/'),
-            Asked::Push("x"),
-            Asked::Prompt("p"),
-        ]],
-        mark: 7,
-        page: ["l7", "l8", "l9", "/"],
-        cursor: Some(1),
-    },
-    &Search {
-        name: "and come in their order",
-        asked: &[&[
-            Asked::Mark(7),
-            Asked::Key('/'),
-            Asked::Push("x"),
-            Asked::Prompt("p"),
-            ESC,
-        ]],
-        mark: 7,
-        page: [
-            "l7",
-            "l8",
-            "l9x",
-            "\x1b[2;40;37mp                   \x1b[0m",
-        ],
-        cursor: None,
-    },
-    &Search {
-        name: "a search that waits opens the prompt again, and what waits behind it waits on",
-        asked: &[&[
-            Asked::Mark(7),
-            Asked::Key('/'),
-            Asked::Does(InputEvent::Search(SearchMode::Reverse)),
-            Asked::Push("x"),
-            ESC,
-        ]],
-        mark: 7,
-        page: ["l7", "l8", "l9", "?"],
-        cursor: Some(1),
-    },
-    &Search {
-        name: "until that is closed",
-        asked: &[&[
-            Asked::Mark(7),
-            Asked::Key('/'),
-            Asked::Does(InputEvent::Search(SearchMode::Reverse)),
-            Asked::Push("x"),
-            ESC,
-            ESC,
-        ]],
-        mark: 7,
-        page: ["l7", "l8", "l9x", PROMPT_ROW],
-        cursor: None,
-    },
-    &Search {
-        name: "a match is appended to while the query that leads to it is typed",
-        asked: &[TYPED_L7, &[Asked::Push("\nl7"), ENTER]],
-        mark: 7,
-        page: [
-            "\x1b[7ml7\x1b[27m",
-            "l8",
-            "l9",
-            "\x1b[2;40;37mminus          \x1b[30;44m 1/2 \x1b[0m",
-        ],
-        cursor: None,
-    },
-    &Search {
-        name: "a size waits",
-        asked: &[&[Asked::Key('/'), Asked::Told(Event::Resize(30, 6))]],
-        mark: 0,
-        page: ["l0", "l1", "l2", "/"],
-        cursor: Some(1),
-    },
-];
-
-#[test]
-fn inputs_wait_for_the_search_prompt_to_close(rt: HostRuntime) {
-    for case in &WAITED {
-        assert_at(&rt, case.name, leads(rt.alloc(), case));
-    }
-}
-
-// Whether a session of ten lines, with its search prompt open, does all of this.
-fn searching(alloc: Global, asked: &[Asked<'_>]) -> Option<Session<WithTty<Vec<u8>>>> {
-    let mut session = session_on(alloc, terminal(alloc), 20, 4)?;
-    let is_done = does(
-        alloc,
-        &mut session,
-        &[Asked::Push(TEN_LINES), Asked::Key('/')],
-    ) && does(alloc, &mut session, asked);
-    is_done.then_some(session)
-}
-
-// Whether a size that waited is taken once the prompt is closed.
-fn is_resized(alloc: Global) -> bool {
-    let prompt_row = "\x1b[2;40;37mminus                         \x1b[0m";
-    match searching(alloc, &[Asked::Told(Event::Resize(30, 6)), ESC]) {
-        Some(session) => has_page(&session, &["l0", "l1", "l2", "l3", "l4", prompt_row]),
-        None => false,
-    }
-}
-
-#[test]
-fn a_size_is_taken_once_the_prompt_is_closed(rt: HostRuntime) {
-    assert_holds(&rt, is_resized(rt.alloc()));
-}
-
-// Whether what cannot be done is refused by this number at once, and the prompt stays open with nothing behind it.
-fn is_refused(alloc: Global, asked: Asked<'_>, number: u8) -> bool {
-    let Some(mut session) = searching(alloc, &[]) else {
-        return false;
+// Rows of a table of sessions of ten lines on 20 columns and four rows, each with its name.
+macro_rules! of_ten {
+    ($($name:literal: $($asked:expr),* => $($text:expr),*;)*) => {
+        [$(&Worked {
+            name: $name,
+            cols: 20,
+            rows: 4,
+            asked: &[Asked::Push(TEN_LINES), $($asked),*],
+            texts: &[$($text),*],
+        }),*]
     };
-    number_of(alloc, &mut session, asked) == number
-        && has_page_with(&session, &["l0", "l1", "l2", "/"], Some(1))
-        && does(alloc, &mut session, &[ESC])
-        && has_page(&session, &["l0", "l1", "l2", PROMPT_ROW])
-}
-
-#[test]
-fn what_cannot_be_done_does_not_wait(rt: HostRuntime) {
-    assert_holds(&rt, is_refused(rt.alloc(), Asked::Prompt("a\nb"), 2));
-    assert_holds(&rt, is_refused(rt.alloc(), Asked::Size(0, 10), 5));
-    assert_holds(
-        &rt,
-        is_refused(rt.alloc(), Asked::Told(Event::Resize(0, 6)), 5),
-    );
 }
 
 // What the last step of a session draws.
-const DRAWN: [&Worked<'static>; 7] = [
-    &Worked {
-        name: "an opening",
-        cols: 20,
-        rows: 4,
-        asked: &[Asked::Push(TEN_LINES), Asked::Key('/')],
-        texts: &["\x1b[5;1H\x1b[2K/\x1b[?25h\x1b[5;2H"],
-    },
-    &Worked {
-        name: "an edit",
-        cols: 20,
-        rows: 4,
-        asked: &[Asked::Push(TEN_LINES), Asked::Key('/'), Asked::Key('l')],
-        texts: &["\x1b[1;1H\x1b[2J\rl0\n\rl1\n\rl2\n\x1b[5;1H\r\x1b[2K/l\x1b[5;3H"],
-    },
-    &Worked {
-        name: "an edit that shows where its query leads",
-        cols: 20,
-        rows: 4,
-        asked: &[
-            Asked::Push(TEN_LINES),
-            Asked::Key('/'),
-            Asked::Key('l'),
-            Asked::Key('7'),
-        ],
-        texts: &["\x1b[1;1H\x1b[2J\r\x1b[7ml7\x1b[27m\n\rl8\n\rl9\n\x1b[5;1H\r\x1b[2K/l7\x1b[5;4H"],
-    },
-    &Worked {
-        name: "a cursor that moves",
-        cols: 20,
-        rows: 4,
-        asked: &[
-            Asked::Push(TEN_LINES),
-            Asked::Key('/'),
-            Asked::Key('l'),
-            Asked::Pressed(KeyCode::Left),
-        ],
-        texts: &["\x1b[5;2H"],
-    },
-    &Worked {
-        name: "a closing",
-        cols: 20,
-        rows: 4,
-        asked: &[
-            Asked::Push(TEN_LINES),
-            Asked::Key('/'),
-            Asked::Key('l'),
-            ESC,
-        ],
-        texts: &[
-            "\x1b[5;1H\x1b[2K\x1b[?25l\x1b[1;1H\x1b[2J\rl0\n\rl1\n\rl2\n\x1b[5;1H\r\x1b[2K",
-            PROMPT_ROW,
-        ],
-    },
-    &Worked {
-        name: "what waits is drawn behind the closing",
-        cols: 20,
-        rows: 4,
-        asked: &[
-            Asked::Push(TEN_LINES),
-            Asked::Mark(7),
-            Asked::Key('/'),
-            Asked::Push("x"),
-            ESC,
-        ],
-        texts: &[
-            "\x1b[5;1H\x1b[2K\x1b[?25l\x1b[1;1H\x1b[2J\rl7\n\rl8\n\rl9\n\x1b[5;1H\r\x1b[2K",
-            PROMPT_ROW,
-            "\x1b[3;1H\x1b[2Kl9x",
-        ],
-    },
-    &Worked {
-        name: "a message that waits writes nothing",
-        cols: 20,
-        rows: 4,
-        asked: &[Asked::Push(TEN_LINES), Asked::Key('/'), Asked::Message("m")],
-        texts: &[],
-    },
-];
+const DRAWN: [&Worked<'static>; 7] = of_ten! {
+    "an opening": Asked::Key('/') => "\x1b[5;1H\x1b[2K/\x1b[?25h\x1b[5;2H";
+    "an edit": Asked::Key('/'), Asked::Key('l') =>
+        "\x1b[1;1H\x1b[2J\rl0\n\rl1\n\rl2\n\x1b[5;1H\r\x1b[2K/l\x1b[5;3H";
+    "an edit that shows where its query leads": Asked::Key('/'), Asked::Key('l'), Asked::Key('7') =>
+        "\x1b[1;1H\x1b[2J\r\x1b[7ml7\x1b[27m\n\rl8\n\rl9\n\x1b[5;1H\r\x1b[2K/l7\x1b[5;4H";
+    "a cursor that moves": Asked::Key('/'), Asked::Key('l'), Asked::Pressed(KeyCode::Left) => "\x1b[5;2H";
+    "a closing": Asked::Key('/'), Asked::Key('l'), ESC =>
+        "\x1b[5;1H\x1b[2K\x1b[?25l\x1b[1;1H\x1b[2J\rl0\n\rl1\n\rl2\n\x1b[5;1H\r\x1b[2K",
+        PROMPT_ROW;
+    "what waits is drawn behind the closing": Asked::Mark(7), Asked::Key('/'), Asked::Push("x"), ESC =>
+        "\x1b[5;1H\x1b[2K\x1b[?25l\x1b[1;1H\x1b[2J\rl7\n\rl8\n\rl9\n\x1b[5;1H\r\x1b[2K",
+        PROMPT_ROW,
+        "\x1b[3;1H\x1b[2Kl9x";
+    "a message that waits writes nothing": Asked::Key('/'), Asked::Message("m") => ;
+};
 
 #[test]
 fn a_search_is_drawn_by_its_four_lists(rt: HostRuntime) {
@@ -518,67 +329,4 @@ fn goes_stale(alloc: Global) -> bool {
 #[test]
 fn a_match_goes_where_its_row_goes_on(rt: HostRuntime) {
     assert_holds(&rt, goes_stale(rt.alloc()));
-}
-
-/// A classifier that asks for a size that no terminal has, at each event.
-#[derive(Drop)]
-struct NoSize;
-
-impl InputClassifier for NoSize {
-    ghost says = { record {
-      allows = λ classifier event state answer. Unit {0};
-      helps = λ classifier text. Unit {0};
-    } };
-
-    fn classify_input(&self, _event: Event, _state: &PagerState) -> Option<InputEvent> {
-        Some(InputEvent::UpdateTermArea(0, 10))
-    }
-
-    fn format_help(&self, _alloc: Global) -> Result<Option<String>, AllocError> {
-        Ok(None)
-    }
-}
-
-type Sizeless = Kinds<NeverCalled, NeverCalled, NeverShows, NoSize>;
-
-// A session by that classifier, with its search prompt open, behind which a new size and a text wait.
-fn waiting(alloc: Global) -> Option<Core<WithTty<Vec<u8>>, Sizeless>> {
-    let pager: PagerOf<Sizeless> = PagerOf::new(alloc);
-    let Ok(mut session) = init_core_with(pager, RunMode::Static, terminal(alloc), 20, 3, NoSize)
-    else {
-        return None;
-    };
-    let Ok(text) = String::from_str(alloc, "a") else {
-        return None;
-    };
-    let search = CommandOf::UserInput(InputEvent::Search(SearchMode::Forward));
-    let is_waiting = session.step(InputOf::Command(search)).is_ok()
-        && session.step(InputOf::Event(Event::Resize(30, 6))).is_ok()
-        && session
-            .step(InputOf::Command(CommandOf::AppendData(text)))
-            .is_ok();
-    is_waiting.then_some(session)
-}
-
-// Whether what waits is passed over where it is refused, by this number alone, and what waits behind it is done.
-fn is_passed_over(alloc: Global, number: u8) -> bool {
-    let Some(mut session) = waiting(alloc) else {
-        return false;
-    };
-    let Ok(answer) = session.step(InputOf::Event(pressed(KeyCode::Esc))) else {
-        return false;
-    };
-    match answer.refused.first() {
-        Some(refusal) => {
-            refusal.number() == number
-                && answer.refused.len() == 1
-                && has_page(&session, &["a", "", PROMPT_ROW])
-        }
-        None => false,
-    }
-}
-
-#[test]
-fn what_is_refused_behind_the_prompt_is_answered(rt: HostRuntime) {
-    assert_holds(&rt, is_passed_over(rt.alloc(), 5));
 }

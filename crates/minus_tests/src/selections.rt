@@ -171,8 +171,8 @@ fn is_led(state: &PagerState, mark: usize, row: usize, col: usize) -> bool {
     is_there && state.upper_mark == mark
 }
 
-// Whether a selection from the first row of a page of 20 columns and 5 rows on, whose mark this is, is led by a move to a
-// row of the page to this mark, row and column.
+// Whether a selection from the first row of a page of 20 columns and 5 rows on, whose mark this is, is led by a move to
+// a row of the page to this mark, row and column.
 fn leads(alloc: Global, text: &str, mark: usize, y: u16, to: (usize, usize, usize)) -> bool {
     let Some(mut session) = session_on(alloc, terminal(alloc), 20, 5) else {
         return false;
@@ -222,7 +222,7 @@ fn copies(alloc: Global, cols: usize, asked: &[Asked<'_>], text: Option<&str>) -
     }
 }
 
-// What is asked of a session on so many columns, and what is copied at last, if anything.
+// What is asked of a session on this many columns, and what is copied at last, if anything.
 struct Copied<'a> {
     cols: usize,
     asked: &'a [Asked<'a>],

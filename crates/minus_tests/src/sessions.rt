@@ -6,6 +6,8 @@ use minus::{
     WithTty, init_core_with,
 };
 pub use minus_part_tests::asked::TEN_LINES;
+use minus_part_tests::asked::press;
+use minus_part_tests::stubborn::{NOTHING, Stubborn};
 use minus_script::{DefaultKeys, ScriptKinds};
 use std::alloc::{AllocError, Global};
 use std::process::Abort;
@@ -149,7 +151,12 @@ pub fn session_on<S: OutputSink + Drop>(
     }
 }
 
-/// The number by which a session refuses what is asked of it, or the want of memory to ask for it; 0 where it does it.
+/// A session of 20 columns and three rows over a sink that refuses nothing.
+pub fn on_stubborn(alloc: Global) -> Option<Session<WithTty<Stubborn>>> {
+    session_on(alloc, Stubborn::terminal(alloc, NOTHING), 20, 3)
+}
+
+/// The number by which a session refuses what is asked of it, 1 if there is no memory to ask for it, 0 if it does it.
 pub fn number_of<S: OutputSink + Drop>(
     alloc: Global,
     session: &mut Session<S>,
@@ -164,7 +171,17 @@ pub fn number_of<S: OutputSink + Drop>(
     }
 }
 
-/// What comes of a run of all of this in a session; none where there is no memory to ask for it.
+/// Whether a session of any kinds takes the presses of these keys.
+pub fn takes<S: OutputSink + Drop, P: Calls>(session: &mut Core<S, P>, keys: &[&str]) -> bool {
+    for key in keys {
+        if session.step(InputOf::Event(press(key))).is_err() {
+            return false;
+        }
+    }
+    true
+}
+
+/// The result of a run of all of this in a session; none where there is no memory to ask for it.
 pub fn run<S: OutputSink + Drop>(
     alloc: Global,
     session: &mut Session<S>,
@@ -212,7 +229,7 @@ fn has_rows(page: &Page, rows: &[&str], cursor: Option<u16>) -> bool {
     wanted.next().is_none() && page.cursor == cursor
 }
 
-/// Whether a session's page has so many rows.
+/// Whether a session's page has this many rows.
 pub fn has_len<S: OutputSink + Drop>(session: &Session<S>, rows: usize) -> bool {
     match session.page() {
         Ok(page) => page.rows.len() == rows,
@@ -247,7 +264,7 @@ fn leads_to<S: OutputSink + Drop>(
     does(alloc, session, asked) && has_page(session, page)
 }
 
-// Whether the bytes that a session wrote, played by a plain player, leave its page on a screen of so many rows.
+// Whether the bytes that a session wrote, played by a plain player, leave its page on a screen of this many rows.
 pub fn is_played<P: Calls>(alloc: Global, session: Core<WithTty<Vec<u8>>, P>, rows: usize) -> bool {
     let Ok(page) = session.page() else {
         return false;
@@ -308,7 +325,7 @@ pub fn draws(alloc: Global, cols: usize, rows: usize, asked: &[Asked<'_>], texts
     are_there_and_go_on(&before, &after, texts)
 }
 
-/// A worked session: what is asked of it on so many columns and rows, and the texts that come of that.
+/// A worked session: what is asked of it on this many columns and rows, and the texts that come of that.
 pub struct Worked<'a> {
     pub name: &'a str,
     pub cols: usize,

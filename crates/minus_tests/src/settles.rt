@@ -1,5 +1,5 @@
-//! How often each call settles its sink: once for each drawing, and never where nothing is drawn. Where memory runs out,
-//! each answer is `false` or none.
+//! How often each call settles its sink: once for each drawing, and never where nothing is drawn. Where memory runs
+//! out, each answer is `false` or none.
 ghost use Rattle.std.specs.Prelude.{IfSome};
 ghost use Rattle.minus_state.specs.States.{IsFormed};
 
@@ -195,7 +195,7 @@ fn a_run_settles_as_its_steps_do(rt: HostRuntime) {
     }
 }
 
-// How often a start on so many rows settles its sink, whether its text is followed or not.
+// How often a start on this many rows settles its sink, whether its text is followed or not.
 fn settles_at_a_start(alloc: Global, follow: bool, rows: usize) -> Option<u32> {
     let settled = cell(alloc)?;
     let mut pager = Pager::new(alloc);
@@ -205,8 +205,8 @@ fn settles_at_a_start(alloc: Global, follow: bool, rows: usize) -> Option<u32> {
     (is_told && started.is_ok() == (rows > 0)).then_some(count)
 }
 
-// Whether the text is followed, the rows, and how often the sink is settled: three parts of a setup, the first page, and
-// the move to the end.
+// Whether the text is followed, the rows, and how often the sink is settled: three parts of a setup, the first page,
+// and the move to the end.
 const STARTS: [(bool, usize, u32); 4] = [(false, 4, 4), (true, 4, 5), (true, 20, 4), (true, 0, 0)];
 
 #[test]
@@ -321,7 +321,7 @@ fn draw_state(alloc: Global, out: &mut Sink, state: &mut PagerState, by: Draws) 
     }
 }
 
-// Draws parts by hand.
+// Draws parts manually.
 fn draw_parts(alloc: Global, out: &mut Sink, state: PagerState, command: IoCommand) -> bool
     requires { IsFormed state }
 {

@@ -6,8 +6,8 @@ use crate::sessions::{TEN_LINES, are_bytes};
 use minus::{LineNumbers, PagerState, draw_full, write_from_pagerstate};
 use std::alloc::Global;
 
-// A text on 80 columns and so many rows, written from a mark on, its whole page or its rows alone, the texts that this
-// writes, and the mark that it leaves.
+// A text on 80 columns and this many rows, written from a mark on, its whole page or its rows alone, the texts that
+// this writes, and the mark that it leaves.
 #[derive(Clone, Copy)]
 struct Written<'a> {
     name: &'a str,

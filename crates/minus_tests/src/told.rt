@@ -15,6 +15,8 @@ enum Call {
     Message,
     Overflow,
     Numbers,
+    MatchLines,
+    CarryStyle,
     Write,
     WriteLine,
 }
@@ -28,6 +30,8 @@ fn tell(pager: &mut Pager, call: Call) -> Result<(), MinusError> {
         Call::Message => pager.send_message(TEXT),
         Call::Overflow => pager.set_run_no_overflow(false),
         Call::Numbers => pager.set_line_numbers(LineNumbers::Enabled),
+        Call::MatchLines => pager.set_match_lines(true),
+        Call::CarryStyle => pager.set_carry_style(true),
         Call::Write | Call::WriteLine => Ok(()),
     }
 }
@@ -50,7 +54,7 @@ fn waits(alloc: Global, call: Call, wanted: &str) -> bool {
     is_told && write!(shown, "{pager:?}").is_ok() && shown.ends_with(wanted)
 }
 
-const CALLS: [(Call, &str); 8] = [
+const CALLS: [(Call, &str); 10] = [
     (Call::SetText, "queue: [SetData(\"This is sample text\")] }"),
     (Call::Push, "queue: [AppendData(\"This is sample text\")] }"),
     (
@@ -63,6 +67,8 @@ const CALLS: [(Call, &str); 8] = [
     ),
     (Call::Overflow, "queue: [SetRunNoOverflow(false)] }"),
     (Call::Numbers, "queue: [SetLineNumbers(Enabled)] }"),
+    (Call::MatchLines, "queue: [SetMatchLines(true)] }"),
+    (Call::CarryStyle, "queue: [SetCarryStyle(true)] }"),
     (Call::Write, "queue: [AppendData(\"This is a line\")] }"),
     // a line's end may wait by itself
     (Call::WriteLine, "AppendData(\"\\n\")] }"),

@@ -143,7 +143,7 @@ fn rows_are_cropped_by_columns(rt: HostRuntime) {
     }
 }
 
-// Whether rows with numbers, the last row's of so many digits, are written so.
+// Whether rows with numbers, the last row's of this many digits, are written so.
 fn is_written(alloc: Global, rows: &[&str], wrapping: bool, lines: usize, texts: &[&str]) -> bool {
     let mut sink = Vec::new(alloc);
     let is_written = write_lines(alloc, &mut sink, rows, 10, wrapping, 1, true, lines).is_ok();

@@ -6,7 +6,7 @@ use minus_state::{InputClassifier, InputEvent, PagerState};
 use minus_term::Event;
 use std::alloc::Global;
 
-// Whether a call is done, at once or, where it is refused for want of memory with so many bindings left, when it is
+// Whether a call is done, at once or, where it is refused since memory ran out with this many bindings left, when it is
 // made again.
 macro_rules! is_done {
     ($register:expr, $call:expr) => {{
@@ -91,7 +91,7 @@ fn is_bound(register: &Register, state: &PagerState) -> bool {
     true
 }
 
-// Whether the help of a register has so many lines; it is asked for once more where a request is refused.
+// Whether the help of a register has this many lines; it is asked for once more where a request is refused.
 fn helps(alloc: Global, register: &Register, lines: usize) -> bool {
     let text = match register.format_help(alloc) {
         Ok(text) => text,

@@ -15,7 +15,7 @@ fn searching(alloc: Global) -> Option<PagerState> {
     state.append_str(alloc, TEN_LINES).is_ok().then_some(state)
 }
 
-// Whether a key leaves this query and this cursor, at once or, where it is refused for want of memory with the prompt
+// Whether a key leaves this query and this cursor, at once or, where it is refused since memory ran out with the prompt
 // as it was, when it is pressed again.
 fn feeds(
     alloc: Global,

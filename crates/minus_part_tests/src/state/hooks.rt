@@ -1,5 +1,5 @@
-//! Callbacks of hooks and exits: the ids that they are given, and who is called, in which order, with which state. Where
-//! memory runs out, each answer is `false`.
+//! Callbacks of hooks and exits: the ids that they are given, and who is called, in which order, with which state.
+//! Where memory runs out, each answer is `false`.
 use crate::asked::{At, TEN_LINES, state_of};
 use crate::facts::{assert_at, assert_holds};
 use minus_state::{

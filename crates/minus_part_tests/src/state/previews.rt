@@ -2,11 +2,12 @@
 //! each answer is `false`.
 use crate::asked::set_term;
 use crate::facts::{assert_at, assert_holds};
-use crate::state::states::{PROMPT_ROW, has_prompt_row};
+use crate::shown::has_prompt_row;
+use crate::state::states::PROMPT_ROW;
 use crate::state::terms::{FIRST_OF_ONE, TEN_LINES, are_rows, has_matches, has_page, state_of};
 use minus_state::{
-    Change, Fed, InputStatus, OpenPrompt, PagerState, SearchMode, SearchOpts, incremental_preview,
-    search_opts,
+    Change, Fed, InputStatus, OpenPrompt, PagerState, SearchMode, SearchOpts, confirmed_rows,
+    incremental_preview, search_opts,
 };
 use minus_term::{Event, KeyCode, KeyEvent, KeyModifiers};
 use minus_text::LineNumbers;
@@ -57,6 +58,24 @@ fn a_query_has_a_preview_of_its_page(rt: HostRuntime) {
     for case in &PREVIEWS {
         assert_at(&rt, case.2, is_previewed(rt.alloc(), case));
     }
+}
+
+// Whether the page of ten lines would have these rows if a query were taken.
+fn would_have(alloc: Global, query: &str, rows: &[&str]) -> bool {
+    let (Some(state), Ok(query)) = (state_of(alloc, TEN_LINES), Regex::new(alloc, query)) else {
+        return false;
+    };
+    match confirmed_rows(alloc, &state, &query) {
+        Ok(confirmed) => are_rows(&confirmed, rows),
+        Err(_) => false,
+    }
+}
+
+#[test]
+fn a_query_has_rows_before_it_is_taken(rt: HostRuntime) {
+    assert_holds(&rt, would_have(rt.alloc(), "l7", &PAGE));
+    // (one that no row matches leads nowhere)
+    assert_holds(&rt, would_have(rt.alloc(), "q", &["l0", "l1", "l2"]));
 }
 
 // What taking a query leads to.

@@ -1,10 +1,9 @@
 //! Worked queries: what events do to one, and where its words start. Where memory runs out, each answer is `false`.
 use crate::asked::{key, mouse, press};
 use crate::facts::{assert_at, assert_holds};
-use minus_state::{Fed, InputStatus, PagerState, QueryEditor, SearchMode};
+use minus_state::{Fed, InputStatus, QueryEditor, SearchMode};
 use minus_term::{Event, KeyCode, KeyEvent, KeyEventKind, KeyEventState, KeyModifiers};
 use minus_text::Patterns;
-use regex::Regex;
 use std::alloc::Global;
 
 // The fixed patterns, and an empty query.
@@ -36,19 +35,14 @@ fn feeds(
 fn type_text(alloc: Global, patterns: &Patterns, editor: &mut QueryEditor, text: &str) -> bool {
     let mut is_typed = true;
     for character in text.chars() {
-        let typed = Event::Key(KeyEvent {
-            code: KeyCode::Char(character),
-            modifiers: KeyModifiers::NONE,
-            kind: KeyEventKind::Press,
-            state: KeyEventState::NONE,
-        });
+        let typed = Event::Key(KeyEvent::from(KeyCode::Char(character)));
         is_typed &= editor.feed(alloc, patterns, &typed).is_ok();
     }
     is_typed
 }
 
 // Presses a key so often.
-fn press_often(
+pub(super) fn press_often(
     alloc: Global,
     patterns: &Patterns,
     editor: &mut QueryEditor,
@@ -62,8 +56,8 @@ fn press_often(
     is_pressed
 }
 
-// A text that is typed, how often the left key is pressed then, the key that is pressed at last, what is told of it, and
-// the query and the cursor that it leaves.
+// A text that is typed, how often the left key is pressed then, the key that is pressed at last, what is reported of
+// it, and the query and the cursor that it leaves.
 type Case<'a> = (&'a str, usize, &'a str, Fed, &'a str, usize);
 
 // Whether the last key of a case does what is wanted.
@@ -174,7 +168,8 @@ fn typed(character: char) -> Event {
     })
 }
 
-// Whether each character of a text is told as an edit and leads the cursor on by one, and the query is the text at last.
+// Whether each character of a text is told as an edit and leads the cursor on by one, and the query is the text at
+// last.
 fn is_typed(alloc: Global, text: &str) -> bool {
     let Some((patterns, mut editor)) = opened(alloc) else {
         return false;
@@ -241,8 +236,8 @@ fn stops_at(
     is_there
 }
 
-// A text that is typed, where its words start, where control with the right key leads from its first character, and where
-// control with the left key leads back.
+// A text that is typed, where its words start, where control with the right key leads from its first character, and
+// where control with the left key leads back.
 type Words<'a> = (&'a str, &'a [usize], &'a [usize], &'a [usize]);
 
 // Whether the words of a typed text are these.
@@ -306,92 +301,6 @@ fn walks(alloc: Global) -> bool {
 #[test]
 fn arrows_lead_the_cursor_by_one(rt: HostRuntime) {
     assert_holds(&rt, walks(rt.alloc()));
-}
-
-// A text of so many letters.
-fn letters(alloc: Global, count: usize) -> Option<String> {
-    let mut text = String::new(alloc);
-    for _ in 0..count {
-        if text.push('x').is_err() {
-            return None;
-        }
-    }
-    Some(text)
-}
-
-// Whether there is no editor of a query of so many letters, for this number.
-fn is_refused(alloc: Global, count: usize, number: u8) -> bool {
-    let (Ok(patterns), Some(text)) = (Patterns::new(alloc), letters(alloc, count)) else {
-        return false;
-    };
-    match QueryEditor::of_query(alloc, &patterns, text) {
-        Ok(_) => false,
-        Err(cause) => cause.number() == number,
-    }
-}
-
-// Whether a key is refused by this number, and leaves the cursor where it is.
-fn refuses(
-    alloc: Global,
-    patterns: &Patterns,
-    editor: &mut QueryEditor,
-    text: &str,
-    number: u8,
-) -> bool {
-    let cursor = editor.cursor();
-    match editor.feed(alloc, patterns, &press(text)) {
-        Ok(_) => false,
-        Err(cause) => cause.number() == number && editor.cursor() == cursor,
-    }
-}
-
-// Whether a query of 65,534 letters is full, so that a character is refused until another one was removed.
-fn is_full(alloc: Global) -> bool {
-    let (Ok(patterns), Some(text)) = (Patterns::new(alloc), letters(alloc, 65_534)) else {
-        return false;
-    };
-    let Ok(mut editor) = QueryEditor::of_query(alloc, &patterns, text) else {
-        return false;
-    };
-    editor.cursor() == 65_535
-        && refuses(alloc, &patterns, &mut editor, "y", 8)
-        && press_often(alloc, &patterns, &mut editor, "home", 1)
-        && refuses(alloc, &patterns, &mut editor, "s-y", 8)
-        && press_often(alloc, &patterns, &mut editor, "delete", 1)
-        && press_often(alloc, &patterns, &mut editor, "y", 1)
-        && refuses(alloc, &patterns, &mut editor, "y", 8)
-}
-
-#[test]
-fn a_full_query_is_refused(rt: HostRuntime) {
-    assert_holds(&rt, is_full(rt.alloc()));
-    assert_holds(&rt, is_refused(rt.alloc(), 65_535, 8));
-}
-
-// Whether a line of as many letters as a query may have is found by such a query.
-fn finds_the_longest(alloc: Global) -> bool {
-    let (Some(letters), Ok(mut state)) = (letters(alloc, 65_533), PagerState::new(alloc, 20, 4))
-    else {
-        return false;
-    };
-    // (another letter first, so that a match begins at one place alone)
-    let Ok(line) = format!(in alloc; "y{letters}") else {
-        return false;
-    };
-    let Ok(pattern) = Regex::new(alloc, &line) else {
-        return false;
-    };
-    state.set_line_wrapping(alloc, false).is_ok()
-        && state.append_str(alloc, "a\n").is_ok()
-        && state.append_str(alloc, &line).is_ok()
-        && state.set_term(alloc, Some(pattern)).is_ok()
-        && state.screen.match_count() == 1
-        && state.screen.match_row(0) == Some(1)
-}
-
-#[test]
-fn the_longest_query_is_found(rt: HostRuntime) {
-    assert_holds(&rt, finds_the_longest(rt.alloc()));
 }
 
 #[test]

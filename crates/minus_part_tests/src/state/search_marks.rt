@@ -1,16 +1,16 @@
 //! Where changes of a text leave the search mark. Where memory runs out, each answer is `false`.
 use crate::asked::set_term;
 use crate::facts::{assert_at, assert_holds};
-use crate::state::states::has_prompt_row;
+use crate::shown::has_prompt_row;
 use crate::state::terms::{TEN_LINES, has_matches, state_of};
 use minus_state::PagerState;
 use minus_text::LineNumbers;
 use std::alloc::Global;
 
-// The prompt row of 20 columns that tells of the last match.
+// The prompt row of 20 columns that reports the last match.
 const SECOND_OF_TWO: &str = "\x1b[2;40;37mminus          \x1b[30;44m 2/2 \x1b[0m";
 
-// Whether the last match that is told of goes as its row goes on, and the match before it is told of then.
+// Whether the last match that is reported goes as its row goes on, and the match before it is reported then.
 fn stays_at_the_last(alloc: Global) -> bool {
     let Some(mut state) = state_of(alloc, "x1\nx2\nx3") else {
         return false;
@@ -53,7 +53,7 @@ fn an_append_that_forms_all_rows_anew_sets_the_search_mark_anew(rt: HostRuntime)
     assert_holds(&rt, is_left_at(rt.alloc(), LineNumbers::Disabled, 8));
 }
 
-// Whether rows that are formed anew, of ten lines that match, set the search mark to the mark.
+// Whether rows that are formed again, of ten lines that match, set the search mark to the mark.
 fn are_set_anew(alloc: Global, mark: usize) -> bool {
     let Some(mut state) = state_of(alloc, TEN_LINES) else {
         return false;

@@ -6,7 +6,8 @@ use std::alloc::Global;
 
 const TEN: &str = "0\n1\n2\n3\n4\n5\n6\n7\n8\n9";
 
-// A text that is shown, a place of the page, a column and a row, and the end that it selects, a row and a column, if one.
+// A text that is shown, a place of the page, a column and a row, and the end that it selects, a row and a column, if
+// one.
 #[derive(Clone, Copy)]
 struct Selected<'a> {
     text: &'a str,

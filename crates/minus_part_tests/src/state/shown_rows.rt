@@ -10,8 +10,8 @@ const NOTHING: SelectionEnds = SelectionEnds {
     selection: None,
 };
 
-// A text in a layout, what it is searched for, if anything, the ends of what is selected of it, each a row and a column, and
-// how its first row is shown from a left mark on.
+// A text in a layout, what it is searched for, if anything, the ends of what is selected of it, each a row and a
+// column, and how its first row is shown from a left mark on.
 #[derive(Clone, Copy)]
 struct Shown<'a> {
     text: &'a str,
@@ -149,7 +149,8 @@ const SHOWN: [&Shown<'static>; 27] = [
         row: "bcde\u{301}",
         ..CROPPED
     },
-    // of the matches those are marked that take some of the columns shown: the left mark stands in the match, or behind it
+    // of the matches those are marked that take some of the columns shown: the left mark stands in the match, or behind
+    // it
     &MATCHED,
     &Shown {
         left_mark: 4,

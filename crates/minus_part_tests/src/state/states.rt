@@ -3,6 +3,7 @@ ghost use Rattle.std.specs.Prelude.{IfSome};
 ghost use Rattle.minus_state.specs.States.{IsFormed};
 
 use crate::facts::assert_holds;
+use crate::shown::{has_prompt_row, has_rows};
 use minus_state::{AppendStyle, PagerState};
 use minus_text::LineNumbers;
 use std::alloc::Global;
@@ -20,24 +21,6 @@ fn empty(alloc: Global) -> Option<PagerState>
     match PagerState::new(alloc, 20, 4) {
         Ok(state) => Some(state),
         Err(_) => None,
-    }
-}
-
-// Whether the rows of text are these.
-fn has_rows(state: &PagerState, rows: &[&str]) -> bool {
-    for (i, row) in rows.iter().enumerate() {
-        if state.screen.row_text(i) != Some(*row) {
-            return false;
-        }
-    }
-    state.screen.formatted_lines_count() == rows.len()
-}
-
-// Whether the prompt row is this one.
-pub(crate) fn has_prompt_row(alloc: Global, state: &PagerState, row: &str) -> bool {
-    match state.displayed_prompt(alloc) {
-        Ok(text) => text.as_str() == row,
-        Err(_) => false,
     }
 }
 
@@ -78,7 +61,7 @@ fn an_append_tells_the_first_row_that_it_changes(rt: HostRuntime) {
 // A text that is appended, and the whole text and its rows of 80 columns then.
 type Grown<'a> = (&'a str, &'a str, &'a [&'a str]);
 
-// Whether a state of ten rows has these rows after each append, and as they are formed anew at the end.
+// Whether a state of ten rows has these rows after each append, and as they are formed again at the end.
 fn grows(alloc: Global, texts: &[Grown<'_>]) -> bool {
     let Ok(mut state) = PagerState::new(alloc, 80, 10) else {
         return false;
@@ -218,7 +201,7 @@ fn appended_texts_fill_rows(rt: HostRuntime) {
     }
 }
 
-// Whether a tenth line forms all rows of numbered lines anew.
+// Whether a tenth line forms all rows of numbered lines again.
 fn forms_anew(alloc: Global) -> bool {
     let Some(mut state) = empty(alloc) else {
         return false;
@@ -293,7 +276,7 @@ fn help_is_opened_and_left(rt: HostRuntime) {
     assert_holds(&rt, help_comes_and_goes(rt.alloc()));
 }
 
-// The number by which a prompt is refused, or the want of memory for it; 0 where it is taken.
+// The number by which a prompt is refused, or 1 if there is no memory for it; 0 where it is taken.
 fn refusal_of(alloc: Global, state: &mut PagerState, prompt: &str) -> u8 {
     let Ok(prompt) = String::from_str(alloc, prompt) else {
         return 1;

@@ -1,14 +1,15 @@
-//! The term of a state: the rows that match it, how they are shown, and what the prompt row tells of them, as the text
-//! and its layout change. Where memory runs out, each answer is `false`.
+//! The term of a state: the rows that match it, how they are shown, and what the prompt row reports of them, as the
+//! text and its layout change. Where memory runs out, each answer is `false`.
 use crate::asked::set_term;
 use crate::facts::{assert_at, assert_holds};
-use crate::state::states::{PROMPT_ROW, has_prompt_row};
+use crate::shown::has_prompt_row;
+use crate::state::states::PROMPT_ROW;
 use minus_state::{PagerState, ShownRows, render_rows_for_display};
 use minus_text::Rows;
 use regex::Regex;
 use std::alloc::Global;
 
-// Prompt rows of 20 columns that tell of a match.
+// Prompt rows of 20 columns that report a match.
 pub(crate) const FIRST_OF_ONE: &str = "\x1b[2;40;37mminus          \x1b[30;44m 1/1 \x1b[0m";
 
 const FIRST_OF_TEN: &str = "\x1b[2;40;37mminus         \x1b[30;44m 1/10 \x1b[0m";
@@ -17,7 +18,7 @@ const SIXTH_OF_TEN: &str = "\x1b[2;40;37mminus         \x1b[30;44m 6/10 \x1b[0m"
 
 pub(crate) const TEN_LINES: &str = "l0\nl1\nl2\nl3\nl4\nl5\nl6\nl7\nl8\nl9";
 
-// A state of a text on so many columns and four rows.
+// A state of a text on this many columns and four rows.
 fn state_at(alloc: Global, cols: usize, text: &str) -> Option<PagerState> {
     let Ok(mut state) = PagerState::new(alloc, cols, 4) else {
         return None;
@@ -65,7 +66,7 @@ pub(crate) fn has_matches(state: &PagerState, rows: &[usize]) -> bool {
     matches.len() == rows.len() && matches.is_empty() == rows.is_empty()
 }
 
-// A text on so many columns, a term, the rows that match, and the rows of the page.
+// A text on this many columns, a term, the rows that match, and the rows of the page.
 type Found<'a> = (usize, &'a str, &'a str, &'a [usize], &'a [&'a str]);
 
 // Whether they do, and the page shows them.
@@ -114,7 +115,7 @@ fn a_term_is_found_in_each_row(rt: HostRuntime) {
     }
 }
 
-// Whether so many of ten lines match a term, of which this prompt row tells the first.
+// Whether this many of ten lines match a term, of which this prompt row tells the first.
 fn counts(alloc: Global, term: &str, count: usize, prompt_row: &str) -> bool {
     let Some(mut state) = state_of(alloc, TEN_LINES) else {
         return false;
@@ -199,7 +200,7 @@ fn append_lines(alloc: Global, state: &mut PagerState, characters: &str) -> bool
 
 const LINES: &str = ".....x...........x.......x........x.......x";
 
-// Whether these rows of those lines match a term, and jumps, each from a row by so many matches, go to these places.
+// Whether these rows of those lines match a term, and jumps, each from a row by this many matches, go to these places.
 fn jumps(
     alloc: Global,
     term: &str,
@@ -257,7 +258,7 @@ fn a_term_stays_for_other_texts_until_it_is_taken_away(rt: HostRuntime) {
     assert_holds(&rt, is_searched_for(rt.alloc()));
 }
 
-// Prompt rows of 20 columns that tell of the first and of the last of five matches.
+// Prompt rows of 20 columns that report the first and the last of five matches.
 const FIRST_OF_FIVE: &str = "\x1b[2;40;37mminus          \x1b[30;44m 1/5 \x1b[0m";
 
 const FOURTH_OF_FIVE: &str = "\x1b[2;40;37mminus          \x1b[30;44m 4/5 \x1b[0m";

@@ -91,7 +91,7 @@ fn draws_to_a_file(rt: HostRuntime) {
     assert_holds(&rt, taken && file_holds(&rt, path, b"to a file"));
 }
 
-// Whether a drawing is refused, as the last of so many.
+// Whether a drawing is refused, as the last of this many.
 fn is_refused(sink: &mut WithTty<Stubborn>, bytes: &[u8], refusals: u64) -> bool {
     !draws(sink, bytes) && sink.refusals == refusals
 }

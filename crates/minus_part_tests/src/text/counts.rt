@@ -6,7 +6,7 @@ use minus_text::screen::searching::view_after;
 use minus_text::{FormatResult, Layout, LineNumbers, LinesRowMap, PendingPush, RowsView, Screen};
 use std::alloc::Global;
 
-// Whether a screen has so many lines and rows, and its longest line so many columns, after these pieces.
+// Whether a screen has this many lines and rows, and its longest line this many columns, after these pieces.
 fn counts(alloc: Global, pieces: &str, lines: usize, rows: usize, longest: usize) -> bool {
     let mut screen = Screen::new(alloc);
     push_all(alloc, &mut screen, pieces, 80)
@@ -40,7 +40,7 @@ fn unfinished(alloc: Global, screen: &mut Screen, piece: &str) -> Option<usize> 
     }
 }
 
-// Whether the last push of these pieces tells so many unfinished rows.
+// Whether the last push of these pieces tells this many unfinished rows.
 fn tells_unfinished(alloc: Global, pieces: &str, rows: usize) -> bool {
     let mut screen = Screen::new(alloc);
     let mut told = None;

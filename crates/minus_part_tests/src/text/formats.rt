@@ -39,7 +39,8 @@ fn are(rows: &Rows, wanted: &str) -> bool {
     wanted.next() == Some("") && wanted.next().is_none()
 }
 
-// Puts the rows of a text for 20 columns into a buffer, behind 5 lines of 7 rows, of which the last two are the attachment's.
+// Puts the rows of a text for 20 columns into a buffer, behind 5 lines of 7 rows, of which the last two are the
+// attachment's.
 fn format_behind<B: AppendableBuffer>(
     alloc: Global,
     buffer: &mut B,

@@ -70,7 +70,7 @@ fn has_matches(screen: &Screen, rows: &str) -> bool {
     screen.match_count() == rows.len()
 }
 
-// Whether these rows match, and all are told, after all was formed anew.
+// Whether these rows match, and all are told, after all was formed again.
 fn finds_anew(alloc: Global, screen: &mut Screen, term: Option<Term<'_>>, rows: &str) -> bool {
     match screen.reform(alloc, Layout::plain(20), term) {
         Ok(answer) => tells_matches(&answer, rows) && has_matches(screen, rows),
@@ -78,7 +78,7 @@ fn finds_anew(alloc: Global, screen: &mut Screen, term: Option<Term<'_>>, rows: 
     }
 }
 
-// Whether these rows match after these pieces were put, the last of which tells those, and after all was formed anew;
+// Whether these rows match after these pieces were put, the last of which tells those, and after all was formed again;
 // and none after a push without a term.
 fn finds(alloc: Global, pieces: &str, term: &str, rows: &str, told: &str) -> bool {
     let Some(search) = Search::of(alloc, term) else {
@@ -213,7 +213,7 @@ fn is_kept(alloc: Global, term: &str) -> bool {
         && stores(alloc, &screen, 0, "a \x1b[7mtest\x1b[27m")
 }
 
-// Whether a screen is searched anew where that was found in a longer text.
+// Whether a screen is searched again where that was found in a longer text.
 fn is_found_anew(alloc: Global, term: &str) -> bool {
     let Some(looked_for) = Search::of(alloc, term) else {
         return false;

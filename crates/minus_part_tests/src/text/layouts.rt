@@ -1,27 +1,16 @@
 //! Rows with numbers before them, and lines that are not wrapped.
 use crate::facts::assert_holds;
-use crate::text::screens::{push, sees, set, stores};
+use crate::text::screens::{push, sees, set, stores, stores_all};
 use minus_text::screen::searching::view_after;
 use minus_text::{Layout, LineNumbers, RowsView, Screen};
 use std::alloc::Global;
 
-// Lines that go on, one of them with a hyphen, wide characters and a sequence, and enough of them that their number gets a second digit.
+// Lines that go on, one of them with a hyphen, wide characters and a sequence, and enough of them that their number
+// gets a second digit.
 const LINES: &str =
     "one two\n\nwell-known\n日本 語\n\x1b[31mred\x1b[0m r\r\n6\n7\n8\n9\nten ten ten\nlast one";
 
-// Whether a screen's stored rows are these and no others. A bar stands between them.
-fn stores_all(alloc: Global, screen: &Screen, rows: &str) -> bool {
-    let mut i = 0;
-    for wanted in rows.split('|') {
-        if !stores(alloc, screen, i, wanted) {
-            return false;
-        }
-        i = i.saturating_add(1);
-    }
-    i == screen.formatted_lines_count()
-}
-
-// Pushes a text with numbers in pieces of so many bytes, or of more up to a character's end.
+// Pushes a text with numbers in pieces of this many bytes, or of more up to a character's end.
 fn push_numbered(alloc: Global, screen: &mut Screen, text: &str, size: usize, cols: usize) -> bool {
     let mut start = 0;
     for i in 1..text.len() + 1 {
@@ -60,7 +49,7 @@ fn numbers_make_room_for_one_more_digit(rt: HostRuntime) {
     assert_holds(&rt, makes_room(rt.alloc(), &mut screen));
 }
 
-// Whether a push shows numbers, and tells that it formed all anew.
+// Whether a push shows numbers, and tells that it formed all again.
 fn shows_numbers(alloc: Global, screen: &mut Screen) -> bool {
     match screen.push_screen_buf(alloc, "\nx", LineNumbers::AlwaysOn, 12, None) {
         Ok(told) => told.rows_formatted == 3 && told.clean_append,
@@ -119,7 +108,7 @@ fn store_the_same(alloc: Global, a: &Screen, b: &Screen) -> bool {
     a.formatted_lines_count() == b.formatted_lines_count()
 }
 
-// Whether numbered lines that come in pieces of so many bytes are stored as the whole.
+// Whether numbered lines that come in pieces of this many bytes are stored as the whole.
 fn stores_pieces(alloc: Global, size: usize, cols: usize) -> bool {
     let mut pieces = Screen::new(alloc);
     let mut whole = Screen::new(alloc);
@@ -175,7 +164,7 @@ fn is_seen_before(alloc: Global, screen: &Screen, piece: &str, all: &Screen) -> 
     }
 }
 
-// Whether a push onto so many bytes of the lines is seen so, where a character begins there.
+// Whether a push onto this many bytes of the lines is seen so, where a character begins there.
 fn is_seen_at(alloc: Global, i: usize, all: &Screen) -> bool {
     let (Some(first), Some(piece)) = (LINES.get(..i), LINES.get(i..)) else {
         return true;

@@ -1,20 +1,20 @@
-//! Matches that are searched for in lines, and go over the ends of rows. Rows stand in one text with a bar between them, `<` and
-//! `>` in the place of the markers of a match; behind them the rows that jumps go to, each with the matches above it, and the
-//! number of matches.
+//! Matches that are searched for in lines, and go over the ends of rows. Rows stand in one text with a bar between
+//! them, `<` and `>` in the place of the markers of a match; behind them the rows that jumps go to, each with the
+//! matches above it, and the number of matches.
 use crate::facts::{assert_at, assert_holds};
 use crate::text::searches::Search;
 use minus_text::screen::searching::{view_after, view_of};
 use minus_text::{Layout, LineNumbers, RowsView, Screen, Term};
 use std::alloc::{AllocError, Global};
 
-// So many columns, in which lines are searched.
+// This many columns, in which lines are searched.
 fn searched(cols: usize) -> Layout {
     let mut layout = Layout::plain(cols);
     layout.match_lines = true;
     layout
 }
 
-// A layout, a pattern and a text, and what is told of the text's rows.
+// A layout, a pattern and a text, and what is reported of the text's rows.
 type Case<'a> = (Layout, &'a str, &'a str, &'a str);
 
 // Adds the rows.
@@ -41,7 +41,7 @@ fn add_jumps(alloc: Global, told: &mut String, rows: RowsView<'_>) -> Result<(),
     Ok(())
 }
 
-// What is told of rows.
+// What is reported of rows.
 fn told_of(alloc: Global, rows: RowsView<'_>) -> Result<String, AllocError> {
     let mut told = String::new(alloc);
     add_rows(alloc, &mut told, rows)?;
@@ -59,7 +59,7 @@ fn tells(alloc: Global, rows: RowsView<'_>, told: &str) -> bool {
     }
 }
 
-// Whether this is told of a text that is set under its term, and of one that is searched for it then.
+// Whether this is reported of a text that is set under its term, and of one that is searched for it then.
 fn is_found_whole(alloc: Global, case: &Case<'_>, term: Option<Term<'_>>) -> bool {
     let (mut screen, mut plain) = (Screen::new(alloc), Screen::new(alloc));
     let is_set = screen.set_text(alloc, case.2, case.0, term).is_ok()
@@ -71,7 +71,7 @@ fn is_found_whole(alloc: Global, case: &Case<'_>, term: Option<Term<'_>>) -> boo
     is_set && tells(alloc, screen.view(), case.3) && is_searched
 }
 
-// Whether it is told of a screen to which a piece is pushed, before that and then.
+// Whether it is reported of a screen to which a piece is pushed, before that and then.
 fn is_found_on(
     alloc: Global,
     screen: &mut Screen,
@@ -91,7 +91,7 @@ fn is_found_on(
         && tells(alloc, screen.view(), told)
 }
 
-// Whether it is told where the text is cut behind so many bytes, and comes in two pieces.
+// Whether it is told where the text is cut behind this many bytes, and comes in two pieces.
 fn is_found_at(alloc: Global, i: usize, case: &Case<'_>, term: Option<Term<'_>>) -> bool {
     let (Some(first), Some(piece)) = (case.2.get(..i), case.2.get(i..)) else {
         return !case.2.is_char_boundary(i);
@@ -116,7 +116,7 @@ fn is_found(alloc: Global, case: &Case<'_>) -> bool {
 
 #[test]
 fn a_match_goes_over_the_ends_of_rows(rt: HostRuntime) {
-    // columns, a pattern, a line, and what is told of it
+    // columns, a pattern, a line, and what is reported of it
     let cases: &[(usize, &str, &str, &str)] = &[
         (
             9,

@@ -5,8 +5,8 @@ use minus_text::screen::searching::view_after;
 use minus_text::{LineNumbers, PendingPush, RowsView, Screen};
 use std::alloc::Global;
 
-// Lines that go on at their hyphens, in wide and combining characters, in `ESC[`, and between both characters of an ending;
-// the last ones are words of many rows.
+// Lines that go on at their hyphens, in wide and combining characters, in `ESC[`, and between both characters of an
+// ending; the last ones are words of many rows.
 const TEXTS: [&str; 10] = [
     "a well-known -fact- and 9-9 x-\r\nnext",
     "日本 語 ab 日本語 e\u{301} z\n",

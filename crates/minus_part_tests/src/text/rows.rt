@@ -46,7 +46,8 @@ fn texts_fill_rows(rt: HostRuntime) {
             80,
             "hello,|this is a test|of weird line endings",
         ),
-        // a row that begins with a hyphen is formed again, and one that is a carriage return alone goes with its newline
+        // a row that begins with a hyphen is formed again, and one that is a carriage return alone goes with its
+        // newline
         ("bb-a|a", 2, "bb|-|aa"),
         ("99-|9-", 2, "99|-|9-"),
         ("\r   \r|\n", 2, "\r"),

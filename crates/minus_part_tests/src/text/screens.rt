@@ -1,4 +1,5 @@
-//! Screens for tests, and what they have. Pieces, and rows, stand in one text with a bar between them. Where memory runs out, each answer is `false`.
+//! Screens for tests, and what they have. Pieces, and rows, stand in one text with a bar between them. Where memory
+//! runs out, each answer is `false`.
 use minus_text::{Layout, LineNumbers, RowsView, Screen};
 use std::alloc::Global;
 
@@ -55,4 +56,16 @@ pub(crate) fn sees(alloc: Global, rows: RowsView<'_>, i: usize, wanted: &str) ->
         Ok(Some(row)) => row.as_str() == wanted,
         _ => false,
     }
+}
+
+// Whether a screen's stored rows are these and no others. A bar stands between them.
+pub(crate) fn stores_all(alloc: Global, screen: &Screen, rows: &str) -> bool {
+    let mut i = 0;
+    for wanted in rows.split('|') {
+        if !stores(alloc, screen, i, wanted) {
+            return false;
+        }
+        i = i.saturating_add(1);
+    }
+    i == screen.formatted_lines_count()
 }

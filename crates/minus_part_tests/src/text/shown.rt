@@ -3,7 +3,7 @@ use crate::facts::assert_holds;
 use minus_text::{FormattedRow, LineNumbers, crop_columns, fit_columns, prefix_columns};
 use std::alloc::Global;
 
-// Whether a text shows this in so many columns from one on.
+// Whether a text shows this in this many columns from one on.
 fn shows(alloc: Global, text: &str, left: usize, width: usize, shown: &str) -> bool {
     match crop_columns(alloc, text, left, width) {
         Ok(row) => row.as_str() == shown,

@@ -1,28 +1,16 @@
 //! Rows that are put with the style that is carried to them. Rows stand in one text with a bar between them.
 use crate::facts::{assert_at, assert_holds};
-use crate::text::screens::{push, sees, set, stores};
+use crate::text::screens::{push, sees, set, stores_all};
 use crate::text::searches::Search;
 use minus_text::screen::searching::view_after;
 use minus_text::{Layout, LineNumbers, RowsView, Screen};
 use std::alloc::Global;
 
-// So many columns, in which styles are carried.
+// This many columns, in which styles are carried.
 fn carried(cols: usize) -> Layout {
     let mut layout = Layout::plain(cols);
     layout.carry_style = true;
     layout
-}
-
-// Whether a screen's stored rows are these and no others.
-fn stores_all(alloc: Global, screen: &Screen, rows: &str) -> bool {
-    let mut i = 0;
-    for wanted in rows.split('|') {
-        if !stores(alloc, screen, i, wanted) {
-            return false;
-        }
-        i = i.saturating_add(1);
-    }
-    i == screen.formatted_lines_count()
 }
 
 // Whether a text is put in these rows.
@@ -141,7 +129,7 @@ fn is_carried_on(alloc: Global, screen: &mut Screen, piece: &str, all: &Screen) 
         && sees_all(alloc, screen.view(), all)
 }
 
-// Whether it is so where the lines are cut behind so many bytes.
+// Whether it is so where the lines are cut behind this many bytes.
 fn is_carried_at(alloc: Global, i: usize, all: &Screen) -> bool {
     let (Some(first), Some(piece)) = (LINES.get(..i), LINES.get(i..)) else {
         return false;

@@ -3,8 +3,8 @@ use crate::facts::assert_at;
 use minus_text::{AppendableBuffer, FormatOpts, LineNumbers, Rows, Term, format_text_block};
 use std::alloc::Global;
 
-// A text for so many columns, what it is attached to and how many rows of that are unfinished, how many lines and rows
-// stand before it, and how many rows are unfinished then.
+// A text for this many columns, what it is attached to and how many rows of that are unfinished, how many lines and
+// rows stand before it, and how many rows are unfinished then.
 type Block<'a> = (
     &'a str,
     usize,
@@ -43,7 +43,7 @@ fn unfinished_in<B: AppendableBuffer>(
     }
 }
 
-// Whether a text leaves so many as it is to.
+// Whether a text leaves this many as it is to.
 fn leaves(alloc: Global, block: &Block<'_>) -> bool {
     let mut rows = Rows::new(alloc);
     unfinished_in(alloc, &mut &mut rows, block, None) == Some(block.5)

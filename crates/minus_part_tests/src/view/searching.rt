@@ -39,7 +39,7 @@ fn queries_come_back(rt: HostRuntime) {
     }
 }
 
-// So many letters stand before the number of a query.
+// This many letters stand before the number of a query.
 const LETTERS: &str = concat!(
     "xxxxxxxxxxxxxxxxxxxxxxxxxxxxxxxxxxxxxxxxxxxxxxxxxx",
     "xxxxxxxxxxxxxxxxxxxxxxxxxxxxxxxxxxxxxxxxxxxxxxxxxx"
@@ -93,7 +93,7 @@ fn a_program_keeps_some_keys_at_a_prompt(rt: HostRuntime) {
     }
 }
 
-// The lengths of the first four pieces of a text that was put in so many times.
+// The lengths of the first four pieces of a text that was put in this many times.
 fn pieces_of(alloc: Global, text: &str, times: usize) -> Option<String> {
     let mut queue = TextQueue::new(alloc);
     for _ in 0..times {

@@ -1,7 +1,8 @@
 //! Texts as they are prepared.
 use crate::facts::{assert_at, assert_holds};
-use minus_view::{Preparation, Shape};
+use minus_view::{Preparation, Shape, take_marks, with_tabs};
 use std::alloc::Global;
+use std::process::Abort;
 
 // What bytes become in a shape that are added in pieces of `len` bytes.
 fn shaped(alloc: Global, shape: Shape, bytes: &[u8], len: usize) -> Option<String> {
@@ -14,17 +15,38 @@ fn shaped(alloc: Global, shape: Shape, bytes: &[u8], len: usize) -> Option<Strin
     Some(text)
 }
 
-// The same in the shape of a new preparation.
-fn prepared(alloc: Global, bytes: &[u8], len: usize) -> Option<String> {
-    let shape = Shape {
-        tabs: 8,
-        squeezes: false,
-    };
-    shaped(alloc, shape, bytes, len)
+// The shape of a new preparation.
+const PLAIN_SHAPE: Shape = Shape {
+    tabs: 8,
+    squeezes: false,
+    marks_tabs: false,
+    links: false,
+};
+
+// What bytes are prepared to, in pieces of a length, in the shape of a new preparation.
+pub(super) fn prepared(alloc: Global, bytes: &[u8], len: usize) -> Option<String> {
+    shaped(alloc, PLAIN_SHAPE, bytes, len)
+}
+
+// Fails where bytes do not become this text in a shape, in pieces of `len` bytes.
+fn assert_shaped(
+    rt: &impl Abort,
+    alloc: Global,
+    shape: Shape,
+    bytes: &[u8],
+    len: usize,
+    wanted: &str,
+) {
+    let shown = shaped(alloc, shape, bytes, len);
+    assert_at(
+        rt,
+        wanted,
+        shown.is_some_and(|text| text.as_str() == wanted),
+    );
 }
 
 // Whether bytes become a text in one piece, and another one byte by byte.
-fn becomes(alloc: Global, bytes: &[u8], wanted: &str, by_bytes: &str) -> bool {
+pub(super) fn becomes(alloc: Global, bytes: &[u8], wanted: &str, by_bytes: &str) -> bool {
     let Some(whole) = prepared(alloc, bytes, 4096) else {
         return false;
     };
@@ -100,12 +122,7 @@ const MARKED: [(&[u8], &str); 16] = [
 #[test]
 fn bytes_that_are_no_text_are_marked(rt: HostRuntime) {
     for case in &MARKED {
-        let shown = prepared(rt.alloc(), case.0, 4096);
-        assert_at(
-            &rt,
-            case.1,
-            shown.is_some_and(|text| text.as_str() == case.1),
-        );
+        assert_shaped(&rt, rt.alloc(), PLAIN_SHAPE, case.0, 4096, case.1);
     }
 }
 
@@ -143,140 +160,154 @@ const SHAPED: [(usize, bool, &[u8], &str); 16] = [
     (8, true, b"a\n\n\n\x1b[31mb\n", "a\n\n\x1b[31mb\x1b[0m\n"),
 ];
 
+// Fails where a row does not hold in pieces of `len` bytes.
+fn assert_rows(rt: &impl Abort, alloc: Global, rows: &[(usize, bool, &[u8], &str)], len: usize) {
+    for (tabs, squeezes, bytes, wanted) in rows {
+        let shape = Shape {
+            tabs: *tabs,
+            squeezes: *squeezes,
+            ..PLAIN_SHAPE
+        };
+        assert_shaped(rt, alloc, shape, bytes, len, wanted);
+    }
+}
+
 #[test]
 fn a_text_has_its_shape(rt: HostRuntime) {
-    for case in &SHAPED {
-        let (tabs, squeezes, bytes, wanted) = *case;
-        let shown = shaped(rt.alloc(), Shape { tabs, squeezes }, bytes, 4096);
-        assert_at(
-            &rt,
-            wanted,
-            shown.is_some_and(|text| text.as_str() == wanted),
-        );
+    assert_rows(&rt, rt.alloc(), &SHAPED, 4096);
+    assert_rows(&rt, rt.alloc(), &SHAPED[..11], 1);
+}
+
+// The shape of texts with marked tabs.
+const MARKING: Shape = Shape {
+    marks_tabs: true,
+    ..PLAIN_SHAPE
+};
+
+// Bytes, and what they become where tabs are marked.
+const TABS: [(&[u8], &str); 9] = [
+    (b"no tab\n", "no tab\n"),
+    (b"a\tb\n", "a\x1b[m       \x1b[mb\n"),
+    (
+        b"\t\tx\t",
+        "\x1b[m        \x1b[m\x1b[m        \x1b[mx\x1b[m       \x1b[m",
+    ),
+    (b"1234567\t  y", "1234567\x1b[m \x1b[m  y"),
+    (b"a\x08\tb", "a\x1b[m       \x1b[mb"),
+    // in a style, and behind one
+    (
+        b"\x1b[31mr\ts\x1b[m\tt",
+        "\x1b[31mr\x1b[:m       \x1b[:ms\x1b[0m\x1b[m       \x1b[mt",
+    ),
+    (b"\x01\tx", "\x1b[7m^A\x1b[0m\x1b[m      \x1b[mx"),
+    (b"a\x08a\tb\n", "\x1b[1ma\x1b[0m\x1b[m       \x1b[mb\n"),
+    // none of these is a mark
+    (
+        b"\x1b[:mx\x1b[m\x1b[::m\x1b[:31my\n",
+        "x\x1b[::m\x1b[:31my\x1b[0m\n",
+    ),
+];
+
+// Whether bytes become a text where tabs are marked, which is the text without marks where these are taken out, and has
+// its tabs again where these come back.
+fn comes_back(alloc: Global, bytes: &[u8], wanted: &str) -> bool {
+    let Some(marked) = shaped(alloc, MARKING, bytes, 4096) else {
+        return false;
+    };
+    let Some(plain) = prepared(alloc, bytes, 4096) else {
+        return false;
+    };
+    let Ok(unmarked) = take_marks(alloc, marked.as_str()) else {
+        return false;
+    };
+    let tabs = bytes.iter().filter(|byte| **byte == b'\t').count();
+    marked.as_str() == wanted
+        && unmarked.text.as_str() == plain.as_str()
+        && unmarked.tabs.len() == tabs
+}
+
+#[test]
+fn tabs_are_marked(rt: HostRuntime) {
+    for case in &TABS {
+        assert_at(&rt, case.1, comes_back(rt.alloc(), case.0, case.1));
     }
-    for case in &SHAPED[..11] {
-        let (tabs, squeezes, bytes, wanted) = *case;
-        let shown = shaped(rt.alloc(), Shape { tabs, squeezes }, bytes, 1);
+}
+
+// What is copied of the bytes of the text below from one place on up to another.
+const COPIED: [(usize, usize, &str); 10] = [
+    (0, 38, "a\tb\t\tc  d\n\te"),
+    (0, 1, "a"),
+    (9, 16, "\t"),
+    (8, 25, "b\t\tc"),
+    // parts of a tab
+    (2, 9, "      b"),
+    (0, 7, "a      "),
+    (9, 20, "\t    "),
+    (12, 25, "    \tc"),
+    (16, 24, "\t"),
+    (25, 34, "  d\n     "),
+];
+
+#[test]
+fn copied_texts_have_their_tabs(rt: HostRuntime) {
+    let marked = shaped(rt.alloc(), MARKING, b"a\tb\t\tc  d\n\te", 4096);
+    let unmarked = marked.and_then(|text| take_marks(rt.alloc(), text.as_str()).ok());
+    let Some(whole) = unmarked else {
+        assert_holds(&rt, false);
+        return;
+    };
+    for case in &COPIED {
+        let (from, to, wanted) = *case;
+        let text = whole.text.as_str().get(from..to).unwrap_or("");
+        let copied = with_tabs(rt.alloc(), from, text, whole.tabs.as_slice());
         assert_at(
             &rt,
             wanted,
-            shown.is_some_and(|text| text.as_str() == wanted),
+            copied.is_ok_and(|text| text.as_str() == wanted),
         );
     }
 }
 
-const STYLED: [(&[u8], &str, &str); 19] = [
+// Bytes with links, and what they become where these are kept.
+const LINKS: [(&[u8], &str); 9] = [
     (
-        b"\x01x",
-        "\x1b[7m^A\x1b[0mx",
-        "\x1b[7m^\x1b[0m\x1b[7mA\x1b[0mx",
+        b"a\x1b]8;;u:\x1b\\b\x1b]8;;\x1b\\c\n",
+        "a\x1b[;;117;058mb\x1b[0mc\n",
     ),
     (
-        b"\x1b[38:2::255:0:0mx\x1b[0m\n",
-        "\x1b[38:2::255:0:0mx\x1b[0m\n",
-        "\x1b[38:2::255:0:0mx\x1b[0m\n",
-    ),
-    (b"\x1b[4:3mx", "\x1b[4:3mx\x1b[0m", "\x1b[4:3mx\x1b[0m"),
-    (b"a\x08ab\n", "\x1b[1ma\x1b[0mb\n", "\x1b[1ma\x1b[0mb\n"),
-    (b"_\x08ab\n", "\x1b[4ma\x1b[0mb\n", "\x1b[4ma\x1b[0mb\n"),
-    (b"a\x08_b", "\x1b[4ma\x1b[0mb", "\x1b[4ma\x1b[0mb"),
-    (b"a\x08bc", "bc", "bc"),
-    (
-        b"a\x08a_\x08b\n",
-        "\x1b[1ma\x1b[22;4mb\x1b[0m\n",
-        "\x1b[1ma\x1b[0m\x1b[4mb\x1b[0m\n",
+        b"\x1b]8;id=1;u\x07b\nc\x1b]8;;\x07\n",
+        "\x1b[;;117mb\x1b[0m\n\x1b[;;117mc\x1b[0m\n",
     ),
     (
-        b"a\x08ab\x08b\n",
-        "\x1b[1mab\x1b[0m\n",
-        "\x1b[1ma\x1b[0m\x1b[1mb\x1b[0m\n",
+        b"\x1b[31ma\x1b]8;;u\x07b\x1b]8;;\x07c\x1b[m\n",
+        "\x1b[31ma\x1b[;;117m\x1b[31mb\x1b[0m\x1b[31mc\x1b[0m\n",
     ),
     (
-        b"\x1b[31mred\nmore\x1b[0m.\n",
-        "\x1b[31mred\x1b[0m\n\x1b[31mmore\x1b[0m.\n",
-        "\x1b[31mr\x1b[0m\x1b[31me\x1b[0m\x1b[31md\x1b[0m\n\x1b[31mm\x1b[0m\x1b[31mo\x1b[0m\x1b[31mr\x1b[0m\x1b[31me\x1b[0m.\n",
+        b"\x1b]8;;u\x07b\x1b[1mc\x1b[md\x1b]8;;\x07\n",
+        "\x1b[;;117mb\x1b[1mc\x1b[0m\x1b[;;117md\x1b[0m\n",
     ),
     (
-        b"\x1b[31m\n\nx",
-        "\n\n\x1b[31mx\x1b[0m",
-        "\n\n\x1b[31mx\x1b[0m",
+        b"\x1b]8;;u\x07b\x1b]8;;v\x07c\x1b]8;;\x07",
+        "\x1b[;;117mb\x1b[0m\x1b[;;118mc\x1b[0m",
     ),
+    (b"\x1b]8;;a b\x07c\x1b]8;;\x07", "c"),
+    (b"\x1b]0;title\x07c\x1b]8;;u", "c"),
+    (b"\x1b[;;117mc\x1b[;31md\n", "c\x1b[;31md\x1b[0m\n"),
     (
-        b"\x1b[1;31mx\x1b[m\ty",
-        "\x1b[1;31mx\x1b[0m       y",
-        "\x1b[1;31mx\x1b[0m       y",
-    ),
-    (
-        b"\x1b[1mx\x1b[0;32my\n",
-        "\x1b[1mx\x1b[0;32my\x1b[0m\n",
-        "\x1b[1mx\x1b[0;32m\x1b[0m\x1b[0;32my\x1b[0m\n",
-    ),
-    (
-        b"\x1b[31mx\x08xy\n",
-        "\x1b[31m\x1b[1mx\x1b[22my\x1b[0m\n",
-        "\x1b[31m\x1b[1mx\x1b[0m\x1b[31my\x1b[0m\n",
-    ),
-    (b"\x1b[31m", "", ""),
-    (
-        b"_\x08ab\x08b\n",
-        "\x1b[4ma\x1b[24;1mb\x1b[0m\n",
-        "\x1b[4ma\x1b[0m\x1b[1mb\x1b[0m\n",
-    ),
-    // underlined inside a colour, and inside bold
-    (
-        b"\x1b[31mx_\x08yz\n",
-        "\x1b[31mx\x1b[4my\x1b[24mz\x1b[0m\n",
-        "\x1b[31mx\x1b[0m\x1b[31m\x1b[4my\x1b[0m\x1b[31mz\x1b[0m\n",
-    ),
-    (
-        b"\x1b[1mx_\x08yz\n",
-        "\x1b[1mx\x1b[4my\x1b[24mz\x1b[0m\n",
-        "\x1b[1mx\x1b[0m\x1b[1m\x1b[4my\x1b[0m\x1b[1mz\x1b[0m\n",
-    ),
-    // two zeros reset
-    (
-        b"\x1b[31mx\x1b[00my\n",
-        "\x1b[31mx\x1b[0my\n",
-        "\x1b[31mx\x1b[0my\n",
+        b"\x1b]8;;u\x07a\x08ab\x1b]8;;\x07\n",
+        "\x1b[;;117m\x1b[1ma\x1b[22mb\x1b[0m\n",
     ),
 ];
 
 #[test]
-fn styles_are_kept_and_reset(rt: HostRuntime) {
-    for case in &STYLED {
-        assert_at(&rt, case.1, becomes(rt.alloc(), case.0, case.1, case.2));
-    }
-}
-
-// A text so often.
-fn repeated(alloc: Global, text: &str, times: usize) -> Option<String> {
-    let mut all = String::new(alloc);
-    for _ in 0..times {
-        all.push_str(text).ok()?;
-    }
-    Some(all)
-}
-
-// Whether 204 bytes of colours hold for a line and for the next one.
-fn keeps_colours(alloc: Global) -> bool {
-    let Some(colours) = repeated(alloc, "\x1b[1;3m", 34) else {
-        return false;
+fn links_are_kept(rt: HostRuntime) {
+    let shape = Shape {
+        links: true,
+        ..PLAIN_SHAPE
     };
-    let (Ok(text), Ok(wanted)) = (
-        format!(in alloc; "{colours}x\ny\n"),
-        format!(in alloc; "{colours}x\x1b[0m\n{colours}y\x1b[0m\n"),
-    ) else {
-        return false;
-    };
-    match prepared(alloc, text.as_bytes(), 4096) {
-        Some(shown) => shown.as_str() == wanted.as_str(),
-        None => false,
+    for case in &LINKS {
+        assert_shaped(&rt, rt.alloc(), shape, case.0, 4096, case.1);
     }
-}
-
-#[test]
-fn more_than_200_bytes_of_colours_hold(rt: HostRuntime) {
-    assert_holds(&rt, keeps_colours(rt.alloc()));
 }
 
 #[test]

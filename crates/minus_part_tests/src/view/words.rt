@@ -49,7 +49,7 @@ fn faulty_words_are_refused(rt: HostRuntime) {
     }
 }
 
-// Whether the prompt row of so many columns says this: the name; the first and the last line, how many there are, and
+// Whether the prompt row of this many columns says this: the name; the first and the last line, how many there are, and
 // the per cent.
 fn is_place(
     alloc: Global,

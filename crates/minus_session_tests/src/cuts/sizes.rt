@@ -20,7 +20,7 @@ fn text_row(cols: usize, row: usize) -> &'static str {
     }
 }
 
-// Whether this is the prompt row of so many columns.
+// Whether this is the prompt row of this many columns.
 fn is_prompt_row(row: &str, cols: usize) -> bool {
     let Some(prompt) = row.strip_prefix("\x1b[2;40;37m") else {
         return false;

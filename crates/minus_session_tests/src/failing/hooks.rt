@@ -53,7 +53,7 @@ fn session_on(alloc: Global, called: &Called, sink: Terminal) -> Option<Core<Ter
 
 const EXIT: Asked<'static> = Asked::Does(InputEvent::Exit);
 
-// So many calls a start on four rows takes, a put and a settle for each part of the setup and for the page.
+// This many calls a start on four rows takes, a put and a settle for each part of the setup and for the page.
 const START_CALLS: usize = 8;
 
 // Whether an exit whose cleanup is refused at this call is 13, with the callbacks before the cleanup called and none

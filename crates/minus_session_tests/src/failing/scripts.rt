@@ -116,7 +116,7 @@ const SCROLL: Script<'static> = Script {
     ],
 };
 
-// So many calls it makes of a sink that takes one byte a put, up to the end of its setup, of its start, of its step
+// This many calls it makes of a sink that takes one byte a put, up to the end of its setup, of its start, of its step
 // and of its cleanup: the three parts of the setup, the page, the step and the three parts of the cleanup are settled.
 const SETUP_CALLS: usize = 54 + 3;
 

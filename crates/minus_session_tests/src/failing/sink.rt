@@ -1,20 +1,19 @@
-//! A sink that takes so many calls, and refuses those after them.
+//! A writer that takes this many calls, and refuses those after them.
 ghost use Rattle.std.specs.Prelude.{◌≡◌, Some};
-ghost use Rattle.minus_term.specs.Counts.{tells_bytes};
 
-use minus::{OutputSink, WithTty};
+use minus::WithTty;
 use std::alloc::{AllocError, Global};
 use std::io;
 use std::io::{ErrorKind, Write};
 
-/// Which calls of put and of settle a sink takes and refuses.
+/// Which writes and flushes a writer takes and refuses.
 #[derive(Clone, Copy)]
 pub struct Calls {
-    /// So many are taken.
+    /// This many are taken.
     pub taken: usize,
-    /// So many of the calls after those are refused, and all later ones taken.
+    /// This many of the calls after those are refused, and all later ones taken.
     pub refused: usize,
-    /// So many bytes are taken by a put at most.
+    /// This many bytes are taken by a write at most.
     pub most: usize,
 }
 
@@ -67,21 +66,5 @@ impl Write for Failing {
             return Err(io::Error::from(ErrorKind::BrokenPipe));
         }
         Ok(())
-    }
-}
-
-impl OutputSink for Failing {
-    ghost seen = { λ s. tells_bytes s.held.items };
-
-    fn put(&mut self, bytes: &[u8]) -> io::Result<usize> {
-        self.write(bytes)
-    }
-
-    fn settle(&mut self) -> io::Result<()> {
-        self.flush()
-    }
-
-    fn is_tty(&self) -> bool {
-        false
     }
 }

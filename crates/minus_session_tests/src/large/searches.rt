@@ -30,7 +30,7 @@ fn types(alloc: Global, session: &mut Session<Terminal>, text: &str) -> bool {
     true
 }
 
-// A session of three rows whose search prompt is open over four short lines and one of so many letters, none wrapped.
+// A session of three rows whose search prompt is open over four short lines and one of this many letters, none wrapped.
 fn opened_over(alloc: Global, count: usize) -> Option<Session<Terminal>> {
     let mut session = session_of(alloc, 3)?;
     let line = letters(alloc, count)?;
@@ -56,7 +56,7 @@ fn is_shown_and_taken(alloc: Global, session: &mut Session<Terminal>) -> bool {
         && has_page(session, &["d", MARKED, ONE_OF_ONE])
 }
 
-// Whether a query of so many letters is typed letter by letter, shown and taken.
+// Whether a query of this many letters is typed letter by letter, shown and taken.
 fn takes_long(alloc: Global, count: usize) -> bool {
     let (Some(mut session), Some(query)) = (opened_over(alloc, count), letters(alloc, count)) else {
         return false;
@@ -69,8 +69,8 @@ fn a_query_of_150_letters_is_shown_and_taken(rt: HostRuntime) {
     assert_holds(&rt, takes_long(rt.alloc(), 150));
 }
 
-// Whether a query of 1,000 letters is shown and taken. It begins as no pattern while its letters are typed, so that none
-// of them is searched for before all are there.
+// Whether a query of 1,000 letters is shown and taken. It begins as no pattern while its letters are typed, so that
+// none of them is searched for before all are there.
 fn takes_1_000(alloc: Global) -> bool {
     let (Some(mut session), Some(query)) = (opened_over(alloc, 1_000), letters(alloc, 999)) else {
         return false;

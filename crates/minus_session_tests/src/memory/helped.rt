@@ -14,12 +14,7 @@ const OPENED: [Asked<'static>; 2] = [Push(TEN_LINES), Does(ShowHelp)];
 
 // What is tried with help open.
 const fn of(tried: &'static [&'static Tried<'static>]) -> Script<'static> {
-    Script {
-        begun: &OPENED,
-        page: ["help", "", "", HELP_ROW],
-        tried,
-        may_fail: false,
-    }
+    Script::new(&OPENED, ["help", "", "", HELP_ROW], tried)
 }
 
 // All that each test here does before what it tries: the tool refuses these requests here alone.

@@ -26,7 +26,7 @@ fn queue_of(pager: &Pager) -> u64 {
     summed.0
 }
 
-// Whether a call adds to the queue, at once or, where it is refused for want of memory with the queue as it was, when
+// Whether a call adds to the queue, at once or, where it is refused since memory ran out with the queue as it was, when
 // it is made again.
 macro_rules! is_queued {
     ($pager:ident, $call:expr) => {{

@@ -17,12 +17,7 @@ use minus::{
 
 // What is tried of ten lines on four rows.
 const fn of(tried: &'static [&'static Tried<'static>]) -> Script<'static> {
-    Script {
-        begun: &TEN,
-        page: FIRST,
-        tried,
-        may_fail: false,
-    }
+    Script::new(&TEN, FIRST, tried)
 }
 
 // All that each test here does before what it tries: the tool refuses these requests here alone.

@@ -8,7 +8,7 @@ use minus::InputEvent::{
 };
 use minus::{Event, KeyCode, LineNumbers};
 
-// The first line that matches, marked, and the prompt rows at the first and the second of so many.
+// The first line that matches, marked, and the prompt rows at the first and the second of this many.
 const MARKED_3: &str = "l\x1b[7m3\x1b[27m";
 
 const ONE_OF_TWO: &str = "\x1b[2;40;37mminus          \x1b[30;44m 1/2 \x1b[0m";
@@ -28,12 +28,7 @@ const SEARCH: [Asked<'static>; 6] = [
 
 // What is tried at the first match of two.
 const fn of(tried: &'static [&'static Tried<'static>]) -> Script<'static> {
-    Script {
-        begun: &SEARCH,
-        page: [MARKED_3, "l4", "l5", ONE_OF_TWO],
-        tried,
-        may_fail: false,
-    }
+    Script::new(&SEARCH, [MARKED_3, "l4", "l5", ONE_OF_TWO], tried)
 }
 
 // All that each test here does before what it tries: the tool refuses these requests here alone.

@@ -38,7 +38,7 @@ fn pager_of(alloc: Global, log: &Log, text: &str) -> Option<Pager> {
     is_told.then_some(pager)
 }
 
-// What comes of a pager and a sink.
+// What becomes of a pager and a sink.
 fn begun<'a>(is_printed: bool, pager: Pager, sink: Sink<'a>) -> Outcome<'a> {
     if is_printed {
         return page_all_with(pager, sink, 20, 4, Keys);
@@ -49,7 +49,7 @@ fn begun<'a>(is_printed: bool, pager: Pager, sink: Sink<'a>) -> Outcome<'a> {
     }
 }
 
-// The pager and the sink that come back for want of memory before anything is written or called.
+// The pager and the sink that come back since memory ran out before anything is written or called.
 fn handed_back<'a>(refused: Unstarted<'a>, log: &Log) -> Option<(Pager, Sink<'a>)> {
     let StartErrorOf { sink, pager, cause } = refused;
     let pager = pager?;

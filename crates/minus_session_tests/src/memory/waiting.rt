@@ -1,5 +1,5 @@
-//! Steps with the search prompt open: what waits, and what is done of it when the prompt is closed. A want of memory
-//! behind the drawing that closes it fails the session.
+//! Steps with the search prompt open: what waits, and what is done of it when the prompt is closed. Running out of
+//! memory behind the drawing that closes it fails the session.
 use super::{M_ROW, MARKED_7, Script, Tried, assert_tried};
 use crate::sessions::Asked::{Does, Key, Message, Numbers, Pressed, Prompt, Push, Told};
 use crate::sessions::{Asked, PROMPT_ROW as P, TEN_LINES};

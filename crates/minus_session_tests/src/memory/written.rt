@@ -1,10 +1,11 @@
-//! Exchanges of sinks, steps known by their bytes, and what is handed over.
+//! Exchanges of sinks, steps known by their bytes, and what is registered.
 use super::seen::seen_of;
 use super::{Counted, FIRST, Lent, Log, TEN, number_of_all, session_in};
 use crate::facts::assert_holds;
 use crate::sessions::{Asked, CLEANUP, Keys, PROMPT_ROW, has_page, number_of};
 use crate::shared::{Counting, Shared, count_held, holds_behind};
 use minus::{CommandOf, Hook, InputEvent, InputOf, NeverShows, SinkError};
+use regex::Regex;
 use std::alloc::Global;
 
 // All that each test here does before what it tries: the tool refuses these requests here alone.
@@ -93,8 +94,34 @@ fn a_refused_append_is_written_once(rt: HostRuntime) {
     assert_holds(&rt, is_written_once(rt.alloc(), &begun, pushed, bytes));
 }
 
-// Whether a command is done, at once or, where it is refused for want of memory with nothing changed, when it is given
-// again.
+// Whether a term is set at once, or refused since memory ran out with nothing changed and set when it is given again.
+fn is_term_set(alloc: Global, log: &Log) -> bool {
+    let Some(mut session) = of_ten(alloc, log) else {
+        return true;
+    };
+    let before = seen_of(&session, log);
+    for _ in 0..2 {
+        let Ok(term) = Regex::new(alloc, "7") else {
+            return true;
+        };
+        match session.set_term(Some(term)) {
+            Ok(()) => return session.state().matches().len() == 1,
+            Err(cause) if cause.number() == 1 && seen_of(&session, log) == before => (),
+            Err(_) => return false,
+        }
+    }
+    false
+}
+
+#[test]
+fn a_refused_term_changes_nothing(rt: HostRuntime) {
+    if let Some(log) = Log::new(rt.alloc()) {
+        assert_holds(&rt, is_term_set(rt.alloc(), &log));
+    }
+}
+
+// Whether a command is done, at once or, where it is refused since memory ran out with nothing changed, when it is
+// given again.
 macro_rules! is_done {
     ($session:expr, $log:expr, $command:expr) => {{
         let before = seen_of($session, $log);
@@ -128,7 +155,7 @@ fn at_exit(log: &Log) -> Option<CommandOf<Counted>> {
     }
 }
 
-// Whether callbacks are kept that are handed over, beside one of the end.
+// Whether callbacks are kept that are registered, beside one of the end.
 fn keeps_callbacks(session: &mut Lent<'_>, log: &Log) -> bool {
     is_done!(session, log, at_hook(log, Hook::EofReached))
         && is_done!(session, log, at_hook(log, Hook::PrePagerExit))
@@ -163,7 +190,7 @@ fn calls_callbacks(alloc: Global, session: &mut Lent<'_>, log: &Log) -> bool {
         && number_of(alloc, session, Asked::Shown(true)) == 11
 }
 
-// Whether a session of ten lines keeps and calls what is handed over.
+// Whether a session of ten lines keeps and calls what is registered.
 fn keeps_and_calls(alloc: Global, log: &Log) -> bool {
     match of_ten(alloc, log) {
         Some(mut session) => {

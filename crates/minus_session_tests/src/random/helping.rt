@@ -4,7 +4,7 @@ use minus::LineNumbers;
 use std::alloc::AllocError;
 
 impl Model {
-    /// Opens help, and puts aside what comes back.
+    /// Opens help, and saves what comes back.
     pub fn open_help(&mut self) -> Result<(), AllocError> {
         let help = String::from_str(self.alloc, self.help_text)?;
         self.help = Some(Saved {

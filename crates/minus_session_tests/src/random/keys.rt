@@ -155,7 +155,7 @@ impl Model {
         Ok(())
     }
 
-    // Removes the character so many places from before the cursor, if there is one.
+    // Removes the character this many places from before the cursor, if there is one.
     fn remove(&mut self, back: usize) {
         let Some(query) = &mut self.query else {
             return;

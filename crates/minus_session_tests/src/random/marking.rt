@@ -2,7 +2,7 @@
 use crate::random::matching::Mark;
 use std::alloc::{AllocError, Global};
 
-/// A row that is put together, in which so many characters stand so far, and the ones that are selected.
+/// A row that is put together, in which this many characters stand so far, and the ones that are selected.
 #[derive(Drop)]
 pub struct Shown {
     pub text: String,
@@ -47,7 +47,7 @@ impl Shown {
         Ok(())
     }
 
-    /// Adds so many spaces.
+    /// Adds this many spaces.
     pub fn show_spaces(&mut self, count: usize) -> Result<(), AllocError> {
         for _space in 0..count {
             self.show(b' ')?;
@@ -73,8 +73,8 @@ impl Shown {
     }
 }
 
-/// What a row of text shows: its columns from one up to another; of each match what the row shows, or, if it is cropped,
-/// of each with one of these columns, in reverse.
+/// What a row of text shows: its columns from one up to another; of each match what the row shows, or, if it is
+/// cropped, of each with one of these columns, in reverse.
 #[derive(Clone, Copy)]
 pub struct Part<'a> {
     pub text: &'a str,

@@ -1,4 +1,5 @@
-//! A pager kept in the plainest way: a text, its rows, which are formed anew at each change, and what is set beside it.
+//! A pager kept in the plainest way: a text, its rows, which are formed again at each change, and what is set beside
+//! it.
 use crate::random::matching::{Mark, marks_of, rows_with};
 use crate::random::places::{count_digits, nth_of};
 use crate::random::steps::{HELP, Step};
@@ -7,7 +8,7 @@ use minus::{ExitStrategy, LineNumbers, SearchMode};
 use std::alloc::{AllocError, Global};
 use std::collections::VecDeque;
 
-/// What is put aside while help is open.
+/// What is saved while help is open.
 #[derive(Drop)]
 pub struct Saved {
     pub text: String,
@@ -167,7 +168,7 @@ impl Model {
         self.cols.saturating_sub(taken)
     }
 
-    // Forms the rows anew, and finds the term in them.
+    // Forms the rows again, and finds the term in them.
     fn form(&mut self) -> Result<(), AllocError> {
         let width = self.text_columns();
         self.formed
@@ -191,7 +192,7 @@ impl Model {
         Ok(())
     }
 
-    /// Forms all anew; the prompt row tells of the match at the mark then.
+    /// Forms all again; the prompt row reports the match at the mark then.
     pub fn reform(&mut self) -> Result<(), AllocError> {
         self.form()?;
         self.search_mark = nth_of(&self.found, self.mark, 0);

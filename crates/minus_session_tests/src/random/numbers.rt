@@ -15,7 +15,7 @@ pub struct Numbers {
     pub is_searching: bool,
     /// A word to search for.
     pub word: &'static str,
-    /// So many steps of a plan are still to come.
+    /// This many steps of a plan are still to come.
     pub plan: u8,
 }
 
@@ -139,7 +139,7 @@ impl Numbers {
         }
     }
 
-    // A text that is set or added; one that has become long is set anew.
+    // A text that is set or added; one that has become long is set again.
     fn text(&mut self, length: usize) -> Asked<'static> {
         if length > 500 || self.is_one_of(30) {
             Asked::Set(self.one_of(&TEXTS))
@@ -184,7 +184,7 @@ impl Numbers {
         }
     }
 
-    // A step that waits, or that an open search prompt passes over.
+    // A step that waits, or that an open search prompt skips.
     fn waiting(&mut self, length: usize) -> Step {
         match self.any(length) {
             Step::Key(_) if self.is_searching => Step::Asked(Asked::Does(self.event())),

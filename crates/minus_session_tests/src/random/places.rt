@@ -11,7 +11,7 @@ pub fn count_digits(number: usize) -> usize {
     20
 }
 
-/// The place, in a list of rows, that a jump by so many from a row goes to.
+/// The place, in a list of rows, that a jump by this many from a row goes to.
 pub fn nth_of(found: &[usize], from: usize, jump: usize) -> usize {
     let is_next = |row: &usize| *row > from || (jump == 0 && *row == from);
     let nearest = found.iter().position(is_next).unwrap_or(0);

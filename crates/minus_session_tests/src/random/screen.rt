@@ -40,7 +40,7 @@ fn number(digits: &[u8]) -> (usize, &[u8]) {
 }
 
 impl Screen {
-    /// So many rows on which anything stands.
+    /// This many rows on which anything stands.
     pub fn new(alloc: Global, rows: usize) -> Result<Screen, AllocError> {
         let mut screen = Screen {
             alloc,
@@ -55,7 +55,7 @@ impl Screen {
         Ok(screen)
     }
 
-    /// Has so many rows from now on, on which anything stands.
+    /// Has this many rows from now on, on which anything stands.
     pub fn resize(&mut self, rows: usize) -> Result<(), AllocError> {
         self.rows.clear();
         for _row in 0..rows {

@@ -73,7 +73,7 @@ impl Model {
         Ok(())
     }
 
-    // Which match the prompt row tells of, and of how many: of all matches, the first in the row that is told of, where
+    // Which match the prompt row reports, and of how many: of all matches, the first in the row that is reported, where
     // lines are searched, and else that row.
     fn told(&self) -> (usize, usize) {
         if !self.in_lines {

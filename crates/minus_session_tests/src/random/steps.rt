@@ -22,7 +22,7 @@ pub enum Step {
     Counted(u64),
     /// One is added at the exit.
     CountedAtExit,
-    /// The page shows where a query of so many bytes leads.
+    /// The page shows where a query of this many bytes leads.
     ShownFrom(usize),
     /// The default bindings are set, with another help text.
     Helps(&'static str),
@@ -49,7 +49,7 @@ impl ExitCall for Counts {
     }
 }
 
-/// Says yes to queries of so many bytes.
+/// Says yes to queries of this many bytes.
 #[derive(Clone, Copy, Drop)]
 pub struct ShowsFrom(usize);
 

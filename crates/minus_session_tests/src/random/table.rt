@@ -47,7 +47,7 @@ impl Model {
         Ok(0)
     }
 
-    // Works off what waits, until a search prompt is open or the session is over.
+    // Performs what waits, until a search prompt is open or the session is over.
     fn work_waiting_off(&mut self) -> Result<(), AllocError> {
         for _item in 0..self.waiting.len() {
             if self.query.is_some() || self.led.exited.is_some() {

@@ -135,7 +135,7 @@ impl TextRows {
         Ok(())
     }
 
-    /// Forms the rows of a text anew, on so many columns.
+    /// Forms the rows of a text again, on this many columns.
     pub fn form(&mut self, text: &str, width: usize, is_wrapped: bool) -> Result<(), AllocError> {
         self.rows.clear();
         self.lines = 0;

@@ -1,15 +1,15 @@
-//! Who is called, and who is not: starts and cleanups that are refused, ends, what waited, what is done by hand, texts
+//! Who is called, and who is not: starts and cleanups that are refused, ends, what waited, what is done manually, texts
 //! that are written at once, and what a hook sees of the typed prefix.
 use super::{
-    Command, Marks, Own, Session, Sink, Still, Writes, adds, adds_at_exit, does, logs, session_of,
-    shared, takes, to_row, waits, write_digit,
+    Command, Marks, Own, Session, Sink, Still, Writes, adds, adds_at_exit, does, logs, parts_of,
+    session_of, shared, to_row, waits, write_digit,
 };
 use crate::facts::{assert_at, assert_holds};
-use crate::sessions::{TEN_LINES, terminal};
+use crate::sessions::{TEN_LINES, takes, terminal};
 use minus::{
     CommandOf, CommandQueueOf, DefaultInputClassifier, Handled, Hook, HookCall, InputEvent,
-    InputOf, IoCommand, Kinds, NeverCalled, NeverShows, PagedOf, PagerOf, PagerState, PartsOf,
-    RunMode, SearchMode, WithTty, handle_event, handle_io_command, init_core_with, page_all_with,
+    InputOf, IoCommand, Kinds, NeverCalled, NeverShows, PagedOf, PagerOf, PagerState, RunMode,
+    SearchMode, WithTty, handle_event, handle_io_command, init_core_with, page_all_with,
 };
 use minus_part_tests::asked::press;
 use minus_part_tests::stubborn::{NOTHING, Refused, Stubborn};
@@ -286,12 +286,9 @@ fn written(log: &Rc<Cell<u64>>, digit: u64) -> Option<Writes> {
     }
 }
 
-// Whether commands that are handled by hand call nothing, an exit neither.
+// Whether commands that are handled manually call nothing, an exit neither.
 fn handles_uncalled(alloc: Global, log: &Rc<Cell<u64>>) -> bool {
-    let (Ok(state), Ok(text)) = (
-        PagerState::new(alloc, 20, 4),
-        String::from_str(alloc, TEN_LINES),
-    ) else {
+    let (Some(mut parts), Ok(text)) = (parts_of(alloc), String::from_str(alloc, TEN_LINES)) else {
         return false;
     };
     let (Some(end), Some(before), Some(exit), Some(after)) = (
@@ -302,7 +299,6 @@ fn handles_uncalled(alloc: Global, log: &Rc<Cell<u64>>) -> bool {
     ) else {
         return false;
     };
-    let mut parts: PartsOf<Own> = PartsOf::keeping(alloc, state, Still, None);
     let mut queue = CommandQueueOf::new_zero(alloc);
     let is_added = parts.hooks.add_callback(Hook::EofReached, 0, end).is_ok()
         && parts
@@ -332,17 +328,16 @@ fn a_command_by_hand_calls_nothing(rt: HostRuntime) {
     assert_holds(&rt, handles_uncalled(rt.alloc(), &log));
 }
 
-// Whether a move that is drawn by hand calls the callback of the end behind its drawing.
+// Whether a move that is drawn manually calls the callback of the end behind its drawing.
 fn draws_before_its_call(alloc: Global, log: &Rc<Cell<u64>>) -> bool {
-    let (Ok(state), Ok(text), Some(end), Ok(marks)) = (
-        PagerState::new(alloc, 20, 4),
+    let (Some(mut parts), Ok(text), Some(end), Ok(marks)) = (
+        parts_of(alloc),
         String::from_str(alloc, TEN_LINES),
         written(log, 3),
         shared(log),
     ) else {
         return false;
     };
-    let mut parts: PartsOf<Own> = PartsOf::keeping(alloc, state, Still, None);
     let mut queue = CommandQueueOf::new_zero(alloc);
     let mut sink = WithTty::new(Marks { log: marks }, true);
     parts.hooks.add_callback(Hook::EofReached, 0, end).is_ok()

@@ -1,10 +1,11 @@
 //! What the default bindings answer, row by row of their table.
 use crate::facts::{assert_at, assert_holds};
+use crate::keys::tables::{COMMON, assert_asked, assert_marks, assert_mouse};
 use minus::{
     Event, InputClassifier, InputEvent, KeyCode, KeyEvent, KeyEventKind, KeyEventState,
-    KeyModifiers, LineNumbers, SearchMode,
+    KeyModifiers,
 };
-use minus_part_tests::asked::{At, START, answers, mouse, press, state_of};
+use minus_part_tests::asked::{At, START, answers, press, state_of};
 use minus_script::DefaultKeys;
 use std::alloc::Global;
 
@@ -77,14 +78,10 @@ const MARKS: [(&str, &str, usize, usize); 52] = [
 
 #[test]
 fn keys_move_the_mark(rt: HostRuntime) {
-    for (text, prefix, mark, row) in &MARKS {
-        let at = At {
-            prefix,
-            mark: *mark,
-        };
-        let wanted = InputEvent::UpdateUpperMark(*row);
-        assert_at(&rt, text, asks(rt.alloc(), press(text), &at, wanted));
-    }
+    let Ok(keys) = DefaultKeys::new(rt.alloc()) else {
+        return assert_holds(&rt, false);
+    };
+    assert_marks(&rt, rt.alloc(), &keys, &MARKS);
 }
 
 // A key, the prefix that is typed, and the left mark that the key asks for where it is 4.
@@ -109,69 +106,64 @@ fn keys_move_the_left_mark(rt: HostRuntime) {
     }
 }
 
-// A key, and what it asks for, whatever prefix is typed and wherever the mark is. No jump among matches is
-// asked for before a search has begun.
-const OTHERS: [(&str, InputEvent); 18] = [
-    ("q", InputEvent::Exit),
-    ("c-c", InputEvent::Exit),
-    ("c-f", InputEvent::FollowOutput(true)),
-    ("c-l", InputEvent::UpdateLineNumber(LineNumbers::Enabled)),
-    ("s-m", InputEvent::ShowHelp),
-    ("M", InputEvent::ShowHelp),
-    ("y", InputEvent::CopySelection),
-    ("c-h", InputEvent::HorizontalScroll(false)),
-    ("c-s-h", InputEvent::HorizontalScroll(false)),
-    ("c-H", InputEvent::HorizontalScroll(false)),
-    ("/", InputEvent::Search(SearchMode::Forward)),
-    ("?", InputEvent::Search(SearchMode::Reverse)),
-    ("n", InputEvent::Ignore),
-    ("p", InputEvent::Ignore),
-    ("s-n", InputEvent::Ignore),
+// Other keys, and what they ask for, whatever prefix is typed and wherever the mark is. No jump among matches is asked
+// for before a search has begun.
+const OTHERS: [(&str, Option<InputEvent>); 12] = [
+    ("s-m", Some(InputEvent::ShowHelp)),
+    ("M", Some(InputEvent::ShowHelp)),
+    ("y", Some(InputEvent::CopySelection)),
+    ("c-h", Some(InputEvent::HorizontalScroll(false))),
+    ("c-s-h", Some(InputEvent::HorizontalScroll(false))),
+    ("c-H", Some(InputEvent::HorizontalScroll(false))),
+    ("n", Some(InputEvent::Ignore)),
+    ("p", Some(InputEvent::Ignore)),
+    ("s-n", Some(InputEvent::Ignore)),
     // no key of the table
-    ("x", InputEvent::Ignore),
-    ("c-q", InputEvent::Ignore),
-    ("J", InputEvent::Ignore),
+    ("x", Some(InputEvent::Ignore)),
+    ("c-q", Some(InputEvent::Ignore)),
+    ("J", Some(InputEvent::Ignore)),
 ];
 
 #[test]
 fn keys_ask_for_more_than_moves(rt: HostRuntime) {
-    let typed = At {
-        prefix: "3",
-        mark: 7,
+    let Ok(keys) = DefaultKeys::new(rt.alloc()) else {
+        return assert_holds(&rt, false);
     };
-    for (text, wanted) in &OTHERS {
-        let is_asked = asks(rt.alloc(), press(text), &START, *wanted)
-            && asks(rt.alloc(), press(text), &typed, *wanted);
-        assert_at(&rt, text, is_asked);
-    }
+    assert_asked(&rt, rt.alloc(), &keys, &COMMON);
+    assert_asked(&rt, rt.alloc(), &keys, &OTHERS);
 }
 
 // What the mouse does, the mark, and what it asks for at column 9 and row 2.
-const MOUSE: [(&str, usize, InputEvent); 12] = [
-    ("scroll:up", 7, InputEvent::UpdateUpperMark(2)),
-    ("scroll:up", 3, InputEvent::UpdateUpperMark(0)),
-    ("scroll:down", 0, InputEvent::UpdateUpperMark(5)),
-    ("scroll:down", 7, InputEvent::UpdateUpperMark(12)),
-    ("left:down", 7, InputEvent::StartSelection { x: 9, y: 2 }),
-    ("left:drag", 7, InputEvent::UpdateSelection { x: 9, y: 2 }),
-    ("left:up", 7, InputEvent::CopySelection),
+const MOUSE: [(&str, usize, Option<InputEvent>); 12] = [
+    ("scroll:up", 7, Some(InputEvent::UpdateUpperMark(2))),
+    ("scroll:up", 3, Some(InputEvent::UpdateUpperMark(0))),
+    ("scroll:down", 0, Some(InputEvent::UpdateUpperMark(5))),
+    ("scroll:down", 7, Some(InputEvent::UpdateUpperMark(12))),
+    (
+        "left:down",
+        7,
+        Some(InputEvent::StartSelection { x: 9, y: 2 }),
+    ),
+    (
+        "left:drag",
+        7,
+        Some(InputEvent::UpdateSelection { x: 9, y: 2 }),
+    ),
+    ("left:up", 7, Some(InputEvent::CopySelection)),
     // nothing of the table
-    ("move", 7, InputEvent::Ignore),
-    ("right:down", 7, InputEvent::Ignore),
-    ("mid:up", 7, InputEvent::Ignore),
-    ("c-left:down", 7, InputEvent::Ignore),
-    ("s-scroll:up", 7, InputEvent::Ignore),
+    ("move", 7, Some(InputEvent::Ignore)),
+    ("right:down", 7, Some(InputEvent::Ignore)),
+    ("mid:up", 7, Some(InputEvent::Ignore)),
+    ("c-left:down", 7, Some(InputEvent::Ignore)),
+    ("s-scroll:up", 7, Some(InputEvent::Ignore)),
 ];
 
 #[test]
 fn the_mouse_scrolls_and_selects(rt: HostRuntime) {
-    for (text, mark, wanted) in &MOUSE {
-        let at = At {
-            prefix: "3",
-            mark: *mark,
-        };
-        assert_at(&rt, text, asks(rt.alloc(), mouse(text, 9, 2), &at, *wanted));
-    }
+    let Ok(keys) = DefaultKeys::new(rt.alloc()) else {
+        return assert_holds(&rt, false);
+    };
+    assert_mouse(&rt, rt.alloc(), &keys, &MOUSE);
 }
 
 // A character's key.

@@ -1,13 +1,13 @@
 //! What the classifier of exact keys answers, row by row of its table.
-use crate::facts::{assert_at, assert_holds};
+use crate::facts::assert_holds;
 use crate::helps::HELP_ROW;
+use crate::keys::tables::{COMMON, assert_asked, assert_marks, assert_mouse};
 use crate::sessions::{PROMPT_ROW, has_page, terminal};
 use minus::{
     CommandOf, Core, DefaultInputClassifier, Event, InputClassifier, InputEvent, InputOf,
-    KeyEventKind, Kinds, LineNumbers, NeverCalled, NeverShows, PagerOf, RunMode, SearchMode,
-    WithTty, init_core_with,
+    KeyEventKind, Kinds, NeverCalled, NeverShows, PagerOf, RunMode, WithTty, init_core_with,
 };
-use minus_part_tests::asked::{At, START, answers, key, mouse, press, state_of};
+use minus_part_tests::asked::{At, START, answers, key, press, state_of};
 use std::alloc::Global;
 
 // Whether the classifier answers this to an event.
@@ -64,32 +64,16 @@ const MARKS: [(&str, &str, usize, usize); 40] = [
 
 #[test]
 fn keys_move_the_mark(rt: HostRuntime) {
-    for (text, prefix, mark, row) in &MARKS {
-        let at = At {
-            prefix,
-            mark: *mark,
-        };
-        let wanted = Some(InputEvent::UpdateUpperMark(*row));
-        assert_at(&rt, text, asks(rt.alloc(), press(text), &at, wanted));
-    }
+    assert_marks(&rt, rt.alloc(), &DefaultInputClassifier, &MARKS);
 }
 
-// A key, and what it asks for, whatever prefix is typed, where the left mark is 4. What is no line of the table asks for
-// nothing.
-const OTHERS: [(&str, Option<InputEvent>); 28] = [
-    ("q", Some(InputEvent::Exit)),
-    ("c-c", Some(InputEvent::Exit)),
-    ("c-f", Some(InputEvent::FollowOutput(true))),
-    (
-        "c-l",
-        Some(InputEvent::UpdateLineNumber(LineNumbers::Enabled)),
-    ),
+// Other keys, and what they ask for, whatever prefix is typed, where the left mark is 4. What is no line of the table
+// asks for nothing.
+const OTHERS: [(&str, Option<InputEvent>); 22] = [
     ("h", Some(InputEvent::HorizontalScroll(false))),
     ("left", Some(InputEvent::UpdateLeftMark(3))),
     ("l", Some(InputEvent::UpdateLeftMark(5))),
     ("right", Some(InputEvent::UpdateLeftMark(5))),
-    ("/", Some(InputEvent::Search(SearchMode::Forward))),
-    ("?", Some(InputEvent::Search(SearchMode::Reverse))),
     ("0", Some(InputEvent::Number('0'))),
     ("9", Some(InputEvent::Number('9'))),
     ("c-9", None),
@@ -112,15 +96,8 @@ const OTHERS: [(&str, Option<InputEvent>); 28] = [
 
 #[test]
 fn keys_ask_for_more_than_moves(rt: HostRuntime) {
-    let typed = At {
-        prefix: "3",
-        mark: 7,
-    };
-    for (text, wanted) in &OTHERS {
-        let is_asked = asks(rt.alloc(), press(text), &START, *wanted)
-            && asks(rt.alloc(), press(text), &typed, *wanted);
-        assert_at(&rt, text, is_asked);
-    }
+    assert_asked(&rt, rt.alloc(), &DefaultInputClassifier, &COMMON);
+    assert_asked(&rt, rt.alloc(), &DefaultInputClassifier, &OTHERS);
 }
 
 // What the mouse does, the mark, and what it asks for.
@@ -138,13 +115,7 @@ const MOUSE: [(&str, usize, Option<InputEvent>); 9] = [
 
 #[test]
 fn the_wheel_scrolls(rt: HostRuntime) {
-    for (text, mark, wanted) in &MOUSE {
-        let at = At {
-            prefix: "3",
-            mark: *mark,
-        };
-        assert_at(&rt, text, asks(rt.alloc(), mouse(text, 9, 2), &at, *wanted));
-    }
+    assert_mouse(&rt, rt.alloc(), &DefaultInputClassifier, &MOUSE);
 }
 
 // What is done with a key.

@@ -1,16 +1,20 @@
 //! The help table of the default bindings, by themselves and in a register that is in use.
 use crate::facts::assert_holds;
-use crate::keys::registers::{Register, empty, goes, lists, to_row};
+use crate::keys::registers::{Register, empty, goes, lists_both, to_row};
 use minus::{Event, InputEvent, generate_default_bindings};
 use minus_part_tests::asked::{START, answers, press};
 use minus_script::DefaultKeys;
 use std::alloc::Global;
 
-// The lines of the default bindings, in their order.
-const DEFAULTS: &str = concat!(
+// The first lines of the default bindings, in their order.
+const FIRST: &str = concat!(
     "  q, Ctrl-c                      quit\n",
     "  Up, k                          scroll up\n",
     "  Down, j                        scroll down\n",
+);
+
+// Their other lines.
+const OTHERS: &str = concat!(
     "  Ctrl-f                         toggle follow\n",
     "  Enter                          scroll lines\n",
     "  u, Ctrl-u                      half-page up\n",
@@ -33,7 +37,7 @@ const DEFAULTS: &str = concat!(
 // Whether the help of the default bindings lists their lines.
 fn lists_defaults(alloc: Global) -> bool {
     match DefaultKeys::new(alloc) {
-        Ok(keys) => lists(alloc, &keys, DEFAULTS),
+        Ok(keys) => lists_both(alloc, &keys, FIRST, OTHERS),
         Err(_) => false,
     }
 }
@@ -43,29 +47,12 @@ fn help_lists_the_default_bindings(rt: HostRuntime) {
     assert_holds(&rt, lists_defaults(rt.alloc()));
 }
 
-// The lines of a register in which two keys were bound before, one of which has a default binding.
+// The first lines of a register in which two keys were bound before, one of which has a default binding.
 const MIXED: &str = concat!(
     "  x                              mine\n",
     "  j, Down                        scroll down\n",
     "  q, Ctrl-c                      quit\n",
     "  Up, k                          scroll up\n",
-    "  Ctrl-f                         toggle follow\n",
-    "  Enter                          scroll lines\n",
-    "  u, Ctrl-u                      half-page up\n",
-    "  d, Ctrl-d                      half-page down\n",
-    "  g, Home                        top\n",
-    "  Shift-g, End                   bottom\n",
-    "  PageUp                         page up\n",
-    "  PageDown, <Space>              page down\n",
-    "  Ctrl-l                         toggle line numbers\n",
-    "  Shift-m                        help\n",
-    "  /                              search forward\n",
-    "  ?                              search backward\n",
-    "  n                              next match\n",
-    "  p, Shift-n                     previous match\n",
-    "  Ctrl-Shift-h, Ctrl-h           toggle line wrap\n",
-    "  h, Left                        scroll left\n",
-    "  l, Right                       scroll right\n",
 );
 
 // A register of two keys, to which the default bindings were added.
@@ -88,7 +75,7 @@ fn mixes(alloc: Global) -> bool {
         return false;
     };
     register.len() == 40
-        && lists(alloc, &register, MIXED)
+        && lists_both(alloc, &register, MIXED, OTHERS)
         && goes(alloc, &register, press("x"), Some(1))
         && goes(alloc, &register, press("j"), Some(1))
         && answers(

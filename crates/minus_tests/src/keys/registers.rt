@@ -49,6 +49,16 @@ pub fn goes<K: InputClassifier>(
 
 /// Whether the help of a classifier lists these lines, between its four first and its two last ones.
 pub fn lists<K: InputClassifier>(alloc: Global, classifier: &K, lines: &str) -> bool {
+    lists_both(alloc, classifier, lines, "")
+}
+
+/// Whether it lists these lines, and then those.
+pub fn lists_both<K: InputClassifier>(
+    alloc: Global,
+    classifier: &K,
+    lines: &str,
+    others: &str,
+) -> bool {
     let Ok(Some(text)) = classifier.format_help(alloc) else {
         return false;
     };
@@ -60,7 +70,10 @@ pub fn lists<K: InputClassifier>(alloc: Global, classifier: &K, lines: &str) -> 
     );
     let last = "\n  -- Press q to return to pager --\n";
     match text.as_str().strip_prefix(first) {
-        Some(rest) => rest.strip_suffix(last) == Some(lines),
+        Some(rest) => match rest.strip_suffix(last) {
+            Some(listed) => listed.strip_prefix(lines) == Some(others),
+            None => false,
+        },
         None => false,
     }
 }
@@ -198,7 +211,7 @@ fn a_key_that_is_bound_again_keeps_its_place(rt: HostRuntime) {
     assert_holds(&rt, keeps_its_place(rt.alloc()));
 }
 
-// Whether a removed key closes up, a key that is not bound is passed over, and a key that is added again goes last.
+// Whether a removed key closes up, a key that is not bound is skipped, and a key that is added again goes last.
 fn closes_up(alloc: Global) -> bool {
     let Some(mut register) = described(alloc) else {
         return false;

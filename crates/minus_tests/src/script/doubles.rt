@@ -26,7 +26,7 @@ impl Read for Slow<'_> {
     }
 }
 
-/// Gives so many bytes, one a read.
+/// Gives this many bytes, one a read.
 #[derive(Drop)]
 pub struct Steady {
     pub left: usize,

@@ -1,6 +1,6 @@
 //! Scripts that press keys and use the mouse, with what they must print.
 use crate::facts::assert_at;
-use crate::script::runs::{is_refused, leads_to};
+use crate::script::runs::{assert_pages, is_refused, leads_to};
 use std::alloc::Global;
 
 // The prompt row of 20 columns, as it is printed.
@@ -140,13 +140,7 @@ const PRINTED: [(usize, usize, &str, &str); 13] = [
 
 #[test]
 fn keys_lead_to_pages_and_exits(rt: HostRuntime) {
-    for (cols, rows, script, page) in &PRINTED {
-        assert_at(
-            &rt,
-            script,
-            leads_to(rt.alloc(), *cols, *rows, script, page),
-        );
-    }
+    assert_pages(&rt, rt.alloc(), &PRINTED);
 }
 
 // Scripts with a faulty line of a key or of the mouse, and what is said of it.

@@ -29,7 +29,7 @@ fn ends<R: Read, W: Write>(
     }
 }
 
-// Whether the program ends so on a script, with so many bytes printed.
+// Whether the program ends so on a script, with this many bytes printed.
 fn ends_on(alloc: Global, texts: &[&str], script: &str, told: (u8, &str), printed: usize) -> bool {
     let mut out = Vec::new(alloc);
     ends(alloc, texts, &mut script.as_bytes(), &mut out, told) && out.len() == printed

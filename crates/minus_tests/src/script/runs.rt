@@ -3,6 +3,7 @@ use crate::facts::{assert_at, assert_holds};
 use minus_part_tests::shown::is_shown;
 use minus_script::{Mode, run_script};
 use std::alloc::Global;
+use std::process::Abort;
 
 const SETUP: &str = "\x1b[?1049h\x1b[?1000h\x1b[?1002h\x1b[?1003h\x1b[?1015h\x1b[?1006h\x1b[?25l";
 
@@ -19,7 +20,7 @@ fn are_framed(written: &[u8], drawn: &str) -> bool {
     }
 }
 
-// Whether a run of a script draws so on so many columns and rows.
+// Whether a run of a script draws so on this many columns and rows.
 fn draws(alloc: Global, cols: usize, rows: usize, script: &str, drawn: &str) -> bool {
     let mut script = script.as_bytes();
     let mut out = Vec::new(alloc);
@@ -48,12 +49,19 @@ fn prints_the_bytes_of_a_script(rt: HostRuntime) {
     }
 }
 
-/// Whether a script leads to this page of so many columns and rows.
+/// Whether a script leads to this page of this many columns and rows.
 pub fn leads_to(alloc: Global, cols: usize, rows: usize, script: &str, page: &str) -> bool {
     let mut script = script.as_bytes();
     let mut out = Vec::new(alloc);
     run_script(alloc, Mode::Page, cols, rows, &mut script, &mut out).is_ok()
         && out.as_slice() == page.as_bytes()
+}
+
+/// Fails where a script does not lead to its page. A row has its columns and rows, a script and a page.
+pub fn assert_pages(rt: &impl Abort, alloc: Global, pages: &[(usize, usize, &str, &str)]) {
+    for (cols, rows, script, page) in pages {
+        assert_at(rt, script, leads_to(alloc, *cols, *rows, script, page));
+    }
 }
 
 // A script that goes on behind ten lines.
@@ -119,13 +127,7 @@ const PAGES: [(usize, usize, &str, &str); 10] = [
 
 #[test]
 fn prints_the_page_that_a_script_leads_to(rt: HostRuntime) {
-    for (cols, rows, script, page) in &PAGES {
-        assert_at(
-            &rt,
-            script,
-            leads_to(rt.alloc(), *cols, *rows, script, page),
-        );
-    }
+    assert_pages(&rt, rt.alloc(), &PAGES);
 }
 
 // Whether a page of 300 rows begins with this text, and goes on with a blank row.

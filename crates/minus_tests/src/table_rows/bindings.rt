@@ -12,8 +12,8 @@ use minus_part_tests::asked::press;
 use minus_script::DefaultKeys;
 use std::alloc::Global;
 
-// A state of ten lines on so many rows that is followed, whose lines are not wrapped, at its last mark and at the left
-// mark 4, with `+3` typed.
+// A state of ten lines on this many rows that is followed, whose lines are not wrapped, at its last mark and at the
+// left mark 4, with `+3` typed.
 fn turned(alloc: Global, rows: usize, numbers: LineNumbers) -> Option<PagerState> {
     let (Ok(mut state), Ok(prefix)) = (
         PagerState::new(alloc, 20, rows),
@@ -31,7 +31,7 @@ fn turned(alloc: Global, rows: usize, numbers: LineNumbers) -> Option<PagerState
     is_set.then_some(state)
 }
 
-// A key on so many rows and with such numbers, and what it asks for by the default bindings and by exact keys.
+// A key on this many rows and with such numbers, and what it asks for by the default bindings and by exact keys.
 type Bound<'a> = (usize, LineNumbers, &'a str, InputEvent, Option<InputEvent>);
 
 // Whether it does in such a state.

@@ -1,4 +1,4 @@
-//! What waits for commands that are handled by hand, and what is drawn of it.
+//! What waits for commands that are handled manually, and what is drawn of it.
 use super::{
     CLEAR, COPY, FIFTH_ROW, FULL, LAST_HOOK, LAST_PAGE, NEXT, OPEN, PREVIOUS, TEN, TO_GO_ON,
 };
@@ -19,7 +19,7 @@ use minus::SearchMode::{Forward, Reverse, Unknown};
 use minus::{AppendStyle, IoCommand};
 use std::alloc::Global;
 
-// What waits for commands that are handled by hand, one behind the other.
+// What waits for commands that are handled manually, one behind the other.
 macro_rules! waiting {
     ($($asked:expr => $($waits:expr),*;)*) => {
         &[$(&($asked, &[$($waits),*])),*]
@@ -100,7 +100,7 @@ fn what_waits_is_what_a_line_draws(rt: HostRuntime) {
     );
 }
 
-// Whether all of this is worked off by hand.
+// Whether all of this is performed manually.
 fn all_done(driven: &mut Driven, asked: &[Asked<'_>]) -> bool {
     for it in asked {
         if !driven.does(*it) {
@@ -110,7 +110,7 @@ fn all_done(driven: &mut Driven, asked: &[Asked<'_>]) -> bool {
     true
 }
 
-// Whether the last of what is worked off by hand on four rows writes these texts.
+// Whether the last of what is performed manually on four rows writes these texts.
 fn writes(alloc: Global, asked: &[Asked<'_>], texts: &[&str]) -> bool {
     let (Some(mut driven), Some((last, first))) = (without_text(alloc), asked.split_last()) else {
         return false;

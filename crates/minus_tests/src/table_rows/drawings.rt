@@ -114,7 +114,7 @@ const NOTHINGS: &[&[Asked<'static>]] = lists! {
     Message("m"), Prompt("p");
     Message("m"), Message("m");
     OPEN, Prompt("p");
-    // what help puts aside
+    // what help saves
     OPEN, Set("a");
     OPEN, Follow(true), Push("a");
     // moves by no rows

@@ -1,4 +1,4 @@
-//! What a session keeps of what it is handed, and is told of its end, draws nothing.
+//! What a session keeps of what it is handed, and is told about its end, draws nothing.
 use crate::classifiers::ToRow;
 use crate::facts::assert_at;
 use crate::sessions::terminal;

@@ -1,5 +1,5 @@
-//! Searches in lines: matches go over the ends of rows, jumps go to the rows in which one begins, and the prompt row counts
-//! matches.
+//! Searches in lines: matches go over the ends of rows, jumps go to the rows in which one begins, and the prompt row
+//! counts matches.
 use super::{ENTER, FOURTH_ROW, NEXT, OPEN, PREVIOUS, THIRD_ROW};
 use crate::facts::assert_holds;
 use crate::sessions::Asked::{
@@ -81,7 +81,7 @@ const PAGES: &[&Worked<'static>] = worked! {
     4 x 3: InLines(true), Push("ab cd"), Key('/'), Key('^'), ENTER => "\x1b[7m\x1b[27mab", "cd", NARROW_ONE;
     4 x 3: InLines(true), Push("ab cd"), Key('/'), Key('$'), ENTER => "ab", "cd\x1b[7m\x1b[27m", NARROW_ONE;
     4 x 3: Push("ab cd"), Key('/'), Key('^'), ENTER => "\x1b[7m\x1b[27mab", "\x1b[7m\x1b[27mcd", NARROW_FIRST;
-    // jumps pass over the row into which a match goes on, and go back over it
+    // jumps skip the row into which a match goes on, and go back over it
     4 x 3: InLines(true), Push("aaaabbbbcc\nab\nx\ny"), Key('/'), Key('a'), Key('b'), ENTER =>
         "aaa\x1b[7ma\x1b[27m", "\x1b[7mb\x1b[27mbbb", NARROW_FIRST;
     4 x 3: InLines(true), Push("aaaabbbbcc\nab\nx\ny"), Key('/'), Key('a'), Key('b'), ENTER, NEXT =>

@@ -8,8 +8,8 @@ use minus::LineNumbers::Enabled;
 use minus::PagerState;
 use std::alloc::Global;
 
-// What is asked for, and then more, on 20 columns and so many rows, and the mark, the left mark and the match that is
-// told of, counted from 0, that this leads to.
+// What is asked for, and then more, on 20 columns and this many rows, and the mark, the left mark and the match that is
+// reported, counted from 0, that this leads to.
 struct Stand<'a> {
     name: &'a str,
     rows: usize,
@@ -68,10 +68,10 @@ const STANDS: &[&Stand<'static>] = stands! {
     // matches past the last page
     4: LAST, Does(MoveToNextMatch(2)) => (7, 0, 1);
     4: LAST, Does(MoveToNextMatch(2)), PREVIOUS => (7, 0, 0);
-    // a search that is left, or whose query is no pattern, tells of the first match
+    // a search that is left, or whose query is no pattern, reports the first match
     4: TWO, NEXT, Key('/'), ESC => (7, 0, 0);
     4: TWO, NEXT, Key('/'), Key('('), ENTER => (7, 0, 0);
-    // rows that are formed anew tell of the match at the mark before it is clamped
+    // rows that are formed again report the match at the mark before it is clamped
     4: ALL, Mark(7), Set("l0\nl1\nl2\nl3\nl4") => (2, 0, 0);
     4: ALL, Mark(7), Size(20, 8) => (3, 0, 7);
     4: ALL, Mark(7), Numbers(Enabled) => (7, 0, 7);

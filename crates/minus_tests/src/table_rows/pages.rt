@@ -54,7 +54,7 @@ const HELPED: &[&Worked<'static>] = worked! {
 
 // What is selected, which row is the first, and what is typed.
 const SHOWN: &[&Worked<'static>] = worked! {
-    // a selection begins anew, below the text in its last row, and in a number behind it
+    // a selection begins again, below the text in its last row, and in a number behind it
     20 x 3: Push("abc"), Start(0, 0), Update(2, 0), Start(1, 0) => "a\x1b[7mb\x1b[27mc", "", PROMPT_ROW;
     20 x 5: Push("a\nbc"), Start(1, 3) => "a", "b\x1b[7mc\x1b[27m", "", "", PROMPT_ROW;
     20 x 3: Push("ab"), Numbers(Enabled), Start(2, 0) => "     \x1b[1m1.\x1b[0m \x1b[7ma\x1b[27mb", "", PROMPT_ROW;
@@ -94,7 +94,7 @@ const SHOWN: &[&Worked<'static>] = worked! {
     // a search in no direction opens no prompt
     20 x 3: Push("a"), Does(Search(Unknown)), Push("b") => "ab", "", PROMPT_ROW;
     20 x 3: Push("a"), Io(FetchSearchQuery), Push("b") => "ab", "", PROMPT_ROW;
-    // the first match is told of from the opening on
+    // the first match is reported from the opening on
     20 x 2: Push("a\na"), Key('/'), Key('a'), ENTER, NEXT, Key('/'), ESC => "\x1b[7ma\x1b[27m", ONE_OF_TWO;
 };
 

@@ -35,7 +35,7 @@ fn both_search_modes_are_those_of_the_last_search(rt: HostRuntime) {
     }
 }
 
-// Whether the last search is in a direction once all of this is handled by hand, before anything that waits is done.
+// Whether the last search is in a direction once all of this is handled manually, before anything that waits is done.
 fn turns(alloc: Global, asked: &[Asked<'_>], mode: SearchMode) -> bool {
     let Some(mut driven) = without_text(alloc) else {
         return false;

@@ -4,7 +4,7 @@ use Rattle.minus_term.specs.Refusals.{refusal_of}
 use Rattle.minus_state.proofs.RefusalLaws.{passed_on}
 use Rattle.minus_state.specs.Control.{Control}
 use Rattle.minus_state.specs.States.{control_of}
-use Rattle.minus.specs.Queued.{waiting_in}
+use Rattle.minus_commands.specs.Queued.{waiting_in}
 use Rattle.minus_callers.specs.ByHand.{left_by_all, IsIoFault}
 use Rattle.minus_callers.proofs.by_hand.do_waiting.Goals as goal
 

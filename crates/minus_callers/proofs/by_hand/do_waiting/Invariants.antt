@@ -1,8 +1,8 @@
 -- The commands that still wait leave what all of them were to leave.
 use Rattle.std.proofs.Common.{◌≡◌, length}
 use Rattle.minus_state.specs.States.{control_of, IsFormed}
-use Rattle.minus.specs.Queued.{waiting_in}
-use Rattle.minus.specs.Reads.{kept_of}
+use Rattle.minus_commands.specs.Queued.{waiting_in}
+use Rattle.minus_commands.specs.Reads.{kept_of}
 use Rattle.minus_callers.specs.ByHand.{left_by_all}
 use Rattle.minus_callers.proofs.by_hand.do_waiting.Given as goal
 

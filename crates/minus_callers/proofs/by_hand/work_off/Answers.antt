@@ -2,10 +2,10 @@
 use Rattle.std.proofs.Common.{List, refl, subst, inl, inr}
 use Rattle.minus_term.specs.Refusals.{refusal_of}
 use Rattle.minus_state.proofs.RefusalLaws.{passed_on}
-use Rattle.minus.specs.declared.commands.CommandOf.{CommandOf}
-use Rattle.minus.specs.EvHandler.{HandlesAs}
-use Rattle.minus.specs.Queued.{waiting_in}
-use Rattle.minus.specs.Reads.{io_of}
+use Rattle.minus_commands.specs.declared.commands.CommandOf.{CommandOf}
+use Rattle.minus_commands.specs.EvHandler.{HandlesAs}
+use Rattle.minus_commands.specs.Queued.{waiting_in}
+use Rattle.minus_commands.specs.Reads.{io_of}
 use Rattle.minus_callers.specs.ByHand.{CannotWorkOff}
 use Rattle.minus_callers.proofs.ByHandLaws.{all_done}
 use Rattle.minus_callers.proofs.by_hand.work_off.Goals as goal

@@ -2,12 +2,12 @@
 use Rattle.std.proofs.Common.{List, ◌∷◌, [], ◌++◌, map, ap, ◌∙◌}
 use Rattle.std.proofs.lemmas.List.{map-append}
 use Rattle.minus_term.specs.declared.hooks.Hook.TheVariants.{EofReached}
-use Rattle.minus.specs.Handing.{kept_at_first, a_callback}
-use Rattle.minus.specs.Reads.{wanted_of}
+use Rattle.minus_commands.specs.Registration.{kept_at_first, a_callback}
+use Rattle.minus_commands.specs.Reads.{wanted_of}
 use Rattle.minus.specs.Seen.{Seen}
-use Rattle.minus.specs.Starts.{kept_taken}
-use Rattle.minus.specs.Table.{Wanted, appends_data, hands_over}
-use Rattle.minus.proofs.PagerLaws.{asked_behind}
+use Rattle.minus_commands.specs.WaitingRegistrations.{kept_taken}
+use Rattle.minus_commands.specs.Table.{Wanted, appends_data, hands_over}
+use Rattle.minus_commands.proofs.PagerLaws.{asked_behind}
 use Rattle.minus_callers.proofs.fetcher.page_beginning.Goals as goal
 
 pub returns-clause-hook : goal.returns-clause-hook

@@ -1,7 +1,7 @@
 -- The lines so far stand behind the text, which is followed.
 use Rattle.std.proofs.Common.{◌≡◌, ◌++◌, ℕ, List, None, map, take, flat_map, Bor}
 use Rattle.minus.specs.Core.{seen_of}
-use Rattle.minus.specs.Works.{IsReady}
+use Rattle.minus.specs.Waiting.{IsReady}
 use Rattle.minus_callers.specs.Follower.{Follows, ended}
 use Rattle.minus_callers.proofs.follower.push_lines.Given as goal
 

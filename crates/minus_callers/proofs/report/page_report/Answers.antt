@@ -1,11 +1,11 @@
 -- The text that waits sets no register: the one of the start is kept.
 use Rattle.std.proofs.Common.{◌≡◌, ◌∷◌, [], ◌++◌, map, ap, sym, subst, ◌∙◌}
 use Rattle.minus_input.specs.EventTables.{register_of}
-use Rattle.minus.specs.Reads.{wanted_of}
+use Rattle.minus_commands.specs.Reads.{wanted_of}
 use Rattle.minus.specs.Seen.{Seen}
-use Rattle.minus.specs.Starts.{classifier_taken}
-use Rattle.minus.specs.Table.{appends_data}
-use Rattle.minus.proofs.PagerLaws.{asked_behind}
+use Rattle.minus_commands.specs.WaitingRegistrations.{classifier_taken}
+use Rattle.minus_commands.specs.Table.{appends_data}
+use Rattle.minus_commands.proofs.PagerLaws.{asked_behind}
 use Rattle.minus_callers.specs.Report.{HasSummaryKey}
 use Rattle.minus_callers.proofs.report.page_report.Goals as goal
 

@@ -2,7 +2,7 @@
 use Rattle.std.proofs.Common.{rules, List, ℕ, map, sym, ap, subst, ◌∙◌}
 use Rattle.minus_term.specs.Counts.{AppendsFront}
 use Rattle.minus_state.proofs.RefusalLaws.{passed_on}
-use Rattle.minus.specs.Reads.{told_of}
+use Rattle.minus_commands.specs.Reads.{told_of}
 use Rattle.minus_script.specs.Script.{script_lines, script_told}
 use Rattle.minus_script.specs.Runs.{IsRunFault, IsScriptShown}
 use Rattle.minus_script.proofs.RunLaws.{output_fault}

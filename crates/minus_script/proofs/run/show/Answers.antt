@@ -6,7 +6,7 @@ use Rattle.minus_term.specs.Refusals.{refusal_of}
 use Rattle.minus_term.specs.declared.error.MinusError.TheVariants.{Memory}
 use Rattle.minus_script.specs.declared.fault.ScriptFault.TheVariants.{Refused}
 use Rattle.minus.specs.Core.{seen_of}
-use Rattle.minus.specs.Reads.{told_of, wanted_of}
+use Rattle.minus_commands.specs.Reads.{told_of, wanted_of}
 use Rattle.minus.specs.Steps.{cleanup_after}
 use Rattle.minus_script.specs.Runs.{exit_code, printed_after, IsShown}
 use Rattle.minus_script.specs.ShowFaults.{IsShowFault, IsCleanupFault}

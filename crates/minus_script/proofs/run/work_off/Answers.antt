@@ -1,7 +1,7 @@
 -- The session is run on, until nothing is left.
 use Rattle.std.proofs.Common.{[], ◌++◌, map, None, Some, is_some, inl, refl, sym, ap, ◌∙◌}
 use Rattle.minus.specs.Core.{seen_of}
-use Rattle.minus.specs.Reads.{told_of}
+use Rattle.minus_commands.specs.Reads.{told_of}
 use Rattle.minus_script.proofs.RunLaws.{worked_none, some_left, none_left, run_as, ran_on, ran_less, ran_last, ran_running, whole_by_exit, ran_into}
 use Rattle.minus_script.proofs.run.work_off.Goals as goal
 

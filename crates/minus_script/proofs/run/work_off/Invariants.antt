@@ -1,10 +1,10 @@
--- The inputs that are gone were worked off, in order, and the session runs.
+-- The inputs that are gone were performed, in order, and the session runs.
 use Rattle.std.proofs.Common.{◌≡◌, List, length, map, None}
 use Rattle.std.specs.List.{last_or}
 use Rattle.minus.specs.declared.answer.Answer.{Answer}
 use Rattle.minus.specs.declared.status.Status.TheVariants.{Running}
 use Rattle.minus.specs.Core.{seen_of}
-use Rattle.minus.specs.Reads.{told_of}
+use Rattle.minus_commands.specs.Reads.{told_of}
 use Rattle.minus_script.specs.Runs.{IsWorkedOff}
 use Rattle.minus_script.proofs.run.work_off.Given as goal
 

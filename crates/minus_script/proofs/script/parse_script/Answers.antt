@@ -1,7 +1,7 @@
 use Rattle.std.proofs.Common.{rules, ◌≡◌, ℕ, ◌+◌, ◌-◌, List, map, Some, Result, option_map, sym, ap, ◌∙◌, arith}
 use Rattle.minus_state.specs.declared.search.condition.NeverShows.{NeverShows}
 use Rattle.minus_script.specs.declared.keys.DefaultKeys.{DefaultKeys}
-use Rattle.minus.specs.Reads.{Told, told_of}
+use Rattle.minus_commands.specs.Reads.{Told, told_of}
 use Rattle.minus_script.specs.Script.{script_lines, script_told, line_told, then_told}
 use Rattle.minus_script.specs.ScriptLines.{told_by}
 use Rattle.minus_script.proofs.ScriptLaws.{told_after, told_after-more}

@@ -1,7 +1,7 @@
 -- What the lines so far tell, and how many they are.
 use Rattle.std.proofs.Common.{◌≡◌, ◌-◌, ◌+◌, ◌≤◌, map, length}
 use Rattle.minus_script.specs.Script.{script_lines, script_told}
-use Rattle.minus.specs.Reads.{told_of}
+use Rattle.minus_commands.specs.Reads.{told_of}
 use Rattle.minus_script.proofs.ScriptLaws.{told_after}
 use Rattle.minus_script.proofs.script.parse_script.Given as goal
 

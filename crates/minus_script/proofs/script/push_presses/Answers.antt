@@ -3,7 +3,7 @@ use Rattle.std.proofs.Common.{◌≡◌, ◌++◌, ◌∷◌, [], map, sym, ap, 
 use Rattle.std.proofs.lemmas.List.{append_assoc, map-append}
 use Rattle.std.proofs.lemmas.Iterator.{YieldsList-from_chars}
 use Rattle.std.proofs.lemmas.Iterator.Consumers.{YieldsList-end}
-use Rattle.minus.specs.Reads.{told_of}
+use Rattle.minus_commands.specs.Reads.{told_of}
 use Rattle.minus_script.specs.Script.{typed}
 use Rattle.minus_script.proofs.script.push_presses.Goals as goal
 

@@ -1,6 +1,6 @@
 -- The presses of the characters so far.
 use Rattle.std.proofs.Common.{◌≡◌, ◌++◌, map}
-use Rattle.minus.specs.Reads.{told_of}
+use Rattle.minus_commands.specs.Reads.{told_of}
 use Rattle.minus_script.specs.Script.{typed}
 use Rattle.minus_script.proofs.script.push_presses.Given as goal
 
