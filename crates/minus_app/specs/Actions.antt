@@ -49,5 +49,6 @@ is_quit None = false
 is_quit (Some Quit) = true
 is_quit (Some action) = false
 
+-- whether what is done at a key ends the program
 abbrev pub ends_program : Option (ActionOf KeyAction) → Bool
 ends_program action = is_quit (pager_action action)

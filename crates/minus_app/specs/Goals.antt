@@ -1,11 +1,11 @@
 -- Where what the text is read on for leads.
-use Rattle.std.specs.Prelude.{ℕ, ◌-◌, ◌^◌, Bool, true, false, Option, None, Some, length, slice_get, unwrap_or, if◌then◌else◌}
+use Rattle.std.specs.Prelude.{ℕ, ◌-◌, ◌^◌, Bool, Option, None, Some, length, slice_get, if◌then◌else◌}
 use Rattle.minus_text.specs.Document.{line_map}
 use Rattle.minus_state.specs.declared.state.PagerState.{PagerState}
 use Rattle.minus_app.specs.Lines.{row_of_line}
 use Rattle.minus_app.specs.Moves.{line_at}
-use Rattle.minus_app.specs.declared.view.reading.Goal.{Goal}
-use Rattle.minus_app.specs.declared.view.reading.Goal.TheVariants.{Line, End, Percent, Match}
+use Rattle.minus_app.specs.declared.view.goals.Goal.{Goal}
+use Rattle.minus_app.specs.declared.view.goals.Goal.TheVariants.{Line, End, Percent, Match}
 
 -- the first row of a line that was read, and else a row behind all, once the text is whole
 abbrev pub row_if_read : Option ℕ → Bool → Option ℕ

@@ -1,5 +1,6 @@
 -- The keys of an application: what an event leads to, which keys stay what they are, and whether one ends the program.
-use Rattle.std.specs.Prelude.{◌≡◌, ℕ, Bool, true, List, slice_get, is_some, Option, None, Some, if◌then◌else◌, ◌||◌, ◌&&◌, not}
+use Rattle.std.specs.Prelude.{◌≡◌, ℕ, Bool, true, List, slice_get, is_some, Option, None, Some, if◌then◌else◌, ◌||◌}
+use Rattle.std.specs.Prelude.{◌&&◌, not}
 use Rattle.std.specs.Option.{option_and_then}
 use Rattle.minus_term.specs.declared.event.Event.{Event}
 use Rattle.minus_state.specs.Help.{help_open}
@@ -47,10 +48,12 @@ SomeEnds keys = (event : Event) × (ends_program (done_at keys event) ≡ true)
 -- the pager's
 abbrev pub own_number_at : PagerState → Register EventWrapper (ActionOf KeyAction) → Event → Option ℕ
 own_number_at state register event =
-    if help_open (control_of state) || is_some (control_of state).search then None else own_number (done_by register event)
+    if help_open (control_of state) || is_some (control_of state).search then None
+    else own_number (done_by register event)
 
 -- the application's action that is done on a page, of those that it has
-abbrev pub own_act_at : {A : Type 0} → List A → PagerState → Register EventWrapper (ActionOf KeyAction) → Event → Option A
+abbrev pub own_act_at : {A : Type 0} → List A → PagerState → Register EventWrapper (ActionOf KeyAction) → Event
+    → Option A
 own_act_at acts state register event = option_and_then (slice_get acts) (own_number_at state register event)
 
 -- what the pager does beside the default actions: while help is open, only what moves its page
@@ -58,5 +61,6 @@ abbrev pub held : Bool → Option ViewAction → Option ViewAction
 held help None = None
 held help (Some action) = if help && not (holds_in_help action) then None else Some action
 
+-- what the pager does at an event in a state beside the default actions: while help is open, only what moves its page
 abbrev pub view_action_at : PagerState → Register EventWrapper (ActionOf KeyAction) → Event → Option ViewAction
 view_action_at state register event = held (help_open (control_of state)) (view_action (done_by register event))

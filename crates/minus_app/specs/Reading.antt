@@ -1,14 +1,15 @@
 -- How much of a text a program reads, and how it begins to show it.
-use Rattle.std.specs.Prelude.{ℕ, ◌-◌, ◌&&◌, ◌||◌, not, Option, Some, None, Bool, if◌then◌else◌, length, nat_lt, slice_get}
-use Rattle.minus_text.specs.declared.wrap.Span.{Span}
+use Rattle.std.specs.Prelude.{ℕ, ◌-◌, ◌&&◌, ◌||◌, not, Option, Some, None, Bool, if◌then◌else◌, length, nat_lt}
+use Rattle.std.specs.Prelude.{slice_get}
+use Rattle.minus_text.specs.declared.rows.Span.{Span}
 use Rattle.minus_text.specs.LinePlaces.{row_places}
 use Rattle.minus_text.specs.Document.{rows_of}
 use Rattle.minus_state.specs.declared.state.PagerState.{PagerState}
 use Rattle.minus_state.specs.Help.{help_open}
 use Rattle.minus_state.specs.States.{control_of}
 use Rattle.minus_app.specs.declared.options.Options.{Options}
-use Rattle.minus_app.specs.declared.view.reading.Goal.{Goal}
-use Rattle.minus_app.specs.declared.view.reading.Goal.TheVariants.{Line, End}
+use Rattle.minus_app.specs.declared.view.goals.Goal.{Goal}
+use Rattle.minus_app.specs.declared.view.goals.Goal.TheVariants.{Line, End}
 
 -- the line that is shown first, counted from 0: none where the text begins with its own first line
 abbrev pub first_line : ℕ → Option Goal
@@ -25,7 +26,7 @@ bytes_from_to (Some first) (Some last) = last.end - first.start
 bytes_from_to (Some first) None = 0
 bytes_from_to None last = 0
 
--- the bytes of the text on show from the first row of the page on
+-- the bytes of the displayed text from the first row of the page on
 abbrev pub bytes_below : PagerState → ℕ
 bytes_below state =
     let places = row_places state.screen.document in

@@ -50,7 +50,8 @@ pub const TITLE: &str = "text";
 
 /// An application: the text that it pages, and what its own keys do.
 ///
-/// `feed` and `act` have to be written; for the rest there are answers that most applications take.
+/// `feed` has to be written, and `act` where it has keys of its own; for the rest there are answers that most
+/// applications take.
 pub trait App: Drop {
     ghost use Rattle.std.specs.Prelude.{List, ℕ, Option, None, IfOk};
     ghost use Rattle.minus_app.specs.Feeds.{IsFed};
@@ -81,10 +82,12 @@ pub trait App: Drop {
     /// Where it fails: the program ends.
     fn act<S: OutputSink + Drop>(
         &mut self,
-        act: Self::Act,
-        rt: &HostRuntime,
-        view: &mut View<S>,
-    ) -> Result<Flow, Fault>;
+        _act: Self::Act,
+        _rt: &HostRuntime,
+        _view: &mut View<S>,
+    ) -> Result<Flow, Fault> {
+        Ok(Flow::On)
+    }
 
     /// Turns to another text, which `feed` gives from its beginning from then on, and answers whether there is one.
     ///
@@ -93,6 +96,11 @@ pub trait App: Drop {
     /// Where it fails: the program ends.
     fn turn_to(&mut self, _rt: &HostRuntime, _neighbour: Neighbour) -> Result<bool, Fault> {
         Ok(false)
+    }
+
+    /// Whether no text comes behind this one.
+    fn is_last(&self) -> bool {
+        true
     }
 
     /// What the prompt row calls the text.
@@ -115,8 +123,19 @@ pub trait App: Drop {
         Some(AHEAD)
     }
 
+    /// Whether another program is writing the text, which a key may end.
+    fn is_written(&self) -> bool {
+        false
+    }
+
     /// Whether the end of the text is followed from the first page on.
     fn follows(&self) -> bool {
+        false
+    }
+
+    /// Whether what `feed` gives has marks of its tabs, as [`minus_view::Shape::marks_tabs`] asks for: they are taken
+    /// out of it, and tabs are copied as tabs.
+    fn marks_tabs(&self) -> bool {
         false
     }
 

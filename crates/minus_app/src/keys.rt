@@ -1,10 +1,17 @@
 //! The keys of an application: the pager's own actions and the application's, in one register.
+//!
+//! A key leads to one of three kinds of action ([`KeyAction`]): a default one of the library, one of the program
+//! ([`ViewAction`]), or the application's own, by its number. So `bind(&["x"], "next error", Act::Next)` is refused
+//! where `x` leads to something, and help lists `x` with that text else.
 ghost use Rattle.std.specs.Prelude.{◌≡◌, IfErr};
 ghost use Rattle.minus_input.specs.EventTables.{register_of};
 ghost use Rattle.minus_app.specs.Actions.{ends_program, own_number, pager_action, view_action};
 ghost use Rattle.minus_app.specs.Keys.{done_by};
 
+mod tables;
+
 use crate::fault::Fault;
+use crate::keys::tables::{DEFAULTS_OF_LESS, ENDS, KEYS_OF_LESS, UNTOLD, VIEWS_OF_LESS};
 use crate::view_action::ViewAction;
 use minus::{
     ActionCall, ActionOf, DefaultAction, Event, EventTable, FixedSeed, InputEvent, MinusError,
@@ -48,7 +55,7 @@ pub struct AppKeys<A> {
     ends: Vec<Event>,
 }
 
-// By hand: a derived drop would stand anew in the proof of each function that lets one go.
+// Hand-written: a derived drop would stand again in the proof of each function that lets one go.
 impl<A: Drop> Drop for AppKeys<A> {
     fn drop(self) {
         let AppKeys {
@@ -58,55 +65,6 @@ impl<A: Drop> Drop for AppKeys<A> {
         } = self;
     }
 }
-
-// The keys of the default bindings that end the program.
-const ENDS: [&str; 2] = ["q", "c-c"];
-
-// The keys of `less` that have no default binding, each with the default action that does what `less` does.
-const KEYS_OF_LESS: [(&str, DefaultAction); 5] = [
-    ("b", DefaultAction::PageUp),
-    ("f", DefaultAction::PageDown),
-    ("s-f", DefaultAction::ToggleFollow),
-    ("<", DefaultAction::Top),
-    (">", DefaultAction::Bottom),
-];
-
-// The keys of `less` that are bound to something else by default, or to nothing, each with the default action that does
-// what `less` does.
-const DEFAULTS_OF_LESS: [(&[&str], DefaultAction); 6] = [
-    (&["e", "c-e", "c-n", "c-j"], DefaultAction::ScrollDown),
-    (&["y", "c-y", "c-p", "c-k"], DefaultAction::ScrollUp),
-    (&["s-f"], DefaultAction::ToggleFollow),
-    (&["h", "s-h"], DefaultAction::Help),
-    (&["s-q"], DefaultAction::Quit),
-    (&["c-h"], DefaultAction::ScrollLeft),
-];
-
-// The other keys of `less`.
-const VIEWS_OF_LESS: [(&[&str], ViewAction); 19] = [
-    (
-        &["space", "f", "c-f", "c-v", "z", "pagedown"],
-        ViewAction::PageDown,
-    ),
-    (&["b", "c-b", "w", "pageup"], ViewAction::PageUp),
-    (&["d", "c-d"], ViewAction::HalfPageDown),
-    (&["u", "c-u"], ViewAction::HalfPageUp),
-    (&["g", "<", "home"], ViewAction::FirstLine),
-    (&["s-g", ">", "end"], ViewAction::LastLine),
-    (&["p", "%"], ViewAction::Percent),
-    (&["right"], ViewAction::Right),
-    (&["left"], ViewAction::Left),
-    (&["n"], ViewAction::NextMatch),
-    (&["s-n"], ViewAction::PreviousMatch),
-    (&["r", "c-r", "c-l"], ViewAction::Redraw),
-    (&["c-c"], ViewAction::Interrupt),
-    (&["m"], ViewAction::SetMark),
-    (&["'"], ViewAction::GoToMark),
-    (&["=", "c-g"], ViewAction::TellPlace),
-    (&["dash"], ViewAction::SetOption),
-    (&[":"], ViewAction::Command),
-    (&["s-z"], ViewAction::EndTwice),
-];
 
 // The number of the application's action that an event leads to.
 pub fn own_number(table: &Table, event: &Event) -> Option<usize>
@@ -209,7 +167,8 @@ impl<A: Copy + Drop> AppKeys<A> {
         Ok(keys)
     }
 
-    /// The keys of `less`, whatever they lead to by default, and the default keys that `less` does not have.
+    /// The keys of `less`, whatever they lead to by default, and the default keys that `less` does not have and a
+    /// terminal tells apart.
     ///
     /// # Errors
     ///
@@ -218,6 +177,7 @@ impl<A: Copy + Drop> AppKeys<A> {
         ensures acts { IfOk result (λ keys. keys.acts.items ≡ []) }
     {
         let mut keys = AppKeys::new(alloc)?;
+        keys.table.remove_key_events(&UNTOLD)?;
         for bound in &DEFAULTS_OF_LESS {
             keys.rebind_default(bound.0, bound.1)?;
         }

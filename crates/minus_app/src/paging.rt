@@ -1,9 +1,10 @@
-//! Running an application: on the terminal that the launcher tells of, or else its text is handed on.
+//! Running an application: on the terminal that the launcher reports, or else its text is handed on.
 use crate::app::{App, TITLE};
 use crate::fault::Fault;
 use crate::keyboard::Keyboard;
 use crate::keys::AppKeys;
 use crate::launch::Launch;
+use crate::links::Links;
 use crate::options::Options;
 use crate::program::{Program, Terminal};
 use crate::text::Text;
@@ -31,17 +32,20 @@ pub fn print(rt: &HostRuntime, text: &str) -> Result<(), Fault> {
     Ok(out.flush()?)
 }
 
-// The terminal that a launcher tells of.
-fn terminal_of(rt: &HostRuntime, launch: Launch) -> Result<Terminal<WithTty<Stdout>, File>, Fault> {
+// The terminal that a launcher reports.
+fn terminal_of(
+    rt: &HostRuntime,
+    launch: Launch,
+) -> Result<Terminal<WithTty<Links<Stdout>>, File>, Fault> {
     Ok(Terminal {
-        pages: WithTty::new(rt.stdout(), true),
-        beside: WithTty::new(rt.stdout(), true),
+        pages: WithTty::new(Links::new(rt.alloc(), rt.stdout()), true),
+        beside: WithTty::new(Links::new(rt.alloc(), rt.stdout()), true),
         keyboard: Keyboard::open(rt)?,
         launch,
     })
 }
 
-/// Pages the text of an application, with its keys, on the terminal that the launcher `bin/minus-run` tells of, up to a
+/// Pages the text of an application, with its keys, on the terminal that the launcher `bin/minus-run` reports, up to a
 /// key that ends the program. Where there is no launcher, or standard output is no terminal, the text is handed on
 /// there ([`App::hand_on`]).
 ///

@@ -20,22 +20,28 @@ pub enum Notice {
     NotFound,
     /// The text is read on for what a key asked for.
     Reading,
+    /// The terminal takes no text that is copied, as tmux where it is set so.
+    NotCopied,
 }
 
 impl Notice {
-    ghost use Rattle.std.specs.Prelude.{◌≡◌};
+    ghost use Rattle.std.specs.Prelude.{◌≡◌, string_bytes, IfOk};
     ghost use Rattle.minus_app.specs.Prompt.{notice_text};
 
-    // What the prompt row says.
-    fn text(self) -> &'static str
-        ensures { result.now ≡ notice_text self }
+    // What the prompt row says, of a text of this many bytes.
+    fn text(self, alloc: Global, bytes: usize) -> Result<String, AllocError>
+        ensures { IfOk result (λ text. string_bytes text ≡ notice_text self bytes) }
     {
         match self {
-            Notice::Nothing => "",
-            Notice::CutShort => "(cut short) ",
-            Notice::OutOfMemory => "(out of memory) ",
-            Notice::NotFound => "(pattern not found) ",
-            Notice::Reading => "(reading on) ",
+            Notice::Nothing => Ok(String::new(alloc)),
+            Notice::CutShort => String::from_str(alloc, "(cut short) "),
+            Notice::OutOfMemory => String::from_str(alloc, "(out of memory) "),
+            Notice::NotFound => String::from_str(alloc, "(pattern not found) "),
+            Notice::NotCopied => String::from_str(alloc, "(nothing copied: tmux) "),
+            Notice::Reading => {
+                let megabytes = bytes / 1_000_000;
+                format!(in alloc; "(reading {megabytes} MB) ")
+            }
         }
     }
 }
@@ -63,8 +69,8 @@ fn line_number(state: &PagerState, row: usize) -> usize
     }
 }
 
-// Where a row begins, in bytes of the text; behind all rows, where the text ends.
-fn start_of(state: &PagerState, row: usize) -> usize
+/// Where a row begins, in bytes of the text; behind all rows, where the text ends.
+pub fn start_of(state: &PagerState, row: usize) -> usize
     ensures { result ≡ start_of state.now row }
 {
     match state.screen.row_place(row) {
@@ -76,13 +82,13 @@ fn start_of(state: &PagerState, row: usize) -> usize
 /// Where in its text a page is.
 #[derive(Clone, Copy, Debug, PartialEq, Eq)]
 pub struct Place {
-    /// The first line on show, counted from 1; 0 where there is none.
+    /// The first displayed line, counted from 1; 0 where there is none.
     pub first: usize,
-    /// The last line on show, counted from 1; 0 where there is none.
+    /// The last displayed line, counted from 1; 0 where there is none.
     pub last: usize,
     /// How many lines there are.
     pub lines: usize,
-    /// Where the row behind the last one on show begins, in bytes; behind all rows, where the text ends.
+    /// Where the row behind the last displayed one begins, in bytes; behind all rows, where the text ends.
     pub end: usize,
     /// The length of the text in bytes.
     pub bytes: usize,
@@ -104,9 +110,9 @@ pub fn place_of(state: &PagerState) -> Place
     }
 }
 
-/// The text of the prompt row, for so many columns: what is said of the text, and behind it what the application says,
-/// or else the title, the lines on show, counted from 1, how many lines there are, and the part of the text up to the
-/// last row on show, as `(cut short) notes.txt  24-46/120  38%`.
+/// The text of the prompt row, for this many columns: what is said of the text, and behind it what the application
+/// says, or else the title, the displayed lines, counted from 1, how many lines there are, and the part of the text up
+/// to the last displayed row, as `(cut short) notes.txt  24-46/120  38%`.
 ///
 /// # Errors
 ///
@@ -122,7 +128,7 @@ pub fn prompt_text(
     ensures { IfOk result (λ text. string_bytes text
         ≡ prompt_text columns (option_map (λ o. o.now) own.entry) title.now place notice) }
 {
-    let notice = notice.text();
+    let notice = notice.text(alloc, place.bytes)?;
     let room = columns.saturating_sub(notice.len());
     match own {
         Some(own) => format!(in alloc; "{notice}{own}"),

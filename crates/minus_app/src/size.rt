@@ -45,7 +45,7 @@ impl SizeFile {
         self.last.resumes
     }
 
-    /// Whether there is such a file: the launcher tells of each new size, and that the program goes on.
+    /// Whether there is such a file: the launcher reports each new size, and that the program goes on.
     pub fn is_there(&self) -> bool {
         self.path.is_some()
     }

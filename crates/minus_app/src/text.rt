@@ -1,17 +1,22 @@
 //! Ready texts: one that is given whole, that of a file as it grows, and that of standard input.
+//!
+//! 1. A piece of bytes is read, 64 KiB at most at a time.
+//! 2. It is prepared by `minus_view`: control characters are shown, tabs and overstrikes are laid out.
+//! 3. What is whole of it is fed; a character that was read in part waits for the next piece.
+//!
+//! So the bytes `a`, tab and `b` are fed as `a`, seven blanks and `b`.
 ghost use Rattle.std.specs.Prelude.{◌≡◌};
 
-use crate::app::{AHEAD, App, Fed, Flow, NoAct};
+use crate::app::{AHEAD, App, Fed, NoAct};
 use crate::fault::Fault;
 use crate::hand_on::{hand_on_bytes, hand_on_text};
 use crate::launch::Launch;
 use crate::prompt::Notice;
-use crate::view::View;
-use minus::OutputSink;
 use minus_view::{Preparation, Shape};
 use std::alloc::{AllocError, Global};
 use std::fs::File;
 use std::io::{self, ErrorKind, Read, Stdin};
+use std::os::unix::fs::MetadataExt;
 
 /// How many bytes of the text are read at once, at most.
 const PIECE: usize = 65_536;
@@ -76,11 +81,14 @@ pub struct Text {
     title: String,
     origin: Origin,
     is_followed: bool,
+    marks_tabs: bool,
     preparation: Preparation,
     piece: Vec<u8>,
     // The path of a file.
     path: Option<String>,
-    // The greatest length that the file had, in bytes.
+    // Its device and its number there.
+    id: Option<(u64, u64)>,
+    // The length that the file had when it was looked at last, in bytes.
     longest: u64,
     // Whether the file is shorter than it was, and nothing came since.
     is_cut: bool,
@@ -90,16 +98,18 @@ pub struct Text {
     is_paused: bool,
 }
 
-// By hand: a derived drop would stand anew in the proof of each function that lets one go.
+// Hand-written: a derived drop would stand again in the proof of each function that lets one go.
 impl Drop for Text {
     fn drop(self) {
         let Text {
             title: _,
             origin: _,
             is_followed: _,
+            marks_tabs: _,
             preparation: _,
             piece: _,
             path: _,
+            id: _,
             longest: _,
             is_cut: _,
             read: _,
@@ -112,7 +122,7 @@ impl Text {
     ghost use Rattle.std.specs.Prelude.{◌≡◌, Some, string_bytes, IfOk};
     ghost use Rattle.minus_app.specs.Texts.{left_in};
 
-    // A text of which so many bytes are read at once, at most.
+    // A text of which this many bytes are read at once, at most.
     fn of(alloc: Global, origin: Origin, title: &str, piece: usize) -> Result<Text, AllocError>
         ensures { IfOk result (λ text. text.origin ≡ origin) }
     {
@@ -120,9 +130,11 @@ impl Text {
             title: String::from_str(alloc, title)?,
             origin,
             is_followed: false,
+            marks_tabs: false,
             preparation: Preparation::new(alloc),
             piece: vec![in alloc; 0; piece]?,
             path: None,
+            id: None,
             longest: 0,
             is_cut: false,
             read: 0,
@@ -155,23 +167,27 @@ impl Text {
         Ok(Text::of(rt.alloc(), Origin::Standard(rt.stdin()), title, PIECE)?)
     }
 
-    /// The text of the file at a path, under a title, read on as it grows. Where the file is cut, or a shorter one gets
-    /// its name, that is read from its beginning, behind what was read. The file is one whose reads do not wait,
-    /// which a pipe or a device is not.
+    /// The text of the file at a path, under a title, read on as it grows. Where the file is cut, or another one gets
+    /// its name, that is read from its beginning, behind what was read. The file is one whose reads do not wait, which
+    /// a pipe or a device is not.
     ///
     /// # Errors
     ///
     /// [`Fault::Io`] where it cannot be opened, and [`Fault::Pager`] where there is no memory.
     pub fn file(rt: &HostRuntime, path: &str, title: &str) -> Result<Text, Fault> {
         let file = File::open(rt, path)?;
+        let metadata = file.metadata()?;
         let mut text = Text::of(rt.alloc(), Origin::File(file), title, PIECE)?;
         text.path = Some(String::from_str(rt.alloc(), path)?);
+        text.id = Some((metadata.dev(), metadata.ino()));
+        text.longest = metadata.len();
         Ok(text)
     }
 
     /// This text, with its tabs and its empty lines in another shape. It is said before the first feed.
     pub fn shaped(self, alloc: Global, shape: Shape) -> Text {
         let mut text = self;
+        text.marks_tabs = shape.marks_tabs;
         text.preparation = Preparation::with(alloc, shape);
         text
     }
@@ -210,25 +226,26 @@ impl Text {
         }
     }
 
-    // The file at the path, where it is shorter than the one that was read was at any time.
-    fn shorter_file(&mut self, rt: &HostRuntime) -> Option<File> {
+    // The file at the path, where it is another one than is read, or shorter than that was.
+    fn new_file(&mut self, rt: &HostRuntime) -> Option<File> {
         let path = self.path.as_ref()?;
         let file = File::open(rt, path.as_str()).ok()?;
-        let len = file.metadata().ok()?.len();
-        if len < self.longest {
-            self.longest = len;
-            return Some(file);
-        }
+        let metadata = file.metadata().ok()?;
+        let (id, len) = (Some((metadata.dev(), metadata.ino())), metadata.len());
+        let (is_other, is_shorter) = (id != self.id, len < self.longest);
+        self.id = id;
         self.longest = len;
-        None
+        if is_shorter {
+            self.is_cut = true;
+        }
+        (is_other || is_shorter).then_some(file)
     }
 
-    // Reads from its beginning what has the name of the file now, where that is shorter than the file was.
+    // Reads from its beginning what has the name of the file now, where that is another file, or was cut.
     fn begin_anew(&mut self, rt: &HostRuntime) {
-        if let Some(file) = self.shorter_file(rt) {
+        if let Some(file) = self.new_file(rt) {
             self.origin = Origin::File(file);
             self.read = 0;
-            self.is_cut = true;
         }
     }
 
@@ -276,15 +293,6 @@ impl App for Text {
         }
     }
 
-    fn act<S: OutputSink + Drop>(
-        &mut self,
-        _act: NoAct,
-        _rt: &HostRuntime,
-        _view: &mut View<S>,
-    ) -> Result<Flow, Fault> {
-        Ok(Flow::On)
-    }
-
     fn title(&self) -> &str {
         self.title.as_str()
     }
@@ -296,8 +304,16 @@ impl App for Text {
         }
     }
 
+    fn is_written(&self) -> bool {
+        matches!(&self.origin, Origin::Standard(_))
+    }
+
     fn follows(&self) -> bool {
         self.is_followed
+    }
+
+    fn marks_tabs(&self) -> bool {
+        self.marks_tabs
     }
 
     fn bytes_left(&self) -> u64 {

@@ -17,7 +17,8 @@ pub enum ViewAction {
     FirstLine,
     /// Goes to the counted line, or else to the last page; the text is read on for that.
     LastLine,
-    /// Goes to the line at the counted per cent of the text, or else to the first one; all of the text is read for that.
+    /// Goes to the line at the counted per cent of the text, or else to the first one; all of the text is read for
+    /// that.
     Percent,
     /// Moves the page to the right by half of its columns, or by as many as are counted, where lines are not wrapped.
     Right,
@@ -27,7 +28,7 @@ pub enum ViewAction {
     NextMatch,
     /// Goes to the next match against the direction of the search, seen from the page.
     PreviousMatch,
-    /// Draws the whole page anew.
+    /// Draws the whole page again.
     Redraw,
     /// Ends what goes on, following or reading on, and else the program.
     Interrupt,
@@ -43,6 +44,10 @@ pub enum ViewAction {
     Command,
     /// Ends the program where the same key is typed once more.
     EndTwice,
+    /// Shows the matches no more, or again.
+    TurnMatches,
+    /// Takes what is typed up to Enter, and does nothing with it: a command of `less` that is none here.
+    PassLine,
 }
 
 impl ViewAction {
@@ -64,15 +69,17 @@ impl ViewAction {
             ViewAction::Right => "half a page to the right, or N columns",
             ViewAction::Left => "half a page to the left, or N columns",
             ViewAction::NextMatch => "next match in the direction of the search",
-            ViewAction::PreviousMatch => "next match against the direction of the search",
+            ViewAction::PreviousMatch => "match against the direction of the search",
             ViewAction::Redraw => "draw the page anew",
-            ViewAction::Interrupt => "end what goes on: following, reading on, or the program",
+            ViewAction::Interrupt => "end following, reading on, or the program",
             ViewAction::SetMark => "keep this place under a letter",
-            ViewAction::GoToMark => "go to the place of a letter; ' is where the last jump began",
+            ViewAction::GoToMark => "go to the place of a letter, ' back",
             ViewAction::TellPlace => "where in the text the page is",
-            ViewAction::SetOption => "set an option: N numbers, S cut lines, i I capitals",
+            ViewAction::SetOption => "set an option: N numbers, S cut, i I case",
             ViewAction::Command => "q quit, n next file, p file before",
             ViewAction::EndTwice => "quit, typed twice",
+            ViewAction::TurnMatches => "show matches no more, or again",
+            ViewAction::PassLine => "not done here, with what follows up to Enter",
         }
     }
 
@@ -91,7 +98,17 @@ impl ViewAction {
             | ViewAction::Right
             | ViewAction::Left
             | ViewAction::Redraw => true,
-            _ => false,
+            ViewAction::NextMatch
+            | ViewAction::PreviousMatch
+            | ViewAction::Interrupt
+            | ViewAction::SetMark
+            | ViewAction::GoToMark
+            | ViewAction::TellPlace
+            | ViewAction::SetOption
+            | ViewAction::Command
+            | ViewAction::EndTwice
+            | ViewAction::TurnMatches
+            | ViewAction::PassLine => false,
         }
     }
 }

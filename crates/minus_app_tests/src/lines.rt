@@ -14,6 +14,8 @@ pub enum Act {
     Another,
     /// Say something in the prompt row.
     Say,
+    /// Copy a text.
+    Copy,
     /// Add a line at the end of the text.
     Add,
     /// End the program.
@@ -76,6 +78,7 @@ impl App for Lines {
                 view.set_text(String::from_str(view.alloc(), "another text\nof two lines\n")?)?;
             }
             Act::Say => view.message(String::from_str(view.alloc(), "said")?)?,
+            Act::Copy => view.copy("copied")?,
             Act::Add => self.most = self.most.saturating_add(1),
             Act::Leave => return Ok(Flow::Ended),
             Act::Fail => return Err(Fault::Own(String::from_str(view.alloc(), "it failed")?)),
@@ -109,6 +112,7 @@ pub fn keys(alloc: Global) -> Result<AppKeys<Act>, MinusError> {
     keys.bind(&["x"], "show another text", Act::Another)?;
     keys.bind(&["t"], "say something", Act::Say)?;
     keys.bind(&["a"], "add a line", Act::Add)?;
+    keys.bind(&["s-c"], "copy a text", Act::Copy)?;
     keys.bind(&["s-z"], "leave", Act::Leave)?;
     keys.bind(&["s-x"], "fail", Act::Fail)?;
     Ok(keys)

@@ -8,8 +8,8 @@ use std::io::Write;
 
 type Fake = Program<Lines, WithTty<Vec<u8>>, Typed>;
 
-// A terminal of 40 columns and 5 rows, on which these pieces are typed.
-fn terminal(
+/// A terminal of 40 columns and 5 rows, on which these pieces are typed.
+pub fn terminal(
     rt: &HostRuntime,
     pieces: &'static [&'static [u8]],
     waits: u32,
@@ -27,22 +27,23 @@ fn terminal(
                 resumes,
             },
             sizes,
+            copies: true,
         },
     })
 }
 
-// What is found after some turns.
+/// What is found after some turns.
 #[derive(Drop)]
-struct Found {
-    // Whether the program goes on.
-    on: bool,
-    // The line at the top of the page, counted from 0.
-    line: usize,
+pub struct Found {
+    /// Whether the program goes on.
+    pub on: bool,
+    /// The line at the top of the page, counted from 0.
+    pub line: usize,
     size: (usize, usize),
     counted: usize,
     is_help: bool,
     is_searching: bool,
-    prompt: String,
+    pub prompt: String,
     message: Option<String>,
     text: String,
 }
@@ -66,24 +67,13 @@ fn found_after(rt: &HostRuntime, program: &Fake, on: bool) -> Result<Found, Faul
     })
 }
 
-// How many reads pass before something is typed, as many as the feeds of all lines take.
-const READ: u32 = 40;
+/// How many reads pass before something is typed, as many as the feeds of all lines take.
+pub const READ: u32 = 40;
 
-// Starts a program, and lets it hear what is typed after so many reads.
-fn run(
-    rt: &HostRuntime,
-    app: Lines,
-    keys: AppKeys<Act>,
-    pieces: &'static [&'static [u8]],
-    waits: u32,
-    sizes: Option<String>,
-) -> Result<Found, Fault> {
-    let terminal = terminal(rt, pieces, waits, sizes)?;
-    let Some(mut program) = Program::start(rt, app, keys, &Options::new(), terminal)? else {
-        return Err(Fault::NoEnd);
-    };
+// Lets a program hear what is typed to it.
+fn hear(rt: &HostRuntime, program: &mut Fake, pieces: usize) -> Result<Found, Fault> {
     let mut on = true;
-    let typed = u32::try_from(pieces.len()).unwrap_or(0).saturating_add(1);
+    let typed = u32::try_from(pieces).unwrap_or(0).saturating_add(1);
     for _ in 0..typed
         .saturating_mul(READS.saturating_add(1))
         .saturating_add(READ)
@@ -93,7 +83,34 @@ fn run(
             break;
         }
     }
-    found_after(rt, &program, on)
+    found_after(rt, program, on)
+}
+
+/// Starts a program on a terminal, and lets it hear the pieces that are typed there.
+pub fn run_on(
+    rt: &HostRuntime,
+    app: Lines,
+    keys: AppKeys<Act>,
+    pieces: usize,
+    terminal: Terminal<WithTty<Vec<u8>>, Typed>,
+) -> Result<Found, Fault> {
+    let Some(mut program) = Program::start(rt, app, keys, &Options::new(), terminal)? else {
+        return Err(Fault::NoEnd);
+    };
+    hear(rt, &mut program, pieces)
+}
+
+/// Starts a program, and lets it hear what is typed after this many reads.
+pub fn run(
+    rt: &HostRuntime,
+    app: Lines,
+    keys: AppKeys<Act>,
+    pieces: &'static [&'static [u8]],
+    waits: u32,
+    sizes: Option<String>,
+) -> Result<Found, Fault> {
+    let terminal = terminal(rt, pieces, waits, sizes)?;
+    run_on(rt, app, keys, pieces.len(), terminal)
 }
 
 // Thirty lines, and what is typed to them.
@@ -182,7 +199,7 @@ fn a_followed_text_shows_its_end(rt: HostRuntime) {
     assert!(rt; found.text.ends_with("line 31\n"));
 }
 
-// Writes what a launcher tells of the size, and answers where.
+// Writes what a launcher reports of the size, and answers where.
 fn sizes(rt: &HostRuntime, name: &str, told: &str) -> Result<Option<String>, Fault> {
     let mut file = File::create(rt, name)?;
     file.write_all(told.as_bytes())?;
@@ -204,7 +221,7 @@ fn told(
 fn a_new_size_is_taken(rt: HostRuntime) {
     let found = told(&rt, "a_new_size.txt", "8 30 0\n", &[]).expect(&rt, "told");
     assert_eq!(rt; (found.on, found.size), (true, (30, 8)));
-    // (one that is none is passed over)
+    // (one that is none is skipped)
     let found = told(&rt, "a_new_size.txt", "0 0 0\n", &[]).expect(&rt, "told");
     assert_eq!(rt; (found.on, found.size), (true, (40, 5)));
 }

@@ -17,7 +17,7 @@ pub struct Typed {
 }
 
 impl Typed {
-    /// These pieces, one after another, the first one after so many reads.
+    /// These pieces, one after another, the first one after this many reads.
     pub fn new(pieces: &'static [&'static [u8]], waits: u32) -> Typed {
         Typed {
             pieces,

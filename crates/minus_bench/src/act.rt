@@ -32,7 +32,7 @@ pub(crate) enum Act {
     Select(u16, u16),
     /// It is led to this column and row.
     Lead(u16, u16),
-    /// The terminal has so many columns and rows.
+    /// The terminal has this many columns and rows.
     Size(u16, u16),
 }
 
@@ -73,7 +73,7 @@ fn parse_named(name: &str) -> Option<Act> {
     }
 }
 
-// The rest of a turn at so many turns, as a column or a row.
+// The rest of a turn at this many turns, as a column or a row.
 fn place_of(turn: usize, turns: usize) -> u16 {
     let rest = turn.checked_rem(turns).unwrap_or(0);
     u16::try_from(rest).unwrap_or(0)

@@ -1,4 +1,4 @@
-//! A work: a session is started and prepared, and then the inputs that are counted are worked off.
+//! A work: a session is started and prepared, and then the inputs that are counted are performed.
 use crate::act::Act;
 use crate::plan::{Coming, Plan};
 use anyhow::{Result, bail};
@@ -28,7 +28,7 @@ fn pushes(alloc: Global, text: &str) -> Result<Vec<Input>, AllocError> {
     Ok(inputs)
 }
 
-// The acts in turn, so many of them.
+// The acts in turn, this many of them.
 fn turns_of(alloc: Global, acts: &[Act], turns: usize) -> Result<Vec<Input>, AllocError> {
     let mut inputs = Vec::new(alloc);
     for (turn, act) in acts.iter().cycle().take(turns).enumerate() {
@@ -75,7 +75,7 @@ fn work_off<P: Calls>(session: &mut Bench<P>, inputs: Vec<InputOf<P>>) -> RanOf<
     session.run(inputs)
 }
 
-// What came of a list of inputs, where none was refused or left.
+// The result of a list of inputs, where none was refused or left.
 fn all_done(ran: Ran) -> Result<()> {
     match ran.stopped {
         Some(refusal) => Err(anyhow::Error::from(refusal)),

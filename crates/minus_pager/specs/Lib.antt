@@ -1,3 +1,3 @@
 pub mod Files
 pub mod Pagings
-pub mod Statuses
+pub mod ExitStatus

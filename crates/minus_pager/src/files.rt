@@ -2,9 +2,8 @@
 ghost use Rattle.std.specs.Prelude.{◌≡◌};
 ghost use Rattle.minus_pager.specs.Files.{neighbour_of};
 
-use crate::refusal::Refusal;
-use minus::OutputSink;
-use minus_app::{App, Fault, Fed, Flow, Neighbour, NoAct, Notice, Text, View};
+use crate::exit_status::Refusal;
+use minus_app::{App, Fault, Fed, Neighbour, NoAct, Notice, Text};
 use minus_view::Shape;
 use std::alloc::{AllocError, Global};
 use std::env;
@@ -77,7 +76,7 @@ fn open(rt: &HostRuntime, word: &str, title: &str) -> Result<Text, Refusal> {
     Ok(Text::file(rt, word, title)?)
 }
 
-// The place of the next text among so many, or of the one before, where there is one.
+// The place of the next text among this many, or of the one before, where there is one.
 fn neighbour_of(at: usize, count: usize, neighbour: Neighbour) -> Option<usize>
     ensures { result ≡ neighbour_of at count neighbour }
 {
@@ -86,6 +85,11 @@ fn neighbour_of(at: usize, count: usize, neighbour: Neighbour) -> Option<usize>
         Neighbour::Before if at > 0 => Some(at - 1),
         Neighbour::Next | Neighbour::Before => None,
     }
+}
+
+// Says on standard error why a text is not read; the launcher shows that at the end.
+fn tell(rt: &HostRuntime, refusal: &Refusal) {
+    let _ = eprintln!(rt; "minus: {refusal}");
 }
 
 /// The texts that the words name, one of which is paged.
@@ -99,7 +103,7 @@ pub struct Files {
     text: Text,
 }
 
-// By hand: a derived drop would stand anew in the proof of each function that lets one go.
+// Hand-written: a derived drop would stand again in the proof of each function that lets one go.
 impl Drop for Files {
     fn drop(self) {
         let Files {
@@ -117,8 +121,8 @@ impl Files {
     ///
     /// # Errors
     ///
-    /// [`Refusal::Words`] where no file is named and standard input is the terminal, and [`Refusal::Failed`] where the
-    /// first text is not read.
+    /// [`Refusal::Words`] where no file is named and standard input is the terminal, and [`Refusal::Failed`] where none
+    /// of the texts is read, with why the last one is not.
     pub fn open(
         rt: &HostRuntime,
         texts: &[&str],
@@ -135,14 +139,31 @@ impl Files {
             words.push(String::from_str(alloc, "-")?)?;
         }
         let input = name_of_input(rt, name)?;
-        let text = Files::text_at(rt, &words, input.as_str(), 0)?.shaped(alloc, shape);
+        let (at, text) = Files::first_text(rt, &words, input.as_str())?;
+        let text = text.shaped(alloc, shape);
         Ok(Files {
             words,
             input,
             shape,
-            at: 0,
+            at,
             text,
         })
+    }
+
+    // The first text that is read, with its place; why those before it are not goes to standard error.
+    fn first_text(
+        rt: &HostRuntime,
+        words: &[String],
+        input: &str,
+    ) -> Result<(usize, Text), Refusal> {
+        let last = words.len().saturating_sub(1);
+        for at in 0..last {
+            match Files::text_at(rt, words, input, at) {
+                Ok(text) => return Ok((at, text)),
+                Err(refusal) => tell(rt, &refusal),
+            }
+        }
+        Ok((last, Files::text_at(rt, words, input, last)?))
     }
 
     // The text at a place, with its title: where there are several, that says which one it is.
@@ -174,16 +195,7 @@ impl App for Files {
         self.text.feed(rt)
     }
 
-    fn act<S: OutputSink + Drop>(
-        &mut self,
-        _act: NoAct,
-        _rt: &HostRuntime,
-        _view: &mut View<S>,
-    ) -> Result<Flow, Fault> {
-        Ok(Flow::On)
-    }
-
-    // A text that is not read is passed over.
+    // A text that is not read is skipped, and standard error says why.
     fn turn_to(&mut self, rt: &HostRuntime, neighbour: Neighbour) -> Result<bool, Fault> {
         let count = self.words.len();
         let mut at = self.at;
@@ -193,13 +205,20 @@ impl App for Files {
             };
             at = next;
             let input = self.input.as_str();
-            if let Ok(text) = Files::text_at(rt, &self.words, input, at) {
-                self.at = at;
-                self.text = text.shaped(rt.alloc(), self.shape);
-                return Ok(true);
+            match Files::text_at(rt, &self.words, input, at) {
+                Ok(text) => {
+                    self.at = at;
+                    self.text = text.shaped(rt.alloc(), self.shape);
+                    return Ok(true);
+                }
+                Err(refusal) => tell(rt, &refusal),
             }
         }
         Ok(false)
+    }
+
+    fn is_last(&self) -> bool {
+        neighbour_of(self.at, self.words.len(), Neighbour::Next).is_none()
     }
 
     fn title(&self) -> &str {
@@ -208,6 +227,14 @@ impl App for Files {
 
     fn ahead(&self) -> Option<usize> {
         self.text.ahead()
+    }
+
+    fn is_written(&self) -> bool {
+        self.text.is_written()
+    }
+
+    fn marks_tabs(&self) -> bool {
+        self.text.marks_tabs()
     }
 
     fn bytes_left(&self) -> u64 {

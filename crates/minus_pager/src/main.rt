@@ -1,13 +1,13 @@
 //! Pages a file or standard input on the terminal, as `less` does; `bin/minus` runs it.
 #![tactic(auto)]
 
+mod exit_status;
 mod files;
 mod paging;
-mod refusal;
 mod words;
 
+use crate::exit_status::Refusal;
 use crate::paging::page;
-use crate::refusal::Refusal;
 use crate::words::{read_words, set_words, texts};
 use minus_app::print;
 use minus_view::{Arguments, parse_arguments};

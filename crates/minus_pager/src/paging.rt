@@ -2,19 +2,19 @@
 ghost use Rattle.std.specs.Prelude.{◌≡◌};
 ghost use Rattle.minus_pager.specs.Pagings.{bare_options, options_of};
 
+use crate::exit_status::Refusal;
 use crate::files::Files;
-use crate::refusal::Refusal;
 use minus_app::{AppKeys, Options, run};
 use minus_view::{Opening, Paging, Shape};
 
-// How a text is paged.
+// How a text is paged; one of several is not printed.
 fn options_of<'a>(paging: &Paging<'a>) -> Options<'a>
     ensures { bare_options result ≡ options_of paging.now }
 {
     Options {
         numbers: paging.numbers,
         chops: paging.chops,
-        prints: paging.prints,
+        prints: paging.prints && paging.texts.len() < 2,
         follows: paging.opening == Opening::Follows,
         mouse: paging.mouse,
         leaves: paging.leaves,
@@ -42,6 +42,8 @@ pub fn page(rt: &HostRuntime, paging: &Paging<'_>) -> Result<(), Refusal> {
     let shape = Shape {
         tabs: paging.tabs,
         squeezes: paging.squeezes,
+        marks_tabs: paging.mouse,
+        links: true,
     };
     let files = Files::open(rt, paging.texts, paging.name, shape)?;
     let keys = AppKeys::all_of_less(rt.alloc())?;

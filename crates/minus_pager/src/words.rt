@@ -1,5 +1,5 @@
 //! The words that the program is called with.
-use crate::refusal::Refusal;
+use crate::exit_status::Refusal;
 use std::alloc::{AllocError, Global};
 use std::env;
 

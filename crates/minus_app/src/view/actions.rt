@@ -1,51 +1,28 @@
 //! What the keys do that no default action of the pager does.
 use crate::fault::Fault;
+use crate::view::goals::Goal;
 use crate::view::jumps::{first_match_from, jump_to};
 use crate::view::moves::row_of_move;
-use crate::view::reading::Goal;
+use crate::view::typed::Pending;
 use crate::view::{Onward, View};
 use crate::view_action::ViewAction;
 use minus::{CommandOf, Event, InputEvent, IoCommand, OutputSink, SearchMode};
 
-/// What the next key is typed for.
-#[derive(Clone, Copy, Debug, PartialEq, Eq)]
-pub enum Pending {
-    /// The letter that this place is kept under.
-    SetMark,
-    /// The letter of the place to go to.
-    GoToMark,
-    /// The letter of an option.
-    Option,
-    /// The letter of a command.
-    Command,
-    /// The key that ends the program when it is typed twice.
-    End,
-}
-
-impl Pending {
-    /// What the prompt row says until the key is typed.
-    pub fn text(self) -> &'static str {
-        match self {
-            Pending::SetMark => "set mark: ",
-            Pending::GoToMark => "go to mark: ",
-            Pending::Option => "-",
-            Pending::Command => ":",
-            Pending::End => "Z",
-        }
-    }
-}
-
 impl<S: OutputSink + Drop> View<S> {
-    // The row that a page is moved to by a key, which is a jump where it may be far away.
+    // Moves the page by rows.
     fn move_by(&mut self, action: ViewAction) -> Result<(), Fault> {
-        let row = row_of_move(self.session.state(), action, self.count);
+        let count = match action {
+            ViewAction::HalfPageDown | ViewAction::HalfPageUp => self.typed.remember_half_page(),
+            _ => self.typed.count,
+        };
+        let row = row_of_move(self.session.state(), action, count);
         self.go_to_row(row)
     }
 
     // Goes to the counted line, or else to the end, once that was read.
     fn go_to_last(&mut self) -> Result<(), Fault> {
         self.begin_jump();
-        match self.count {
+        match self.typed.count {
             Some(number) => self.head_for(Goal::Line(number.saturating_sub(1))),
             None => self.head_for(Goal::End),
         }
@@ -54,14 +31,15 @@ impl<S: OutputSink + Drop> View<S> {
     // Goes to the counted line, or else to the first one.
     fn go_to_first(&mut self) -> Result<(), Fault> {
         self.begin_jump();
-        let number = self.count.unwrap_or(1);
+        let number = self.typed.count.unwrap_or(1);
         self.head_for(Goal::Line(number.saturating_sub(1)))
     }
 
     // Moves the page to the side, to the right or to the left, where lines are not wrapped.
     fn shift(&mut self, to_the_right: bool) -> Result<(), Fault> {
+        let count = self.typed.remember_half_width();
         let state = self.session.state();
-        let columns = self.count.unwrap_or(state.cols / 2);
+        let columns = count.unwrap_or(state.cols / 2);
         let left = if to_the_right {
             state.left_mark.saturating_add(columns)
         } else {
@@ -70,49 +48,39 @@ impl<S: OutputSink + Drop> View<S> {
         self.command(CommandOf::UserInput(InputEvent::UpdateLeftMark(left)))
     }
 
-    // Keeps where a jump begins.
+    /// Keeps where a jump begins, but for one in help.
     pub(super) fn begin_jump(&mut self) {
-        self.before = self.place();
-    }
-
-    // Whether the match at a place stands above the page.
-    fn is_above(&self, place: usize) -> bool {
-        let state = self.session.state();
-        match state.matches().row(place) {
-            Some(row) => row < state.upper_mark,
-            None => false,
+        if !self.session.state().help_open() {
+            self.places.before = self.place();
         }
     }
 
-    /// Goes to the match at a place among all, counted from 0, and tells of it. A move up ends following.
+    /// Goes to the match at a place among all, counted from 0, and reports it. A move up ends following.
     pub(super) fn lead_to(&mut self, place: usize) -> Result<(), Fault> {
-        if self.session.state().follow_output() && self.is_above(place) {
-            self.command(CommandOf::FollowOutput(false))?;
+        if let Some(row) = self.session.state().matches().row(place) {
+            self.end_following_above(row)?;
         }
         let jump = jump_to(self.session.state(), place);
         self.command(CommandOf::UserInput(InputEvent::MoveToNextMatch(jump)))
     }
 
-    // The match that is told of, where it stands on the page.
-    fn match_on_page(&self) -> Option<usize> {
+    // The match that is reported, where the page is at it: that begins with its row, or is the last one and has it.
+    fn match_at_page(&self) -> Option<usize> {
         let state = self.session.state();
         let told = state.search_mark();
         let row = state.matches().row(told)?;
-        if state.upper_mark <= row && row - state.upper_mark < state.rows.saturating_sub(1) {
-            Some(told)
-        } else {
-            None
-        }
+        let is_on_last = row > state.upper_mark && state.upper_mark >= state.top();
+        (row == state.upper_mark || is_on_last).then_some(told)
     }
 
     // Goes on among the matches, down the text, past the last one at the first.
     fn match_down(&mut self, jump: usize) -> Result<(), Fault> {
         let state = self.session.state();
-        let place = match self.match_on_page() {
+        let place = match self.match_at_page() {
             Some(told) => told.saturating_add(jump),
             None => {
                 let next = first_match_from(state, state.upper_mark.saturating_add(1));
-                next.saturating_add(jump - jump.min(1))
+                next.saturating_add(jump.saturating_sub(1))
             }
         };
         self.head_for(Goal::Match(place))
@@ -121,20 +89,25 @@ impl<S: OutputSink + Drop> View<S> {
     // Goes on among the matches, up the text, and ends at the first one.
     fn match_up(&mut self, jump: usize) -> Result<(), Fault> {
         let state = self.session.state();
-        let behind = match self.match_on_page() {
+        let behind = match self.match_at_page() {
             Some(told) => told,
             None => first_match_from(state, state.upper_mark),
         };
         if behind == 0 {
-            self.was_missed = true;
+            self.notices.was_missed = true;
             return Ok(());
         }
         self.lead_to(behind.saturating_sub(jump))
     }
 
-    // Goes to the next match in the direction of the search, or against it.
+    /// Goes to the next match in the direction of the search, or against it. Matches that are not shown any more are
+    /// shown again for that.
     pub(super) fn next_match(&mut self, is_onward: bool) -> Result<(), Fault> {
-        let jump = self.count.unwrap_or(1);
+        self.show_hidden()?;
+        if self.session.state().term().is_none() {
+            return self.say("nothing was searched for before (Return)");
+        }
+        let jump = self.typed.count.unwrap_or(1);
         self.begin_jump();
         match self.session.state().search_state.search_mode {
             SearchMode::Unknown => Ok(()),
@@ -144,47 +117,44 @@ impl<S: OutputSink + Drop> View<S> {
         }
     }
 
-    // Ends what goes on, or else the program.
+    // Ends what goes on, or else the program: a number that is typed, too. Where the text is not whole, what goes on is
+    // its writing.
     fn interrupt(&mut self, was_reading: bool) -> Result<Onward, Fault> {
-        if was_reading {
+        if was_reading || self.typed.count.is_some() {
             return Ok(Onward::On);
         }
-        if !self.session.state().follow_output() {
+        if self.end_following()? {
+            return Ok(Onward::On);
+        }
+        if self.reading.is_whole {
             return Ok(Onward::Ended);
         }
-        self.command(CommandOf::FollowOutput(false))?;
-        Ok(Onward::On)
+        Ok(Onward::Interrupted)
     }
 
-    // Moves the page, where an action does that.
-    fn do_move(&mut self, action: ViewAction) -> Result<(), Fault> {
-        match action {
-            ViewAction::FirstLine => self.go_to_first(),
-            ViewAction::LastLine => self.go_to_last(),
-            ViewAction::Percent => {
-                self.begin_jump();
-                self.head_for(Goal::Percent(self.count.unwrap_or(0)))
+    // Takes the marks of the matches off the page, or puts them there again.
+    fn turn_matches(&mut self) -> Result<(), Fault> {
+        match self.session.state().term() {
+            Some(term) => {
+                let pattern = String::from_str(self.alloc, term.as_str())?;
+                self.set_term(None)?;
+                self.queries.hidden = Some(pattern);
+                Ok(())
             }
-            ViewAction::Right => self.shift(true),
-            ViewAction::Left => self.shift(false),
-            ViewAction::NextMatch => self.next_match(true),
-            ViewAction::PreviousMatch => self.next_match(false),
-            ViewAction::Redraw => self.command(CommandOf::Io(IoCommand::RedrawDisplay)),
-            ViewAction::TellPlace => self.tell_place(),
-            _ => self.move_by(action),
+            None => self.show_hidden(),
         }
     }
 
-    // Waits for the key that an action is to be told with, where it is.
-    fn pending_of(action: ViewAction) -> Option<Pending> {
-        match action {
-            ViewAction::SetMark => Some(Pending::SetMark),
-            ViewAction::GoToMark => Some(Pending::GoToMark),
-            ViewAction::SetOption => Some(Pending::Option),
-            ViewAction::Command => Some(Pending::Command),
-            ViewAction::EndTwice => Some(Pending::End),
-            _ => None,
-        }
+    // Goes to the line at the counted per cent of the text, or else to the first one.
+    fn go_to_part(&mut self) -> Result<(), Fault> {
+        self.begin_jump();
+        self.head_for(Goal::Percent(self.typed.count.unwrap_or(0)))
+    }
+
+    // Waits for the key that is typed next.
+    fn await_key(&mut self, pending: Pending) -> Result<(), Fault> {
+        self.typed.pending = Some(pending);
+        Ok(())
     }
 
     /// Does what a key asks for that no default action does. The session is told the key too: it asks that for nothing,
@@ -192,12 +162,28 @@ impl<S: OutputSink + Drop> View<S> {
     pub(super) fn do_action(&mut self, action: ViewAction, event: Event) -> Result<Onward, Fault> {
         let was_reading = self.is_reading_on();
         self.take_count(event)?;
-        if let ViewAction::Interrupt = action {
-            return self.interrupt(was_reading);
-        }
-        match View::<S>::pending_of(action) {
-            Some(pending) => self.pending = Some(pending),
-            None => self.do_move(action)?,
+        match action {
+            ViewAction::Interrupt => return self.interrupt(was_reading),
+            ViewAction::PageDown
+            | ViewAction::PageUp
+            | ViewAction::HalfPageDown
+            | ViewAction::HalfPageUp => self.move_by(action)?,
+            ViewAction::FirstLine => self.go_to_first()?,
+            ViewAction::LastLine => self.go_to_last()?,
+            ViewAction::Percent => self.go_to_part()?,
+            ViewAction::Right => self.shift(true)?,
+            ViewAction::Left => self.shift(false)?,
+            ViewAction::NextMatch => self.next_match(true)?,
+            ViewAction::PreviousMatch => self.next_match(false)?,
+            ViewAction::TurnMatches => self.turn_matches()?,
+            ViewAction::Redraw => self.command(CommandOf::Io(IoCommand::RedrawDisplay))?,
+            ViewAction::TellPlace => self.tell_place()?,
+            ViewAction::SetMark => self.await_key(Pending::SetMark)?,
+            ViewAction::GoToMark => self.await_key(Pending::GoToMark)?,
+            ViewAction::SetOption => self.await_key(Pending::Option)?,
+            ViewAction::Command => self.await_key(Pending::Command)?,
+            ViewAction::EndTwice => self.await_key(Pending::End)?,
+            ViewAction::PassLine => self.await_key(Pending::Line)?,
         }
         Ok(Onward::On)
     }

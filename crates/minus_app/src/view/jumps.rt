@@ -45,7 +45,7 @@ pub fn jump_to(state: &PagerState, place: usize) -> usize
     }
 }
 
-/// What leads to the last match above the page that a query was typed at, from where that query led on; where no match
+/// What leads to the last match above the page that a query was typed at, from where that query led; where no match
 /// stands above it, that stays. `mark` is the first row of that page.
 pub fn jump_back(state: &PagerState, mark: usize) -> InputEvent
     ensures { IsFormed state.now → result ≡ jump_back (control_of state.now) mark }

@@ -1,6 +1,6 @@
 //! The places that are kept under letters, and the keys that are typed behind another.
 use crate::fault::Fault;
-use crate::view::actions::Pending;
+use crate::view::typed::Pending;
 use crate::view::{Onward, View};
 use minus::{CommandOf, Event, InputEvent, InputOf, KeyCode, KeyModifiers, OutputSink};
 use minus_view::Case;
@@ -28,14 +28,14 @@ impl<S: OutputSink + Drop> View<S> {
     // Keeps the place of the page under a letter. Out of memory it does not, and the prompt row says so.
     fn set_mark(&mut self, letter: char) {
         let byte = self.place();
-        for mark in &mut self.marks {
+        for mark in &mut self.places.marks {
             if mark.letter == letter {
                 mark.byte = byte;
                 return;
             }
         }
-        if self.marks.push(Mark { letter, byte }).is_err() {
-            self.was_short = true;
+        if self.places.marks.push(Mark { letter, byte }).is_err() {
+            self.notices.was_short = true;
         }
     }
 
@@ -43,11 +43,11 @@ impl<S: OutputSink + Drop> View<S> {
     // first and the last one of the text.
     fn marked(&self, letter: char) -> Option<usize> {
         match letter {
-            '\'' => Some(self.before),
+            '\'' => Some(self.places.before),
             '^' => Some(0),
             '$' => Some(usize::MAX),
             _ => {
-                let mark = self.marks.iter().find(|mark| mark.letter == letter)?;
+                let mark = self.places.marks.iter().find(|mark| mark.letter == letter)?;
                 Some(mark.byte)
             }
         }
@@ -56,17 +56,11 @@ impl<S: OutputSink + Drop> View<S> {
     // Goes to the place that is kept under a letter, if one is.
     fn go_to_mark(&mut self, letter: char) -> Result<(), Fault> {
         let Some(byte) = self.marked(letter) else {
-            return self.message(String::from_str(self.alloc, "no such mark")?);
+            return self.say("no such mark (Return)");
         };
         self.begin_jump();
         self.command(CommandOf::FollowOutput(false))?;
         self.put_at(byte)
-    }
-
-    // Says what an option is now.
-    fn say(&mut self, text: &str) -> Result<(), Fault> {
-        let text = String::from_str(self.alloc, text)?;
-        self.message(text)
     }
 
     // Turns line numbers on or off.
@@ -77,6 +71,7 @@ impl<S: OutputSink + Drop> View<S> {
         } else {
             "the lines have no numbers (Return)"
         };
+        self.say_before("(laying out)")?;
         self.step_in_place(InputOf::Command(CommandOf::UserInput(InputEvent::UpdateLineNumber(
             numbers,
         ))))?;
@@ -91,20 +86,26 @@ impl<S: OutputSink + Drop> View<S> {
         } else {
             "long lines are wrapped (Return)"
         };
+        self.say_before("(laying out)")?;
         self.step_in_place(InputOf::Command(CommandOf::UserInput(InputEvent::HorizontalScroll(
             !is_cut,
         ))))?;
         self.say(said)
     }
 
-    // Lets the capitals of a query count, or not so.
+    // Lets the capitals of a query count, or not so: of the last one, too.
     fn turn_case(&mut self, case: Case) -> Result<(), Fault> {
-        self.case = if self.case == case { Case::Exact } else { case };
-        let said = match self.case {
+        self.queries.case = if self.queries.case == case {
+            Case::Exact
+        } else {
+            case
+        };
+        let said = match self.queries.case {
             Case::Exact => "capitals count in searches (Return)",
             Case::Smart => "capitals count in searches that have one (Return)",
             Case::Ignored => "capitals do not count in searches (Return)",
         };
+        self.search_again()?;
         self.say(said)
     }
 
@@ -115,6 +116,7 @@ impl<S: OutputSink + Drop> View<S> {
             'S' => self.turn_wrapping(),
             'i' => self.turn_case(Case::Smart),
             'I' => self.turn_case(Case::Ignored),
+            'F' => self.say("-F is for the start of the pager (Return)"),
             _ => self.say("no such option here (Return)"),
         }
     }
@@ -125,6 +127,10 @@ impl<S: OutputSink + Drop> View<S> {
             'q' | 'Q' => Ok(Onward::Ended),
             'n' => Ok(Onward::Next),
             'p' => Ok(Onward::Before),
+            'e' => {
+                self.typed.pending = Some(Pending::Line);
+                Ok(Onward::On)
+            }
             _ => Ok(Onward::On),
         }
     }
@@ -142,6 +148,7 @@ impl<S: OutputSink + Drop> View<S> {
             Pending::Command => return self.do_command(letter),
             Pending::End if letter == 'Z' => return Ok(Onward::Ended),
             Pending::End => (),
+            Pending::Line => self.typed.pending = Some(Pending::Line),
         }
         Ok(Onward::On)
     }

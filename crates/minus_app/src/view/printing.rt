@@ -1,4 +1,4 @@
-//! What stays on the terminal: a text that fits it, and the page that was on show.
+//! What stays on the terminal: a text that fits it, and the page that was displayed.
 ghost use Rattle.std.specs.Prelude.{◌≡◌};
 
 use crate::options::Options;
@@ -6,6 +6,7 @@ use minus::{
     Layout, LineNumbers, MinusError, OutputSink, OwnedTextBlock, PagerState, Screen, fit_columns,
     write_bytes,
 };
+use minus_term::page_len;
 use std::alloc::{AllocError, Global};
 
 /// How the rows of a text are formed.
@@ -67,16 +68,14 @@ pub fn print_if_fits<S: OutputSink>(
     Ok(true)
 }
 
-/// The rows of the page on show, as they are left on the terminal where the program ends.
+/// The rows of the displayed page, as they are left on the terminal where the program ends.
 ///
 /// # Errors
 ///
 /// [`AllocError`] where there is no memory.
 pub fn page_left(alloc: Global, state: &PagerState) -> Result<String, AllocError> {
     let mut left = String::new(alloc);
-    let behind = state
-        .upper_mark
-        .saturating_add(state.rows.saturating_sub(1));
+    let behind = state.upper_mark.saturating_add(page_len(state.rows));
     for i in state.upper_mark..behind.min(state.screen.formatted_lines_count()) {
         let Some(row) = state.screen.formatted_row(alloc, i)? else {
             break;

@@ -1,13 +1,21 @@
 //! The search prompt of the pager, while it is open: what the program does with its keys, and the queries taken before.
+//!
+//! 1. A key that edits the line of text is done here: Ctrl-A, E, U and W.
+//! 2. Enter takes the query; Up and Down put one from the history in its place; Esc and Ctrl-C leave the prompt.
+//! 3. Any other key is the session's, which types it.
+//! 4. A query that was taken leads to its match, once the text was read so far (`goals`).
+//!
+//! So `?err` and Enter, typed on row 40 of a text with matches in the rows 12 and 50, leads to row 12.
 use crate::fault::Fault;
+use crate::view::goals::Goal;
 use crate::view::jumps::{first_match_from, jump_back, jump_to};
-use crate::view::reading::Goal;
 use crate::view::{Onward, View};
 use minus::{
-    CommandOf, Event, InputEvent, InputOf, IoCommand, KeyCode, KeyModifiers, OutputSink,
-    PagerState, SearchMode,
+    CommandOf, Event, InputEvent, InputOf, IoCommand, KeyCode, KeyModifiers, MinusError,
+    OutputSink, PagerState, SearchMode, write_bytes,
 };
-use minus_view::{Case, SearchKey, press, search_key};
+use minus_view::{SearchKey, press, search_key};
+use regex::Regex;
 
 // The query in the search prompt; an empty one where none is open.
 fn query_of(state: &PagerState) -> &str {
@@ -17,17 +25,14 @@ fn query_of(state: &PagerState) -> &str {
     }
 }
 
+/// The bytes by which the terminal cuts a query that is longer than its row, and does not scroll the page for it.
+const WRAP_OFF: &str = "\x1b[?7l";
+
+/// The bytes by which it wraps what is longer than a row again.
+const WRAP_ON: &str = "\x1b[?7h";
+
 // What stands at the front of a pattern whose capitals do not count.
 const ANY_CASE: &str = "(?i)";
-
-// Whether the capitals of a query do not count.
-fn leaves_out_case(case: Case, query: &str) -> bool {
-    match case {
-        Case::Exact => false,
-        Case::Smart => !query.chars().any(|c| c.is_uppercase()),
-        Case::Ignored => true,
-    }
-}
 
 // The character of a key that is pressed with Ctrl.
 fn controlled(event: &Event) -> Option<char> {
@@ -64,37 +69,33 @@ impl<S: OutputSink + Drop> View<S> {
         self.session.state().open_search().is_some()
     }
 
+    /// Lets the terminal cut long queries while the search prompt is open: others may write on it at any other time.
+    pub(super) fn heed_prompt(&mut self, was_open: bool) -> Result<(), Fault> {
+        let is_open = self.is_searching();
+        if is_open != was_open {
+            let bytes = if is_open { WRAP_OFF } else { WRAP_ON };
+            write_bytes(&mut self.terminal, bytes.as_bytes())?;
+        }
+        self.show_query_row()
+    }
+
     // Tells the session an event while no search prompt is open, which may open one.
     pub(super) fn tell_page(&mut self, event: Event) -> Result<Onward, Fault> {
         let told = self.session.state().search_mark();
         let onward = self.step_in_place(InputOf::Event(event))?;
         if self.is_searching() {
             self.begin_jump();
-            self.told_before = told;
-            self.history.begin();
+            self.queries.told_before = told;
+            self.queries.history.begin();
         }
         self.follow_on()?;
         Ok(onward)
     }
 
-    // Goes on following, where the search prompt that let it rest is closed and the page has not moved up.
-    fn follow_on(&mut self) -> Result<(), Fault> {
-        if self.is_searching() {
-            return Ok(());
-        }
-        let Some(mark) = self.rests_from.take() else {
-            return Ok(());
-        };
-        if self.session.state().upper_mark < mark {
-            return Ok(());
-        }
-        self.command(CommandOf::FollowOutput(true))
-    }
-
-    // Lets the prompt row tell of the match that it told of before the search prompt was open.
+    // Lets the prompt row report the match that it reported before the search prompt was open.
     fn restore_match(&mut self) -> Result<(), Fault> {
         let state = self.session.state();
-        let told = self.told_before;
+        let told = self.queries.told_before;
         if told == state.search_mark() || told >= state.matches().len() {
             return Ok(());
         }
@@ -122,7 +123,7 @@ impl<S: OutputSink + Drop> View<S> {
     // Closes the search prompt, and goes to the next match of what was searched for before, in its direction.
     fn repeat_search(&mut self) -> Result<(), Fault> {
         self.close_search()?;
-        self.count = None;
+        self.typed.count = None;
         self.next_match(true)?;
         self.follow_on()
     }
@@ -135,8 +136,8 @@ impl<S: OutputSink + Drop> View<S> {
         }
         let is_back = state.search_state.search_mode == SearchMode::Reverse;
         let first = first_match_from(state, mark);
-        if first < state.matches().len() || self.is_whole {
-            self.was_missed = has_missed(state);
+        if first < state.matches().len() || self.reading.is_whole {
+            self.notices.was_missed = has_missed(state);
             if is_back {
                 let back = jump_back(state, mark);
                 return self.command(CommandOf::UserInput(back));
@@ -150,28 +151,118 @@ impl<S: OutputSink + Drop> View<S> {
         self.head_for(Goal::Match(first))
     }
 
-    // Types at the front of a query that its capitals do not count, where they do not.
-    fn leave_out_case(&mut self) -> Result<(), Fault> {
-        if !leaves_out_case(self.case, query_of(self.session.state())) {
-            return Ok(());
+    /// Searches for a pattern from now on, or for none; the page stays. Out of memory, nothing changes, and the prompt
+    /// row says so.
+    pub(super) fn set_term(&mut self, term: Option<Regex>) -> Result<(), Fault> {
+        match self.session.set_term(term) {
+            Ok(()) => Ok(()),
+            Err(MinusError::Memory) => {
+                self.notices.was_short = true;
+                Ok(())
+            }
+            Err(cause) => Err(Fault::Pager(cause)),
         }
-        let _ = self.step(InputOf::Event(press(KeyCode::Home, 0)))?;
-        for c in ANY_CASE.chars() {
-            let _ = self.step(InputOf::Event(press(KeyCode::Char(c), 0)))?;
-        }
-        Ok(())
     }
 
-    // Keeps the query, and lets the session take it. Out of memory, it is not kept.
-    fn take_query(&mut self, event: Event) -> Result<(), Fault> {
+    /// Shows the matches again that are not shown any more.
+    pub(super) fn show_hidden(&mut self) -> Result<(), Fault> {
+        let Some(pattern) = self.queries.hidden.take() else {
+            return Ok(());
+        };
+        let Ok(term) = Regex::new(self.alloc, pattern.as_str()) else {
+            self.notices.was_short = true;
+            return Ok(());
+        };
+        self.say_before("(searching)")?;
+        self.set_term(Some(term))
+    }
+
+    // The pattern of a query, whose capitals may not count; none where it is none, or there is no memory for it.
+    fn pattern_of(&self, query: &str) -> Option<Regex> {
+        let front = if self.queries.leave_out_case(query) {
+            ANY_CASE
+        } else {
+            ""
+        };
+        let source = format!(in self.alloc; "{front}{query}").ok()?;
+        Regex::new(self.alloc, source.as_str()).ok()
+    }
+
+    // Keeps the pattern whose matches are not shown any more. Out of memory, the one before is kept.
+    fn keep_hidden(&mut self, term: &Regex) {
+        if let Ok(pattern) = String::from_str(self.alloc, term.as_str()) {
+            self.queries.hidden = Some(pattern);
+        }
+    }
+
+    /// Searches for the last query once more, whose capitals count now, or do not; the page stays. Out of memory, the
+    /// matches stay.
+    pub(super) fn search_again(&mut self) -> Result<(), Fault> {
+        let Some(query) = &self.queries.last else {
+            return Ok(());
+        };
+        let Some(term) = self.pattern_of(query.as_str()) else {
+            return Ok(());
+        };
+        if self.queries.hidden.is_some() {
+            self.keep_hidden(&term);
+            return Ok(());
+        }
+        self.say_before("(searching)")?;
+        self.set_term(Some(term))
+    }
+
+    // Whether the session's own key is not what a query is to be taken by: its capitals do not count, or it takes a
+    // while, which is to be said before.
+    fn is_searched_apart(&self) -> bool {
+        let query = query_of(self.session.state());
+        self.is_slow() || self.queries.leave_out_case(query)
+    }
+
+    // Goes to the match of the term that was set while the page began with a row: as of a query that was taken there.
+    fn go_from(&mut self, mark: usize) -> Result<(), Fault> {
+        let state = self.session.state();
+        let first = first_match_from(state, mark);
+        if state.search_state.search_mode == SearchMode::Reverse && first > 0 {
+            return self.lead_to(first - 1);
+        }
+        self.head_for(Goal::Match(first))
+    }
+
+    // Searches for the query beside the search prompt, which is closed. One that is no pattern is the session's to
+    // refuse.
+    fn search_apart(&mut self, event: Event) -> Result<(), Fault> {
+        let Some(term) = self.pattern_of(query_of(self.session.state())) else {
+            return self.take_by_key(event);
+        };
         let mark = self.session.state().upper_mark;
-        let _ = self.history.take(query_of(self.session.state()));
-        self.leave_out_case()?;
+        let _ = self.step(InputOf::Event(press(KeyCode::Esc, 0)))?;
+        self.say_before("(searching)")?;
+        self.set_term(Some(term))?;
+        self.go_from(mark)
+    }
+
+    // Lets the session take the query.
+    fn take_by_key(&mut self, event: Event) -> Result<(), Fault> {
+        let mark = self.session.state().upper_mark;
         let _ = self.step(InputOf::Event(event))?;
         if self.is_searching() {
             return Ok(());
         }
-        self.go_to_match(mark)?;
+        self.go_to_match(mark)
+    }
+
+    // Keeps the query, and takes it. Out of memory, it is not kept.
+    fn take_query(&mut self, event: Event) -> Result<(), Fault> {
+        let query = query_of(self.session.state());
+        let _ = self.queries.history.take(query);
+        self.queries.last = String::from_str(self.alloc, query).ok();
+        self.queries.hidden = None;
+        if self.is_searched_apart() {
+            self.search_apart(event)?;
+        } else {
+            self.take_by_key(event)?;
+        }
         self.follow_on()
     }
 
@@ -185,7 +276,7 @@ impl<S: OutputSink + Drop> View<S> {
             return Ok(());
         }
         self.command(CommandOf::UserInput(InputEvent::Search(SearchMode::Forward)))?;
-        self.history.begin();
+        self.queries.history.begin();
         for c in query.chars() {
             let _ = self.step(InputOf::Event(press(KeyCode::Char(c), 0)))?;
         }
@@ -232,7 +323,7 @@ impl<S: OutputSink + Drop> View<S> {
 
     // Types the query that the history shows in the place of the one in the prompt. Out of memory, that one stays.
     fn retype(&mut self) -> Result<(), Fault> {
-        let Ok(query) = String::from_str(self.alloc, self.history.shown()) else {
+        let Ok(query) = String::from_str(self.alloc, self.queries.history.shown()) else {
             return Ok(());
         };
         self.erase()?;
@@ -244,7 +335,7 @@ impl<S: OutputSink + Drop> View<S> {
 
     // Puts an older query in the prompt, if there is one. Out of memory, the query stays.
     fn recall_older(&mut self) -> Result<(), Fault> {
-        match self.history.go_back(query_of(self.session.state())) {
+        match self.queries.history.go_back(query_of(self.session.state())) {
             Ok(true) => self.retype(),
             _ => Ok(()),
         }
@@ -252,14 +343,19 @@ impl<S: OutputSink + Drop> View<S> {
 
     // Puts a newer query in the prompt, or what was typed, if the prompt has an older one.
     fn recall_newer(&mut self) -> Result<(), Fault> {
-        if self.history.go_on() {
+        if self.queries.history.go_on() {
             return self.retype();
         }
         Ok(())
     }
 
-    // Tells the open search prompt an event, but for those that are the program's.
+    /// Tells the open search prompt an event, but for those that are the program's. What was typed ahead has Ctrl-J for
+    /// Enter.
     pub(super) fn tell_search(&mut self, event: Event) -> Result<Onward, Fault> {
+        let event = match controlled(&event) {
+            Some('j') => press(KeyCode::Enter, 0),
+            _ => event,
+        };
         if self.edit(&event)? {
             return Ok(Onward::On);
         }

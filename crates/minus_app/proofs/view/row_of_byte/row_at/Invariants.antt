@@ -1,8 +1,8 @@
 -- The row begins with the byte or before it, if it is not the first one of all, and the one behind does not.
 use Rattle.std.proofs.Common.{◌≡◌, ◌-◌, ◌<◌, ◌⊎◌, true, false, length}
 use Rattle.minus_text.specs.Document.{rows_of}
-use Rattle.minus_app.specs.Places.{begins_by}
-use Rattle.minus_app.proofs.view.places.row_at.Given as goal
+use Rattle.minus_app.specs.RowOfByte.{begins_by}
+use Rattle.minus_app.proofs.view.row_of_byte.row_at.Given as goal
 
 abbrev pub invariant-loop-behind : goal.invariant-loop-behind
 invariant-loop-behind l = record {

@@ -1,6 +1,6 @@
 //! The row in which a byte of the text stands, so that a page begins there again once the rows are others.
 ghost use Rattle.std.specs.Prelude.{◌≡◌};
-ghost use Rattle.minus_app.specs.Places.{begins_by, StandsIn};
+ghost use Rattle.minus_app.specs.RowOfByte.{begins_by, StandsIn};
 
 use minus::PagerState;
 

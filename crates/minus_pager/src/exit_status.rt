@@ -1,6 +1,6 @@
-//! Why the program pages nothing.
+//! Why the program pages nothing, and the status with which it exits then.
 ghost use Rattle.std.specs.Prelude.{◌≡◌};
-ghost use Rattle.minus_pager.specs.Statuses.{status_of};
+ghost use Rattle.minus_pager.specs.ExitStatus.{status_of};
 
 use minus::MinusError;
 use minus_app::Fault;
