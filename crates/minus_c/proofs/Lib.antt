@@ -1,0 +1,3 @@
+mod HeldLaws
+mod SessionLaws
+mod StageLaws

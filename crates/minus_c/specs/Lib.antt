@@ -1,0 +1,10 @@
+pub mod EnumNumbers
+pub mod HeldSteps
+pub mod InputEvents
+pub mod Keys
+pub mod Mouse
+pub mod Pieces
+pub mod Refused
+pub mod Rooms
+pub mod Sessions
+pub mod Stages
