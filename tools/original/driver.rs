@@ -94,7 +94,7 @@ fn act(word: &str) -> Act {
     }
 }
 
-/// So many acts, one after another and from the first again.
+/// This number of acts, one after another and from the first again.
 fn turns(acts: &[Act], count: usize) -> VecDeque<Step> {
     acts.iter().cycle().take(count).enumerate().map(|(turn, act)| act(turn)).collect()
 }
