@@ -28,7 +28,7 @@ COLS, ROWS = 80, 24
 MB = 1_000_000
 SIZES = (1, 10, 100)  # of the texts, in MB
 PATIENCE = 60  # seconds
-QUIET = 0.1  # seconds without a byte, after which a page is whole
+QUIET = 0.6  # seconds without a byte, after which a page is whole: a notice may stand before it
 RESIZES = ((100, 40), (80, 24)) * 3 + ((100, 40),)  # columns and rows, one after another
 KEYS = 40  # keys that are pressed when all of a text was read
 # By what a program scrolls by a row: this one by a sequence, less by a new row, down or up.
@@ -121,6 +121,16 @@ class Run:
         self.set_size(cols, rows)
         self.read(PATIENCE)
         return self.settle() - begun
+
+    def ask(self, keys, answer):
+        """The seconds from keys to bytes that have this."""
+        self.bytes = b''
+        begun = time.perf_counter()
+        os.write(self.terminal, keys)
+        while answer not in self.bytes:
+            if not self.read(PATIENCE):
+                sys.exit(f'measure_pager.py: no answer to {keys}; what came ends with {self.bytes[-200:]}')
+        return time.perf_counter() - begun
 
     def reader(self, path):
         """The process that has read of a file, of this one and those below it."""
@@ -235,6 +245,28 @@ def at_rest(begin, text, loads):
     return waits, resizes, memory
 
 
+def searches(begin, text, last):
+    """The seconds of a search for the last line, for what is in no line, of the next match, and from q to the end."""
+    run = begin(text)
+    run.wait_for(b'00000009 ')
+    run.ask(b'G', f'{last:08} '.encode())
+    run.settle()
+    run.ask(b'g', b'00000000 ')
+    found = run.ask(f'/{last:08}\r'.encode(), f'{last:08}'.encode() + b'\x1b[27m')
+    run.settle()
+    run.ask(b'g', b'00000000 ')
+    missed = run.ask(b'/no such words\r', b'not found')
+    os.write(run.terminal, b'\r')
+    run.settle()
+    run.ask(b'/WARN\r', b'WARN')
+    run.settle()
+    on = run.ask(b'n', b'WARN')
+    run.settle()
+    begun = time.perf_counter()
+    run.end()
+    return found, missed, on, time.perf_counter() - begun
+
+
 def milliseconds(times):
     """The median, and the least and the greatest where there are more than one."""
     if len(times) == 1:
@@ -281,6 +313,9 @@ def print_large(programs, text, last, runs):
     row(f'a key while it is read, of {len(loading)}', '', milliseconds(loading))
     row(f'a key after, of {KEYS}', *map(milliseconds, keys))
     row(f'a resize, of {len(RESIZES)}', *map(milliseconds, resizes))
+    done = zip(searches(less, text, last), searches(minus, text, last))
+    for name, times in zip(('a search for the last line', 'for what is in no line', 'the next match', 'from q to the end'), done):
+        row(name, *(milliseconds([seconds]) for seconds in times))
     for name, number in (('memory at rest', 0), ('its peak', 1), ('its peak after the resizes', 2)):
         of_less, of_minus = memories[0][number], memories[1][number]
         row(name, f'{of_less / MB:.1f} MB', f'{of_minus / MB:.1f} MB, {of_minus / size:.2f} for each byte')

@@ -1,5 +1,5 @@
 #!/usr/bin/env python3
-"""Draws docs/page.svg, the picture of a page in README: tools/page_svg.py [PROGRAM]
+"""Draws docs/page.svg, the picture of a page in docs/PAGER.md: tools/page_svg.py [PROGRAM]
 
 Runs `bin/minus -N +38 server.log` over a log of its own in a pseudo terminal, plays what the terminal is sent, and
 draws the cells. PROGRAM is the built crates/minus_pager/out/minus_pager. Each run writes the same file.
@@ -16,7 +16,8 @@ import sys
 import tempfile
 import termios
 
-from test_pager import TOP, Player
+from player import Player
+from programs import TOP
 
 COLS, ROWS = 84, 18
 WIDTH, HEIGHT, MARGIN = 8.4, 18, 12  # of a cell, and around the page, in pixels

@@ -55,7 +55,7 @@ def tests_of(program, words):
 
 
 def swept(program, test, library, pool, before):
-    """Returns how many requests of a test were refused in turn, of those after so many, and what is wrong with it, if anything."""
+    """Returns how many requests of a test were refused in turn, of those after the first `before`, and what is wrong with it."""
     passes, count = run(program, test, library, 0)
     if not passes or count <= before:
         return 0, f"it fails with nothing refused, or makes none of its requests after the first {before}"

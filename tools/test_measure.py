@@ -7,7 +7,8 @@ import sys
 import unittest
 
 sys.path.insert(0, os.path.dirname(os.path.abspath(__file__)))
-from measure import SEPARATOR, WORKS, Measured, Run, Work, alike, block, coloured, dates, each_of, grouped, keys, line_pieces, line_pushes, lines, long_rows, memory_row, parse_collected, row, text, wide, with_table
+from measure import Measured, Run, alike, each_of, grouped, memory_row, parse_collected, row, with_table
+from measured_works import SEPARATOR, WORKS, Work, block, coloured, dates, keys, line_pieces, line_pushes, lines, long_rows, text, wide
 
 WORK = Work("scroll", [10, 20], text, acts=["next"], turns=50, each="turns")
 

@@ -1,5 +1,5 @@
 #!/usr/bin/env python3
-"""Tests of refuse_memory.py: which requests are refused, and what is told of a test."""
+"""Tests of refuse_memory.py: which requests are refused, and what is said about a test."""
 import concurrent.futures
 import os
 import sys
@@ -11,7 +11,7 @@ import refuse_memory
 
 
 def told(passes, count, before=0, more=1):
-    """Returns what is told of a test of so many requests, more where one is refused, and which were refused."""
+    """Returns what is said about a test of this number of requests, more where one is refused, and which were refused."""
     refused = []
 
     def run(program, test, library, number):
