@@ -203,6 +203,14 @@ class KeyTests(TerminalTests):
             terminal.resize(cols, 8)
             self.resume()
             wait_for_row(begins, f'fg with {cols} columns')
+        # (that of the last page is where it begins)
+        for keys in ('G', "'$"):
+            self.press(f'g{keys}')
+            terminal.wait_for('97-100/100')
+            terminal.resize(40, 6)
+            terminal.wait_for('97-99/100')
+            terminal.resize(40, 8)
+            terminal.wait_for('97-100/100')
         self.quit()
 
     def test_a_rest_takes_few_turns(self):

@@ -121,7 +121,7 @@ class ReadingOnTests(TerminalTests):
         more = 20
         for keys, key, there in (
             ('/nothing\r', 'j', '2-8'), ('50%', ' ', '9-15'), ('100g', 'k', '8-14'), ('G', 'g', '1-7'),
-            ('?nothing\r', '5g', '5-11'),
+            ("'$", 'g', '1-7'), ('?nothing\r', '5g', '5-11'),
         ):
             self.press(keys)
             self.wait_for_reading()

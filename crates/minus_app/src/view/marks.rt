@@ -1,5 +1,6 @@
 //! The places that are kept under letters, and the keys that are typed behind another.
 use crate::fault::Fault;
+use crate::view::goals::Goal;
 use crate::view::typed::Pending;
 use crate::view::{Onward, View};
 use minus::{CommandOf, Event, InputEvent, InputOf, KeyCode, KeyModifiers, OutputSink};
@@ -39,13 +40,11 @@ impl<S: OutputSink + Drop> View<S> {
         }
     }
 
-    // The place that is kept under a letter; that of `'` is where the last jump began, and that of `^` and `$` are the
-    // first and the last one of the text.
+    // The place that is kept under a letter; that of `'` is where the last jump began, and that of `^` the first one.
     fn marked(&self, letter: char) -> Option<usize> {
         match letter {
             '\'' => Some(self.places.before),
             '^' => Some(0),
-            '$' => Some(usize::MAX),
             _ => {
                 let mark = self.places.marks.iter().find(|mark| mark.letter == letter)?;
                 Some(mark.byte)
@@ -53,8 +52,12 @@ impl<S: OutputSink + Drop> View<S> {
         }
     }
 
-    // Goes to the place that is kept under a letter, if one is.
+    // Goes to the place that is kept under a letter, if one is. That of `$` is the end, for which the text is read on.
     fn go_to_mark(&mut self, letter: char) -> Result<(), Fault> {
+        if letter == '$' {
+            self.begin_jump();
+            return self.head_for(Goal::End);
+        }
         let Some(byte) = self.marked(letter) else {
             return self.say("no such mark (Return)");
         };
