@@ -8,6 +8,6 @@ pub type ExitCallbacks = Vec<Box<dyn FnMut() + Send + Sync + 'static>>;
 pub enum ExitStrategy {
     /// The whole process. A pager does so unless it is told otherwise.
     ProcessQuit,
-    /// The pager alone: [`dynamic_paging`](crate::dynamic_paging) or [`page_all`](crate::page_all) returns.
+    /// The pager alone: `dynamic_paging` or `page_all` returns.
     PagerQuit,
 }
