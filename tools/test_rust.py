@@ -19,6 +19,10 @@ class ProgramTests(unittest.TestCase):
         self.addCleanup(program.close)
         return program
 
+    def assert_rows(self, program, rows, first=0):
+        """The screen comes to show these rows, from this one on."""
+        program.wait(lambda: program.rows()[first:first + len(rows)] == rows, rows)
+
     def assert_end(self, program, status):
         self.assertEqual(program.end(), status)
         self.assertTrue(program.is_handed_back())
@@ -27,24 +31,24 @@ class ProgramTests(unittest.TestCase):
         program = self.run_example('static_text', '200', cols=30, rows=6)
         program.wait_for('numbers')
         self.assertTrue(program.has_terminal())
-        self.assertEqual(program.rows(), [f'this is line {n}' for n in range(1, 6)] + ['numbers'])
+        self.assert_rows(program, [f'this is line {n}' for n in range(1, 6)] + ['numbers'])
         program.press('jj')
-        self.assertEqual(program.rows()[:3], ['this is line 3', 'this is line 4', 'this is line 5'])
+        self.assert_rows(program, ['this is line 3', 'this is line 4', 'this is line 5'])
         program.press('G')
-        self.assertEqual(program.rows()[4], 'this is line 200')
+        self.assert_rows(program, ['this is line 200'], 4)
         program.press('50G')
-        self.assertEqual(program.rows()[0], 'this is line 50')
+        self.assert_rows(program, ['this is line 50'])
         program.press('/line 12.\r')
-        self.assertEqual(program.rows()[0], 'this is line 120')
+        self.assert_rows(program, ['this is line 120'])
         program.press('n')
-        self.assertEqual(program.rows()[0], 'this is line 121')
+        self.assert_rows(program, ['this is line 121'])
         program.press('q')
         self.assert_end(program, 0)
 
     def test_a_text_that_fits_is_written(self):
         program = self.run_example('static_text', '3', cols=30, rows=6)
         self.assert_end(program, 0)
-        self.assertEqual(program.rows()[:3], [f'this is line {n}' for n in range(1, 4)])
+        self.assert_rows(program, [f'this is line {n}' for n in range(1, 4)])
         self.assertNotIn(1049, program.player.modes)
 
     def test_a_thread_feeds_a_pager(self):
@@ -53,10 +57,10 @@ class ProgramTests(unittest.TestCase):
         program.press('G')
         program.wait_for('all was read')
         program.press('G')
-        self.assertEqual(program.rows()[6].split(), ['101.', 'reading', '100:', '10000'])
+        program.wait(lambda: program.rows()[6].split() == ['101.', 'reading', '100:', '10000'], 'the last line')
         # Enter lets the message go.
         program.press('\r')
-        self.assertEqual(program.rows()[7], 'a feed')
+        self.assert_rows(program, ['a feed'], 7)
         program.press('q')
         self.assert_end(program, 0)
 
@@ -66,11 +70,13 @@ class ProgramTests(unittest.TestCase):
             file.flush()
             program = self.run_example('less_like', file.name, cols=60, rows=8)
             program.wait_for('row 6')
-            program.settle()
-            program.press('G')
-            self.assertEqual(program.rows()[6], 'row 999 of a file')
+            def is_at_end():
+                # (a thread reads the file on)
+                program.press('G')
+                return program.rows()[6] == 'row 999 of a file'
+            program.wait(is_at_end, 'the last row')
             program.resize(50, 5)
-            self.assertEqual(program.rows()[0], 'row 993 of a file')
+            self.assert_rows(program, ['row 993 of a file'])
             program.press('q')
             self.assert_end(program, 0)
 
@@ -82,17 +88,17 @@ class ProgramTests(unittest.TestCase):
         program = self.run_example('own_keys', cols=30, rows=6)
         program.wait_for('own keys')
         program.press('xx')
-        self.assertEqual(program.rows()[0], 'row 6')
+        self.assert_rows(program, ['row 6'])
         program.press('5j')
-        self.assertEqual(program.rows()[0], 'row 11')
+        self.assert_rows(program, ['row 11'])
         program.press('e')
-        self.assertEqual(program.rows()[4], 'row 99')
+        self.assert_rows(program, ['row 99'], 4)
         program.press('g/row')
-        self.assertEqual(program.rows()[0], 'row 0')
+        self.assert_rows(program, ['row 0'])
         program.press(' 7')
-        self.assertEqual(program.rows()[0], 'row 7')
+        self.assert_rows(program, ['row 7'])
         program.press('\r')
-        self.assertEqual(program.rows()[0], 'row 7')
+        self.assert_rows(program, ['row 7'])
         program.press('q')
         self.assert_end(program, 0)
 
@@ -100,10 +106,10 @@ class ProgramTests(unittest.TestCase):
         program = self.run_example('own_keys', cols=60, rows=40)
         program.wait_for('own keys')
         program.press('M')
-        self.assertIn('COMMAND SUMMARY', program.rows()[0])
-        self.assertTrue(any('three rows down' in row for row in program.rows()), program.rows())
+        program.wait_for('COMMAND SUMMARY')
+        program.wait_for('three rows down')
         program.press('q')
-        self.assertEqual(program.rows()[0], 'row 0')
+        self.assert_rows(program, ['row 0'])
         program.press('q')
         self.assert_end(program, 0)
 
@@ -112,7 +118,7 @@ class ProgramTests(unittest.TestCase):
         program.wait_for('row 9')
         program.press('jGq')
         self.assert_end(program, 0)
-        self.assertEqual(program.rows()[:6], [
+        self.assert_rows(program, [
             'PrePagerStart at 0', 'PostPagerStart at 0', 'EofReached at 20', 'PrePagerExit at 20', 'exit callback',
             'PostPagerExit at 20'])
 
@@ -121,7 +127,7 @@ class ProgramTests(unittest.TestCase):
         program.wait_for('press p')
         program.press('p')
         self.assert_end(program, 101)
-        self.assertTrue(any('a callback gives up' in row for row in program.rows()))
+        program.wait_for('a callback gives up')
 
     def test_a_panic_of_a_thread_hands_the_terminal_back(self):
         program = self.run_example('panics', 'thread', cols=60, rows=8)
