@@ -185,7 +185,8 @@ class TerminalTests(unittest.TestCase):
         self.tearDown()
         self.terminal = Terminal(self.folder, cols, rows, **shell)
         self.terminal.send(command + '\n')
-        self.terminal.wait(lambda: self.terminal.player.modes.get(1049), 'the first page')
+        # (a pager that ends by itself may have left its screen by then)
+        self.terminal.wait(lambda: b'\x1b[?1049h' in self.terminal.bytes, 'the first page')
         return self.terminal
 
     def press(self, keys):
