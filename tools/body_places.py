@@ -47,6 +47,11 @@ def read(file):
         return it.read()
 
 
+def files_below(folder):
+    """Returns the paths of all files in a folder, in an order that no disk decides."""
+    return sorted(f"{at}/{it}" for at, _, names in os.walk(folder) for it in names)
+
+
 def module_of(path):
     """Returns the path of the module in the file src/F.rt."""
     words = path[len("src/") : -len(".rt")].split("/")
@@ -105,11 +110,10 @@ def functions_of(folder, proofs):
     """Returns the functions that the files of a crate write out: the place of each, and its path below the crate, which
     of an impl may be guessed."""
     places, modules = set(), {}
-    for at, _, names in os.walk(f"{folder}/src"):
-        for name in names:
-            text, module = read(f"{at}/{name}"), module_of(os.path.relpath(f"{at}/{name}", folder))
-            places |= {place_of(text, it.end(), module) for it in FUNCTION.finditer(text)}
-            modules |= {it[1]: module for it in TYPE.finditer(text)}
+    for file in files_below(f"{folder}/src"):
+        text, module = read(file), module_of(os.path.relpath(file, folder))
+        places |= {place_of(text, it.end(), module) for it in FUNCTION.finditer(text)}
+        modules |= {it[1]: module for it in TYPE.finditer(text)}
     paths = {it: it.path(proofs) for it in places if it.name}
     for it in paths:
         # (an impl of a trait stands where it is written, and any other where its type does)

@@ -7,6 +7,7 @@ usage, at the top of the repository:
     tools/wrong_bodies.py --proved [NAME [FILE.edit ..]] the same, right after an rt ci that proved them all
     tools/wrong_bodies.py --beside FILE                  every crate, beside an rt ci that writes to that file
     tools/wrong_bodies.py --anew ..                      the same, with those that an earlier run refused
+    tools/wrong_bodies.py --record                       after these: writes tools/refused_bodies.txt, and tries none
 
 A FILE.edit is a path, or the name of a file in crates/NAME/wrong-bodies/ or crates/NAME/must-fail/.
 
@@ -32,8 +33,10 @@ for rt ci to say. The file ends with a line that begins with `rt ci: ended`. RT_
 side, as it is for rt ci; behind that line they are as many as the machine has processors, where it has the memory.
 
 That a body was refused is kept where rt ci keeps what it passed, on this machine alone, under a sum of the kit, this
-tool, the body, the files of its crate and of those below it, and the libraries that were built of these. So a later run
-tries what has changed.
+tool, the body, the functions that it turns, and its crate and those below it without the bodies and the proofs of their
+functions, on which no other function's proof rests. So a later run tries what has changed. tools/refused_bodies.txt
+records these sums for a machine on which nothing is kept: there one in ten of the bodies whose sum it has is tried
+anyway, and each whose sum it has not.
 
 The last line is `wrong-bodies: N passed, M failed`, after a line for each body that failed; where a name is unknown or
 there is nothing to try, it says that. Both that and a body that failed end with 1.
@@ -51,17 +54,20 @@ from concurrent.futures import FIRST_COMPLETED, ThreadPoolExecutor, wait
 from dataclasses import dataclass
 
 import body_edits
+import body_keys
 import body_places
 import body_verdicts
 from body_edits import read_body, texts_of, with_twins, without_answers, without_bodies, without_proofs
+from body_keys import Reading, kit_of, proofs_of
 from body_places import functions_of, read
+from body_record import RECORD, is_sampled, recorded, write_record
 from body_verdicts import part_told, try_all
 
 SOURCES = ["src", "specs", "proofs"]
 # (a part begins with the laws of its crate, which take a minute or two; one of this many bodies takes 5 GB at most)
 MOST_OF_PART = 60
 # (the files of this tool: what one of them changes, no earlier run has tried)
-FILES = [__file__, *(it.__file__ for it in (body_edits, body_places, body_verdicts))]
+FILES = [__file__, *(it.__file__ for it in (body_edits, body_keys, body_places, body_verdicts))]
 
 
 def load_rt():
@@ -109,41 +115,70 @@ def has_kept(top):
     return any(os.path.exists(it) for it in kept)
 
 
-def proofs_of(crate):
-    """Returns the paths of the crate's functions that have files of proofs."""
-    top = f"{crate.folder}/proofs"
-    proofs = {"Answers.antt", "Invariants.antt", "Proof.antt"}
-    found = [os.path.relpath(at, top) for at, _, files in os.walk(top) if proofs & {*files}]
-    return ["::".join([crate.name, *it.split("/")]) for it in found]
-
-
 def paths_of(bodies, proofs):
     """Returns the paths of what the bodies turn, or none where that may be anything in the crate."""
     paths = sorted({place.path(proofs) for body in bodies for place in body.places})
     return paths if all(paths) else []
 
 
-def bodies_of(rt, kept, crate, files):
-    """Reads wrong bodies of a crate, each with its name for what is kept: one made of all that a try of it reads."""
-    if not kept:
-        return [read_body(it, crate.folder) for it in files]
-    # (the libraries as they were built, too: what was tried over those of rt check counts for no gate, whose own are
-    # others)
-    libraries = [rt.rtlib.sum_of(f"{it.rlib}/format") for it in crate.below()]
+def bodies_of(rt, kept, crate, files, of_others):
+    """Reads wrong bodies of a crate, each with its name for what is kept: one made of all that a try of it reads. What
+    is read of this crate and others is kept in the last value."""
     bodies = [read_body(it, crate.folder) for it in files]
-    read_by_each = (rt.stamp_of(crate, {}), libraries, [read(it) for it in FILES])
-    for body, file in zip(bodies, files):
-        body.kept_as = kept.of_edit(file, read_by_each)
+    # (an older kit keeps nothing)
+    if kept:
+        kit, tools, reading = kit_of(rt.KIT), [read(it) for it in FILES], Reading(crate, of_others)
+        for body, file in zip(bodies, files):
+            body.kept_as = kept.of_edit(file, (kit, tools, reading.read_by(body)))
     return bodies
 
 
-def untried(kept, crate, bodies):
-    """Reports the bodies that an earlier run refused, and returns the others."""
-    told = [it.kept_as and kept.tried(it.kept_as) for it in bodies]
-    for body, found in zip(bodies, told):
+def all_bodies(rt, kept, every, given):
+    """Reads the bodies that are given, by their crate."""
+    of_others = {}
+    return {it: bodies_of(rt, kept, it, given[it.name], of_others) for it in every if it.name in given}
+
+
+def untried(kept, crate, bodies, record):
+    """Reports the bodies that were refused in an earlier run here, or by the record, and returns the others, with some
+    of those of the record."""
+    left = []
+    for body in bodies:
+        name = f"{crate.name}/{body.label}"
+        found, of_record = body.kept_as and kept.tried(body.kept_as), body.kept_as and record.get(name)
         if found:
-            print(f"{crate.name}/{body.label}: refused, in an earlier run: {found[1]}", flush=True)
-    return [body for body, found in zip(bodies, told) if not found]
+            print(f"{name}: refused, in an earlier run: {found[1]}", flush=True)
+        elif of_record and of_record == body.kept_as and not kept.anew and not is_sampled():
+            print(f"{name}: refused, by {RECORD}", flush=True)
+        else:
+            if of_record and of_record != body.kept_as:
+                print(f"{name}: tried, since {RECORD} has another sum", flush=True)
+            left.append(body)
+    return left
+
+
+def all_untried(rt, kept, every, given, top):
+    """Returns the bodies of each crate that have to be tried, and says how many that is."""
+    record, bodies = recorded(top), all_bodies(rt, kept, every, given)
+    left = {it: untried(kept, it, bodies[it], record) for it in bodies}
+    count, of_all = sum(map(len, left.values())), sum(map(len, bodies.values()))
+    print(f"wrong-bodies: {count} of {of_all} are tried, since the others were refused earlier", flush=True)
+    return {it: found for it, found in left.items() if found}
+
+
+def record_refused(rt, top):
+    """Records all bodies that are refused by now, here or by the record as it stands, and returns 1 where some are
+    not."""
+    every, given, record = rt.rtlib.crates_below(top), given_by([], top), recorded(top)
+    kept = rt.Kept(every)
+    bodies = all_bodies(rt, kept, every, given)
+    sums = {f"{crate.name}/{it.label}": it.kept_as for crate in bodies for it in bodies[crate]}
+    refused = {name: sum for name, sum in sums.items() if kept.tried(sum) or record.get(name) == sum}
+    write_record(top, refused)
+    for name in sorted(sums.keys() - refused.keys()):
+        print(f"{name}: not recorded, since no run here refused it")
+    print(f"{RECORD}: {len(refused)} of {len(sums)} wrong bodies")
+    return int(len(refused) < len(sums))
 
 
 def try_crate(rt, kept, crate, bodies, is_proved):
@@ -260,43 +295,45 @@ class Part:
     """A part of a crate's wrong bodies, which is tried on a copy of its own, beside the others."""
 
     name: str
-    files: list
+    bodies: list
     base: str
     crate: object
 
 
-def parts_of(rt, top, base, given):
-    """Returns the parts of all crates, those of the crate with the most bodies first, each on a copy of the sources."""
+def parts_of(rt, top, base, left):
+    """Returns the parts of what is left of all crates, those of the crate with the most bodies first, each on a copy of
+    the sources."""
     parts = []
-    for name, files in sorted(given.items(), key=lambda it: -len(it[1])):
-        count = -(-len(files) // MOST_OF_PART)
+    for crate, bodies in sorted(left.items(), key=lambda it: -len(it[1])):
+        count = -(-len(bodies) // MOST_OF_PART)
         for number in range(count):
-            at = f"{base}/{name}_{number}"
+            at = f"{base}/{crate.name}_{number}"
             copy_of(top, at, SOURCES)
-            crate = next(it for it in rt.rtlib.crates_below(at) if it.name == name)
-            parts.append(Part(name, files[number::count], at, crate))
+            copied = next(it for it in rt.rtlib.crates_below(at) if it.name == crate.name)
+            parts.append(Part(crate.name, bodies[number::count], at, copied))
     return parts
 
 
 def try_beside(rt, top, base, given, lanes, told, is_anew):
     """Tries the bodies beside an rt ci, and returns a line for each that is not refused: in these lanes, and once it
     has ended in as many as a machine has processors."""
-    parts = parts_of(rt, top, base, given)
-    kept = rt.Kept(rt.rtlib.crates_below(parts[0].base), is_anew) if hasattr(rt, "Kept") else None
+    copy_of(top, f"{base}/all", SOURCES)
+    every = rt.rtlib.crates_below(f"{base}/all")
+    kept = rt.Kept(every, is_anew) if hasattr(rt, "Kept") else None
+    parts = parts_of(rt, top, base, all_untried(rt, kept, every, given, top))
 
     def can_begin(part):
         return {it.name for it in part.crate.below()} <= told_by(told)[0]
 
-    def call(part):
+    def try_part(part):
         for below in part.crate.below():
             copy_part(top, part.base, below.name, "out/rlib", link_or_copy)
-        bodies = untried(kept, part.crate, bodies_of(rt, kept, part.crate, part.files))
-        failed = try_crate(rt, kept, part.crate, bodies, True) if bodies else []
+        failed = try_crate(rt, kept, part.crate, part.bodies, True)
         shutil.rmtree(part.base, ignore_errors=True)
         return failed
 
     is_over = lambda: told_by(told)[1]
-    return in_turn(parts, lambda: max(lanes, rooms()) if is_over() else lanes, can_begin, is_over, call)
+    return in_turn(parts, lambda: max(lanes, rooms()) if is_over() else lanes, can_begin, is_over, try_part)
 
 
 def rooms():
@@ -306,24 +343,27 @@ def rooms():
     return max(1, min(4, os.cpu_count() or 1, room))
 
 
-def try_proved(rt, base, every, given, lanes, is_proved, is_whole, is_anew):
+def try_proved(rt, top, base, given, lanes, is_proved, is_whole, is_anew):
     """Tries the bodies of crates that are proved, or once they are, and returns a line for each that is not refused."""
-    # (an older kit keeps nothing)
+    copy_of(top, base, [*SOURCES, "out/incremental", "out/rlib"])
+    every = rt.rtlib.crates_below(base)
     kept = rt.Kept(every, is_anew) if hasattr(rt, "Kept") else None
-    left = {it: untried(kept, it, bodies_of(rt, kept, it, given[it.name])) for it in every if it.name in given}
-    if any(left.values()) and is_whole and not is_proved:
+    left = all_untried(rt, kept, every, given, top)
+    if left and is_whole and not is_proved:
         # (the crates are proved side by side, and the libraries below the others are built)
         call(["rt", "all", "check", "--jobs", str(lanes)], base)
     # (the crate with the most bodies goes first)
-    crates = sorted((it for it in left if left[it]), key=lambda it: -len(left[it]))
-    call = lambda it: try_crate(rt, kept, it, left[it], is_proved)
-    return in_turn(crates, lambda: lanes, lambda it: True, lambda: True, call)
+    crates = sorted(left, key=lambda it: -len(left[it]))
+    try_all_of = lambda it: try_crate(rt, kept, it, left[it], is_proved)
+    return in_turn(crates, lambda: lanes, lambda it: True, lambda: True, try_all_of)
 
 
 def main(words):
     top, lanes = os.getcwd(), int(os.environ.get("RT_JOBS") or os.cpu_count() or 1)
     if not os.path.isfile(f"{top}/crates.txt"):
         sys.exit("wrong_bodies.py runs at the top of the repository, where crates.txt stands")
+    if words == ["--record"]:
+        return record_refused(load_rt(), top)
     is_proved, is_anew = "--proved" in words and not has_kept(top), "--anew" in words
     told = words[1] if words[:1] == ["--beside"] and len(words) == 2 else ""
     words = [] if told else [it for it in words if it not in ("--proved", "--anew")]
@@ -333,9 +373,7 @@ def main(words):
         if told:
             failed = try_beside(rt, top, base, given, lanes, told, is_anew)
         else:
-            copy_of(top, base, [*SOURCES, "out/incremental", "out/rlib"])
-            every = rt.rtlib.crates_below(base)
-            failed = try_proved(rt, base, every, given, lanes, is_proved, not words, is_anew)
+            failed = try_proved(rt, top, base, given, lanes, is_proved, not words, is_anew)
     # (once more at the end, where a log that was cut still shows them)
     for line in failed:
         print(line)

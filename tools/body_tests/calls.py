@@ -1,62 +1,10 @@
-"""What is kept, which crates are tried when, and what the words of a call name."""
-import contextlib
-import io
+"""Which crates are tried when, and what the words of a call name."""
 import os
 import tempfile
 import unittest
 from types import SimpleNamespace
 
-from body_tests.source import SOURCE, body
-from wrong_bodies import bodies_of, given_by, in_turn, told_by, untried
-
-
-class Keeping(unittest.TestCase):
-    """What is kept of earlier runs, over a stand-in for what rt keeps."""
-
-    def setUp(self):
-        held = tempfile.TemporaryDirectory()
-        self.addCleanup(held.cleanup)
-        below = [SimpleNamespace(rlib="low.rlib")]
-        self.crate = SimpleNamespace(name="k", folder=held.name, below=lambda: below)
-        self.edit, self.stamp, self.built = f"{held.name}/a.edit", "as it stands", "as rt ci built it"
-        os.makedirs(f"{held.name}/src")
-        self.write(f"{held.name}/src/m.rt", SOURCE)
-        self.write(self.edit, "file: src/m.rt\nold: 1\nnew: 9\n")
-
-    def write(self, file, text):
-        with open(file, "w", encoding="utf-8") as out:
-            out.write(text)
-
-    def read(self):
-        rtlib = SimpleNamespace(sum_of=lambda file: f"{file} {self.built}")
-        rt = SimpleNamespace(rtlib=rtlib, stamp_of=lambda crate, _: f"{crate.name} {self.stamp}")
-        kept = SimpleNamespace(of_edit=lambda file, read: repr((read, open(file, encoding="utf-8").read())))
-        return bodies_of(rt, kept, self.crate, [self.edit])[0]
-
-    def test_a_name_is_made_of_all_that_a_try_reads(self):
-        names = [self.read().kept_as]
-        self.stamp = "as it was changed"
-        names.append(self.read().kept_as)
-        self.built = "as rt check built it"
-        names.append(self.read().kept_as)
-        self.write(self.edit, "file: src/m.rt\nold: 1\nnew: 8\n")
-        names.append(self.read().kept_as)
-        self.assertEqual(len(set(names)), 4)
-        for function in ("bodies_of", "place_of", "read_body", "judge"):
-            self.assertTrue(all(f"def {function}(" in it for it in names))
-
-    def test_where_the_kit_keeps_nothing_every_body_is_tried(self):
-        bodies = bodies_of(None, None, self.crate, [self.edit])
-        self.assertEqual([it.kept_as for it in bodies], [""])
-        self.assertEqual(untried(None, self.crate, bodies), bodies)
-
-    def test_who_was_refused_in_an_earlier_run_is_not_tried(self):
-        earlier, other = body("a", "f"), body("b", "g")
-        earlier.kept_as, other.kept_as = "1", "2"
-        kept = SimpleNamespace(tried={"1": ("refused", "why")}.get)
-        with contextlib.redirect_stdout(io.StringIO()) as said:
-            self.assertEqual(untried(kept, self.crate, [earlier, other]), [other])
-        self.assertEqual(said.getvalue(), "k/a: refused, in an earlier run: why\n")
+from wrong_bodies import given_by, in_turn, told_by
 
 
 class Turns(unittest.TestCase):
