@@ -1,7 +1,7 @@
 //! Paging a text that may grow.
 
 use crate::error::MinusError;
-use crate::minus_core::init;
+use crate::minus_core::run::run;
 use crate::{Pager, RunMode};
 
 /// Pages a text that may grow while it is paged.
@@ -35,5 +35,5 @@ use crate::{Pager, RunMode};
 /// Where the standard output, or the sink, is no terminal, and where the terminal refuses an operation.
 #[expect(clippy::needless_pass_by_value, reason = "the signature is the crate's")]
 pub fn dynamic_paging(pager: Pager) -> Result<(), MinusError> {
-    init::run(&pager, RunMode::Dynamic)
+    run(&pager, RunMode::Dynamic)
 }

@@ -42,25 +42,19 @@ pub type HookCallback = Box<dyn FnMut(&PagerState) + Send + Sync + 'static>;
 #[derive(Default)]
 pub(crate) struct Hooks {
     callbacks: HashMap<Hook, Vec<(u64, HookCallback)>>,
-    next_id: u64,
 }
 
+/// The least id that is given to a callback that asks for none: the one before belongs to the exit strategy.
+const FIRST_ID: u64 = 2;
+
 impl Hooks {
-    /// Adds a callback behind those of this hook; the id 0 asks for the next one that no other callback asked for so.
+    /// Adds a callback behind those of this hook. The id 0 asks for the next one: at least 2, and greater than each that
+    /// the hook holds.
     pub(crate) fn add_callback(&mut self, hook: Hook, id: u64, callback: HookCallback) {
-        let id = if id == 0 { self.take_next_id() } else { id };
-        assert!(!self.has(hook, id), "Callback ID {id} already exists for hook {hook:?}");
-        self.callbacks.entry(hook).or_default().push((id, callback));
-    }
-
-    fn take_next_id(&mut self) -> u64 {
-        let id = self.next_id;
-        self.next_id += 1;
-        id
-    }
-
-    fn has(&self, hook: Hook, id: u64) -> bool {
-        self.callbacks.get(&hook).is_some_and(|held| held.iter().any(|(own, _)| *own == id))
+        let held = self.callbacks.entry(hook).or_default();
+        let id = if id == 0 { next_id(held) } else { id };
+        assert!(held.iter().all(|(own, _)| *own != id), "Callback ID {id} already exists for hook {hook:?}");
+        held.push((id, callback));
     }
 
     /// Whether anything is called at this hook.
@@ -83,6 +77,12 @@ impl Hooks {
             callback(state);
         }
     }
+}
+
+/// The id behind those that a hook holds.
+fn next_id(held: &[(u64, HookCallback)]) -> u64 {
+    let greatest = held.iter().map(|(id, _)| *id).max().unwrap_or(0);
+    greatest.checked_add(1).expect("an id is free behind the greatest one").max(FIRST_ID)
 }
 
 #[cfg(test)]
@@ -113,6 +113,17 @@ mod tests {
         hooks.run(Hook::EofReached, &state);
         hooks.run(Hook::PrePagerExit, &state);
         assert_eq!((first.load(Ordering::SeqCst), second.load(Ordering::SeqCst)), (1, 2));
+    }
+
+    #[test]
+    fn the_id_0_asks_for_the_next_one() {
+        let mut hooks = Hooks::default();
+        let counts = [1, 0, 7, 0].map(|id| counted(&mut hooks, id));
+        for (id, called) in [(2, [1, 0, 1, 1]), (8, [2, 0, 2, 1])] {
+            assert!(hooks.remove_callback(Hook::EofReached, id));
+            hooks.run(Hook::EofReached, &PagerState::default());
+            assert_eq!(counts.each_ref().map(|count| count.load(Ordering::SeqCst)), called);
+        }
     }
 
     #[test]

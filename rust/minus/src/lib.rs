@@ -76,8 +76,8 @@
 #![deny(missing_docs)]
 #![cfg_attr(not(any(feature = "dynamic_output", feature = "static_output")), allow(dead_code, unused_imports))]
 
-#[cfg(not(all(target_arch = "x86_64", unix)))]
-compile_error!("the proved library is made for x86-64 and ELF");
+#[cfg(not(all(target_arch = "x86_64", target_pointer_width = "64", target_os = "linux")))]
+compile_error!("this crate runs on x86-64 Linux alone, for which its proved library is made");
 
 #[cfg(feature = "dynamic_output")]
 mod dynamic_pager;

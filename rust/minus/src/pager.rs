@@ -195,7 +195,8 @@ impl Pager {
         self.send(Command::AddExitCallback(cb))
     }
 
-    /// Calls this at a hook, until it is removed by this id. The id 0 asks for one that no other callback asked for so.
+    /// Calls this at a hook, until it is removed by this id. The id 0 asks for the next one: at least 2, and greater than
+    /// each that the hook holds.
     ///
     /// An id that the hook holds already is a mistake of the program, at which the pager's thread panics.
     ///

@@ -1,7 +1,7 @@
 //! Paging a text that stays.
 
 use crate::error::MinusError;
-use crate::minus_core::init;
+use crate::minus_core::run::run;
 use crate::{Pager, RunMode};
 
 /// Pages the text that was told before, or writes it.
@@ -30,5 +30,5 @@ use crate::{Pager, RunMode};
 /// Where the terminal or the sink refuses an operation.
 #[expect(clippy::needless_pass_by_value, reason = "the signature is the crate's")]
 pub fn page_all(pager: Pager) -> Result<(), MinusError> {
-    init::run(&pager, RunMode::Static)
+    run(&pager, RunMode::Static)
 }

@@ -1,5 +1,8 @@
 //! The default bindings.
 
+#[cfg(all(test, feature = "dynamic_output", feature = "search", feature = "clipboard"))]
+mod tests;
+
 use super::default_answers as answers;
 use super::{HashedEventRegister, InputEvent};
 use crate::PagerState;

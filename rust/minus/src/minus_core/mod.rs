@@ -6,20 +6,20 @@ pub mod commands;
 #[cfg(any(feature = "dynamic_output", feature = "static_output"))]
 mod help_view;
 #[cfg(any(feature = "dynamic_output", feature = "static_output"))]
-pub mod init;
-#[cfg(any(feature = "dynamic_output", feature = "static_output"))]
 mod joined;
 #[cfg(any(feature = "dynamic_output", feature = "static_output"))]
 mod panics;
 #[cfg(any(feature = "dynamic_output", feature = "static_output"))]
 mod reader;
+#[cfg(any(feature = "dynamic_output", feature = "static_output"))]
+pub mod run;
 mod run_mode;
 #[cfg(any(feature = "dynamic_output", feature = "static_output"))]
 mod search_prompt;
 #[cfg(any(feature = "dynamic_output", feature = "static_output"))]
 mod session;
 #[cfg(any(feature = "dynamic_output", feature = "static_output"))]
-mod snapshot;
+pub mod snapshot;
 #[cfg(any(feature = "dynamic_output", feature = "static_output"))]
 mod terminal;
 #[cfg(all(test, feature = "dynamic_output", feature = "static_output", feature = "search"))]

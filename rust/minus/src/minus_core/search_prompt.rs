@@ -14,28 +14,28 @@ impl<T: Terminal> Session<T> {
         Event::of(&event).map_or(Ok(Told::default()), |event| self.shown().event(event))
     }
 
-    /// Hands an event to the search prompt that is open. Where the query is another one then and the program's condition
-    /// holds of it, the page shows where it leads.
+    /// Hands an event to the search prompt that is open. Where the query will be another one and the program's condition
+    /// holds of that, the page shows where it leads.
     #[cfg(feature = "search")]
     pub(super) fn edit_query(&mut self, event: TerminalEvent) -> Result<Told, Refusal> {
         let Some(taken) = Event::of(&event) else {
             return Ok(Told::default());
         };
-        if self.condition.is_none() {
-            return self.shown().event(taken);
+        if self.condition.is_some()
+            && let Some(query) = self.new_query(taken)?
+        {
+            let is_shown = self.shows(event, query)?;
+            self.shown().show_search(is_shown)?;
         }
-        let before = self.shown().piece(Piece::Query)?;
-        let told = self.shown().event(taken)?;
-        match self.shown().piece(Piece::Query)? {
-            Some(query) if before.as_ref() != Some(&query) => {
-                if self.shows(event, query)? {
-                    self.show_query()
-                } else {
-                    Ok(told)
-                }
-            }
-            _ => Ok(told),
-        }
+        self.shown().event(taken)
+    }
+
+    /// The query that an event leaves, if it is another one.
+    #[cfg(feature = "search")]
+    fn new_query(&mut self, event: Event) -> Result<Option<String>, Refusal> {
+        let shown = self.shown();
+        let before = shown.piece(Piece::Query)?;
+        Ok(shown.query_after(event)?.filter(|query| before.as_ref() != Some(query)))
     }
 
     /// What the program's condition says of a query.
@@ -45,16 +45,5 @@ impl<T: Terminal> Session<T> {
         let state = super::snapshot::state_of(self.shown(), &sink)?;
         let opts = SearchOpts::of_query(&state, event, query);
         Ok(self.condition.as_ref().is_some_and(|holds| holds(&opts)))
-    }
-
-    /// Shows where the query leads: the library decides at an edit, so a character is typed and taken back.
-    #[cfg(feature = "search")]
-    fn show_query(&mut self) -> Result<Told, Refusal> {
-        let shown = self.shown();
-        shown.event(Event::LETTER)?;
-        shown.show_search(true)?;
-        let told = shown.event(Event::BACKSPACE)?;
-        shown.show_search(false)?;
-        Ok(told)
     }
 }

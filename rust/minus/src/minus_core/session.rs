@@ -13,7 +13,7 @@ use crate::proved::{Event, Proved, Refusal, Told};
 use crate::{ExitCallbacks, ExitStrategy, OutputSink, PagerState};
 use crossterm::event::Event as TerminalEvent;
 use parking_lot::Mutex;
-use std::io::Write;
+use std::io::{self, Write};
 use std::sync::Arc;
 use std::sync::atomic::Ordering;
 
@@ -99,7 +99,7 @@ impl<T: Terminal> Session<T> {
     /// What a call leads to: what it wrote is drawn, a copied text is handed on, hooks are called.
     fn done(&mut self, told: Result<Told, Refusal>) -> Result<Flow, MinusError> {
         let told = match told {
-            Err(refusal) if refusal.is_passed_over() => return self.draw_shown().map(|()| Flow::On),
+            Err(refusal) if refusal.is_passed_over() => return Ok(self.draw_shown().map(|()| Flow::On)?),
             other => other?,
         };
         if told.exited {
@@ -224,34 +224,34 @@ impl<T: Terminal> Session<T> {
     }
 
     /// Writes the bytes of the text that wait.
-    pub fn draw(&mut self) -> Result<(), MinusError> {
+    pub fn draw(&mut self) -> io::Result<()> {
         let bytes = self.proved.take();
         self.write(&bytes)
     }
 
     /// Writes the bytes that wait of what is displayed. While that is the help, those of the text are dropped: the text
     /// is drawn whole once the help is left.
-    fn draw_shown(&mut self) -> Result<(), MinusError> {
+    fn draw_shown(&mut self) -> io::Result<()> {
         let text = self.proved.take();
         let shown = self.help.as_mut().map_or(text, Proved::take);
         self.write(&shown)
     }
 
     /// Writes to the sink, unless the terminal was handed back for a panic.
-    fn write(&self, bytes: &[u8]) -> Result<(), MinusError> {
+    fn write(&self, bytes: &[u8]) -> io::Result<()> {
         if bytes.is_empty() || self.ends.has_panicked.load(Ordering::SeqCst) {
             return Ok(());
         }
         let mut sink = self.sink.lock();
         sink.write_all(bytes)?;
-        Ok(sink.flush()?)
+        sink.flush()
     }
 
     /// Puts a text that was copied into the terminal's clipboard, if there is one.
     #[cfg(feature = "clipboard")]
     fn hand_copied_on(&mut self) -> Result<(), MinusError> {
         match self.shown().take_copied()? {
-            Some(text) => self.write(&super::clipboard::copying(&text)),
+            Some(text) => Ok(self.write(&super::clipboard::copying(&text))?),
             None => Ok(()),
         }
     }

@@ -1,7 +1,7 @@
 //! Whole pagers over a terminal that plays a script.
 
 use super::commands::Command;
-use super::init::run_on;
+use super::run::run_on;
 use super::run_mode::{RUNMODE, RunMode};
 use super::session::{Flow, Session};
 use super::terminal::Terminal;
@@ -197,13 +197,16 @@ fn a_growing_text_needs_a_terminal() {
 #[test]
 fn a_sink_that_refuses_a_write_ends_a_pager() {
     let _alone = ALONE.lock();
-    let (pager, sink) = pager(&lines(100), true);
-    pager.set_output_sink(Kept { refused: Some("line 6"), ..sink.clone() }).unwrap();
-    let terminal = Script::new(20, 5, "jjjjj");
-    let ended = run_on(&pager, RunMode::Dynamic, terminal.clone());
-    assert!(matches!(ended, Err(MinusError::Draw(cause)) if cause.kind() == ErrorKind::BrokenPipe));
-    assert!(!*terminal.is_raw.lock() && RUNMODE.lock().is_uninitialized());
-    assert!(sink.text().ends_with("\x1b[?1049l"));
+    let left = "\x1b[?1049l";
+    for (refused, told) in [("line 0", "Setup(AlternateScreen("), ("line 6", "Draw("), (left, "Cleanup(ShowCursor(")] {
+        let (pager, sink) = pager(&lines(100), true);
+        pager.set_output_sink(Kept { refused: Some(refused), ..sink.clone() }).unwrap();
+        let terminal = Script::new(20, 5, "jjjjjq");
+        let cause = format!("{:?}", run_on(&pager, RunMode::Dynamic, terminal.clone()).unwrap_err());
+        assert!(cause.starts_with(told) && cause.contains("BrokenPipe"), "{cause}");
+        assert!(!*terminal.is_raw.lock() && RUNMODE.lock().is_uninitialized());
+        assert_eq!(sink.text().ends_with(left), refused != left);
+    }
 }
 
 #[test]

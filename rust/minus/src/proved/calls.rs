@@ -1,7 +1,7 @@
 //! The calls of a pager.
 
 use super::events::{key_of, mouse_of};
-#[cfg(not(all(feature = "search", feature = "clipboard")))]
+#[cfg(any(test, not(all(feature = "search", feature = "clipboard"))))]
 use super::numbers::event_of;
 use super::numbers::numbers_of;
 use super::{Proved, Refusal, Told, raw, text_of};
@@ -32,14 +32,6 @@ pub enum Event {
 impl Event {
     /// The release of no key: it types nothing, so it lets the typed prefix go, and does nothing else.
     pub const NOTHING: Self = Self::Key(raw::KeyEvent { code: 17, modifiers: 0, kind: 2, state: 0, value: 0 });
-
-    /// A letter that is typed.
-    #[cfg(feature = "search")]
-    pub const LETTER: Self = Self::Key(raw::KeyEvent { code: 0, modifiers: 0, kind: 0, state: 0, value: 'x' as u32 });
-
-    /// The key that takes a letter back.
-    #[cfg(feature = "search")]
-    pub const BACKSPACE: Self = Self::Key(raw::KeyEvent { code: 3, modifiers: 0, kind: 0, state: 0, value: 0 });
 
     /// An event of the terminal, if the library has such events.
     pub fn of(event: &TerminalEvent) -> Option<Self> {
@@ -135,12 +127,36 @@ impl Proved {
     /// Whether this crate's features have what the default bindings ask for at an event.
     #[cfg(not(all(feature = "search", feature = "clipboard")))]
     pub fn offers(&mut self, event: Event) -> Result<bool, Refusal> {
+        Ok(self.asked(event)?.is_none_or(|asked| event_of(asked).is_some()))
+    }
+
+    /// The numbers of what the default bindings ask for at a key, or at an action of the mouse, if they ask for something.
+    #[cfg(any(test, not(all(feature = "search", feature = "clipboard"))))]
+    fn asked(&mut self, event: Event) -> Result<Option<raw::Asked>, Refusal> {
         let asked = match event {
             Event::Key(key) => self.call(|pager, out| unsafe { raw::minus_classify_key(pager, key, out) }),
             Event::Mouse(mouse) => self.call(|pager, out| unsafe { raw::minus_classify_mouse(pager, mouse, out) }),
-            Event::Resize(..) => return Ok(true),
+            Event::Resize(..) => return Ok(None),
         };
-        Refusal::of(asked.refusal).map_or(Ok(!asked.is_there || event_of(asked).is_some()), Err)
+        Refusal::of(asked.refusal).map_or(Ok(asked.is_there.then_some(asked)), Err)
+    }
+
+    /// What the default bindings ask for at a key, or at an action of the mouse, as far as this crate's features have it.
+    #[cfg(test)]
+    pub fn asks_for(&mut self, event: Event) -> Result<Option<InputEvent>, Refusal> {
+        Ok(self.asked(event)?.and_then(event_of))
+    }
+
+    /// The query that an event leaves in the search prompt, if one is open. Nothing is done.
+    #[cfg(feature = "search")]
+    pub fn query_after(&mut self, event: Event) -> Result<Option<String>, Refusal> {
+        let Event::Key(key) = event else {
+            return self.piece(Piece::Query);
+        };
+        text_of(|room| {
+            let (at, len) = (room.as_mut_ptr(), room.len());
+            self.call(|pager, out| unsafe { raw::minus_query_after(pager, key, at, len, out) })
+        })
     }
 
     /// Does what an event asked for.
@@ -156,15 +172,13 @@ impl Proved {
 
     /// Takes the bytes that wait for the terminal.
     pub fn take(&mut self) -> Vec<u8> {
-        let mut room = Vec::new();
-        loop {
+        let mut room = vec![0; std::mem::take(&mut self.written)];
+        if !room.is_empty() {
             let (at, len) = (room.as_mut_ptr(), room.len());
             let count = self.call(|pager, out| unsafe { raw::minus_take(pager, at, len, out) });
-            room.resize(count, 0);
-            if count <= len {
-                return room;
-            }
+            debug_assert_eq!(count, len, "a call tells how many bytes wait");
         }
+        room
     }
 
     /// Takes the text that was copied in the last call.

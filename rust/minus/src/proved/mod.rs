@@ -49,6 +49,8 @@ impl Found {
 pub struct Proved {
     // Taken out by each call, and put back by it.
     pager: Option<raw::Pager>,
+    // How many bytes wait for the terminal, as the last call told.
+    written: usize,
     stays: PhantomData<*mut ()>,
 }
 
@@ -59,7 +61,7 @@ impl Proved {
         // SAFETY: `out` is a valid `Handed`.
         let refusal = unsafe { raw::minus_new(&raw mut out) };
         let pager = out.given.then_some(out.pager);
-        Refusal::of(refusal).map_or(Ok(Self { pager, stays: PhantomData }), Err)
+        Refusal::of(refusal).map_or(Ok(Self { pager, written: 0, stays: PhantomData }), Err)
     }
 
     /// Hands the pager in, and keeps the one that is handed back.
@@ -75,7 +77,9 @@ impl Proved {
     }
 
     fn told(&mut self, f: impl FnOnce(raw::Pager, *mut Handed) -> raw::Told) -> Result<Told, Refusal> {
-        self.call(f).try_into()
+        let told = self.call(f);
+        self.written = told.written;
+        told.try_into()
     }
 }
 

@@ -1,6 +1,6 @@
 //! Types of this crate and of crossterm as the numbers of `include/minus.h`, and back.
 
-#[cfg(not(all(feature = "search", feature = "clipboard")))]
+#[cfg(any(test, not(all(feature = "search", feature = "clipboard"))))]
 use super::raw::Asked;
 use super::raw::State;
 use crate::LineNumbers;
@@ -94,13 +94,13 @@ pub fn numbers_of(event: InputEvent) -> (u8, usize, usize) {
     }
 }
 
-#[cfg(not(all(feature = "search", feature = "clipboard")))]
+#[cfg(any(test, not(all(feature = "search", feature = "clipboard"))))]
 fn place(x: usize, y: usize) -> Option<(u16, u16)> {
     Some((x.try_into().ok()?, y.try_into().ok()?))
 }
 
 /// The input event that a call answered, if its numbers are one that the crate's features have.
-#[cfg(not(all(feature = "search", feature = "clipboard")))]
+#[cfg(any(test, not(all(feature = "search", feature = "clipboard"))))]
 #[allow(deprecated)]
 pub fn event_of(asked: Asked) -> Option<InputEvent> {
     let Asked { first, second, .. } = asked;

@@ -66,7 +66,7 @@ pub struct MouseEvent {
 }
 
 /// What an event asks for.
-#[cfg(not(all(feature = "search", feature = "clipboard")))]
+#[cfg(any(test, not(all(feature = "search", feature = "clipboard"))))]
 #[repr(C)]
 #[derive(Clone, Copy, Debug)]
 pub struct Asked {
@@ -121,6 +121,8 @@ unsafe extern "C" {
     pub fn minus_mouse(pager: Pager, mouse: MouseEvent, out: *mut Handed) -> Told;
     pub fn minus_resize(pager: Pager, cols: u16, rows: u16, out: *mut Handed) -> Told;
     pub fn minus_user_input(pager: Pager, kind: u8, first: usize, second: usize, out: *mut Handed) -> Told;
+    #[cfg(feature = "search")]
+    pub fn minus_query_after(pager: Pager, key: KeyEvent, room: *mut u8, len: usize, out: *mut Handed) -> Found;
     pub fn minus_io(pager: Pager, kind: u8, argument: usize, out: *mut Handed) -> Told;
 
     pub fn minus_take(pager: Pager, room: *mut u8, len: usize, out: *mut Handed) -> usize;
@@ -136,7 +138,7 @@ unsafe extern "C" {
     pub fn minus_format_key(key: KeyEvent, room: *mut u8, len: usize) -> Found;
 }
 
-#[cfg(not(all(feature = "search", feature = "clipboard")))]
+#[cfg(any(test, not(all(feature = "search", feature = "clipboard"))))]
 unsafe extern "C" {
     pub fn minus_classify_key(pager: Pager, key: KeyEvent, out: *mut Handed) -> Asked;
     pub fn minus_classify_mouse(pager: Pager, mouse: MouseEvent, out: *mut Handed) -> Asked;

@@ -1,4 +1,11 @@
 //! A pager from its start to its end.
+//!
+//! 1. The session takes what waits in the channel, and starts for the terminal's size.
+//! 2. The hook `PrePagerStart` is called; then raw mode is on, and the first page is drawn.
+//! 3. A thread reads the terminal. This one takes commands and events, one by one, until one ends the session.
+//! 4. At an exit the hook `PrePagerExit` is called, the terminal is handed back, and `PostPagerExit` is called.
+//!
+//! So the events `j` and `q` come as two commands: one draws a row, and one ends the session and draws the cleanup.
 
 use super::commands::Command;
 use super::joined::joined;
@@ -8,10 +15,11 @@ use super::run_mode::{Claim, RunMode};
 use super::session::{Flow, Session};
 use super::terminal::{Console, Terminal};
 use crate::Pager;
-use crate::error::{MinusError, SetupError};
+use crate::error::{CleanupError, MinusError, SetupError};
 use crate::hooks::Hook;
 use crate::proved::Told;
 use crossbeam_channel::Receiver;
+use std::io;
 use std::iter::once;
 use std::panic::resume_unwind;
 use std::sync::Arc;
@@ -36,6 +44,16 @@ pub fn run_on<T: Terminal>(pager: &Pager, mode: RunMode, terminal: Arc<T>) -> Re
     if session.start(mode)? { session.page(pager) } else { Ok(()) }
 }
 
+/// A sink that refused the first drawing, as a refusal of the first bytes that set a terminal up.
+fn unset(cause: io::Error) -> MinusError {
+    SetupError::AlternateScreen(cause.into()).into()
+}
+
+/// A sink that refused the last bytes, as a refusal of the first ones that clean a terminal up.
+fn uncleaned(cause: io::Error) -> MinusError {
+    CleanupError::ShowCursor(cause.into()).into()
+}
+
 impl<T: Terminal> Session<T> {
     /// Starts the session, and says whether it runs: a text of `page_all` may have been written.
     fn start(&mut self, mode: RunMode) -> Result<bool, MinusError> {
@@ -54,7 +72,7 @@ impl<T: Terminal> Session<T> {
             return Err(SetupError::InvalidTerminal.into());
         }
         self.enter_raw_mode()?;
-        self.draw().inspect_err(|_| self.abandon())?;
+        self.draw().map_err(unset).inspect_err(|_| self.abandon())?;
         Ok(true)
     }
 
@@ -93,7 +111,7 @@ impl<T: Terminal> Session<T> {
     }
 
     fn work(&mut self, commands: &Receiver<Command>) -> Result<(), MinusError> {
-        let worked = match self.work_off(commands) {
+        let worked = match self.take_all(commands) {
             _ if self.ends.has_panicked.load(Ordering::SeqCst) => return self.end_after_panic(),
             Ok(Flow::Exited) => self.exit(),
             Ok(_) => self.finish(),
@@ -102,8 +120,8 @@ impl<T: Terminal> Session<T> {
         worked.inspect_err(|_| self.abandon())
     }
 
-    /// Works commands off, until one ends the session.
-    fn work_off(&mut self, commands: &Receiver<Command>) -> Result<Flow, MinusError> {
+    /// Takes commands until one ends the session.
+    fn take_all(&mut self, commands: &Receiver<Command>) -> Result<Flow, MinusError> {
         self.run_hooks(Hook::PostPagerStart)?;
         while let Ok(first) = commands.recv() {
             for command in joined(once(first).chain(commands.try_iter())) {
@@ -120,7 +138,7 @@ impl<T: Terminal> Session<T> {
     fn exit(&mut self) -> Result<(), MinusError> {
         self.run_hooks(Hook::PrePagerExit)?;
         self.run_exit_callbacks();
-        self.draw()?;
+        self.draw().map_err(uncleaned)?;
         self.leave_raw_mode()?;
         self.ends.is_over.store(true, Ordering::SeqCst);
         self.run_hooks(Hook::PostPagerExit)
@@ -129,7 +147,7 @@ impl<T: Terminal> Session<T> {
     /// Hands the terminal back without an exit.
     fn finish(&mut self) -> Result<(), MinusError> {
         self.proved.finish()?;
-        self.draw()?;
+        self.draw().map_err(uncleaned)?;
         Ok(self.leave_raw_mode()?)
     }
 
