@@ -104,6 +104,59 @@ class Player:
         return [''.join(c for c, _ in row).rstrip() for row in self.cells]
 
 
+def moves(text):
+    """Whether a text has a sequence that moves the cursor or clears, so that it stands on no row by itself."""
+    return any(unit.group(3) in tuple('HJKST') for unit in UNIT.finditer(text))
+
+
+class PlainScreen:
+    """A screen that plays what is drawn on rows that are long enough. A style is a part of its row. The column is known
+    where a sequence has set it alone."""
+
+    def __init__(self, rows):
+        self.rows, self.y, self.x, self.is_cursor_shown = rows, 0, None, True
+
+    def play(self, text):
+        for unit in UNIT.finditer(text):
+            mark, numbers, final = unit.group(1, 2, 3)
+            if mark and numbers == '25':
+                self.is_cursor_shown = final == 'h'
+            elif final in tuple('HJKST'):
+                self.sequence(numbers, final)
+            elif not mark:
+                self.put(unit.group())
+
+    def sequence(self, numbers, final):
+        first, *more = [int(number or 1) for number in numbers.split(';')]
+        if final == 'H':
+            self.y, self.x = min(first, len(self.rows)) - 1, (more[0] if more else 1) - 1
+        elif final == 'S':
+            self.rows = (self.rows + [''] * first)[-len(self.rows):]
+        elif final == 'T':
+            self.rows = ([''] * first + self.rows)[:len(self.rows)]
+        elif final == 'J':
+            self.rows = [''] * len(self.rows)
+        else:
+            self.rows[self.y] = ''
+
+    def put(self, text):
+        if text == '\r':
+            self.x = 0
+        elif text == '\n':
+            self.rows = self.rows[1:] + [''] if self.y == len(self.rows) - 1 else self.rows
+            self.y = min(self.y + 1, len(self.rows) - 1)
+        else:
+            self.rows[self.y] += text
+            self.x = None
+
+
+def played_rows(rows, text):
+    """The rows that what is drawn leaves on a plain screen of so many."""
+    screen = PlainScreen([''] * rows)
+    screen.play(text)
+    return screen.rows
+
+
 def defined_page(cols, rows, script):
     """The cells of the page that the library defines for a script."""
     words = [programs.SHOW, 'page', str(cols), str(rows)]
