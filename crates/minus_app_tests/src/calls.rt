@@ -66,7 +66,7 @@ fn copied(rt: &HostRuntime, takes: bool) -> Result<String, Fault> {
 }
 
 #[test]
-fn a_terminal_that_takes_no_copy_is_told_of(rt: HostRuntime) {
+fn a_terminal_that_takes_no_copy_is_reported(rt: HostRuntime) {
     let taken = copied(&rt, true).expect(&rt, "copied");
     assert!(rt; taken.as_str() == "lines  1-4/30  12%");
     let not_taken = copied(&rt, false).expect(&rt, "copied");

@@ -3,5 +3,6 @@
 
 mod calls;
 mod lines;
+mod programs;
 mod session;
 mod typed;

@@ -1,7 +1,7 @@
 //! What is typed to a program, and what is found then.
 use crate::lines::{Act, Lines, keys};
 use crate::typed::{READS, Typed};
-use minus::{DefaultAction, MinusError, WithTty};
+use minus::{DefaultAction, Event, MinusError, WithTty, parse_key_event};
 use minus_app::{AppKeys, Fault, Keyboard, Launch, Options, Program, Size, Terminal};
 use std::fs::File;
 use std::io::Write;
@@ -265,6 +265,15 @@ fn a_key_that_is_bound_is_not_hidden(rt: HostRuntime) {
         assert!(rt; matches!(bound(&rt, key), Err(MinusError::Bound(0))));
     }
     assert!(rt; matches!(bound(&rt, "no key"), Err(MinusError::BadDescription(0, _))));
+}
+
+#[test]
+fn a_bound_key_leads_to_its_action(rt: HostRuntime) {
+    let keys = bound(&rt, "e").expect(&rt, "keys");
+    let own = Event::Key(parse_key_event("e").expect(&rt, "own"));
+    let default = Event::Key(parse_key_event("j").expect(&rt, "default"));
+    assert!(rt; matches!(keys.act(&own), Some(Act::Count)));
+    assert!(rt; keys.act(&default).is_none());
 }
 
 // The default keys, some of them bound to another action.

@@ -1,4 +1,2 @@
 //! Tests of `minus_input`: worked descriptions, names of keys and a worked help table.
-mod keys;
-mod mouse;
 mod names;

@@ -3,127 +3,12 @@ ghost use Rattle.std.specs.Prelude.{IfSome};
 ghost use Rattle.minus_state.specs.States.{IsFormed};
 
 use crate::facts::assert_holds;
-use crate::sessions::{Asked, PROMPT_ROW, TEN_LINES, Worked, are_bytes, assert_drawn};
-use minus::{
-    IoCommand, Layout, PagerState, draw_append_text, draw_for_change, draw_full, write_prompt,
-};
+use crate::sessions::{PROMPT_ROW, TEN_LINES, are_bytes};
+use minus::{Layout, PagerState, draw_append_text, draw_for_change, draw_full, write_prompt};
 use std::alloc::Global;
 
 // What stands before the prompt row of a page of four rows.
 const FIFTH_ROW: &str = "\x1b[5;1H\r\x1b[2K";
-
-// What the last step of a session draws.
-const DRAWN: [&Worked<'static>; 13] = [
-    &Worked {
-        name: "a scroll down by two rows",
-        cols: 20,
-        rows: 4,
-        asked: &[Asked::Push(TEN_LINES), Asked::Mark(2)],
-        texts: &["\x1b[2S\x1b[2;1H\x1b[2K\rl3\n\rl4\n", FIFTH_ROW, PROMPT_ROW],
-    },
-    &Worked {
-        name: "a scroll up by one row",
-        cols: 20,
-        rows: 4,
-        asked: &[Asked::Push(TEN_LINES), Asked::Mark(2), Asked::Mark(1)],
-        texts: &["\x1b[1T\x1b[1;1H\rl1\n", FIFTH_ROW, PROMPT_ROW],
-    },
-    &Worked {
-        name: "a scroll by more rows than a page has",
-        cols: 20,
-        rows: 4,
-        asked: &[Asked::Push(TEN_LINES), Asked::Mark(7)],
-        texts: &[
-            "\x1b[3S\x1b[1;1H\x1b[2K\rl7\n\rl8\n\rl9\n",
-            FIFTH_ROW,
-            PROMPT_ROW,
-        ],
-    },
-    &Worked {
-        name: "a scroll on a page of the prompt alone",
-        cols: 20,
-        rows: 1,
-        asked: &[Asked::Push(TEN_LINES), Asked::Mark(5)],
-        texts: &["\x1b[1;1H\x1b[2K\x1b[2;1H\r\x1b[2K", PROMPT_ROW],
-    },
-    &Worked {
-        name: "a move by no rows writes nothing",
-        cols: 20,
-        rows: 4,
-        asked: &[Asked::Push(TEN_LINES), Asked::Mark(7), Asked::Mark(8)],
-        texts: &[],
-    },
-    &Worked {
-        name: "the empty text added to nothing writes nothing",
-        cols: 20,
-        rows: 3,
-        asked: &[Asked::Push("")],
-        texts: &[],
-    },
-    &Worked {
-        name: "an append goes on in the unfinished line",
-        cols: 20,
-        rows: 5,
-        asked: &[Asked::Push("one\ntwo"), Asked::Push("x\nthree")],
-        texts: &["\x1b[2;1H\x1b[2Ktwox\x1b[3;1H\x1b[2Kthree"],
-    },
-    &Worked {
-        name: "an append clears a row that went",
-        cols: 4,
-        rows: 4,
-        asked: &[Asked::Push("aaaa    \r"), Asked::Push("\n")],
-        texts: &["\x1b[1;1H\x1b[2Kaaaa\x1b[2;1H\x1b[2K"],
-    },
-    &Worked {
-        name: "an append at the end of a full page",
-        cols: 20,
-        rows: 4,
-        asked: &[Asked::Push(TEN_LINES), Asked::Mark(7), Asked::Push("x")],
-        texts: &["\x1b[3;1H\x1b[2Kl9x"],
-    },
-    &Worked {
-        name: "an append below the page writes nothing",
-        cols: 20,
-        rows: 4,
-        asked: &[Asked::Push(TEN_LINES), Asked::Push("x")],
-        texts: &[],
-    },
-    &Worked {
-        name: "an append of nothing draws the unfinished line",
-        cols: 20,
-        rows: 5,
-        asked: &[Asked::Push("one\ntwo"), Asked::Push("")],
-        texts: &["\x1b[2;1H\x1b[2Ktwo"],
-    },
-    &Worked {
-        name: "the whole page ends with a blank row",
-        cols: 20,
-        rows: 5,
-        asked: &[
-            Asked::Push("one\ntwo\nthree"),
-            Asked::Io(IoCommand::RedrawDisplay),
-        ],
-        texts: &[
-            "\x1b[1;1H\x1b[2J\rone\n\rtwo\n\rthree\n\x1b[6;1H\r\x1b[2K",
-            PROMPT_ROW,
-        ],
-    },
-    &Worked {
-        name: "a resize draws the whole page",
-        cols: 6,
-        rows: 2,
-        asked: &[Asked::Push("one\ntwo\nthree"), Asked::Size(20, 3)],
-        texts: &[
-            "\x1b[1;1H\x1b[2J\rone\n\rtwo\n\x1b[4;1H\r\x1b[2K",
-            PROMPT_ROW,
-        ],
-    },
-];
-
-#[test]
-fn scrolls_and_appends_are_drawn(rt: HostRuntime) {
-    assert_drawn(&rt, rt.alloc(), &DRAWN);
-}
 
 // A state of 20 columns and 4 rows with this text.
 fn state_of(alloc: Global, text: &str) -> Option<PagerState>

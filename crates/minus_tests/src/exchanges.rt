@@ -1,8 +1,7 @@
 //! A session's sink is exchanged for another one. Where memory runs out, each answer is `false`.
 use crate::facts::assert_holds;
-use crate::sessions::{Asked, Session, number_of, on_stubborn, session_on, terminal};
-use minus::{KeyCode, OutputSink, WithTty};
-use minus_part_tests::stubborn::{NOTHING, Refusal, Stubborn, write};
+use crate::sessions::{Asked, Session, number_of, session_on, terminal};
+use minus::{OutputSink, WithTty};
 use std::alloc::Global;
 
 // The page of a text `a` on ten columns and two rows.
@@ -68,56 +67,4 @@ fn is_replaced(alloc: Global) -> bool {
 #[test]
 fn a_replaced_sink_has_what_follows(rt: HostRuntime) {
     assert_holds(&rt, is_replaced(rt.alloc()));
-}
-
-// Whether an exchange is refused by this number, the sink that was given comes back empty, and the session has the size
-// that it had.
-fn refuses(
-    session: &mut Session<WithTty<Vec<u8>>>,
-    alloc: Global,
-    rows: usize,
-    number: u8,
-) -> bool {
-    let (refused, given) = exchanged(session, terminal(alloc), 10, rows);
-    refused == number && given.inner.is_empty() && session.state().cols == 20
-}
-
-// Whether a size that is none, an open search prompt and an exit refuse an exchange.
-fn are_refused(alloc: Global) -> bool {
-    let Some(mut session) = session_of_a(alloc) else {
-        return false;
-    };
-    refuses(&mut session, alloc, 0, 5)
-        && number_of(alloc, &mut session, Asked::Key('/')) == 0
-        && refuses(&mut session, alloc, 2, 9)
-        && number_of(alloc, &mut session, Asked::Pressed(KeyCode::Esc)) == 0
-        && number_of(alloc, &mut session, Asked::Exit) == 0
-        && refuses(&mut session, alloc, 2, 11)
-}
-
-#[test]
-fn an_exchange_is_refused(rt: HostRuntime) {
-    assert_holds(&rt, are_refused(rt.alloc()));
-}
-
-// Whether a sink that refuses the page fails the session, the old one comes back, and later exchanges are refused.
-fn is_broken_off(alloc: Global) -> bool {
-    let Some(mut session) = on_stubborn(alloc) else {
-        return false;
-    };
-    let given = Stubborn::terminal(alloc, write(3, Refusal::Broken));
-    let (number, old) = exchanged(&mut session, given, 10, 2);
-    let later = Stubborn::terminal(alloc, NOTHING);
-    let (again, given) = exchanged(&mut session, later, 10, 2);
-    number == 14
-        && old.refusals == 0
-        && !old.inner.held.is_empty()
-        && again == 10
-        && given.inner.held.is_empty()
-        && number_of(alloc, &mut session, Asked::Push("b")) == 10
-}
-
-#[test]
-fn a_refused_page_hands_the_old_sink_back(rt: HostRuntime) {
-    assert_holds(&rt, is_broken_off(rt.alloc()));
 }

@@ -1,81 +1,14 @@
 //! Help: what is shown while it is open, and what is shown once it is left.
 use crate::facts::assert_holds;
-use crate::sessions::{Asked, PROMPT_ROW, Worked, assert_drawn, assert_shown, has_page, terminal};
+use crate::sessions::{PROMPT_ROW, has_page, terminal};
 use minus::{
-    CommandOf, Core, Event, InputClassifier, InputEvent, InputOf, Kinds, LineNumbers, NeverCalled,
-    NeverShows, PagerOf, PagerState, RunMode, WithTty, init_core_with,
+    CommandOf, Core, Event, InputClassifier, InputEvent, InputOf, Kinds, NeverCalled, NeverShows,
+    PagerOf, PagerState, RunMode, WithTty, init_core_with,
 };
 use std::alloc::{AllocError, Global};
 
 /// The prompt row of 20 columns while help is open.
 pub const HELP_ROW: &str = "\x1b[2;40;37mHELP -- Press q or S\x1b[0m";
-
-const OPEN: Asked<'static> = Asked::Does(InputEvent::ShowHelp);
-
-// The pages that sessions lead to.
-const SHOWN: [&Worked<'static>; 5] = [
-    &Worked {
-        name: "help shows the table of the keys",
-        cols: 20,
-        rows: 3,
-        asked: &[Asked::Push("a"), OPEN, Asked::Push("b")],
-        texts: &["             COMMAND", "", HELP_ROW],
-    },
-    &Worked {
-        name: "a text appended in help is shown after it",
-        cols: 20,
-        rows: 3,
-        asked: &[Asked::Push("a"), OPEN, Asked::Push("b"), Asked::Restored],
-        texts: &["ab", "", PROMPT_ROW],
-    },
-    &Worked {
-        name: "a prompt set in help is not shown",
-        cols: 20,
-        rows: 3,
-        asked: &[Asked::Push("a"), OPEN, Asked::Prompt("p")],
-        texts: &["             COMMAND", "", HELP_ROW],
-    },
-    &Worked {
-        name: "a prompt set in help is dropped",
-        cols: 20,
-        rows: 3,
-        asked: &[Asked::Push("a"), OPEN, Asked::Prompt("p"), OPEN],
-        texts: &["a", "", PROMPT_ROW],
-    },
-    &Worked {
-        name: "numbers and the left mark return after help",
-        cols: 20,
-        rows: 3,
-        asked: &[
-            Asked::Push("abcdefghijklmnopq"),
-            Asked::Numbers(LineNumbers::Enabled),
-            Asked::Wrapped(false),
-            Asked::Left(2),
-            OPEN,
-            OPEN,
-        ],
-        texts: &["     \x1b[1m1.\x1b[0m cdefghijklmn", "", PROMPT_ROW],
-    },
-];
-
-#[test]
-fn help_is_opened_and_left(rt: HostRuntime) {
-    assert_shown(&rt, rt.alloc(), &SHOWN);
-}
-
-// What the last step of a session draws.
-const DRAWN: [&Worked<'static>; 1] = [&Worked {
-    name: "a text appended in help draws nothing",
-    cols: 20,
-    rows: 3,
-    asked: &[Asked::Push("a"), OPEN, Asked::Push("b")],
-    texts: &[],
-}];
-
-#[test]
-fn nothing_is_drawn_over_help(rt: HostRuntime) {
-    assert_drawn(&rt, rt.alloc(), &DRAWN);
-}
 
 // A classifier that asks at each event for help, which is two lines.
 #[derive(Drop)]

@@ -4,7 +4,5 @@ mod boxes;
 mod defaults;
 mod exact;
 mod helps;
-mod presses;
 mod registers;
-mod tables;
 mod wide;

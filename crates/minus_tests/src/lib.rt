@@ -1,11 +1,9 @@
-//! Tests of what no contract says, for each crate: worked sessions with the pages and the bytes that they must have,
-//! and sinks that refuse, for `minus`; those of the crates below it, and of `minus_script`, in a module of each.
+//! Tests of what no contract and no case says: worked sessions with the pages and the bytes that they must have, sinks
+//! that refuse, refused memory, odd inputs and long runs for `minus`; those of `minus_script`, in a module of its own.
 #![tactic(auto)]
 
 #[cfg(test)]
 mod asks;
-#[cfg(test)]
-mod by_hand;
 #[cfg(test)]
 mod callers;
 #[cfg(test)]
@@ -16,6 +14,8 @@ mod classifiers;
 mod commands;
 #[cfg(test)]
 mod conditions;
+#[cfg(test)]
+mod cuts;
 #[cfg(test)]
 mod drawings;
 #[cfg(test)]
@@ -31,23 +31,19 @@ mod helps;
 #[cfg(test)]
 mod hooks;
 #[cfg(test)]
-mod inputs;
-#[cfg(test)]
 mod keys;
 #[cfg(test)]
-mod layouts;
+mod large;
 #[cfg(test)]
 mod matches;
 #[cfg(test)]
-mod names;
+mod memory;
 #[cfg(test)]
-mod pages;
+mod names;
 #[cfg(test)]
 mod paging;
 #[cfg(test)]
-mod player;
-#[cfg(test)]
-mod prompts;
+mod plain_sessions;
 #[cfg(test)]
 mod refusals;
 #[cfg(test)]
@@ -55,11 +51,11 @@ mod script;
 #[cfg(test)]
 mod searches;
 #[cfg(test)]
-mod selections;
-#[cfg(test)]
 mod sessions;
 #[cfg(test)]
 mod settles;
+#[cfg(test)]
+mod shared;
 #[cfg(test)]
 mod sinks;
 #[cfg(test)]

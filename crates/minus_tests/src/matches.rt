@@ -1,9 +1,7 @@
 //! Jumps among the rows that match, asked for by keys and by commands. Where memory runs out, each answer is `false`.
-use crate::facts::{assert_at, assert_holds};
-use crate::sessions::{Asked, PROMPT_ROW, TEN_LINES, Worked, assert_drawn, assert_shown};
-use minus::{
-    Change, DefaultInputClassifier, InputClassifier, InputEvent, NextText, PagerState, SearchMode,
-};
+use crate::facts::assert_at;
+use crate::sessions::TEN_LINES;
+use minus::{Change, InputClassifier, InputEvent, NextText, PagerState, SearchMode};
 use minus_part_tests::asked::{At, press, set_term, state_of};
 use minus_script::DefaultKeys;
 use std::alloc::Global;
@@ -202,112 +200,4 @@ fn keys_jump_among_the_matches(rt: HostRuntime) {
     for case in &JUMPS {
         assert_at(&rt, case.name, leads(rt.alloc(), case));
     }
-}
-
-// Whether a key asks for this by the default bindings, and for that by exact keys, after a search.
-fn are_asked(
-    alloc: Global,
-    mode: SearchMode,
-    pressed: (&str, &str),
-    wanted: (InputEvent, Option<InputEvent>),
-) -> bool {
-    let at = At {
-        prefix: pressed.0,
-        mark: 0,
-    };
-    let (Ok(keys), Some(mut state)) = (DefaultKeys::new(alloc), state_of(alloc, TEN_LINES, &at))
-    else {
-        return false;
-    };
-    state.search_state.search_mode = mode;
-    keys.classify_input(press(pressed.1), &state) == Some(wanted.0)
-        && DefaultInputClassifier.classify_input(press(pressed.1), &state) == wanted.1
-}
-
-type Wanted = (InputEvent, Option<InputEvent>);
-
-const NEXT: InputEvent = InputEvent::MoveToNextMatch(1);
-
-const PREVIOUS: InputEvent = InputEvent::MoveToPrevMatch(1);
-
-const FIFTH: InputEvent = InputEvent::MoveToNextMatch(5);
-
-// The direction of the last search, the typed prefix and a key, and what is asked for.
-const ASKED: [(SearchMode, (&str, &str), Wanted); 10] = [
-    (SearchMode::Forward, ("", "n"), (NEXT, Some(NEXT))),
-    (SearchMode::Forward, ("5", "n"), (FIFTH, Some(FIFTH))),
-    (SearchMode::Forward, ("", "p"), (PREVIOUS, Some(PREVIOUS))),
-    (SearchMode::Forward, ("", "s-n"), (PREVIOUS, None)),
-    (SearchMode::Reverse, ("", "n"), (PREVIOUS, Some(PREVIOUS))),
-    (SearchMode::Reverse, ("5", "p"), (FIFTH, Some(FIFTH))),
-    (SearchMode::Reverse, ("", "s-n"), (NEXT, None)),
-    (
-        SearchMode::Unknown,
-        ("", "n"),
-        (InputEvent::Ignore, Some(NEXT)),
-    ),
-    (
-        SearchMode::Unknown,
-        ("5", "n"),
-        (InputEvent::Ignore, Some(FIFTH)),
-    ),
-    (
-        SearchMode::Unknown,
-        ("", "p"),
-        (InputEvent::Ignore, Some(PREVIOUS)),
-    ),
-];
-
-#[test]
-fn the_direction_of_the_last_search_decides(rt: HostRuntime) {
-    for (mode, pressed, wanted) in &ASKED {
-        assert_holds(&rt, are_asked(rt.alloc(), *mode, *pressed, *wanted));
-    }
-}
-
-// What the last step of a session draws where there is no term.
-const DRAWN: [&Worked<'static>; 2] = [
-    &Worked {
-        name: "a jump on without a term",
-        cols: 20,
-        rows: 4,
-        asked: &[
-            Asked::Push(TEN_LINES),
-            Asked::Mark(5),
-            Asked::Does(InputEvent::NextMatch),
-        ],
-        texts: &[],
-    },
-    &Worked {
-        name: "a jump back without a term",
-        cols: 20,
-        rows: 4,
-        asked: &[
-            Asked::Push(TEN_LINES),
-            Asked::Mark(5),
-            Asked::Does(InputEvent::MoveToPrevMatch(3)),
-        ],
-        texts: &[],
-    },
-];
-
-// The page that such jumps leave.
-const SHOWN: [&Worked<'static>; 1] = [&Worked {
-    name: "jumps without a term",
-    cols: 20,
-    rows: 4,
-    asked: &[
-        Asked::Push(TEN_LINES),
-        Asked::Mark(5),
-        Asked::Does(InputEvent::MoveToNextMatch(3)),
-        Asked::Does(InputEvent::PrevMatch),
-        Asked::Key('n'),
-    ],
-    texts: &["l5", "l6", "l7", PROMPT_ROW],
-}];
-
-#[test]
-fn jumps_do_nothing_without_a_term(rt: HostRuntime) {
-    assert_drawn(&rt, rt.alloc(), &DRAWN);
-    assert_shown(&rt, rt.alloc(), &SHOWN);
 }

@@ -4,102 +4,16 @@ use crate::sessions::{
     Asked, CLEANUP, Command, Input, PROMPT_ROW, Ran, SETUP, Session, TEN_LINES, are_bytes,
     number_of, run, session_on, start,
 };
-use minus::{CleanupError, MinusError, OutputSink, RunMode, WithTty};
-use minus_part_tests::stubborn::{NOTHING, Refusal, Refused, Stubborn, write};
+use minus::{CleanupError, MinusError, OutputSink, WithTty};
+use minus_part_tests::stubborn::{Refusal, Stubborn, write};
 use std::alloc::Global;
 use std::io::ErrorKind;
 
 // This many writes and flushes a start on 20 columns and 5 rows takes: the setup, and the first page.
 const START_WRITES: usize = 54 + 55;
 
-const START_FLUSHES: usize = 4;
-
 // What stands before the prompt row of a page of four rows.
 const FIFTH_ROW: &str = "\x1b[5;1H\r\x1b[2K";
-
-// Whether a first push fails a session, so that each later one is refused as failed.
-fn is_over<S: OutputSink + Drop>(alloc: Global, session: &mut Session<S>) -> bool {
-    number_of(alloc, session, Asked::Push("a")) == 14
-        && number_of(alloc, session, Asked::Push("b")) == 10
-        && number_of(alloc, session, Asked::Push("c")) == 10
-        && session.mode() == RunMode::Uninitialized
-}
-
-// Whether these texts stand in a sink behind a start, and it refused this many calls.
-fn holds(sink: &WithTty<Stubborn>, refusals: u64, texts: &[&str]) -> bool {
-    match sink.inner.held.get(START_WRITES..) {
-        Some(behind) => sink.refusals == refusals && are_bytes(behind, texts),
-        None => false,
-    }
-}
-
-// What the first step of a session is refused, whether the cleanup works then or is refused as it shows the cursor, and
-// what the sink holds.
-struct Failed<'a> {
-    name: &'a str,
-    refused: Refused,
-    is_cleaned: bool,
-    refusals: u64,
-    // the texts of the step and of the cleanup
-    texts: &'a [&'a str],
-}
-
-// Whether the first step fails a session, and the cleanup ends it so.
-fn is_failed(alloc: Global, case: &Failed<'_>) -> bool {
-    let sink = Stubborn::terminal(alloc, case.refused);
-    let Some(mut session) = session_on(alloc, sink, 20, 5) else {
-        return false;
-    };
-    let is_over = is_over(alloc, &mut session);
-    let (sink, finished) = session.finish();
-    let is_as_told = match finished {
-        Ok(()) => case.is_cleaned,
-        Err(CleanupError::ShowCursor(_)) => !case.is_cleaned,
-        Err(_) => false,
-    };
-    is_over && is_as_told && holds(&sink, case.refusals, case.texts)
-}
-
-const FAILED: [Failed<'static>; 3] = [
-    Failed {
-        name: "a refused write fails the session",
-        refused: Refused {
-            write: START_WRITES + 3,
-            ..NOTHING
-        },
-        is_cleaned: true,
-        refusals: 1,
-        texts: &["\x1b[", CLEANUP],
-    },
-    Failed {
-        name: "a refused flush fails the session",
-        refused: Refused {
-            flush: START_FLUSHES + 1,
-            ..NOTHING
-        },
-        is_cleaned: true,
-        refusals: 1,
-        texts: &["\x1b[1;1H\x1b[2Ka", CLEANUP],
-    },
-    Failed {
-        name: "finish hands back a sink that still refuses",
-        refused: Refused {
-            write: START_WRITES + 3,
-            writes: 2,
-            ..NOTHING
-        },
-        is_cleaned: false,
-        refusals: 2,
-        texts: &["\x1b["],
-    },
-];
-
-#[test]
-fn a_refused_step_fails_the_session(rt: HostRuntime) {
-    for case in &FAILED {
-        assert!(rt; is_failed(rt.alloc(), case), "{}", case.name);
-    }
-}
 
 // The kind of the sink's error that a refusal of a drawing or a cleanup hands on.
 fn kind_of(refusal: &MinusError) -> Option<ErrorKind> {

@@ -1,7 +1,6 @@
 //! Tests of `minus_script`: scripts, rows and arguments as a person writes them, the texts of the faults, and readers
 //! and writers that stop or never end.
 mod doubles;
-mod keys;
 mod parsing;
 mod printing;
 mod program;

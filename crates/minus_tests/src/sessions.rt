@@ -1,5 +1,5 @@
 //! Sessions for the tests, started and stepped in one place. Where memory runs out, each answer is `false` or none.
-use crate::player::played;
+
 use minus::{
     Calls, CommandOf, Core, Event, ExitStrategy, Hook, InputEvent, InputOf, IoCommand, KeyCode,
     KeyEvent, LineNumbers, MinusError, OutputSink, Page, PagerOf, RanOf, RunMode, StartErrorOf,
@@ -10,7 +10,6 @@ use minus_part_tests::asked::press;
 use minus_part_tests::stubborn::{NOTHING, Stubborn};
 use minus_script::{DefaultKeys, ScriptKinds};
 use std::alloc::{AllocError, Global};
-use std::process::Abort;
 
 pub const SETUP: &str =
     "\x1b[?1049h\x1b[?1000h\x1b[?1002h\x1b[?1003h\x1b[?1015h\x1b[?1006h\x1b[?25l";
@@ -229,14 +228,6 @@ fn has_rows(page: &Page, rows: &[&str], cursor: Option<u16>) -> bool {
     wanted.next().is_none() && page.cursor == cursor
 }
 
-/// Whether a session's page has this many rows.
-pub fn has_len<S: OutputSink + Drop>(session: &Session<S>, rows: usize) -> bool {
-    match session.page() {
-        Ok(page) => page.rows.len() == rows,
-        Err(_) => false,
-    }
-}
-
 /// Whether a session's page has these rows, no others, and a cursor at this column of its last row, or none.
 pub fn has_page_with<S: OutputSink + Drop, P: Calls>(
     session: &Core<S, P>,
@@ -252,106 +243,4 @@ pub fn has_page_with<S: OutputSink + Drop, P: Calls>(
 /// Whether a session's page has these rows, no others and no cursor.
 pub fn has_page<S: OutputSink + Drop, P: Calls>(session: &Core<S, P>, rows: &[&str]) -> bool {
     has_page_with(session, rows, None)
-}
-
-// Whether a session does all of this, and its page has these rows then.
-fn leads_to<S: OutputSink + Drop>(
-    alloc: Global,
-    session: &mut Session<S>,
-    asked: &[Asked<'_>],
-    page: &[&str],
-) -> bool {
-    does(alloc, session, asked) && has_page(session, page)
-}
-
-// Whether the bytes that a session wrote, played by a plain player, leave its page on a screen of this many rows.
-pub fn is_played<P: Calls>(alloc: Global, session: Core<WithTty<Vec<u8>>, P>, rows: usize) -> bool {
-    let Ok(page) = session.page() else {
-        return false;
-    };
-    let (sink, _) = session.finish();
-    match played(alloc, rows, &sink.inner) {
-        Some(screen) => screen.shows(&page.rows),
-        None => false,
-    }
-}
-
-// Whether a session does all of this, its page has these rows then, and its bytes leave this page.
-fn shows(alloc: Global, cols: usize, rows: usize, asked: &[Asked<'_>], page: &[&str]) -> bool {
-    match session_on(alloc, terminal(alloc), cols, rows) {
-        Some(mut session) => {
-            leads_to(alloc, &mut session, asked, page) && is_played(alloc, session, page.len())
-        }
-        None => false,
-    }
-}
-
-// The bytes of a session that does all of this, setup and cleanup among them.
-fn bytes_of(alloc: Global, cols: usize, rows: usize, asked: &[Asked<'_>]) -> Option<Vec<u8>> {
-    let mut session = session_on(alloc, terminal(alloc), cols, rows)?;
-    let is_done = does(alloc, &mut session, asked);
-    let (sink, _) = session.finish();
-    is_done.then_some(sink.inner)
-}
-
-// Whether these are the texts by which the bytes of one session go on behind those of another, both cleaned up.
-fn go_on(before: &[u8], after: &[u8], texts: &[&str]) -> bool {
-    let cleanup = CLEANUP.as_bytes();
-    let (Some(before), Some(after)) = (before.strip_suffix(cleanup), after.strip_suffix(cleanup))
-    else {
-        return false;
-    };
-    match after.strip_prefix(before) {
-        Some(behind) => are_bytes(behind, texts),
-        None => false,
-    }
-}
-
-// Whether bytes that a sink tells go on so, where it tells them.
-fn are_there_and_go_on(before: &Option<Vec<u8>>, after: &Option<Vec<u8>>, texts: &[&str]) -> bool {
-    match (before, after) {
-        (Some(before), Some(after)) => go_on(before, after, texts),
-        _ => false,
-    }
-}
-
-/// Whether these texts are what the last of this draws.
-pub fn draws(alloc: Global, cols: usize, rows: usize, asked: &[Asked<'_>], texts: &[&str]) -> bool {
-    let Some((_, first)) = asked.split_last() else {
-        return false;
-    };
-    let before = bytes_of(alloc, cols, rows, first);
-    let after = bytes_of(alloc, cols, rows, asked);
-    are_there_and_go_on(&before, &after, texts)
-}
-
-/// A worked session: what is asked of it on this many columns and rows, and the texts that come of that.
-pub struct Worked<'a> {
-    pub name: &'a str,
-    pub cols: usize,
-    pub rows: usize,
-    pub asked: &'a [Asked<'a>],
-    pub texts: &'a [&'a str],
-}
-
-/// Fails where the texts are not the rows of the page that a session leads to.
-pub fn assert_shown(rt: &impl Abort, alloc: Global, sessions: &[&Worked<'_>]) {
-    for it in sessions {
-        assert!(rt;
-            shows(alloc, it.cols, it.rows, it.asked, it.texts),
-            "{}",
-            it.name
-        );
-    }
-}
-
-/// Fails where the texts are not what the last of all that is asked for draws.
-pub fn assert_drawn(rt: &impl Abort, alloc: Global, sessions: &[&Worked<'_>]) {
-    for it in sessions {
-        assert!(rt;
-            draws(alloc, it.cols, it.rows, it.asked, it.texts),
-            "{}",
-            it.name
-        );
-    }
 }

@@ -2,8 +2,7 @@
 use crate::facts::assert_holds;
 use crate::sessions::{CLEANUP, PROMPT_ROW, SETUP, are_bytes, has_page, terminal};
 use minus::{
-    Command, LineNumbers, MinusError, OutputSink, Pager, RunMode, Session, SetupError, StartError,
-    WithTty, dynamic_paging, init_core,
+    Command, MinusError, OutputSink, Pager, RunMode, SetupError, StartError, WithTty, init_core,
 };
 use minus_part_tests::stubborn::{NOTHING, Refusal, Refused, Stubborn, write};
 use std::alloc::Global;
@@ -22,70 +21,6 @@ fn fill(pager: &mut Pager) -> bool {
         && pager.set_text("one\n").is_ok()
         && pager.push_str("tw").is_ok()
         && write!(pager, "o\n{number}").is_ok()
-}
-
-// Whether a session is static, and writes these texts from its start to its end.
-fn is_static(session: Session<Terminal>, texts: &[&str]) -> bool {
-    let is_static = session.mode() == RunMode::Static;
-    let (sink, _) = session.finish();
-    is_static && are_bytes(&sink.inner, texts)
-}
-
-// Whether one does of a pager in which texts wait.
-fn writes_what_waits(alloc: Global, texts: &[&str]) -> bool {
-    let mut pager = Pager::new(alloc);
-    let is_filled = fill(&mut pager);
-    match init_core(pager, RunMode::Static, terminal(alloc), 20, 5) {
-        Ok(session) => is_static(session, texts) && is_filled,
-        Err(_) => false,
-    }
-}
-
-#[test]
-fn the_text_of_a_pager_is_on_the_first_page(rt: HostRuntime) {
-    let page = "\x1b[1;1H\x1b[2J\rone\n\rtwo\n\r2\n";
-    let texts = &[SETUP, page, SIXTH_ROW, PROMPT_ROW, CLEANUP];
-    assert_holds(&rt, writes_what_waits(rt.alloc(), texts));
-}
-
-// Whether a session is dynamic and shows these rows.
-fn is_dynamic<S: OutputSink + Drop>(session: &Session<S>, rows: &[&str]) -> bool {
-    session.mode() == RunMode::Dynamic && has_page(session, rows)
-}
-
-// Whether a dynamic session of a pager that was given a text shows these rows.
-fn shows_what_was_pushed(alloc: Global, text: &str, rows: &[&str]) -> bool {
-    let mut pager = Pager::new(alloc);
-    let is_pushed = pager.push_str(text).is_ok();
-    match dynamic_paging(pager, terminal(alloc), 20, 5) {
-        Ok(session) => is_dynamic(&session, rows) && is_pushed,
-        Err(_) => false,
-    }
-}
-
-#[test]
-fn a_dynamic_start_shows_what_a_push_would(rt: HostRuntime) {
-    let rows = &["one", "two", "", "", PROMPT_ROW];
-    assert_holds(&rt, shows_what_was_pushed(rt.alloc(), "one\ntwo", rows));
-}
-
-// Whether a session of a pager that was told two texts, a prompt and another text shows these rows.
-fn shows_what_was_told(alloc: Global, rows: &[&str]) -> bool {
-    let mut pager = Pager::new(alloc);
-    let is_told = pager.push_str("a").is_ok()
-        && pager.push_str("b").is_ok()
-        && pager.set_prompt("p").is_ok()
-        && pager.push_str("c\n").is_ok();
-    match dynamic_paging(pager, terminal(alloc), 20, 3) {
-        Ok(session) => is_dynamic(&session, rows) && is_told,
-        Err(_) => false,
-    }
-}
-
-#[test]
-fn a_start_joins_what_was_pushed_around_a_prompt(rt: HostRuntime) {
-    let rows = &["abc", "", "\x1b[2;40;37mp                   \x1b[0m"];
-    assert_holds(&rt, shows_what_was_told(rt.alloc(), rows));
 }
 
 // The sink that a start hands back which is refused as that is no terminal, with the pager gone.
@@ -186,57 +121,6 @@ fn a_pager_that_came_back_starts(rt: HostRuntime) {
     assert_holds(&rt, starts_again(rt.alloc(), rows));
 }
 
-// The prompt row that says this, on 20 columns.
-const P_ROW: &str = "\x1b[2;40;37mp                   \x1b[0m";
-
-const M_ROW: &str = "\x1b[30;1;41mm                   \x1b[0m";
-
-// Whether the session of a pager that was told so shows these rows.
-fn begins_as_told(alloc: Global, is_said: bool, is_shown: bool, rows: &[&str]) -> bool {
-    let mut pager = Pager::new(alloc);
-    let is_told = pager
-        .set_text("a long line that is no longer wrapped\nb")
-        .is_ok()
-        && pager.horizontal_scroll(true).is_ok()
-        && pager.set_prompt("p").is_ok()
-        && (!is_said || pager.send_message("m").is_ok())
-        && pager.show_prompt(is_shown).is_ok();
-    is_told && starts(alloc, pager, rows)
-}
-
-#[test]
-fn a_start_takes_over_what_its_pager_was_told(rt: HostRuntime) {
-    let first = "a long line that is ";
-    let alloc = rt.alloc();
-    assert_holds(
-        &rt,
-        begins_as_told(alloc, false, true, &[first, "b", "", "", P_ROW]),
-    );
-    assert_holds(
-        &rt,
-        begins_as_told(alloc, true, true, &[first, "b", "", "", M_ROW]),
-    );
-    assert_holds(
-        &rt,
-        begins_as_told(alloc, true, false, &[first, "b", "", "", ""]),
-    );
-}
-
-// Whether a pager takes no text with a newline for its prompt row, and starts as if it were not told.
-fn takes_no_newline(alloc: Global) -> bool {
-    let mut pager = Pager::new(alloc);
-    let prompt = pager.set_prompt("p\n");
-    let message = pager.send_message("\n");
-    matches!(prompt, Err(MinusError::NewlineInPrompt))
-        && matches!(message, Err(MinusError::NewlineInPrompt))
-        && starts(alloc, pager, &["", "", "", "", PROMPT_ROW])
-}
-
-#[test]
-fn a_pager_takes_no_newline_for_its_prompt_row(rt: HostRuntime) {
-    assert_holds(&rt, takes_no_newline(rt.alloc()));
-}
-
 // Whether a prompt is taken as a string, and a message as a text, and both wait behind the text, in this order.
 fn says_either(alloc: Global) -> bool {
     let (mut pager, page) = (Pager::new(alloc), 7);
@@ -264,23 +148,6 @@ fn says_either(alloc: Global) -> bool {
 #[test]
 fn a_prompt_is_a_text_or_a_string(rt: HostRuntime) {
     assert_holds(&rt, says_either(rt.alloc()));
-}
-
-// Whether a session with numbers that go on begins with those.
-fn begins_with_numbers(alloc: Global) -> bool {
-    let mut pager = Pager::new(alloc);
-    let is_told = pager.push_str("a").is_ok()
-        && pager.set_line_numbers(LineNumbers::AlwaysOn).is_ok()
-        && pager.set_run_no_overflow(true).is_ok();
-    match init_core(pager, RunMode::Static, terminal(alloc), 20, 5) {
-        Ok(session) => is_told && session.state().line_numbers == LineNumbers::AlwaysOn,
-        Err(_) => false,
-    }
-}
-
-#[test]
-fn a_start_takes_over_numbers(rt: HostRuntime) {
-    assert_holds(&rt, begins_with_numbers(rt.alloc()));
 }
 
 // The part of what a start writes at which it was refused, or that nothing is written to such a sink.

@@ -1,45 +1,11 @@
 //! Callbacks where commands are handled manually, and how commands with callbacks are told.
 use crate::facts::assert_holds;
-use crate::hooks::{Command, Writes, adds, one, parts_of, shared};
-use crate::sessions::TEN_LINES;
-use minus::{CommandOf, CommandQueueOf, Hook, IoCommand, WithTty, handle_event, handle_io_command};
+use crate::hooks::{Command, Writes, parts_of, shared};
+use minus::{CommandOf, CommandQueueOf, Hook, handle_event};
 use minus_part_tests::shown::is_debugged;
 use std::alloc::Global;
 use std::cell::Cell;
 use std::rc::Rc;
-
-// Whether a move that is done manually calls the hook of the end where it comes there, and only there.
-fn is_called_by_hand(alloc: Global, log: &Rc<Cell<u64>>) -> bool {
-    let (Some(mut parts), Ok(text), Ok(log_of_hook)) = (
-        parts_of(alloc),
-        String::from_str(alloc, TEN_LINES),
-        shared(log),
-    ) else {
-        return false;
-    };
-    let mut queue = CommandQueueOf::new_zero(alloc);
-    let mut sink = WithTty::new(Vec::new(alloc), true);
-    let writes = Writes {
-        digit: 5,
-        log: log_of_hook,
-    };
-    parts
-        .hooks
-        .add_callback(Hook::EofReached, 0, writes)
-        .is_ok()
-        && handle_event(alloc, CommandOf::SetData(text), &mut parts, &mut queue).is_ok()
-        && handle_io_command(alloc, IoCommand::SetUpperMark(2), &mut sink, &mut parts).is_ok()
-        && handle_io_command(alloc, IoCommand::SetUpperMark(100), &mut sink, &mut parts).is_ok()
-        && log.get() == 57
-}
-
-#[test]
-fn a_move_by_hand_calls_at_the_end(rt: HostRuntime) {
-    let Ok(log) = Rc::new(rt.alloc(), Cell::new(0)) else {
-        return;
-    };
-    assert_holds(&rt, is_called_by_hand(rt.alloc(), &log));
-}
 
 // Whether a callback of an exit is kept as its command is handled, and not called.
 fn is_kept_by_hand(alloc: Global, log: &Rc<Cell<u64>>) -> bool {

@@ -1,7 +1,7 @@
 //! Scripts as a person writes them, and their faulty lines.
 use crate::sessions::{Command, Input};
 use minus::{Event, InputEvent, KeyCode, KeyEvent, KeyEventKind, KeyEventState, KeyModifiers};
-use minus_script::{ScriptFault, parse_script};
+use minus_script::parse_script;
 use std::alloc::Global;
 use std::fmt;
 
@@ -110,57 +110,5 @@ fn reads_each_word(rt: HostRuntime) {
     ];
     for (script, wanted) in cases {
         assert!(rt; reads(rt.alloc(), script, wanted), "at {wanted}");
-    }
-}
-
-// The number of a script's first faulty line.
-fn faulty_line(alloc: Global, script: &[u8]) -> Option<usize> {
-    match parse_script(alloc, script) {
-        Err(ScriptFault::Line(number)) => Some(number),
-        _ => None,
-    }
-}
-
-#[test]
-fn names_the_first_faulty_line(rt: HostRuntime) {
-    let cases: &[(&[u8], usize)] = &[
-        (b"\n", 1),
-        (b"push a\n\npush", 2),
-        (b"push", 1),
-        (b"set", 1),
-        (b"push\n", 1),
-        (b"pull a", 1),
-        (b"Push a", 1),
-        (b" push a", 1),
-        (b"push\ta", 1),
-        (b"push a\r\nset b\\", 2),
-        (b"push \\t", 1),
-        (b"push a\\", 1),
-        (b"mark ", 1),
-        (b"mark  1", 1),
-        (b"mark 1\r\n", 1),
-        (b"mark -1", 1),
-        (b"mark 18446744073709551616", 1),
-        (b"push a\nset \xff\nmark x\n", 2),
-        (b"type ab\npull a", 2),
-        (b"type", 1),
-        (b"type \\x", 1),
-        (b"resize 30", 1),
-        (b"resize 30  6", 1),
-        (b"resize 30 6 ", 1),
-        (b"resize 30 x", 1),
-        (b"prompt", 1),
-        (b"follow On", 1),
-        (b"showprompt on ", 1),
-        (b"wrap yes", 1),
-        (b"numbers always", 1),
-        (b"numbers On", 1),
-    ];
-    for (script, line) in cases {
-        assert_eq!(rt;
-            faulty_line(rt.alloc(), script),
-            Some(*line),
-            "of {script:?}"
-        );
     }
 }

@@ -1,4 +1,0 @@
-//! Texts cut at each place, terminals of each size, and classifiers and conditions that answer what they like.
-mod odd;
-mod sizes;
-mod texts;
