@@ -10,6 +10,7 @@ use Rattle.minus.specs.Core.{seen_of}
 use Rattle.minus_commands.specs.declared.parts.PartsOf.{PartsOf}
 use Rattle.minus.specs.declared.status.Status.TheVariants as status
 use Rattle.minus_state.specs.States.{control_of}
+use Rattle.minus_commands.specs.Queued.{waiting_of}
 use Rattle.minus_commands.specs.Reads.{kept_of, wanted_of}
 use Rattle.minus.specs.Seen.{Seen}
 use Rattle.minus.specs.Starts.{first_control, first_move, CanBegin, BeginsAndMoves, IsShowRefused, IsStarted}
@@ -53,7 +54,7 @@ pub record IsUnopened {S P H E Q K : Type 0} (seen : S → SinkSeen) (parts : Pa
 pub record IsStart {S P H E Q K : Type 0} (seen : S → SinkSeen) (pager : PagerOf P H E Q K) (mode : RunMode)
     (cols rows : ℕ) (classifier : K) (sink : S) (session : Core S P H E Q K) : Type 0 where
   pub started :
-      IsStarted (seen_of session) classifier (map wanted_of pager.queue.items) mode cols rows (seen sink).terminal
+      IsStarted (seen_of session) classifier (map wanted_of (waiting_of pager)) mode cols rows (seen sink).terminal
       (seen sink).bytes (seen session.sink).bytes
   pub stays : Stays (seen sink).refusals (seen session.sink).refusals
 
@@ -68,12 +69,12 @@ pub record IsFirstStart {S P H E Q K : Type 0} (IsFirst : K → Type 0) (seen : 
 -- on the sink, which comes back too
 pub record IsRefusedStart {S P H E Q K : Type 0} (seen : S → SinkSeen) (pager : PagerOf P H E Q K) (mode : RunMode)
     (cols rows : ℕ) (sink : S) (e : StartErrorOf S P H E Q K) : Type 0 where
-  pub refused : IsStartRefused (refusal_of e.cause) mode cols rows (map wanted_of pager.queue.items)
+  pub refused : IsStartRefused (refusal_of e.cause) mode cols rows (map wanted_of (waiting_of pager))
       (seen sink).terminal
   pub returned : IsEarly (refusal_of e.cause) → e.pager ≡ Some pager
   pub gone : (IsEarly (refusal_of e.cause) → ⊥) → e.pager ≡ None
   pub broken : StartBreaksOff (refusal_of e.cause) (seen sink).bytes (seen e.sink).bytes (seen sink).refusals
-      (seen e.sink).refusals (first_control cols rows (map wanted_of pager.queue.items))
+      (seen e.sink).refusals (first_control cols rows (map wanted_of (waiting_of pager)))
   pub rises : IsStartFault (refusal_of e.cause) → Rises (seen sink).refusals (seen e.sink).refusals
   pub untouched : (IsStartFault (refusal_of e.cause) → ⊥) → e.sink ≡ sink
 
@@ -82,13 +83,13 @@ module _ {S P H E Q K : Type 0} (seen : S → SinkSeen) (pager : PagerOf P H E Q
   -- the start of a session with these parts ends well, where their control is the first one of a pager
   abbrev pub IsBegun : Core S P H E Q K → Type 0
   IsBegun session =
-      (cols rows : ℕ) → CanBegin mode cols rows (map wanted_of pager.queue.items)
-      → control_of parts.state ≡ first_control cols rows (map wanted_of pager.queue.items)
+      (cols rows : ℕ) → CanBegin mode cols rows (map wanted_of (waiting_of pager))
+      → control_of parts.state ≡ first_control cols rows (map wanted_of (waiting_of pager))
       → IsStart seen pager mode cols rows parts.classifier sink session
 
   -- the start of a session with these parts is refused, where their control is the first one of a pager
   abbrev pub IsUnbegun : StartErrorOf S P H E Q K → Type 0
   IsUnbegun e =
-      (cols rows : ℕ) → CanBegin mode cols rows (map wanted_of pager.queue.items)
-      → control_of parts.state ≡ first_control cols rows (map wanted_of pager.queue.items)
+      (cols rows : ℕ) → CanBegin mode cols rows (map wanted_of (waiting_of pager))
+      → control_of parts.state ≡ first_control cols rows (map wanted_of (waiting_of pager))
       → IsRefusedStart seen pager mode cols rows sink e

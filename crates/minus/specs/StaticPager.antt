@@ -18,6 +18,7 @@ use Rattle.minus.specs.declared.static_pager.PagedOf.TheVariants as paged
 use Rattle.minus_commands.specs.Registration.{Kept, kept_at_first}
 use Rattle.minus_state.specs.States.{control_of}
 use Rattle.minus_commands.specs.declared.parts.PartsOf.{PartsOf}
+use Rattle.minus_commands.specs.Queued.{waiting_of}
 use Rattle.minus_commands.specs.Reads.{kept_of, wanted_of}
 use Rattle.minus.specs.SessionStarts.{IsStart, IsRefusedStart, IsOpened, IsUnopened}
 use Rattle.minus.specs.Starts.{CanBegin, IsEarly, first_control}
@@ -48,7 +49,7 @@ printed true c kept = if kept.run_no_overflow then None else rows_that_fit c
 -- of the commands that wait in a pager
 abbrev pub printed_of : {P H E Q K : Type 0} → PagerOf P H E Q K → (cols rows : ℕ) → (terminal : Bool) → Option (List ℕ)
 printed_of pager cols rows terminal =
-    let waiting = map wanted_of pager.queue.items in
+    let waiting = map wanted_of (waiting_of pager) in
     printed terminal (first_control cols rows waiting) (kept_taken kept_at_first waiting)
 
 -- the sink took this, and refused nothing
@@ -96,7 +97,7 @@ abbrev pub IsPaged :
     {S P H E Q K : Type 0} → (S → SinkSeen) → PagerOf P H E Q K → (cols rows : ℕ) → (classifier : K) → (sink : S)
     → PagedOf S P H E Q K → Type 0
 IsPaged seen pager cols rows classifier sink (paged.Written new) =
-    CanBegin Static cols rows (map wanted_of pager.queue.items)
+    CanBegin Static cols rows (map wanted_of (waiting_of pager))
     × IsWritten seen sink new (printed_of pager cols rows (seen sink).terminal)
 IsPaged seen pager cols rows classifier sink (paged.Started session) =
     (printed_of pager cols rows (seen sink).terminal ≡ None)
@@ -106,7 +107,7 @@ IsPaged seen pager cols rows classifier sink (paged.Started session) =
 abbrev pub IsUnpaged : {S P H E Q K : Type 0} → (S → SinkSeen) → PagerOf P H E Q K → (cols rows : ℕ) → (sink : S)
     → StartErrorOf S P H E Q K → Type 0
 IsUnpaged seen pager cols rows sink e =
-    (CanBegin Static cols rows (map wanted_of pager.queue.items)
+    (CanBegin Static cols rows (map wanted_of (waiting_of pager))
     × IsUnwritten seen sink e (printed_of pager cols rows (seen sink).terminal))
     ⊎ (IsRefusedStart seen pager Static cols rows sink e
     × ((IsEarly (refusal_of e.cause) → ⊥) → printed_of pager cols rows (seen sink).terminal ≡ None))

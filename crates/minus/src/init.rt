@@ -9,6 +9,7 @@ ghost use Rattle.minus_input.specs.DefaultClassifier.{IsDefault};
 ghost use Rattle.minus_input.specs.EventTables.{register_of};
 ghost use Rattle.minus_commands.specs.Callbacks.{callbacks_of, no_callbacks, with_commands, CallsHook, CallsStart};
 ghost use Rattle.minus_commands.specs.Registration.{kept_at_first};
+ghost use Rattle.minus_commands.specs.Queued.{waiting_of};
 ghost use Rattle.minus_commands.specs.Reads.{kept_of, wanted_of};
 ghost use Rattle.minus_commands.specs.Room.{HasRoomFor};
 ghost use Rattle.minus.specs.SessionStarts.{IsStart, IsBegun, IsUnbegun, IsFirstStart, IsRefusedStart, IsOpened, IsUnopened};
@@ -48,8 +49,6 @@ pub struct StartErrorOf<S, P: Parts> {
 pub type StartError<S> = StartErrorOf<S, Boxes>;
 
 impl<S, P: Parts> StartErrorOf<S, P> {
-    ghost use Rattle.std.specs.Prelude.{◌≡◌, Some};
-
     // A start that was refused before a callback was called and a byte written.
     pub(crate) fn early(pager: PagerOf<P>, sink: S, cause: MinusError) -> StartErrorOf<S, P>
         ensures sink { result.sink ≡ sink }
@@ -115,15 +114,15 @@ fn show<S: OutputSink>(sink: &mut S, drawing: &[u8]) -> Result<(), MinusError>
 // callbacks before the start were called.
 pub(crate) fn prepare<P: Calls>(first: First<P>, pager: PagerOf<P>) -> First<P>
     requires room { HasRoomFor first.parts (vec_len pager.queue) }
-    requires can { CanTakeAll (kept_of first.parts).ids (map wanted_of pager.queue.items) }
+    requires can { CanTakeAll (kept_of first.parts).ids (map wanted_of (waiting_of pager)) }
     ensures state { result.parts.state ≡ first.parts.state }
-    ensures kept { kept_of result.parts ≡ kept_taken (kept_of first.parts) (map wanted_of pager.queue.items) }
+    ensures kept { kept_of result.parts ≡ kept_taken (kept_of first.parts) (map wanted_of (waiting_of pager)) }
     ensures classifier { result.parts.classifier
-        ≡ classifier_taken first.parts.classifier (map wanted_of pager.queue.items) }
+        ≡ classifier_taken first.parts.classifier (map wanted_of (waiting_of pager)) }
     ensures condition { result.parts.condition
-        ≡ condition_taken first.parts.condition (map wanted_of pager.queue.items) }
+        ≡ condition_taken first.parts.condition (map wanted_of (waiting_of pager)) }
     ensures called { CallsHook (Some Hook.PrePagerStart)
-        (with_commands (callbacks_of first.parts) pager.queue.items) (callbacks_of result.parts) }
+        (with_commands (callbacks_of first.parts) (waiting_of pager)) (callbacks_of result.parts) }
 {
     let First {
         mut parts,
@@ -201,9 +200,9 @@ fn begin<S: OutputSink + Drop, P: Calls>(
     requires kept { kept_of first.parts ≡ kept_at_first }
     requires condition { first.parts.condition ≡ None }
     requires room { HasRoomFor first.parts (vec_len pager.queue) }
-    requires can { CanTakeAll [] (map wanted_of pager.queue.items) }
+    requires can { CanTakeAll [] (map wanted_of (waiting_of pager)) }
     requires callbacks { callbacks_of first.parts ≡ no_callbacks }
-    ensures called { IfOk result (λ s. CallsStart (with_commands no_callbacks pager.queue.items)
+    ensures called { IfOk result (λ s. CallsStart (with_commands no_callbacks (waiting_of pager))
         (callbacks_of s.parts)) }
     ensures started { IfOk result (λ s. IsBegun S.seen pager mode first.parts sink s) }
     ensures refused { IfErr result (λ e. IsUnbegun S.seen pager mode first.parts sink e) }
@@ -238,7 +237,7 @@ pub fn init_core_with<S: OutputSink + Drop, P: Calls>(
     classifier: P::Classifier,
 ) -> Result<Core<S, P>, StartErrorOf<S, P>>
     ensures started { IfOk result (λ s. IsStart S.seen pager mode cols rows classifier sink s) }
-    ensures called { IfOk result (λ s. CallsStart (with_commands no_callbacks pager.queue.items)
+    ensures called { IfOk result (λ s. CallsStart (with_commands no_callbacks (waiting_of pager))
         (callbacks_of s.parts)) }
     ensures refused { IfErr result (λ e. IsRefusedStart S.seen pager mode cols rows sink e) }
 {
@@ -279,7 +278,7 @@ pub fn init_core<
     rows: usize,
 ) -> Result<Core<S, Keyed<H, E, Q, C>>, StartErrorOf<S, Keyed<H, E, Q, C>>>
     ensures started { IfOk result (λ s. IsFirstStart IsDefault S.seen pager mode cols rows sink s) }
-    ensures called { IfOk result (λ s. CallsStart (with_commands no_callbacks pager.queue.items)
+    ensures called { IfOk result (λ s. CallsStart (with_commands no_callbacks (waiting_of pager))
         (callbacks_of s.parts)) }
     ensures refused { IfErr result (λ e. IsRefusedStart S.seen pager mode cols rows sink e) }
 {
@@ -307,7 +306,7 @@ pub fn dynamic_paging<
     rows: usize,
 ) -> Result<Core<S, Keyed<H, E, Q, C>>, StartErrorOf<S, Keyed<H, E, Q, C>>>
     ensures started { IfOk result (λ s. IsFirstStart IsDefault S.seen pager RunMode.Dynamic cols rows sink s) }
-    ensures called { IfOk result (λ s. CallsStart (with_commands no_callbacks pager.queue.items)
+    ensures called { IfOk result (λ s. CallsStart (with_commands no_callbacks (waiting_of pager))
         (callbacks_of s.parts)) }
     ensures refused { IfErr result (λ e. IsRefusedStart S.seen pager RunMode.Dynamic cols rows sink e) }
 {

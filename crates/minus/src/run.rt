@@ -34,7 +34,7 @@ impl<S: OutputSink + Drop, P: Calls> Core<S, P> {
     ghost use Rattle.minus.specs.Says.{says_of};
     ghost use Rattle.minus.specs.SessionSteps.{RunsTo, RunsFromEndTo};
 
-    // Works inputs off from the end of a list, until one is refused, or after a step that exits, copies a text or
+    // Performs inputs from the end of a list, until one is refused, or after a step that exits, copies a text or
     // refuses items.
     fn run_from_end(&mut self, left: &mut Vec<InputOf<P>>) -> Progress
         ensures { RunsFromEndTo S.seen (says_of P.Condition.judges P.Classifier.says) self.old self.new
@@ -71,7 +71,7 @@ impl<S: OutputSink + Drop, P: Calls> Core<S, P> {
         }
     }
 
-    /// Works inputs off in order, until one is refused, or after a step that exits, copies a text or refuses items; the
+    /// Performs inputs in order, until one is refused, or after a step that exits, copies a text or refuses items; the
     /// answer of the last step that ended well says which. An input that is refused is dropped, and those after it, or
     /// after such a step, are handed back.
     pub fn run(&mut self, inputs: Vec<InputOf<P>>) -> RanOf<P>

@@ -53,9 +53,8 @@ impl<S: Drop, P: Parts> Drop for Core<S, P> {
 pub type Session<S> = Core<S, Boxes>;
 
 impl<S, P: Parts> Core<S, P> {
-    ghost use Rattle.std.specs.Prelude.{◌≡◌, map, IfOk, IfErr, string_bytes};
+    ghost use Rattle.std.specs.Prelude.{map, IfOk, IfErr};
     ghost use Rattle.minus_state.specs.Page.{page};
-    ghost use Rattle.minus_state.specs.States.{control_of};
     ghost use Rattle.minus.specs.Core.{seen_of};
     ghost use Rattle.minus.specs.Steps.{mode_told};
 
@@ -116,7 +115,7 @@ impl<S, P: Parts> Core<S, P> {
 }
 
 impl<S: OutputSink + Drop, P: Calls> Core<S, P> {
-    ghost use Rattle.std.specs.Prelude.{◌≡◌, ◌<◌, ◌↔◌, [], None, Some, OnOk, OnErr, IfOk, IfErr, IsOk, IsErrOf};
+    ghost use Rattle.std.specs.Prelude.{◌<◌, ◌↔◌, [], None, Some, OnOk, OnErr, IfOk, IfErr, IsOk, IsErrOf};
     ghost use Rattle.std.specs.Io.KnownBytes.{Appends};
     ghost use Rattle.minus_term.specs.Counts.{Stays, Rises};
     ghost use Rattle.minus_term.specs.Terminal.{CleanupBreaksOff};
@@ -128,7 +127,7 @@ impl<S: OutputSink + Drop, P: Calls> Core<S, P> {
     ghost use Rattle.minus.specs.SessionSteps.{IsStepOf, IsRefusedStepOf};
     ghost use Rattle.minus.specs.Steps.{cleanup_after};
 
-    /// Works an input off, and draws what has changed. An event that types nothing lets the typed prefix go; a command
+    /// Performs an input, and draws what has changed. An event that types nothing lets the typed prefix go; a command
     /// leaves it. A prompt row that is another one than before is drawn after what the command asks for.
     ///
     /// While the search prompt is open each other event is a key of it: it edits the query or moves its cursor, and the

@@ -32,12 +32,10 @@ fn keep<T: Drop>(kept: &mut T, new: Option<T>)
 }
 
 impl<S, P: Parts> Core<S, P> {
-    ghost use Rattle.std.specs.Prelude.{◌≡◌, OnOk, OnErr, IfOk, IfErr, string_bytes};
-    ghost use Rattle.std.specs.Option.{option_map};
+    ghost use Rattle.std.specs.Prelude.{OnOk, OnErr, IfOk, IfErr};
     ghost use Rattle.minus_state.specs.Changes.{IsFormedFor};
     ghost use Rattle.minus_state.specs.Page.{page};
     ghost use Rattle.minus_state.specs.Sizes.{IsSize};
-    ghost use Rattle.minus_state.specs.States.{control_of};
     ghost use Rattle.minus_commands.specs.Callbacks.{callbacks_of};
     ghost use Rattle.minus.specs.Core.{seen_of};
     ghost use Rattle.minus_commands.specs.Outcomes.{LeadsClamped};
@@ -95,7 +93,7 @@ impl<S, P: Parts> Core<S, P> {
 }
 
 impl<S: OutputSink, P: Parts> Core<S, P> {
-    ghost use Rattle.std.specs.Prelude.{◌≡◌, ◌<◌, ◌==◌, length, OnOk, OnErr, IfErr, if◌then◌else◌};
+    ghost use Rattle.std.specs.Prelude.{◌<◌, ◌==◌, length, OnOk, OnErr, IfErr, if◌then◌else◌};
     ghost use Rattle.std.specs.Io.KnownBytes.{Appends};
     ghost use Rattle.minus_commands.specs.Callbacks.{callbacks_of};
     ghost use Rattle.minus_term.specs.Counts.{AppendsFront, Stays, Rises, RisesBy};

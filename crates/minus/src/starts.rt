@@ -11,6 +11,7 @@ ghost use Rattle.minus_state.specs.States.{IsFormed, control_of};
 ghost use Rattle.minus_commands.specs.Callbacks.{callbacks_of, no_callbacks};
 ghost use Rattle.minus_draw.specs.Drawings.{whole_page};
 ghost use Rattle.minus_commands.specs.Registration.{kept_at_first, ids_after, IsFreeFor};
+ghost use Rattle.minus_commands.specs.Queued.{waiting_of};
 ghost use Rattle.minus_commands.specs.Reads.{kept_of, wanted_of};
 ghost use Rattle.minus_commands.specs.Room.{HasRoomFor};
 ghost use Rattle.minus_commands.specs.WaitingRegistrations.{CanTakeAll};
@@ -123,9 +124,9 @@ fn first_state<P: Parts>(
     cols: usize,
     rows: usize,
 ) -> Result<PagerState, MinusError>
-    requires can { CanTakeAll [] (map wanted_of pager.now.queue.items) }
+    requires can { CanTakeAll [] (map wanted_of (waiting_of pager.now)) }
     ensures control { IfOk result (λ s. control_of s
-        ≡ first_control cols rows (map wanted_of pager.now.queue.items)) }
+        ≡ first_control cols rows (map wanted_of (waiting_of pager.now))) }
     ensures formed { IfOk result IsFormed }
     ensures refused { IfErr result (λ e. IsUnformedState (refusal_of e) cols rows) }
 {
@@ -171,16 +172,16 @@ pub(crate) fn first_of<P: Parts>(
     rows: usize,
     classifier: P::Classifier,
 ) -> Result<First<P>, MinusError>
-    ensures begins { OnOk result (CanBegin mode cols rows (map wanted_of pager.now.queue.items)) }
+    ensures begins { OnOk result (CanBegin mode cols rows (map wanted_of (waiting_of pager.now))) }
     ensures control { IfOk result (λ f. control_of f.parts.state
-        ≡ first_control cols rows (map wanted_of pager.now.queue.items)) }
+        ≡ first_control cols rows (map wanted_of (waiting_of pager.now))) }
     ensures kept { IfOk result (λ f. kept_of f.parts ≡ kept_at_first) }
     ensures callbacks { IfOk result (λ f. callbacks_of f.parts ≡ no_callbacks) }
     ensures classifier { IfOk result (λ f. f.parts.classifier ≡ classifier) }
     ensures condition { IfOk result (λ f. f.parts.condition ≡ None) }
     ensures room { IfOk result (λ f. HasRoomFor f.parts (vec_len pager.now.queue)) }
     ensures refused { IfErr result (λ e.
-        IsFormRefused (refusal_of e) mode cols rows (map wanted_of pager.now.queue.items)) }
+        IsFormRefused (refusal_of e) mode cols rows (map wanted_of (waiting_of pager.now))) }
 {
     let alloc = alloc_of(pager);
     check_start(mode, cols, rows)?;

@@ -22,8 +22,7 @@ fn share(alloc: Global, pattern: Option<Regex>) -> Result<Option<Rc<Regex>>, All
 }
 
 impl<S: OutputSink + Drop, P: Parts> Core<S, P> {
-    ghost use Rattle.std.specs.Prelude.{◌≡◌, option_map, OnOk, OnErr, IfOk, IfErr};
-    ghost use Rattle.regex.specs.Strings.{regex_pattern};
+    ghost use Rattle.std.specs.Prelude.{OnOk, OnErr, IfErr};
     ghost use Rattle.minus_term.specs.Refusals.{refusal_of};
     ghost use Rattle.minus_term.specs.Written.{written_all};
     ghost use Rattle.minus_commands.specs.Callbacks.{callbacks_of};

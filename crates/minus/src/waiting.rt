@@ -83,17 +83,12 @@ fn let_first_go<T: Drop>(queue: &mut VecDeque<T>, count: usize)
 }
 
 impl<S, P: Parts> Core<S, P> {
-    ghost use Rattle.std.specs.Prelude.{◌≡◌, ◌+◌, ◌≤◌, ◌∷◌, ◌++◌, [], drop, is_some, true, None, string_bytes};
-    ghost use Rattle.std.specs.Prelude.{OnOk, OnErr, IfOk, IfErr, IfSome, IfNone};
-    ghost use Rattle.std.specs.VecDeque.{deque_len};
-    ghost use Rattle.minus_term.specs.Refusals.{refusal_of};
+    ghost use Rattle.std.specs.Prelude.{◌+◌, ◌∷◌, ◌++◌, []};
+    ghost use Rattle.std.specs.Prelude.{OnErr, IfOk};
     ghost use Rattle.minus_commands.specs.Callbacks.{callbacks_of};
     ghost use Rattle.minus.specs.Core.{seen_of};
     ghost use Rattle.minus.specs.Joined.{MayGoWith};
-    ghost use Rattle.minus_commands.specs.Reads.{told_of};
-    ghost use Rattle.minus.specs.Waiting.{checked_as};
     ghost use Rattle.minus.specs.SessionSteps.{IsKept, IsNotKept, IsNotPassed};
-    ghost use Rattle.minus.specs.Steps.{is_passed};
     ghost use Rattle.minus.specs.Waiting.{IsNext, leaving, IsAtRest};
 
     // Whether the search prompt is open.

@@ -28,9 +28,8 @@ use minus_commands::request::Request;
 use minus_term::{Event, MinusError, OutputSink, cleanup};
 
 impl<S: OutputSink + Drop, P: Calls> Core<S, P> {
-    ghost use Rattle.std.specs.Prelude.{◌≡◌, ◌≤◌, ◌<◌, is_some, true, option_map, string_bytes, None, Some, OnOk, OnErr, IfOk, IfErr};
+    ghost use Rattle.std.specs.Prelude.{◌≤◌, ◌<◌, is_some, true, option_map, None, Some, OnOk, OnErr, IfOk, IfErr};
     ghost use Rattle.std.specs.VecDeque.{deque_len};
-    ghost use Rattle.minus_state.specs.States.{control_of};
     ghost use Rattle.minus_term.specs.Refusals.{refusal_of};
     ghost use Rattle.minus.specs.Waiting.{checked_as};
     ghost use Rattle.minus_commands.specs.Callbacks.{callbacks_of, with_handed, KeepsOfInput, IsDue, CallsHook, CallsExit};
@@ -176,8 +175,8 @@ impl<S: OutputSink + Drop, P: Calls> Core<S, P> {
         self.change(outcome)
     }
 
-    // Works an input off, with no search prompt open.
-    fn work_off(&mut self, input: InputOf<P>) -> Result<Done, MinusError>
+    // Performs an input, with no search prompt open.
+    fn perform(&mut self, input: InputOf<P>) -> Result<Done, MinusError>
         requires running { self.old.status ≡ stands.Running }
         requires closed { (control_of self.old.parts.state).search ≡ None }
         ensures taken { IfOk result (λ t.
@@ -253,7 +252,7 @@ impl<S: OutputSink + Drop, P: Calls> Core<S, P> {
         ensures fewer { deque_len self.new.waiting ≤ deque_len self.old.waiting }
     {
         let JoinedAppends { text, count } = joined;
-        match self.work_off(InputOf::Command(CommandOf::AppendData(text))) {
+        match self.perform(InputOf::Command(CommandOf::AppendData(text))) {
             Ok(taken) => {
                 self.let_go(count);
                 Ok(taken)
@@ -281,7 +280,7 @@ impl<S: OutputSink + Drop, P: Calls> Core<S, P> {
     {
         match self.appends_behind(&input) {
             Some(joined) => self.take_joined(joined),
-            None => self.work_off(input),
+            None => self.perform(input),
         }
     }
 
@@ -300,6 +299,6 @@ impl<S: OutputSink + Drop, P: Calls> Core<S, P> {
         if self.is_searching() {
             return self.take_searching(input);
         }
-        self.work_off(input)
+        self.perform(input)
     }
 }

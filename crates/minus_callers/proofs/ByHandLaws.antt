@@ -19,7 +19,7 @@ use Rattle.minus_commands.specs.Registration.{Handing, kept_after, classifier_af
 use Rattle.minus_commands.specs.Queued.{queued}
 use Rattle.minus_commands.specs.Table.{effect_of, handed}
 use Rattle.minus_commands.proofs.ByHandLaws.{by_hand_lem}
-use Rattle.minus_callers.specs.ByHand.{left_by, left_by_all, IsIoFault, IsWorkedOff}
+use Rattle.minus_callers.specs.ByHand.{left_by, left_by_all, IsIoFault, IsPerformed}
 
 -- a command that asks for a drawing
 is_io : {P H E Q K : Type 0} (command : CommandOf P H E Q K) (io : IoCommand) → io_of command ≡ Some io → command ≡ as_command io
@@ -100,7 +100,7 @@ all_left P H E Q K (io ∷ rest) c = all_left P H E Q K rest (io_left Q K c io)
 pub all_done : {P H E Q K : Type 0} (o : Option IoCommand) (says : Classifies K) (old : PartsOf P H E Q K) (command : CommandOf P H E Q K) (handling new : PartsOf P H E Q K) (queue : List (CommandOf P H E Q K)) (handled : Handled)
     → io_of command ≡ o → HandlesAs o says old [] command handling queue handled
     → (IsFormed old.state → control_of new.state ≡ left_by_all (control_of handling.state) queue)
-    → kept_of new ≡ kept_of handling → new.classifier ≡ handling.classifier → new.condition ≡ handling.condition → IsWorkedOff says old command new handled
+    → kept_of new ≡ kept_of handling → new.classifier ≡ handling.classifier → new.condition ≡ handling.condition → IsPerformed says old command new handled
 all_done {P = P} {H = H} {E = E} {Q = Q} {K = K} None says old command handling new queue handled is (w, request, d) left kept classifier condition =
     let c : Control = control_of old.state in
     record {

@@ -31,7 +31,7 @@ left_by_all {Q = Q} {K = K} c (command ∷ rest) = left_by_all (left_by Q K c (i
 
 -- a command was performed, with all that waited for it: what it registers is kept, what the table answers is answered,
 -- and a state that was formed has the control that the table gives
-pub record IsWorkedOff {P H E Q K : Type 0} (says : Classifies K) (old : PartsOf P H E Q K)
+pub record IsPerformed {P H E Q K : Type 0} (says : Classifies K) (old : PartsOf P H E Q K)
     (command : CommandOf P H E Q K) (new : PartsOf P H E Q K) (handled : Handled) : Type 0 where
   pub wanted : Wanted Q K
   pub asked : IsRequestTo says old command wanted
@@ -50,6 +50,6 @@ IsIoFault at_drawing = Unit {0}
 IsIoFault refusal = ⊥
 
 -- why a command is not performed: what waited was not done, or the command was not handled
-abbrev pub CannotWorkOff : {P H E Q K : Type 0} → Refusal → Classifies K → PartsOf P H E Q K → CommandOf P H E Q K
+abbrev pub CannotPerform : {P H E Q K : Type 0} → Refusal → Classifies K → PartsOf P H E Q K → CommandOf P H E Q K
     → Type 0
-CannotWorkOff refusal says parts command = IsIoFault refusal ⊎ CannotHandle refusal says parts command
+CannotPerform refusal says parts command = IsIoFault refusal ⊎ CannotHandle refusal says parts command

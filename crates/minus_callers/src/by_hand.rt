@@ -4,7 +4,7 @@ ghost use Rattle.minus_term.specs.Refusals.{refusal_of};
 ghost use Rattle.minus_state.specs.States.{control_of, IsFormed};
 ghost use Rattle.minus_commands.specs.Queued.{waiting_in};
 ghost use Rattle.minus_commands.specs.Reads.{io_of, kept_of};
-ghost use Rattle.minus_callers.specs.ByHand.{LeavesBy, left_by_all, CannotWorkOff, IsIoFault, IsWorkedOff};
+ghost use Rattle.minus_callers.specs.ByHand.{LeavesBy, left_by_all, CannotPerform, IsIoFault, IsPerformed};
 
 use minus::{
     Calls, CommandOf, CommandQueueOf, Handled, MinusError, OutputSink, PartsOf, handle_event,
@@ -55,15 +55,15 @@ fn do_waiting<W: OutputSink, P: Calls>(
     Ok(())
 }
 
-/// Works a command off on parts, where nothing waits in the queue: leaves the state as a session's step does that works
-/// it off, and draws on a sink what the command asks to be drawn. Nothing waits then. Answers whether the command is an
-/// exit, which is left to the caller, and the text that was copied.
+/// Performs a command on parts, where nothing waits in the queue: leaves the state as a session's step does with the
+/// command, and draws on a sink what the command asks to be drawn. Nothing waits then. Answers whether the command is
+/// an exit, which is left to the caller, and the text that was copied.
 ///
 /// # Errors
 ///
 /// Those of [`handle_event`], with nothing changed, and of [`handle_io_command`]: what waits behind that stays in the
 /// queue.
-pub fn work_off<W: OutputSink, P: Calls>(
+pub fn perform<W: OutputSink, P: Calls>(
     alloc: Global,
     command: CommandOf<P>,
     parts: &mut PartsOf<P>,
@@ -71,9 +71,9 @@ pub fn work_off<W: OutputSink, P: Calls>(
     out: &mut W,
 ) -> Result<Handled, MinusError>
     ensures done { IfOk result (λ handled. waiting_in queue.old ≡ [] →
-        IsWorkedOff P.Classifier.says parts.old command parts.new handled) }
+        IsPerformed P.Classifier.says parts.old command parts.new handled) }
     ensures none { OnOk result (waiting_in queue.new ≡ []) }
-    ensures refused { IfErr result (λ e. CannotWorkOff (refusal_of e) P.Classifier.says parts.old command) }
+    ensures refused { IfErr result (λ e. CannotPerform (refusal_of e) P.Classifier.says parts.old command) }
     ensures formed { IsFormed parts.old.state → IsFormed parts.new.state }
 {
     let handled = handle_event(alloc, command, parts, queue)?;

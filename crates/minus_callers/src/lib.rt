@@ -7,7 +7,7 @@ mod fetcher;
 mod follower;
 mod report;
 
-pub use by_hand::work_off;
+pub use by_hand::perform;
 pub use fetcher::{FetcherKinds, NotesEnd, fetch, page_beginning};
 pub use follower::{follow, push_line, push_lines};
 pub use report::{GoToLine, ReportKeys, ReportKinds, page_report, report_keys};

@@ -17,7 +17,6 @@ pub struct GoToLine {
 }
 
 impl ActionCall for GoToLine {
-    ghost use Rattle.std.specs.Prelude.{◌≡◌};
     ghost use Rattle.minus_callers.specs.Report.{line_answer};
 
     ghost answers = { λ key event state answer. answer ≡ line_answer key.line state };

@@ -3,7 +3,7 @@ use Rattle.std.proofs.Common.{◌≡◌, ℕ, List, ap, ◌∙◌, sym, refl, ar
 use Rattle.std.specs.Prelude.{not}
 use Rattle.minus_state.specs.Control.{Control, Saved, SameSize}
 use Rattle.minus_state.specs.ClampedMark.{clamp, top, IsClamped}
-use Rattle.minus_state.specs.Help.{left_help, restored}
+use Rattle.minus_state.specs.Help.{left_help, prompt_restored}
 use Rattle.minus_state.specs.Prompting.{opened_by}
 use Rattle.minus_state.specs.SearchMode.{char_of}
 use Rattle.minus_state.specs.Selecting.{no_ends, has_ends, end_at, ends_begun, mark_led, ends_led, stays_led}
@@ -83,7 +83,7 @@ left_size : (c : Control) (help : Option Saved) → SameSize c (left_help c help
 left_size c None = record { same_cols = refl; same_rows = refl }
 left_size c (Some saved) = record { same_cols = refl; same_rows = refl }
 
-restored_size : (c : Control) (help : Option Saved) → SameSize c (restored c help)
+restored_size : (c : Control) (help : Option Saved) → SameSize c (prompt_restored c help)
 restored_size c None = record { same_cols = refl; same_rows = refl }
 restored_size c (Some saved) = record { same_cols = refl; same_rows = refl }
 
@@ -112,6 +112,6 @@ pub left_search : (c : Control) (help : Option Saved) → (left_help c help).sea
 left_search c None = refl
 left_search c (Some saved) = refl
 
-pub restored_search : (c : Control) (help : Option Saved) → (restored c help).search ≡ c.search
+pub restored_search : (c : Control) (help : Option Saved) → (prompt_restored c help).search ≡ c.search
 restored_search c None = refl
 restored_search c (Some saved) = refl

@@ -1,4 +1,4 @@
--- What waits for a program that performs commands manually, and what is queued in the place of a drawing,
+-- What waits for a start or for a program that performs commands manually, and what is queued in the place of a drawing,
 -- a move and the opening of a search prompt.
 use Rattle.std.specs.Prelude.{ℕ, List, [], ◌∷◌, ◌++◌, Bool, Option, None, Some, if◌then◌else◌}
 use Rattle.std.specs.Option.{option_map}
@@ -7,6 +7,7 @@ use Rattle.minus_state.specs.declared.change.Redraw.{Redraw}
 use Rattle.minus_state.specs.declared.change.Redraw.TheVariants.{Whole, Appended, Opening}
 use Rattle.minus_commands.specs.declared.command_queue.CommandQueueOf.{CommandQueueOf}
 use Rattle.minus_commands.specs.declared.commands.CommandOf.{CommandOf}
+use Rattle.minus_commands.specs.declared.pager.PagerOf.{PagerOf}
 use Rattle.minus_commands.specs.declared.commands.IoCommand.{IoCommand}
 use Rattle.minus_commands.specs.declared.commands.IoCommand.TheVariants.{RedrawPrompt, RedrawDisplay, SetUpperMark}
 use Rattle.minus_commands.specs.declared.commands.IoCommand.TheVariants.{FetchSearchQuery}
@@ -16,6 +17,10 @@ use Rattle.minus_commands.specs.Table.{Wanted, effect_of}
 -- the commands that wait in a queue, the first that came first
 abbrev pub waiting_in : {P H E Q K : Type 0} → CommandQueueOf P H E Q K → List (CommandOf P H E Q K)
 waiting_in queue = queue.commands.items
+
+-- the commands that wait in a pager for its start, the first that came first
+abbrev pub waiting_of : {P H E Q K : Type 0} → PagerOf P H E Q K → List (CommandOf P H E Q K)
+waiting_of pager = pager.queue.items
 
 -- the command for what is asked to be drawn, or for the prompt row where only that may have changed, if either is drawn
 abbrev pub drawing_command : Redraw → (row_only : Bool) → Option IoCommand

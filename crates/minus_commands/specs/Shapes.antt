@@ -5,7 +5,7 @@ use Rattle.minus_state.specs.declared.change.Redraw.TheVariants.{Stays, Moved, P
 use Rattle.minus_state.specs.declared.search.SearchMode.{SearchMode}
 use Rattle.minus_state.specs.Appending.{followed, with_more}
 use Rattle.minus_state.specs.Control.{Control, Settings}
-use Rattle.minus_state.specs.Help.{help_open, left_help, restored}
+use Rattle.minus_state.specs.Help.{help_open, left_help, prompt_restored}
 use Rattle.minus_state.specs.Prompting.{opened, opening_redraw}
 use Rattle.minus_state.specs.RedrawExtent.{added_redraw, whole_where}
 use Rattle.minus_commands.specs.Registration.{Handing}
@@ -66,5 +66,5 @@ effect c (shows new is_drawn copied) =
     record (changes (record new { search = c.search }) (whole_where is_drawn)) { copies = copied }
 effect c draws_row = changes c PromptRow
 effect c (opens mode) = changes (opened c mode) (opening_redraw mode)
-effect c restores = record (changes (restored c c.help) (whole_where (help_open c))) { row_only = not (help_open c) }
+effect c restores = record (changes (prompt_restored c c.help) (whole_where (help_open c))) { row_only = not (help_open c) }
 effect c leaves = record (changes (left_help c c.help) (whole_where (help_open c))) { is_exit = not (help_open c) }

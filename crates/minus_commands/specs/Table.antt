@@ -18,7 +18,7 @@ use Rattle.minus_state.specs.Selecting.{no_ends, has_ends, end_at, ends_begun, m
 use Rattle.minus_state.specs.Control.{Control, document_of, text_rows, with_message, reformed, SameSize}
 use Rattle.minus_state.specs.TypedPrefix.{cleared}
 use Rattle.minus_state.specs.ClampedMark.{clamp, top, shows_end, IsClamped}
-use Rattle.minus_state.specs.Help.{help_open, turned, with_prompt, with_text}
+use Rattle.minus_state.specs.Help.{help_open, toggled_with, with_prompt, with_text}
 use Rattle.minus_commands.specs.Registration.{Handing, a_callback, HasNoNext}
 use Rattle.minus_commands.specs.Shapes.{Effect, Shape, effect, stays, registers, sets, moves, appends, shows, draws_row}
 use Rattle.minus_commands.specs.Shapes.{opens, restores, leaves}
@@ -89,7 +89,7 @@ shape c (updates_selection x y) =
 shape c clears_selection = shows (record c { ends = no_ends }) (has_ends c.ends) None
 shape c copies_selection =
     shows (record c { ends = no_ends }) (has_ends c.ends) (copied (document_of c) (ends_in_order c.ends))
-shape c (shows_help text) = shows (turned c c.help (unwrap_or text [])) true None
+shape c (shows_help text) = shows (toggled_with c text) true None
 shape c (moves_to_next_match jump) = moves c.settings (next_match c jump) (next_match_row c jump)
 shape c (moves_to_prev_match jump) = moves c.settings (prev_match c jump) (prev_match_row c jump)
 shape c (searches mode) = opens mode

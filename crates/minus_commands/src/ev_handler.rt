@@ -34,7 +34,7 @@ pub struct Handled {
 }
 
 impl Handled {
-    ghost use Rattle.std.specs.Prelude.{◌≡◌, None, false};
+    ghost use Rattle.std.specs.Prelude.{None, false};
 
     // Nothing is answered.
     pub(crate) fn nothing() -> Handled

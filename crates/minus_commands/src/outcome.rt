@@ -40,14 +40,13 @@ impl Drop for Outcome {
 }
 
 impl Outcome {
-    ghost use Rattle.std.specs.Prelude.{◌≡◌, Some, None, not, true, false, string_bytes, IfOk, IfErr};
+    ghost use Rattle.std.specs.Prelude.{Some, None, not, true, false, string_bytes};
     ghost use Rattle.std.specs.Option.{option_map};
     ghost use Rattle.minus_state.specs.Changes.{Leads};
-    ghost use Rattle.minus_state.specs.States.{control_of, IsFormed};
     ghost use Rattle.minus_state.specs.Control.{with_follow};
     ghost use Rattle.minus_state.specs.ClampedMark.{top};
     ghost use Rattle.minus_state.specs.Copied.{copied};
-    ghost use Rattle.minus_state.specs.Help.{help_open, left_help, restored};
+    ghost use Rattle.minus_state.specs.Help.{help_open, left_help, prompt_restored};
     ghost use Rattle.minus_state.specs.MatchJumps.{next_match_row, prev_match_row, telling_next, telling_prev};
     ghost use Rattle.minus_state.specs.NextTexts.{Belongs};
     ghost use Rattle.minus_state.specs.RedrawExtent.{whole_where};
@@ -176,7 +175,7 @@ impl Outcome {
     // What leaves help where it is open, and else lets the message go, which the prompt row alone shows.
     fn restoring(state: &PagerState, alloc: Global) -> Result<Outcome, MinusError>
         ensures next { IfOk result (λ o. Leads state.now o.change
-            (restored (control_of state.now) (control_of state.now).help)) }
+            (prompt_restored (control_of state.now) (control_of state.now).help)) }
         ensures redraw { IfOk result (λ o. o.change.redraw ≡ whole_where (help_open (control_of state.now))) }
         ensures moves_to { IfOk result (λ o. o.moves_to ≡ None) }
         ensures row_only { IfOk result (λ o. o.row_only ≡ not (help_open (control_of state.now))) }
@@ -184,7 +183,7 @@ impl Outcome {
         ensures exits { IfOk result (λ o. o.exits ≡ false) }
         ensures memory { IfErr result (λ e. e ≡ MinusError.Memory) }
     {
-        let mut outcome = Outcome::of(state.restored(alloc)?);
+        let mut outcome = Outcome::of(state.prompt_restored(alloc)?);
         outcome.row_only = !state.help_open();
         Ok(outcome)
     }
@@ -233,9 +232,12 @@ fn form_any<P: Parts>(
     ensures unformed { IfErr result (λ e. IsUnformed (refusal_of e) (wanted_by request)) }
 {
     match request {
-        Request::SetText(text) => Ok(Outcome::of(state.replaced(alloc, text)?)),
-        Request::AppendText(text) => Ok(Outcome::appending(state, state.added(alloc, text)?)),
+        // `form`, `form_text` and `form_page` have these three, so they are not reached here
         Request::MoveMark(mark) => Ok(Outcome::moving(state.redrawn(Redraw::Moved), Some(mark))),
+        Request::AppendText(text) => Ok(Outcome::appending(state, state.added(alloc, text)?)),
+        Request::RedrawPage => Ok(Outcome::of(state.redrawn(Redraw::Whole))),
+
+        Request::SetText(text) => Ok(Outcome::of(state.replaced(alloc, text)?)),
         Request::Resize(cols, rows) => Ok(Outcome::of(state.resized(alloc, cols, rows)?)),
         Request::Exit => Outcome::leaving(state, alloc),
         Request::Ignore => Ok(Outcome::of(state.redrawn(Redraw::Stays))),
@@ -246,7 +248,6 @@ fn form_any<P: Parts>(
         Request::Type(character) => Ok(Outcome::setting(state.typed(alloc, character)?)),
         Request::RestorePrompt => Outcome::restoring(state, alloc),
         Request::RedrawPrompt => Ok(Outcome::of(state.redrawn(Redraw::PromptRow))),
-        Request::RedrawPage => Ok(Outcome::of(state.redrawn(Redraw::Whole))),
         Request::HandOver(_) => Ok(Outcome::of(state.redrawn(Redraw::Stays))),
         Request::SetNumbers(numbers) => Ok(Outcome::of(state.renumbered(alloc, numbers)?)),
         Request::SetWrapping(wrapping) => Ok(Outcome::of(state.rewrapped(alloc, wrapping)?)),
@@ -254,10 +255,10 @@ fn form_any<P: Parts>(
         Request::SetCarryStyle(carry_style) => Ok(Outcome::of(state.restyled(alloc, carry_style)?)),
         Request::ShiftLeft(left) => Ok(Outcome::of(state.shifted(left))),
         Request::StartSelection { x, y } => Ok(Outcome::of(state.selected(x, y))),
-        Request::UpdateSelection { x, y } => Ok(Outcome::of(state.led(x, y))),
+        Request::UpdateSelection { x, y } => Ok(Outcome::of(state.dragged(x, y))),
         Request::ClearSelection => Ok(Outcome::of(state.unselected())),
         Request::CopySelection => Outcome::copying(state, alloc),
-        Request::ShowHelp(text) => Ok(Outcome::of(state.turned(alloc, text)?)),
+        Request::ShowHelp(text) => Ok(Outcome::of(state.help_toggled(alloc, text)?)),
         Request::MoveToNextMatch(jump) => Ok(Outcome::jumping_on(state, jump)),
         Request::MoveToPrevMatch(jump) => Ok(Outcome::jumping_back(state, jump)),
         Request::Search(mode) => Ok(Outcome::of(state.opened(alloc, mode)?)),

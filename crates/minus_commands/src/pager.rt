@@ -4,15 +4,17 @@ ghost use Rattle.minus_term.specs.Refusals.{refusal_of};
 ghost use Rattle.minus_state.specs.ShownPrompt.{has_newline};
 ghost use Rattle.minus_commands.specs.Callbacks.{callbacks_of, with_commands};
 ghost use Rattle.minus_commands.specs.WaitingRegistrations.{kept_taken, classifier_taken, condition_taken, CanTakeAll};
+ghost use Rattle.minus_commands.specs.Outcomes.{IsUnformed};
 ghost use Rattle.minus_commands.specs.Pager.{IsUnsaid, WaitsBehind};
+ghost use Rattle.minus_commands.specs.Queued.{waiting_of};
 ghost use Rattle.minus_commands.specs.Reads.{kept_of, wanted_of};
 ghost use Rattle.minus_commands.specs.Room.{HasRoomFor};
-ghost use Rattle.minus_commands.specs.Table.{sets_data, appends_data, sets_prompt, sends_message};
+ghost use Rattle.minus_commands.specs.Table.{sets_data, appends_data, sets_prompt, sends_message, IsPossible};
 
 use crate::commands::CommandOf;
 use crate::parts::{Boxes, Parts, PartsOf};
 use crate::registration::keep_all;
-use crate::request::check_line;
+use crate::request::{check_command, check_line};
 use minus_state::state::ExitStrategy;
 use minus_term::MinusError;
 use minus_term::hooks::Hook;
@@ -35,7 +37,7 @@ pub type Pager = PagerOf<Boxes>;
 impl<P: Parts> PagerOf<P> {
     /// A pager that was told nothing.
     pub fn new(alloc: Global) -> PagerOf<P>
-        ensures { result.queue.items ≡ [] }
+        ensures { waiting_of result ≡ [] }
     {
         PagerOf {
             alloc,
@@ -45,18 +47,36 @@ impl<P: Parts> PagerOf<P> {
 
     /// The commands that wait for the start, in their order.
     pub fn waiting(&self) -> &[CommandOf<P>]
-        ensures { result.now ≡ self.now.queue.items }
+        ensures { result.now ≡ waiting_of self.now }
     {
         self.queue.as_slice()
     }
 
     // Adds a command after those that wait.
     fn queue(&mut self, command: CommandOf<P>) -> Result<(), MinusError>
-        ensures ok { OnOk result (self.new.queue.items ≡ self.old.queue.items ++ command ∷ []) }
-        ensures err { OnErr result (self.new.queue.items ≡ self.old.queue.items) }
+        ensures ok { OnOk result (waiting_of self.new ≡ waiting_of self.old ++ command ∷ []) }
+        ensures err { OnErr result (waiting_of self.new ≡ waiting_of self.old) }
         ensures memory { IfErr result (λ e. e ≡ MinusError.Memory) }
     {
         self.queue.push(command)?;
+        Ok(())
+    }
+
+    /// Lets a command wait behind those that wait.
+    ///
+    /// # Errors
+    ///
+    /// [`MinusError::NewlineInPrompt`] where a prompt or a message has a newline, [`MinusError::BadSize`] where a size
+    /// is none of a terminal, and [`MinusError::Memory`] where there is no memory; nothing has changed, and the command
+    /// is dropped.
+    pub fn tell(&mut self, command: CommandOf<P>) -> Result<(), MinusError>
+        ensures ok { OnOk result (waiting_of self.new ≡ waiting_of self.old ++ command ∷ []) }
+        ensures possible { OnOk result (IsPossible (wanted_of command)) }
+        ensures err { OnErr result (waiting_of self.new ≡ waiting_of self.old) }
+        ensures refused { IfErr result (λ e. IsUnformed (refusal_of e) (wanted_of command)) }
+    {
+        check_command(&command)?;
+        self.queue(command)?;
         Ok(())
     }
 
@@ -66,8 +86,8 @@ impl<P: Parts> PagerOf<P> {
     ///
     /// [`MinusError::Memory`] where there is no memory, and nothing has changed.
     pub fn set_text(&mut self, text: &str) -> Result<(), MinusError>
-        ensures ok { OnOk result (WaitsBehind self.old.queue.items self.new.queue.items (sets_data text.now)) }
-        ensures err { OnErr result (self.new.queue.items ≡ self.old.queue.items) }
+        ensures ok { OnOk result (WaitsBehind (waiting_of self.old) (waiting_of self.new) (sets_data text.now)) }
+        ensures err { OnErr result (waiting_of self.new ≡ waiting_of self.old) }
         ensures memory { IfErr result (λ e. e ≡ MinusError.Memory) }
     {
         self.queue(CommandOf::SetData(String::from_str(self.alloc, text)?))?;
@@ -80,8 +100,8 @@ impl<P: Parts> PagerOf<P> {
     ///
     /// [`MinusError::Memory`] where there is no memory, and nothing has changed.
     pub fn push_str(&mut self, text: &str) -> Result<(), MinusError>
-        ensures ok { OnOk result (WaitsBehind self.old.queue.items self.new.queue.items (appends_data text.now)) }
-        ensures err { OnErr result (self.new.queue.items ≡ self.old.queue.items) }
+        ensures ok { OnOk result (WaitsBehind (waiting_of self.old) (waiting_of self.new) (appends_data text.now)) }
+        ensures err { OnErr result (waiting_of self.new ≡ waiting_of self.old) }
         ensures memory { IfErr result (λ e. e ≡ MinusError.Memory) }
     {
         self.queue(CommandOf::AppendData(String::from_str(self.alloc, text)?))?;
@@ -95,9 +115,9 @@ impl<P: Parts> PagerOf<P> {
     /// [`MinusError::NewlineInPrompt`] where the text has a newline, and [`MinusError::Memory`] where there is no
     /// memory; nothing has changed.
     pub fn set_prompt<T: AsStr + Drop>(&mut self, text: T) -> Result<(), MinusError>
-        ensures ok { OnOk result (WaitsBehind self.old.queue.items self.new.queue.items (sets_prompt (T.text text))) }
+        ensures ok { OnOk result (WaitsBehind (waiting_of self.old) (waiting_of self.new) (sets_prompt (T.text text))) }
         ensures one_line { OnOk result (has_newline (T.text text) ≡ false) }
-        ensures err { OnErr result (self.new.queue.items ≡ self.old.queue.items) }
+        ensures err { OnErr result (waiting_of self.new ≡ waiting_of self.old) }
         ensures refused { IfErr result (λ e. IsUnsaid (refusal_of e) (T.text text)) }
     {
         let text = text.as_str();
@@ -113,9 +133,9 @@ impl<P: Parts> PagerOf<P> {
     /// [`MinusError::NewlineInPrompt`] where the text has a newline, and [`MinusError::Memory`] where there is no
     /// memory; nothing has changed.
     pub fn send_message<T: AsStr + Drop>(&mut self, text: T) -> Result<(), MinusError>
-        ensures ok { OnOk result (WaitsBehind self.old.queue.items self.new.queue.items (sends_message (T.text text))) }
+        ensures ok { OnOk result (WaitsBehind (waiting_of self.old) (waiting_of self.new) (sends_message (T.text text))) }
         ensures one_line { OnOk result (has_newline (T.text text) ≡ false) }
-        ensures err { OnErr result (self.new.queue.items ≡ self.old.queue.items) }
+        ensures err { OnErr result (waiting_of self.new ≡ waiting_of self.old) }
         ensures refused { IfErr result (λ e. IsUnsaid (refusal_of e) (T.text text)) }
     {
         let text = text.as_str();
@@ -130,9 +150,9 @@ impl<P: Parts> PagerOf<P> {
     ///
     /// [`MinusError::Memory`] where there is no memory, and nothing has changed.
     pub fn show_prompt(&mut self, is_shown: bool) -> Result<(), MinusError>
-        ensures ok { OnOk result (self.new.queue.items
-            ≡ self.old.queue.items ++ CommandOf.ShowPrompt is_shown ∷ []) }
-        ensures err { OnErr result (self.new.queue.items ≡ self.old.queue.items) }
+        ensures ok { OnOk result (waiting_of self.new
+            ≡ waiting_of self.old ++ CommandOf.ShowPrompt is_shown ∷ []) }
+        ensures err { OnErr result (waiting_of self.new ≡ waiting_of self.old) }
         ensures memory { IfErr result (λ e. e ≡ MinusError.Memory) }
     {
         self.queue(CommandOf::ShowPrompt(is_shown))?;
@@ -145,9 +165,9 @@ impl<P: Parts> PagerOf<P> {
     ///
     /// [`MinusError::Memory`] where there is no memory, and nothing has changed.
     pub fn set_line_numbers(&mut self, numbers: LineNumbers) -> Result<(), MinusError>
-        ensures ok { OnOk result (self.new.queue.items
-            ≡ self.old.queue.items ++ CommandOf.SetLineNumbers numbers ∷ []) }
-        ensures err { OnErr result (self.new.queue.items ≡ self.old.queue.items) }
+        ensures ok { OnOk result (waiting_of self.new
+            ≡ waiting_of self.old ++ CommandOf.SetLineNumbers numbers ∷ []) }
+        ensures err { OnErr result (waiting_of self.new ≡ waiting_of self.old) }
         ensures memory { IfErr result (λ e. e ≡ MinusError.Memory) }
     {
         self.queue(CommandOf::SetLineNumbers(numbers))?;
@@ -160,9 +180,9 @@ impl<P: Parts> PagerOf<P> {
     ///
     /// [`MinusError::Memory`] where there is no memory, and nothing has changed.
     pub fn horizontal_scroll(&mut self, on: bool) -> Result<(), MinusError>
-        ensures ok { OnOk result (self.new.queue.items
-            ≡ self.old.queue.items ++ CommandOf.LineWrapping (not on) ∷ []) }
-        ensures err { OnErr result (self.new.queue.items ≡ self.old.queue.items) }
+        ensures ok { OnOk result (waiting_of self.new
+            ≡ waiting_of self.old ++ CommandOf.LineWrapping (not on) ∷ []) }
+        ensures err { OnErr result (waiting_of self.new ≡ waiting_of self.old) }
         ensures memory { IfErr result (λ e. e ≡ MinusError.Memory) }
     {
         self.queue(CommandOf::LineWrapping(!on))?;
@@ -176,9 +196,9 @@ impl<P: Parts> PagerOf<P> {
     ///
     /// [`MinusError::Memory`] where there is no memory, and nothing has changed.
     pub fn set_match_lines(&mut self, on: bool) -> Result<(), MinusError>
-        ensures ok { OnOk result (self.new.queue.items
-            ≡ self.old.queue.items ++ CommandOf.SetMatchLines on ∷ []) }
-        ensures err { OnErr result (self.new.queue.items ≡ self.old.queue.items) }
+        ensures ok { OnOk result (waiting_of self.new
+            ≡ waiting_of self.old ++ CommandOf.SetMatchLines on ∷ []) }
+        ensures err { OnErr result (waiting_of self.new ≡ waiting_of self.old) }
         ensures memory { IfErr result (λ e. e ≡ MinusError.Memory) }
     {
         self.queue(CommandOf::SetMatchLines(on))?;
@@ -192,9 +212,9 @@ impl<P: Parts> PagerOf<P> {
     ///
     /// [`MinusError::Memory`] where there is no memory, and nothing has changed.
     pub fn set_carry_style(&mut self, on: bool) -> Result<(), MinusError>
-        ensures ok { OnOk result (self.new.queue.items
-            ≡ self.old.queue.items ++ CommandOf.SetCarryStyle on ∷ []) }
-        ensures err { OnErr result (self.new.queue.items ≡ self.old.queue.items) }
+        ensures ok { OnOk result (waiting_of self.new
+            ≡ waiting_of self.old ++ CommandOf.SetCarryStyle on ∷ []) }
+        ensures err { OnErr result (waiting_of self.new ≡ waiting_of self.old) }
         ensures memory { IfErr result (λ e. e ≡ MinusError.Memory) }
     {
         self.queue(CommandOf::SetCarryStyle(on))?;
@@ -207,9 +227,9 @@ impl<P: Parts> PagerOf<P> {
     ///
     /// [`MinusError::Memory`] where there is no memory, and nothing has changed.
     pub fn follow_output(&mut self, follow: bool) -> Result<(), MinusError>
-        ensures ok { OnOk result (self.new.queue.items
-            ≡ self.old.queue.items ++ CommandOf.FollowOutput follow ∷ []) }
-        ensures err { OnErr result (self.new.queue.items ≡ self.old.queue.items) }
+        ensures ok { OnOk result (waiting_of self.new
+            ≡ waiting_of self.old ++ CommandOf.FollowOutput follow ∷ []) }
+        ensures err { OnErr result (waiting_of self.new ≡ waiting_of self.old) }
         ensures memory { IfErr result (λ e. e ≡ MinusError.Memory) }
     {
         self.queue(CommandOf::FollowOutput(follow))?;
@@ -222,9 +242,9 @@ impl<P: Parts> PagerOf<P> {
     ///
     /// [`MinusError::Memory`] where there is no memory, and nothing has changed.
     pub fn set_exit_strategy(&mut self, strategy: ExitStrategy) -> Result<(), MinusError>
-        ensures ok { OnOk result (self.new.queue.items
-            ≡ self.old.queue.items ++ CommandOf.SetExitStrategy strategy ∷ []) }
-        ensures err { OnErr result (self.new.queue.items ≡ self.old.queue.items) }
+        ensures ok { OnOk result (waiting_of self.new
+            ≡ waiting_of self.old ++ CommandOf.SetExitStrategy strategy ∷ []) }
+        ensures err { OnErr result (waiting_of self.new ≡ waiting_of self.old) }
         ensures memory { IfErr result (λ e. e ≡ MinusError.Memory) }
     {
         self.queue(CommandOf::SetExitStrategy(strategy))?;
@@ -237,9 +257,9 @@ impl<P: Parts> PagerOf<P> {
     ///
     /// [`MinusError::Memory`] where there is no memory, and nothing has changed.
     pub fn set_run_no_overflow(&mut self, on: bool) -> Result<(), MinusError>
-        ensures ok { OnOk result (self.new.queue.items
-            ≡ self.old.queue.items ++ CommandOf.SetRunNoOverflow on ∷ []) }
-        ensures err { OnErr result (self.new.queue.items ≡ self.old.queue.items) }
+        ensures ok { OnOk result (waiting_of self.new
+            ≡ waiting_of self.old ++ CommandOf.SetRunNoOverflow on ∷ []) }
+        ensures err { OnErr result (waiting_of self.new ≡ waiting_of self.old) }
         ensures memory { IfErr result (λ e. e ≡ MinusError.Memory) }
     {
         self.queue(CommandOf::SetRunNoOverflow(on))?;
@@ -252,9 +272,9 @@ impl<P: Parts> PagerOf<P> {
     ///
     /// [`MinusError::Memory`] where there is no memory, and nothing has changed.
     pub fn add_exit_callback(&mut self, callback: P::Exit) -> Result<(), MinusError>
-        ensures ok { OnOk result (self.new.queue.items
-            ≡ self.old.queue.items ++ CommandOf.AddExitCallback callback ∷ []) }
-        ensures err { OnErr result (self.new.queue.items ≡ self.old.queue.items) }
+        ensures ok { OnOk result (waiting_of self.new
+            ≡ waiting_of self.old ++ CommandOf.AddExitCallback callback ∷ []) }
+        ensures err { OnErr result (waiting_of self.new ≡ waiting_of self.old) }
         ensures memory { IfErr result (λ e. e ≡ MinusError.Memory) }
     {
         self.queue(CommandOf::AddExitCallback(callback))?;
@@ -268,9 +288,9 @@ impl<P: Parts> PagerOf<P> {
     ///
     /// [`MinusError::Memory`] where there is no memory, and nothing has changed.
     pub fn add_hook(&mut self, hook: Hook, id: u64, callback: P::Hook) -> Result<(), MinusError>
-        ensures ok { OnOk result (self.new.queue.items
-            ≡ self.old.queue.items ++ CommandOf.AddHook hook id callback ∷ []) }
-        ensures err { OnErr result (self.new.queue.items ≡ self.old.queue.items) }
+        ensures ok { OnOk result (waiting_of self.new
+            ≡ waiting_of self.old ++ CommandOf.AddHook hook id callback ∷ []) }
+        ensures err { OnErr result (waiting_of self.new ≡ waiting_of self.old) }
         ensures memory { IfErr result (λ e. e ≡ MinusError.Memory) }
     {
         self.queue(CommandOf::AddHook(hook, id, callback))?;
@@ -284,9 +304,9 @@ impl<P: Parts> PagerOf<P> {
     ///
     /// [`MinusError::Memory`] where there is no memory, and nothing has changed.
     pub fn remove_hook(&mut self, hook: Hook, id: u64) -> Result<(), MinusError>
-        ensures ok { OnOk result (self.new.queue.items
-            ≡ self.old.queue.items ++ CommandOf.RemoveHook hook id ∷ []) }
-        ensures err { OnErr result (self.new.queue.items ≡ self.old.queue.items) }
+        ensures ok { OnOk result (waiting_of self.new
+            ≡ waiting_of self.old ++ CommandOf.RemoveHook hook id ∷ []) }
+        ensures err { OnErr result (waiting_of self.new ≡ waiting_of self.old) }
         ensures memory { IfErr result (λ e. e ≡ MinusError.Memory) }
     {
         self.queue(CommandOf::RemoveHook(hook, id))?;
@@ -299,9 +319,9 @@ impl<P: Parts> PagerOf<P> {
     ///
     /// [`MinusError::Memory`] where memory ran out, nothing has changed, and the classifier is dropped.
     pub fn set_input_classifier(&mut self, classifier: P::Classifier) -> Result<(), MinusError>
-        ensures ok { OnOk result (self.new.queue.items
-            ≡ self.old.queue.items ++ CommandOf.SetInputClassifier classifier ∷ []) }
-        ensures err { OnErr result (self.new.queue.items ≡ self.old.queue.items) }
+        ensures ok { OnOk result (waiting_of self.new
+            ≡ waiting_of self.old ++ CommandOf.SetInputClassifier classifier ∷ []) }
+        ensures err { OnErr result (waiting_of self.new ≡ waiting_of self.old) }
         ensures memory { IfErr result (λ e. e ≡ MinusError.Memory) }
     {
         self.queue(CommandOf::SetInputClassifier(classifier))?;
@@ -317,9 +337,9 @@ impl<P: Parts> PagerOf<P> {
         &mut self,
         condition: P::Condition,
     ) -> Result<(), MinusError>
-        ensures ok { OnOk result (self.new.queue.items
-            ≡ self.old.queue.items ++ CommandOf.IncrementalSearchCondition condition ∷ []) }
-        ensures err { OnErr result (self.new.queue.items ≡ self.old.queue.items) }
+        ensures ok { OnOk result (waiting_of self.new
+            ≡ waiting_of self.old ++ CommandOf.IncrementalSearchCondition condition ∷ []) }
+        ensures err { OnErr result (waiting_of self.new ≡ waiting_of self.old) }
         ensures memory { IfErr result (λ e. e ≡ MinusError.Memory) }
     {
         self.queue(CommandOf::IncrementalSearchCondition(condition))?;
@@ -337,25 +357,21 @@ pub fn alloc_of<P: Parts>(pager: &PagerOf<P>) -> Global
 /// Keeps what the commands that wait in a pager register, for all of which there is room.
 pub fn keep_waiting<P: Parts>(parts: &mut PartsOf<P>, pager: PagerOf<P>)
     requires room { HasRoomFor parts.old (vec_len pager.queue) }
-    requires can { CanTakeAll (kept_of parts.old).ids (map wanted_of pager.queue.items) }
-    ensures kept { kept_of parts.new ≡ kept_taken (kept_of parts.old) (map wanted_of pager.queue.items) }
-    ensures callbacks { callbacks_of parts.new ≡ with_commands (callbacks_of parts.old) pager.queue.items }
+    requires can { CanTakeAll (kept_of parts.old).ids (map wanted_of (waiting_of pager)) }
+    ensures kept { kept_of parts.new ≡ kept_taken (kept_of parts.old) (map wanted_of (waiting_of pager)) }
+    ensures callbacks { callbacks_of parts.new ≡ with_commands (callbacks_of parts.old) (waiting_of pager) }
     ensures classifier { parts.new.classifier
-        ≡ classifier_taken parts.old.classifier (map wanted_of pager.queue.items) }
-    ensures condition { parts.new.condition ≡ condition_taken parts.old.condition (map wanted_of pager.queue.items) }
+        ≡ classifier_taken parts.old.classifier (map wanted_of (waiting_of pager)) }
+    ensures condition { parts.new.condition ≡ condition_taken parts.old.condition (map wanted_of (waiting_of pager)) }
     ensures state { parts.new.state ≡ parts.old.state }
 {
     keep_all(parts, pager.queue);
 }
 
 impl<P: Parts> fmt::Write for PagerOf<P> {
-    ghost use Rattle.std.specs.Prelude.{◌≡◌, OnOk, OnErr};
-    ghost use Rattle.minus_commands.specs.Pager.{WaitsBehind};
-    ghost use Rattle.minus_commands.specs.Table.{appends_data};
-
     fn write_str(&mut self, text: &str) -> fmt::Result
-        ensures ok { OnOk result (WaitsBehind self.old.queue.items self.new.queue.items (appends_data text.now)) }
-        ensures err { OnErr result (self.new.queue.items ≡ self.old.queue.items) }
+        ensures ok { OnOk result (WaitsBehind (waiting_of self.old) (waiting_of self.new) (appends_data text.now)) }
+        ensures err { OnErr result (waiting_of self.new ≡ waiting_of self.old) }
     {
         match self.push_str(text) {
             Ok(()) => Ok(()),

@@ -103,7 +103,6 @@ impl<P: Parts> Drop for PartsOf<P> {
 }
 
 impl<P: Parts> PartsOf<P> {
-    ghost use Rattle.std.specs.Prelude.{◌≡◌};
     ghost use Rattle.minus_commands.specs.Callbacks.{callbacks_of, no_callbacks};
     ghost use Rattle.minus_commands.specs.Registration.{kept_at_first};
     ghost use Rattle.minus_commands.specs.Reads.{kept_of};
@@ -136,7 +135,7 @@ impl<P: Parts> PartsOf<P> {
 }
 
 impl<H: Drop, E: Drop, Q: Drop, C: Drop> PartsOf<Keyed<H, E, Q, C>> {
-    ghost use Rattle.std.specs.Prelude.{◌≡◌, None, IfOk};
+    ghost use Rattle.std.specs.Prelude.{None};
     ghost use Rattle.minus_input.specs.DefaultClassifier.{IsDefault};
     ghost use Rattle.minus_commands.specs.Callbacks.{callbacks_of, no_callbacks};
     ghost use Rattle.minus_commands.specs.Registration.{kept_at_first};
@@ -173,7 +172,8 @@ fn help_text<P: Calls>(parts: &PartsOf<P>, alloc: Global) -> Result<Option<Strin
     Ok(text)
 }
 
-// A request as it is performed: help has its text.
+// A request as it is performed: help has its text. (The borrow checker does not cover a caller that matches by value
+// what it lent to `set_help`.)
 pub(crate) fn with_help<P: Calls>(
     parts: &PartsOf<P>,
     alloc: Global,

@@ -52,11 +52,11 @@ pub enum Request<P: Parts> {
 }
 
 impl<P: Parts> Request<P> {
-    ghost use Rattle.std.specs.Prelude.{◌≡◌, IfOk};
+    ghost use Rattle.std.specs.Prelude.{IfOk};
     ghost use Rattle.minus_state.specs.Control.{Control};
     ghost use Rattle.minus_commands.specs.Callbacks.{KeepsNone, KeepsOf};
-    ghost use Rattle.minus_commands.specs.Reads.{event_wanted, io_wanted, wanted_of, wanted_by};
-    ghost use Rattle.minus_commands.specs.Table.{effect_of, IsPossible};
+    ghost use Rattle.minus_commands.specs.Reads.{event_wanted, io_wanted, wanted_by};
+    ghost use Rattle.minus_commands.specs.Table.{effect_of};
 
     /// What an event asks for. Help has no text yet.
     pub fn of_event(event: InputEvent) -> Request<P>

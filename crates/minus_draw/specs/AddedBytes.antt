@@ -4,13 +4,15 @@ use Rattle.regex.specs.Patterns.{Re}
 use Rattle.minus_term.specs.Operations.{Op}
 use Rattle.minus_term.specs.Written.{written_all}
 use Rattle.minus_draw.specs.declared.drawings.Drawing.{Drawing}
+use Rattle.minus_draw.specs.declared.drawings.Drawing.TheVariants.{Page}
+use Rattle.minus_draw.specs.declared.drawings.WholePage.{WholePage}
 use Rattle.minus_state.specs.declared.change.Change.{Change}
 use Rattle.minus_state.specs.declared.state.PagerState.{PagerState}
 use Rattle.minus_state.specs.Changes.{IsChange}
 use Rattle.minus_state.specs.Control.{Control}
 use Rattle.minus_state.specs.ShownPrompt.{prompt_row}
 use Rattle.minus_state.specs.States.{control_of, IsFormed}
-use Rattle.minus_draw.specs.Drawings.{ops_of, ops_of_step, page_by, EditsAlone, IsDrawable}
+use Rattle.minus_draw.specs.Drawings.{ops_of, ops_of_step, page_by, page_ops, EditsAlone, IsDrawable}
 
 -- the bytes of these operations are added
 abbrev pub AddsOps : (old : Control) → Change → (Control → List Op) → (before after : List ℕ) → Type 0
@@ -47,6 +49,11 @@ abbrev pub AddsDrawing : (old : Control) → Change → Drawing → (prompt : Li
 AddsDrawing old change drawing prompt ops before after =
     (new : Control) → IsChange old change new → IsDrawable drawing old new → prompt ≡ prompt_row new
     → after ≡ before ++ written_all (ops new)
+
+-- those of a whole page are added there, where the state is formed
+abbrev pub AddsWholePage : PagerState → Change → WholePage → (prompt before after : List ℕ) → Type 0
+AddsWholePage old change page prompt before after =
+    IsFormed old → AddsDrawing (control_of old) change (Page page) prompt (page_ops page) before after
 
 -- the operations of a step are added there
 abbrev pub AddsStep : (old : Control) → Change → Drawing → (prompt before after : List ℕ) → Type 0

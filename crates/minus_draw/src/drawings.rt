@@ -2,8 +2,8 @@
 //! formed.
 ghost use Rattle.std.specs.Prelude.{◌≡◌, string_bytes, OnOk, IfOk};
 ghost use Rattle.minus_state.specs.ShownPrompt.{prompt_row};
-ghost use Rattle.minus_draw.specs.AddedBytes.{AddsDrawing, AddsStep, IsDrawnBy};
-ghost use Rattle.minus_draw.specs.Drawings.{ops_of, page_ops, last_row_ops};
+ghost use Rattle.minus_draw.specs.AddedBytes.{AddsDrawing, AddsWholePage, AddsStep, IsDrawnBy};
+ghost use Rattle.minus_draw.specs.Drawings.{ops_of, last_row_ops};
 ghost use Rattle.minus_state.specs.States.{control_of, IsFormed};
 ghost use Rattle.minus_state.specs.Changes.{IsFormedFor, WhereLed};
 ghost use Rattle.minus_state.specs.NextTexts.{Belongs};
@@ -67,9 +67,7 @@ pub enum Drawing {
 }
 
 impl Drawing {
-    ghost use Rattle.std.specs.Prelude.{◌≡◌};
     ghost use Rattle.minus_draw.specs.Drawings.{drawing_by};
-    ghost use Rattle.minus_state.specs.States.{control_of, IsFormed};
 
     /// How a change of a state is drawn.
     pub fn of(state: &PagerState, change: &Change) -> Drawing
@@ -106,8 +104,7 @@ fn push_whole(
     prompt: &str,
 ) -> Result<(), AllocError>
     requires { Belongs state.now.screen.document change.now.text }
-    ensures { OnOk result (IsFormed state.now → AddsDrawing (control_of state.now) change.now (Drawing.Page page)
-        prompt.now (page_ops page) out.old.items out.new.items) }
+    ensures { OnOk result (AddsWholePage state.now change.now page prompt.now out.old.items out.new.items) }
 {
     match page {
         WholePage::Plain => push_page(state, alloc, out, change, prompt),

@@ -24,7 +24,6 @@ pub(crate) fn push_changed_prompt(
 }
 
 impl Drawing {
-    ghost use Rattle.std.specs.Prelude.{◌≡◌};
     ghost use Rattle.minus_draw.specs.PromptRowDrawing.{draws_prompt};
 
     // Whether it draws the prompt row, or what stands in its place.

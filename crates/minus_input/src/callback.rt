@@ -51,7 +51,6 @@ fn ask<F: Fn(&Event, &PagerState) -> InputEvent>(
 }
 
 impl ActionCall for KeptAction {
-    ghost use Rattle.std.specs.Prelude.{◌≡◌};
     ghost use Rattle.std.specs.Borrow.{Bor};
     ghost use Rattle.minus_term.specs.declared.event.Event.{Event};
     ghost use Rattle.minus_state.specs.declared.state.PagerState.{PagerState};

@@ -41,11 +41,10 @@ fn insert_all<S: BuildHasher>(
 }
 
 impl<S: BuildHasher + Drop, C: Drop> EventTable<S, C> {
-    ghost use Rattle.std.specs.Prelude.{◌≡◌, length, is_some, nat_eq, None, OnOk, OnErr};
+    ghost use Rattle.std.specs.Prelude.{is_some, nat_eq, None, OnOk, OnErr};
     ghost use Rattle.std.specs.Option.{option_map};
     ghost use Rattle.std.specs.List.{IsDistinct};
     ghost use Rattle.std.specs.Map.{keys_of};
-    ghost use Rattle.minus_input.specs.EventForm.{same_event};
     ghost use Rattle.minus_input.specs.EventTables.{register_of, seen_action};
     ghost use Rattle.minus_input.specs.RegisterCalls.{with_keys};
     ghost use Rattle.minus_input.specs.Register.{bound_to, unbind, nothing_bound, action_at, first_bound};

@@ -32,7 +32,7 @@ use Rattle.minus_script.specs.declared.arguments.Mode.TheVariants.{Page, Bytes}
 use Rattle.minus_script.specs.declared.fault.ScriptFault.{ScriptFault}
 use Rattle.minus_script.specs.declared.fault.ScriptFault.TheVariants.{Io, Line, Refused}
 use Rattle.minus_state.specs.Sizes.{IsSize}
-use Rattle.minus_script.specs.Runs.{IsTaken, IsWorkedOff, IsWhole, IsRunOn, IsStoppedBy, exit_code, printed_after, IsShown, IsRefusal, IsOutputFault, IsRunFault}
+use Rattle.minus_script.specs.Runs.{IsTaken, IsPerformed, IsWhole, IsRunOn, IsStoppedBy, exit_code, printed_after, IsShown, IsRefusal, IsOutputFault, IsRunFault}
 use Rattle.minus_script.specs.WriteFaults.{IsWriteFault}
 use Rattle.minus_script.specs.declared.fault.Stream.{Stream}
 use Rattle.minus_script.specs.ShowFaults.{IsShowFault, IsUncleaned, IsCleanupFault}
@@ -43,7 +43,7 @@ started keys seen waiting cols rows terminal a b e f g h =
     subst (λ (x : Option (List ℕ)). IsStarted seen keys [] Dynamic cols rows true x b) g (subst (λ (x : Bool). IsStarted seen keys [] Dynamic cols rows x a b) f (subst (λ (x : List (Wanted NeverShows DefaultKeys)). IsStarted seen keys x Dynamic cols rows terminal a b) e h))
 
 -- nothing was taken yet
-pub worked_none : (old : Seen NeverShows DefaultKeys) (told : List (Told NeverShows DefaultKeys)) (a : Option (List ℕ)) → IsWorkedOff old old told [] told a a
+pub worked_none : (old : Seen NeverShows DefaultKeys) (told : List (Told NeverShows DefaultKeys)) (a : Option (List ℕ)) → IsPerformed old old told [] told a a
 worked_none old told a = record { taken = []; passed = []; steps = none; all = refl }
 
 -- ---- steps after steps
@@ -73,7 +73,7 @@ runs_by (more s (more t rest)) runs goes = runs_by (more t rest) t.running goes
 
 -- what was taken, and more steps
 worked_more : (old mid new : Seen NeverShows DefaultKeys) (all : List (Told NeverShows DefaultKeys)) (answers : List Answer) (left ts rest : List (Told NeverShows DefaultKeys)) (cs : List Control) (more_answers : List Answer) (a b c : Option (List ℕ)) →
-    IsWorkedOff old mid all answers left a b → Steps script_says mid ts cs more_answers new b c → left ≡ ts ++ rest → IsWorkedOff old new all (answers ++ more_answers) rest a c
+    IsPerformed old mid all answers left a b → Steps script_says mid ts cs more_answers new b c → left ≡ ts ++ rest → IsPerformed old new all (answers ++ more_answers) rest a c
 worked_more old mid new all answers left ts rest cs more_answers a b c h s e = record {
   taken = h.taken ++ ts;
   passed = h.passed ++ cs;
@@ -136,8 +136,8 @@ left_by : {A : Type 0} (told : A → Told NeverShows DefaultKeys) (inputs taken 
 left_by told inputs taken refused these rest e f = ap (map told) (e ∙ ap (λ l. taken ++ (l ++ rest)) f) ∙ map-append told taken (these ++ rest)
 
 -- what was performed, and a run
-pub ran_on : {A : Type 0} {told : A → Told NeverShows DefaultKeys} {mid new : Seen NeverShows DefaultKeys} {inputs rest : List A} {done : ℕ} {last : Option Answer} {b c : Option (List ℕ)} (old : Seen NeverShows DefaultKeys) (all : List (Told NeverShows DefaultKeys)) (answers : List Answer) (a : Option (List ℕ)) → IsWorkedOff old mid all answers (map told inputs) a b →
-    (h : IsRun script_says told mid new inputs done last None rest b c) → IsWorkedOff old new all (answers ++ h.answers) (map told rest) a c
+pub ran_on : {A : Type 0} {told : A → Told NeverShows DefaultKeys} {mid new : Seen NeverShows DefaultKeys} {inputs rest : List A} {done : ℕ} {last : Option Answer} {b c : Option (List ℕ)} (old : Seen NeverShows DefaultKeys) (all : List (Told NeverShows DefaultKeys)) (answers : List Answer) (a : Option (List ℕ)) → IsPerformed old mid all answers (map told inputs) a b →
+    (h : IsRun script_says told mid new inputs done last None rest b c) → IsPerformed old new all (answers ++ h.answers) (map told rest) a c
 ran_on {told = told} {mid = mid} {new = new} {inputs = inputs} {rest = rest} {b = b} {c = c} old all answers a worked h =
     let (none_refused, stays, same) = stopped_not told h.refused h.reached new h.bytes c h.stop in
     worked_more old mid new all answers (map told inputs) (map told h.taken) (map told rest) h.passed h.answers a b c worked (ran_steps h) (left_by told inputs h.taken h.refused [] rest h.all none_refused)
@@ -184,7 +184,7 @@ pub whole_by_exit : (answers : List Answer) (last : Option Answer) (rest : List 
 whole_by_exit answers last rest is exits = inr (subst (λ (o : Option Answer). is_some (exit_code o) ≡ true) is exits)
 
 -- what was performed, and a run that was stopped
-pub ran_into : {A : Type 0} {told : A → Told NeverShows DefaultKeys} {mid new : Seen NeverShows DefaultKeys} {inputs rest : List A} {done : ℕ} {last : Option Answer} {b c : Option (List ℕ)} (e : MinusError) (old : Seen NeverShows DefaultKeys) (all : List (Told NeverShows DefaultKeys)) (answers : List Answer) (a : Option (List ℕ)) → IsWorkedOff old mid all answers (map told inputs) a b → mid.status ≡ status.Running →
+pub ran_into : {A : Type 0} {told : A → Told NeverShows DefaultKeys} {mid new : Seen NeverShows DefaultKeys} {inputs rest : List A} {done : ℕ} {last : Option Answer} {b c : Option (List ℕ)} (e : MinusError) (old : Seen NeverShows DefaultKeys) (all : List (Told NeverShows DefaultKeys)) (answers : List Answer) (a : Option (List ℕ)) → IsPerformed old mid all answers (map told inputs) a b → mid.status ≡ status.Running →
     IsRun script_says told mid new inputs done last (Some e) rest b c → IsStoppedBy (refusal_of e) old new all a c
 ran_into {told = told} {mid = mid} {new = new} {inputs = inputs} {rest = rest} {b = b} {c = c} e old all answers a worked runs h =
     let (x, one, refuses) = stopped_at told e h.refused h.reached new h.bytes c h.stop in
@@ -200,7 +200,7 @@ ran_into {told = told} {mid = mid} {new = new} {inputs = inputs} {rest = rest} {
     }
 
 -- what a session came to over a start
-taken_over : (keys : DefaultKeys) (cols rows : ℕ) (first reached : Seen NeverShows DefaultKeys) (told : List (Told NeverShows DefaultKeys)) (answers : List Answer) (rest : List (Told NeverShows DefaultKeys)) (a b : Option (List ℕ)) → IsStarted first keys [] Dynamic cols rows true (Some []) a → IsWorkedOff first reached told answers rest a b → IsTaken cols rows told answers reached b rest
+taken_over : (keys : DefaultKeys) (cols rows : ℕ) (first reached : Seen NeverShows DefaultKeys) (told : List (Told NeverShows DefaultKeys)) (answers : List Answer) (rest : List (Told NeverShows DefaultKeys)) (a b : Option (List ℕ)) → IsStarted first keys [] Dynamic cols rows true (Some []) a → IsPerformed first reached told answers rest a b → IsTaken cols rows told answers reached b rest
 taken_over keys cols rows first reached told answers rest a b s h = record { keys = keys; first = first; begun = a; started = s; worked = h }
 
 -- the page is shown

@@ -38,7 +38,7 @@ use Rattle.minus_script.specs.declared.fault.ScriptFault.{ScriptFault}
 use Rattle.minus_script.specs.declared.fault.ScriptFault.TheVariants.{Io, Line, Refused}
 
 -- a session took what it was told in order, with these answers, up to a rest
-pub record IsWorkedOff (old new : Seen NeverShows DefaultKeys) (told : List (Told NeverShows DefaultKeys))
+pub record IsPerformed (old new : Seen NeverShows DefaultKeys) (told : List (Told NeverShows DefaultKeys))
     (answers : List Answer)
     (rest : List (Told NeverShows DefaultKeys)) (old_bytes new_bytes : Option (List ℕ)) : Type 0 where
   pub taken : List (Told NeverShows DefaultKeys)
@@ -55,7 +55,7 @@ pub record IsTaken (cols rows : ℕ) (told : List (Told NeverShows DefaultKeys))
   pub first : Seen NeverShows DefaultKeys
   pub begun : Option (List ℕ)
   pub started : IsStarted first keys [] Dynamic cols rows true (Some []) begun
-  pub worked : IsWorkedOff first reached told answers rest begun bytes
+  pub worked : IsPerformed first reached told answers rest begun bytes
 
 -- what is printed after an exit: the code that the program would end with
 abbrev pub printed_exit : ℕ → List ℕ
@@ -74,7 +74,7 @@ pub record IsRunOn (old new : Seen NeverShows DefaultKeys) (told : List (Told Ne
     (last : Option Answer) (old_bytes new_bytes : Option (List ℕ)) : Type 0 where
   pub answers : List Answer
   pub rest : List (Told NeverShows DefaultKeys)
-  pub worked : IsWorkedOff old new told answers rest old_bytes new_bytes
+  pub worked : IsPerformed old new told answers rest old_bytes new_bytes
   pub answer : last ≡ last_or None answers
   pub whole : IsWhole answers rest
 
@@ -86,7 +86,7 @@ pub record IsStoppedBy (refusal : Refusal) (old new : Seen NeverShows DefaultKey
   pub refused : Told NeverShows DefaultKeys
   pub rest : List (Told NeverShows DefaultKeys)
   pub bytes : Option (List ℕ)
-  pub worked : IsWorkedOff old reached told answers (refused ∷ rest) old_bytes bytes
+  pub worked : IsPerformed old reached told answers (refused ∷ rest) old_bytes bytes
   pub runs : reached.status ≡ status.Running
   pub refuses : Refuses script_says refusal reached refused new bytes new_bytes
 

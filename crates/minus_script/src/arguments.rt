@@ -2,7 +2,7 @@
 ghost use Rattle.std.specs.Prelude.{◌≡◌, map, string_bytes};
 ghost use Rattle.minus_script.specs.ProgramArguments.{mode_named, arguments_of};
 
-use minus_input::parse_usize;
+use minus::parse_usize;
 
 /// What the program prints.
 #[derive(Clone, Copy, Debug, PartialEq, Eq)]

@@ -3,8 +3,7 @@ ghost use Rattle.std.specs.Prelude.{◌≡◌};
 ghost use Rattle.std.specs.Option.{option_map};
 ghost use Rattle.minus_script.specs.DescribedEvents.{key_described, mouse_described, mouse_said, split_last, u16_of};
 
-use minus::{KeyEvent, MouseEvent, parse_key_event, parse_mouse_event};
-use minus_input::parse_usize;
+use minus::{KeyEvent, MouseEvent, parse_key_event, parse_mouse_event, parse_usize};
 
 /// The key that a text describes.
 pub(crate) fn parse_key(text: &str) -> Option<KeyEvent>

@@ -14,7 +14,6 @@ use std::alloc::{AllocError, Global};
 pub struct NoCallback;
 
 impl ActionCall for NoCallback {
-    ghost use Rattle.std.specs.Prelude.{◌≡◌};
     ghost use Rattle.minus_state.specs.declared.input.InputEvent.TheVariants.{Ignore};
 
     ghost answers = { λ callback event state answer. answer ≡ Ignore };

@@ -35,7 +35,6 @@ impl From<AllocError> for ProgramFault {
 }
 
 impl ProgramFault {
-    ghost use Rattle.std.specs.Prelude.{◌≡◌};
     ghost use Rattle.minus_script.specs.Statuses.{status_of};
 
     /// The status that the program ends with: 1 where its input or output failed, 2 for its arguments or a line of its

@@ -85,8 +85,8 @@ fn all_written(session: Session) -> Result<Vec<u8>, ScriptFault>
     }
 }
 
-// Works inputs off in order, up to one that exits or is refused, and answers the answer of the last one.
-fn work_off<S: OutputSink + Drop>(
+// Performs inputs in order, up to one that exits or is refused, and answers the answer of the last one.
+fn perform_all<S: OutputSink + Drop>(
     session: &mut Core<S, ScriptKinds>,
     inputs: Vec<ScriptInput>,
 ) -> Result<Option<Answer>, MinusError>
@@ -131,7 +131,7 @@ fn show(
         Ok(session) => session,
         Err(refused) => return Err(ScriptFault::from(refused.cause)),
     };
-    let last = match work_off(&mut session, inputs) {
+    let last = match perform_all(&mut session, inputs) {
         Ok(last) => last,
         Err(refusal) => return Err(ScriptFault::from(refusal)),
     };

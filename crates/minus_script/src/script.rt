@@ -13,8 +13,9 @@ ghost use Rattle.minus_commands.specs.Table.{sets_data, appends_data, moves_mark
 use crate::described_events::{parse_key, parse_mouse};
 use crate::fault::ScriptFault;
 use crate::keys::ScriptKinds;
-use minus::{CommandOf, Event, InputEvent, InputOf, KeyCode, KeyEvent, LineNumbers, MouseEvent};
-use minus_input::parse_usize;
+use minus::{
+    CommandOf, Event, InputEvent, InputOf, KeyCode, KeyEvent, LineNumbers, MouseEvent, parse_usize,
+};
 use std::alloc::{AllocError, Global};
 
 // A command of a script.

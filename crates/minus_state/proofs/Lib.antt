@@ -6,6 +6,7 @@ pub mod ShownRowsLaws
 pub mod ShownLaws
 pub mod ShowingLaws
 pub mod WritingLaws
+pub mod OwnTextsLaws
 pub mod SelectingLaws
 pub mod ChangeLaws
 pub mod AppendLaws

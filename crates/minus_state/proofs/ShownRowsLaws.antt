@@ -25,7 +25,7 @@ some_at [] i l = absurd (omega arith)
 some_at (x ∷ xs) zero l = (x, refl)
 some_at (x ∷ xs) (suc i) l = some_at xs i (omega arith)
 
-laid_on : (term : Option Re) (d : Document) (left i : ℕ) → d.layout.wrapping ≡ true → laid_row term d left i ≡ slice_get (stored_rows_for term d) i
+pub laid_on : (term : Option Re) (d : Document) (left i : ℕ) → d.layout.wrapping ≡ true → laid_row term d left i ≡ slice_get (stored_rows_for term d) i
 laid_on term d left i on = ap (λ (b : Bool). if b then slice_get (stored_rows_for term d) i else cropped_row term d left i) on
 
 laid_off : (term : Option Re) (d : Document) (left i : ℕ) → d.layout.wrapping ≡ false → laid_row term d left i ≡ cropped_row term d left i

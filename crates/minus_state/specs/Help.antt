@@ -1,6 +1,6 @@
 -- Help: a displayed text in the place of the one that is saved.
-use Rattle.std.specs.Prelude.{ℕ, ◌++◌, List, is_some, Bool, false, Option, None, Some, codes, if◌then◌else◌}
-use Rattle.std.specs.Option.{option_map}
+use Rattle.std.specs.Prelude.{ℕ, ◌++◌, List, [], is_some, Bool, false, Option, None, Some, codes, if◌then◌else◌}
+use Rattle.std.specs.Option.{option_map, unwrap_or}
 use Rattle.minus_text.specs.declared.line_numbers.LineNumbers.TheVariants.{Disabled}
 use Rattle.minus_state.specs.Control.{Control, Saved, Settings, reformed, without_message}
 
@@ -65,14 +65,18 @@ shown_help c None text = opened c text
 shown_help c (Some saved) text = c
 
 -- help is left where it is open, and else the message goes
-abbrev pub restored : Control → Option Saved → Control
-restored c None = without_message c
-restored c (Some saved) = closed c saved
+abbrev pub prompt_restored : Control → Option Saved → Control
+prompt_restored c None = without_message c
+prompt_restored c (Some saved) = closed c saved
 
 -- help is left where it is open, and else opened with a text
-abbrev pub turned : Control → Option Saved → List ℕ → Control
-turned c None text = opened c text
-turned c (Some saved) text = closed c saved
+abbrev pub help_toggled : Control → Option Saved → List ℕ → Control
+help_toggled c None text = opened c text
+help_toggled c (Some saved) text = closed c saved
+
+-- help left where it is open, and else opened with a text, an empty one where none is given
+abbrev pub toggled_with : Control → Option (List ℕ) → Control
+toggled_with c text = help_toggled c c.help (unwrap_or text [])
 
 -- another text in the place of the saved one, if one is saved
 abbrev pub text_aside : List ℕ → Option Saved → Option Saved

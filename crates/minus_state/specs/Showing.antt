@@ -1,10 +1,11 @@
 -- What is shown of rows, whatever the term that they were searched for.
-use Rattle.std.specs.Prelude.{◌≡◌, ℕ, List, Option, string_bytes}
+use Rattle.std.specs.Prelude.{◌≡◌, ℕ, true, List, Option, None, string_bytes}
 use Rattle.regex.specs.Patterns.{Re}
-use Rattle.minus_text.specs.Searched.{IsFoundAt, IsFoundBetween}
+use Rattle.minus_text.specs.Searched.{Searched, IsFoundAt, IsFoundBetween, IsPlainView}
 use Rattle.minus_text.specs.Views.{viewed}
 use Rattle.minus_state.specs.Selection.{ends_in_order}
 use Rattle.minus_state.specs.ShownRow.{cropped_row, laid_row, unmarked_row, shown_row, shown_rows}
+use Rattle.minus_state.specs.declared.selection.SelectionEnds.{SelectionEnds}
 use Rattle.minus_state.specs.declared.showing.ShownRow.{ShownRow}
 use Rattle.minus_state.specs.declared.showing.ShownRow.TheVariants.{Own, Formed}
 use Rattle.minus_state.specs.declared.showing.ShownRows.{ShownRows}
@@ -43,3 +44,9 @@ abbrev pub AreShownRows : ShownRows → (start end : ℕ) → List (List ℕ) �
 AreShownRows shown start end rows =
     (term : Option Re) → IsFoundBetween term (viewed shown.view) start end
     → rows ≡ shown_rows term (viewed shown.view).document shown.left_mark (ends_in_order shown.ends) start end
+
+-- each row is shown as its own text: lines are wrapped, nothing is selected, and each row is stored so
+pub record ShowsOwnTexts (s : Searched) (ends : SelectionEnds) : Type 0 where
+  pub wrapped : s.document.layout.wrapping ≡ true
+  pub unselected : ends_in_order ends ≡ None
+  pub plain : IsPlainView s

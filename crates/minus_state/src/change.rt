@@ -73,7 +73,7 @@ pub enum NextText {
 }
 
 impl NextText {
-    ghost use Rattle.std.specs.Prelude.{◌≡◌, length, slice_get};
+    ghost use Rattle.std.specs.Prelude.{length, slice_get};
     ghost use Rattle.minus_text.specs.Views.{viewed};
     ghost use Rattle.minus_text.specs.Document.{rows_of};
     ghost use Rattle.minus_text.specs.Found.{jump_rows, match_total, matches_above};
@@ -229,7 +229,6 @@ pub enum MessageChange {
 }
 
 impl MessageChange {
-    ghost use Rattle.std.specs.Prelude.{◌≡◌};
     ghost use Rattle.std.specs.Option.{option_map};
     ghost use Rattle.minus_state.specs.Changes.{message_after};
 
@@ -328,7 +327,7 @@ impl Drop for Change {
 }
 
 impl Change {
-    ghost use Rattle.std.specs.Prelude.{◌≡◌, OnOk, OnErr, IfErr};
+    ghost use Rattle.std.specs.Prelude.{OnOk, OnErr, IfErr};
     ghost use Rattle.minus_state.specs.Changes.{IsPlaced};
     ghost use Rattle.minus_state.specs.States.{control_of};
 

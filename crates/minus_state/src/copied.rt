@@ -17,9 +17,6 @@ enum Side {
 }
 
 impl Side {
-    ghost use Rattle.std.specs.Prelude.{◌≡◌};
-    ghost use Rattle.minus_state.specs.Copied.{side_in_row};
-
     // Where it is at the visible character at a column of a row, in the row's bytes.
     fn in_row(self, row: &str, column: usize) -> usize
         ensures { result ≡ side_in_row self column row.now }

@@ -97,10 +97,8 @@ fn call_each<C: HookCall>(ids: &[HookId], callbacks: &mut [C], hook: Hook, state
 }
 
 impl<C: Drop> HookList<C> {
-    ghost use Rattle.std.specs.Prelude.{ℕ, ◌≡◌, ◌+◌, ◌↔◌, None, IsTrue, IsErrOf, OnOk, OnErr, IfErr, position};
-    ghost use Rattle.std.specs.List.{IsDistinct};
-    ghost use Rattle.minus_term.specs.Refusals.{refusal_of};
-    ghost use Rattle.minus_state.specs.HookIds.{same_id, is_held, is_taken, has_no_next, IsUnadded};
+    ghost use Rattle.std.specs.Prelude.{ℕ, ◌↔◌, None, IsTrue, IsErrOf, OnErr};
+    ghost use Rattle.minus_state.specs.HookIds.{is_held, IsUnadded};
     ghost use Rattle.minus_state.specs.Hooks.{held_by, none_held, with_callback, added, removed, HasRoom};
 
     /// No callbacks.
@@ -195,7 +193,6 @@ impl<C: Drop> HookList<C> {
 }
 
 impl<C: HookCall> HookList<C> {
-    ghost use Rattle.std.specs.Prelude.{◌≡◌};
     ghost use Rattle.minus_state.specs.Hooks.{held_by, CallsAlone};
 
     /// Calls each callback of a hook once, in the order in which they were added, and no other.

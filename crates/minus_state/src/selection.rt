@@ -43,9 +43,6 @@ pub struct SelectionEnds {
 }
 
 impl SelectionEnds {
-    ghost use Rattle.std.specs.Prelude.{◌≡◌};
-    ghost use Rattle.minus_state.specs.Selection.{ends_in_order};
-
     /// Both ends in order of row and column; `None` where one is missing.
     pub fn in_order(self) -> Option<(Selection, Selection)>
         ensures { result ≡ ends_in_order self }

@@ -21,10 +21,9 @@ pub enum ShownRow<'a> {
 }
 
 impl<'a> ShownRow<'a> {
-    ghost use Rattle.std.specs.Prelude.{◌≡◌, string_bytes, IfOk};
+    ghost use Rattle.std.specs.Prelude.{◌≡◌};
     ghost use Rattle.minus_text.specs.Styles.{ended};
     ghost use Rattle.minus_state.specs.ShownRow.{with_marks};
-    ghost use Rattle.minus_state.specs.Showing.{row_text};
 
     /// Its text.
     pub fn as_str(&self) -> &str

@@ -1,4 +1,7 @@
 //! What is displayed, and how.
+//!
+//! A method that is named by a participle (`shifted`, `resized`, `dragged`) changes nothing: it answers the [`Change`]
+//! that leads to such a state, and [`PagerState::place`] puts that in place.
 ghost use Rattle.std.specs.Prelude.{◌≡◌, ◌↔◌, IsTrue, string_bytes, option_map, unwrap_or, OnOk, OnErr, IfOk, IfErr};
 ghost use Rattle.regex.specs.Strings.{regex_pattern};
 ghost use Rattle.minus_state.specs.Aside.{aside_of};
@@ -85,8 +88,6 @@ pub enum RunMode {
 }
 
 impl RunMode {
-    ghost use Rattle.std.specs.Prelude.{◌≡◌, ◌↔◌, IsTrue};
-
     /// Whether no session runs.
     pub fn is_uninitialized(&self) -> bool
         ensures { IsTrue result ↔ (self.now ≡ RunMode.Uninitialized) }
@@ -170,14 +171,12 @@ impl Drop for PagerState {
 }
 
 impl PagerState {
-    ghost use Rattle.std.specs.Prelude.{◌≡◌, None, string_bytes, OnOk, OnErr, IfOk, IfErr};
+    ghost use Rattle.std.specs.Prelude.{None};
     ghost use Rattle.std.specs.Option.{option_map, unwrap_or};
-    ghost use Rattle.minus_text.specs.Searched.{searched};
     ghost use Rattle.minus_state.specs.Control.{document_of};
     ghost use Rattle.minus_term.specs.Refusals.{refusal_of};
     ghost use Rattle.minus_state.specs.States.{control_of, ends_of, term_of, IsFormed, at_start};
     ghost use Rattle.minus_state.specs.NextTexts.{next_document, next_term, aside_with, FindsNext};
-    ghost use Rattle.minus_state.specs.Aside.{aside_of};
     ghost use Rattle.minus_state.specs.Changes.{WhereLed, KeepsBeside, IsPlaced, IsUnformedState};
 
     /// No text yet, for a terminal of this many columns and rows.

@@ -24,7 +24,6 @@ pub fn typed_digit(event: &Event) -> InputEvent
 }
 
 impl InputEvent {
-    ghost use Rattle.std.specs.Prelude.{◌≡◌};
     ghost use Rattle.minus_state.specs.TypedPrefix.{event_clears};
 
     /// Whether the typed prefix goes with it: it does unless it is typed to.
@@ -39,7 +38,7 @@ impl InputEvent {
 }
 
 impl PagerState {
-    ghost use Rattle.std.specs.Prelude.{◌≡◌, string_bytes, IfOk, IfErr, ◌++◌, encode_utf8};
+    ghost use Rattle.std.specs.Prelude.{string_bytes, IfOk, IfErr, ◌++◌, encode_utf8};
     ghost use Rattle.minus_state.specs.Changes.{Leads};
     ghost use Rattle.minus_state.specs.TypedPrefix.{with_prefix};
     ghost use Rattle.minus_state.specs.States.{control_of};

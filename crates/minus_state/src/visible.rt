@@ -52,8 +52,11 @@ pub fn place_after_visible(row: &str, number: usize) -> usize
 
 /// A row with its visible characters from `start` up to but without `end`, counted from 0, shown in reverse:
 /// `ESC[7m` right before the first, and `ESC[27m` right before the next visible character after the last, or
-/// at the row's end where there is none. The row as it is where it has no such character. Fails for want of
-/// memory alone.
+/// at the row's end where there is none. The row as it is where it has no such character.
+///
+/// # Errors
+///
+/// [`AllocError`] if memory runs out.
 pub fn highlight_visible_range(
     alloc: Global,
     row: &str,

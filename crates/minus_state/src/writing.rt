@@ -1,13 +1,19 @@
 //! What is shown of the rows of a text, added to the bytes of a drawing. An `Err` only means out of memory; it may
 //! leave some of a row behind.
-ghost use Rattle.std.specs.Prelude.{◌≡◌, ◌≤◌, ◌++◌, length, take, drop, OnOk};
+ghost use Rattle.std.specs.Prelude.{◌≡◌, ◌≤◌, ◌++◌, length, take, drop, slice_get, OnOk};
+ghost use Rattle.std.specs.List.{flat_map};
+ghost use Rattle.minus_term.specs.FullRedraw.{row_ops};
+ghost use Rattle.minus_term.specs.Written.{written_all};
+ghost use Rattle.minus_text.specs.Document.{rows_of};
 ghost use Rattle.minus_text.specs.Styles.{closing};
+ghost use Rattle.minus_text.specs.Views.{viewed};
+ghost use Rattle.minus_state.specs.Writing.{some_row_ops};
 
 use crate::frame::Frame;
 use crate::showing::ShownRows;
 use minus_term::{write_row, write_row_end, write_row_start};
-use minus_text::RowPlace;
 use minus_text::search::styles::closing;
+use minus_text::{RowPlace, RowsView};
 use std::alloc::{AllocError, Global};
 
 // Adds a reset behind the text of a row, which stands from a place of these bytes on, where a style is open at its end.
@@ -19,11 +25,53 @@ fn write_closing(alloc: Global, out: &mut Vec<u8>, from: usize) -> Result<(), Al
     out.extend_from_slice(end.as_bytes())
 }
 
+// Adds the text of a row, counted from 0, if there is one.
+fn write_text(view: RowsView<'_>, out: &mut Vec<u8>, i: usize) -> Result<(), AllocError>
+    ensures { OnOk result (out.new.items ≡ out.old.items
+        ++ written_all (some_row_ops (slice_get (rows_of (viewed view.entry).document) i))) }
+{
+    let Some(row) = view.text(i) else {
+        return Ok(());
+    };
+    write_row(out, row)?;
+    Ok(())
+}
+
+// Adds the texts of the rows from one on and before another, both counted from 0, as far as there are rows.
+pub(crate) fn write_texts(
+    view: RowsView<'_>,
+    out: &mut Vec<u8>,
+    first: usize,
+    end: usize,
+) -> Result<(), AllocError>
+    requires { first ≤ end }
+    ensures { OnOk result (out.new.items ≡ out.old.items
+        ++ written_all (flat_map row_ops (drop first (take end (rows_of (viewed view.entry).document))))) }
+{
+    for i in first..end {
+        write_text(view, out, i)?;
+    }
+    Ok(())
+}
+
 impl<'s> ShownRows<'s> {
-    ghost use Rattle.std.specs.Prelude.{◌≡◌, ◌+◌, ◌^◌, ◌<◌, ◌++◌, OnOk};
+    ghost use Rattle.std.specs.Prelude.{◌+◌, ◌^◌, ◌<◌, IsTrue};
     ghost use Rattle.minus_state.specs.ShownRow.{ended_in};
-    ghost use Rattle.minus_text.specs.Views.{viewed};
+    ghost use Rattle.minus_state.specs.Showing.{ShowsOwnTexts};
     ghost use Rattle.minus_state.specs.Writing.{WritesStored, WritesCropped, WritesUnmarked, WritesShown};
+
+    // Whether each row is shown as its own text, as far as is known at once.
+    pub(crate) fn is_plain(self) -> bool
+        ensures { IsTrue result → ShowsOwnTexts (viewed self.entry.view) self.entry.ends }
+    {
+        if !self.view.layout().wrapping {
+            return false;
+        }
+        match self.ends.in_order() {
+            Some(_) => false,
+            None => self.view.is_plain(),
+        }
+    }
 
     // Ends the text of a row, which stands from a place of these bytes on, where styles are carried.
     fn write_ended(self, alloc: Global, out: &mut Vec<u8>, from: usize) -> Result<(), AllocError>

@@ -74,7 +74,12 @@ impl<W: Write> Write for WithTty<W> {
 }
 
 impl<W: Write> OutputSink for WithTty<W> {
-    ghost seen = { λ s. record { bytes = W.contents s.inner; refusals = told_count s.refusals; settles = told_count s.settles; terminal = s.tty } };
+    ghost seen = { λ s. record {
+      bytes = W.contents s.inner;
+      refusals = told_count s.refusals;
+      settles = told_count s.settles;
+      terminal = s.tty;
+    } };
 
     fn put(&mut self, bytes: &[u8]) -> io::Result<usize>
         ensures bound { WritesAtMost result bytes.now }

@@ -70,6 +70,7 @@ pub mod RowHomesLaws
 pub mod StoredKeptLaws
 mod WordStartsLaws
 pub mod ViewLaws
+pub mod PlainViewLaws
 pub mod StylesLaws
 pub mod StyleSourceLaws
 pub mod CarriedStyleLaws

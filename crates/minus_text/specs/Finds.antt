@@ -4,6 +4,7 @@ use Rattle.std.specs.Str.Lines.{lines}
 use Rattle.regex.specs.Patterns.{Re}
 use Rattle.minus_text.specs.Document.{Document, rows_of, wrap_in}
 use Rattle.minus_text.specs.Fragments.{Fragment, rows_in}
+use Rattle.minus_text.specs.Pending.{Pending}
 use Rattle.minus_text.specs.Found.{RowMatches, found_in_rows}
 use Rattle.minus_text.specs.LineFinds.{finds_in_lines}
 
@@ -12,6 +13,14 @@ abbrev pub found_in : Option Re → Bool → ℕ → Fragment → List RowMatche
 found_in None match_lines n f = []
 found_in (Some pattern) match_lines n f =
     if match_lines then finds_in_lines pattern f.wrap n (lines f.text) else found_in_rows pattern n (rows_in f)
+
+-- what a pattern finds in the lines that a push forms
+abbrev pub finds_in_pushed_lines : Re → Pending → List RowMatches
+finds_in_pushed_lines pattern p = finds_in_lines pattern p.tail.wrap p.kept_rows (lines p.tail.text)
+
+-- what a pattern finds in what a push forms
+abbrev pub finds_in_push : Re → Pending → List RowMatches
+finds_in_push pattern p = found_in (Some pattern) p.match_lines p.kept_rows p.tail
 
 -- what a term finds in a document
 abbrev pub finds : Option Re → Document → List RowMatches

@@ -6,7 +6,8 @@ use Rattle.std.specs.Prelude.{IsCharBoundary, ◌≤◌}
 use Rattle.std.specs.List.{position_or_len}
 use Rattle.std.specs.Coded.{le_prop}
 use Rattle.regex.specs.Patterns.{Re, find_str}
-use Rattle.minus_text.specs.Escapes.{stripped, escapes}
+use Rattle.minus_text.specs.declared.search.escapes.Insert.{Insert}
+use Rattle.minus_text.specs.Escapes.{stripped, escapes, insert_of}
 use Rattle.minus_text.specs.FixedPatterns.{match_places}
 
 -- what stands at the start and at the end of each match
@@ -81,9 +82,16 @@ abbrev pub StandIn : List ℕ → ℕ → List (ℕ × List ℕ) → Type 0
 StandIn text at [] = IsCharBoundary text at
 StandIn text at (i ∷ is) = IsCharBoundary text at × (at ≤ i.0) × StandIn text i.0 is
 
+-- and so do these inserts
+abbrev pub InsertsStand : List ℕ → List Insert → Type 0
+InsertsStand text inserts = StandIn text 0 (map insert_of inserts)
+
 pub StandIn-prop : (text : List ℕ) (at : ℕ) (is : List (ℕ × List ℕ)) → IsProp (StandIn text at is)
 StandIn-prop text at [] = hlevel le_prop
 StandIn-prop text at (i ∷ is) = hlevel (le_prop, StandIn-prop text i.0 is)
+
+pub InsertsStand-prop : (text : List ℕ) (inserts : List Insert) → IsProp (InsertsStand text inserts)
+InsertsStand-prop text inserts = StandIn-prop text 0 (map insert_of inserts)
 
 -- the markers of matches, each with its place
 abbrev pub markers : List (ℕ × ℕ) → List (ℕ × List ℕ)

@@ -35,6 +35,14 @@ abbrev pub first_start : List (ℕ × ℕ) → List Span → Option ℕ
 first_start escapes [] = None
 first_start escapes (s ∷ ss) = Some (outside_before 0 escapes s.start)
 
+-- a row of a line, which these rows follow
+abbrev pub stretch_in : List (ℕ × ℕ) → Span → List Span → Stretch
+stretch_in escapes s rest = record {
+  start = outside_before 0 escapes s.start;
+  end = outside_before 0 escapes s.end;
+  next = first_start escapes rest;
+}
+
 -- a place lies before another, if there is one
 abbrev pub is_before : Option ℕ → ℕ → Bool
 is_before None x = true
@@ -80,12 +88,7 @@ finds_in_row n escapes matches s r =
 abbrev pub finds_in_rows : ℕ → List (ℕ × ℕ) → List (ℕ × ℕ) → List Span → List RowMatches
 finds_in_rows n escapes matches [] = []
 finds_in_rows n escapes matches (s ∷ ss) =
-    let r : Stretch = record {
-      start = outside_before 0 escapes s.start;
-      end = outside_before 0 escapes s.end;
-      next = first_start escapes ss;
-    } in
-    finds_in_row n escapes matches s r ++ finds_in_rows (n + 1) escapes matches ss
+    finds_in_row n escapes matches s (stretch_in escapes s ss) ++ finds_in_rows (n + 1) escapes matches ss
 
 -- what a pattern finds in a line whose first row has a number, and in lines
 abbrev pub finds_in_line : Re → Wrap → ℕ → List ℕ → List RowMatches

@@ -1,22 +1,28 @@
 -- A document as a function of a term: what that finds in it, and its rows with that shown in reverse.
-use Rattle.std.specs.Prelude.{◌≡◌, ℕ, ◌+◌, ◌≤◌, ◌<◌, Bool, false, List, [], ◌∷◌, ◌++◌, length, take, drop, Option, None}
-use Rattle.std.specs.Prelude.{Some, option_map, slice_get}
+use Rattle.std.specs.Prelude.{◌≡◌, ℕ, ◌+◌, ◌≤◌, ◌<◌, Bool, false, List, [], ◌∷◌, ◌++◌, length, take, drop, map, Option}
+use Rattle.std.specs.Prelude.{None, Some, option_map, slice_get}
 use Rattle.std.specs.Str.Lines.{lines}
 use Rattle.regex.specs.Patterns.{Re}
 use Rattle.minus_text.specs.declared.layout.Wrap.{Wrap}
+use Rattle.minus_text.specs.declared.search.found.FoundRow.{FoundRow}
 use Rattle.minus_text.specs.NumberPrefix.{is_on}
 use Rattle.minus_text.specs.Layouts.{own_rows}
 use Rattle.minus_text.specs.Document.{Document, rows_of, wrap_in, line_count, stored_line, pushed}
-use Rattle.minus_text.specs.Pending.{Pending}
+use Rattle.minus_text.specs.Pending.{Pending, SearchesAlike}
 use Rattle.minus_text.specs.CarriedStyles.{carried_style}
 use Rattle.minus_text.specs.Highlight.{highlighted}
 use Rattle.minus_text.specs.Found.{RowMatches, found_above, found_of_row, marked}
 use Rattle.minus_text.specs.Finds.{found_in, finds}
+use Rattle.minus_text.specs.FoundRows.{matches_of}
 
 -- a document, and what was found in its rows
 pub record Searched : Type 0 where
   pub document : Document
   pub found : List RowMatches
+
+-- a document, and what was found in its rows as the code keeps it
+abbrev pub searched_as : Document → List FoundRow → Searched
+searched_as d found = record { document = d; found = map matches_of found }
 
 -- a push, and what was found in the rows that it forms
 pub record SearchedPush : Type 0 where
@@ -53,6 +59,10 @@ IsFoundInPush term p = p.found ≡ found_in term p.push.match_lines p.push.kept_
 -- where what was found in a document and in a push is what a term finds, so is what is kept as found then
 abbrev pub FindsOn : Option Re → (old : Searched) → SearchedPush → (new : Searched) → Type 0
 FindsOn term old p new = IsFoundBy term old → IsFoundInPush term p → IsFoundBy term new
+
+-- and so it is for each term that is searched for alike in the document and in the push
+abbrev pub FindsOnAlike : (old : Searched) → SearchedPush → (new : Searched) → Type 0
+FindsOnAlike old p new = (term : Option Re) → SearchesAlike term old.document p.push → FindsOn term old p new
 
 -- a row by itself with the matches of a term shown in reverse, not accurately
 abbrev pub shown_for : Option Re → List ℕ → List ℕ
@@ -100,3 +110,9 @@ IsHighlightedRow s i row = (term : Option Re) → IsFoundAt term s i
 -- a stored row, if there is one, under whatever term it was searched for
 abbrev pub IsStoredRow : Searched → ℕ → Option (List ℕ) → Type 0
 IsStoredRow s i row = (term : Option Re) → IsFoundAt term s i → row ≡ slice_get (stored_rows_for term s.document) i
+
+-- each row is stored as its own text: there are no numbers, no styles are carried, and nothing was found
+pub record IsPlainView (s : Searched) : Type 0 where
+  pub unnumbered : is_on s.document.layout.numbers ≡ false
+  pub unstyled : s.document.layout.carry_style ≡ false
+  pub unfound : s.found ≡ []

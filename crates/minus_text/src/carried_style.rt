@@ -91,8 +91,7 @@ pub(crate) struct StyleSource<'s> {
 }
 
 impl<'s> StyleSource<'s> {
-    ghost use Rattle.std.specs.Prelude.{◌≡◌, [], ◌++◌, IsTrue, OnOk};
-    ghost use Rattle.minus_text.specs.StyleSources.{source_style};
+    ghost use Rattle.std.specs.Prelude.{[], ◌++◌, OnOk};
 
     // No style.
     pub(crate) const NONE: StyleSource<'static> = StyleSource {
@@ -129,10 +128,6 @@ impl<'s> StyleSource<'s> {
 }
 
 impl Store {
-    ghost use Rattle.std.specs.Prelude.{◌≡◌};
-    ghost use Rattle.minus_text.specs.CarriedStyles.{carried_style};
-    ghost use Rattle.minus_text.specs.StyleSources.{source_style};
-
     // Where the style is read that is carried to a row, counted from 0. Where the layout carries none, it is nowhere.
     pub(crate) fn style_source(&self, i: usize) -> StyleSource<'_>
         ensures { source_style result ≡ carried_style self.now i }
@@ -152,12 +147,11 @@ impl Store {
 }
 
 impl FormedPush {
-    ghost use Rattle.std.specs.Prelude.{◌≡◌, ◌≤◌, true, length, option_map};
+    ghost use Rattle.std.specs.Prelude.{option_map};
     ghost use Rattle.std.specs.Str.{IsUtf8};
     ghost use Rattle.minus_text.specs.CarriedStyles.{style_before};
     ghost use Rattle.minus_text.specs.PushedPlaces.{formed_from};
-    ghost use Rattle.minus_text.specs.RowText.{IsUnescapedFrom};
-    ghost use Rattle.minus_text.specs.StyleSources.{source_style, formed_place, formed_before, text_with};
+    ghost use Rattle.minus_text.specs.StyleSources.{formed_place, formed_before, text_with};
 
     // What stands before a row that is formed, counted from 0, in what is formed.
     fn bytes_before(&self, i: usize) -> Option<&[u8]>
@@ -221,9 +215,6 @@ fn source_after<'s>(
 }
 
 impl<'s> RowsView<'s> {
-    ghost use Rattle.std.specs.Prelude.{◌≡◌};
-    ghost use Rattle.minus_text.specs.CarriedStyles.{carried_style};
-    ghost use Rattle.minus_text.specs.StyleSources.{source_style};
     ghost use Rattle.minus_text.specs.Views.{viewed};
 
     // Where the style is read that is carried to a row, counted from 0.

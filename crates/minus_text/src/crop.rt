@@ -204,10 +204,6 @@ fn push_cropped(row: &mut String, text: &str, left: usize, width: usize) -> Resu
 }
 
 impl<'t> RowText<'t> {
-    ghost use Rattle.std.specs.Prelude.{◌≡◌, ◌+◌, ◌++◌, string_bytes, IfSome, IsTrue, OnOk};
-    ghost use Rattle.minus_text.specs.ShownMatches.{IsPlainTo};
-    ghost use Rattle.minus_text.specs.Crop.{cropped};
-
     /// What is shown of it in this many columns from the column `left` on, as [`crop_columns`] gives it, where that is
     /// a part of it: where no other characters than printable ASCII stand in the columns up to the first behind these,
     /// and no escape sequence behind. Nothing of that is read where it is known to have none.

@@ -21,9 +21,9 @@ pub struct FormattedRow<'a> {
 }
 
 impl<'a> FormattedRow<'a> {
-    ghost use Rattle.std.specs.Prelude.{◌≡◌, ◌++◌, string_bytes, IfOk, OnOk};
+    ghost use Rattle.std.specs.Prelude.{◌++◌, string_bytes, OnOk};
     ghost use Rattle.minus_text.specs.NumberPrefix.{prefix};
-    ghost use Rattle.minus_text.specs.Formatted.{prefix_of, printed_row};
+    ghost use Rattle.minus_text.specs.Formatted.{prefix_of};
 
     /// A row with this text of its own. Where numbers are on it has the number of its line before it,
     /// counted from 1, if it is the first row of the line, and as many blanks otherwise. The number, in

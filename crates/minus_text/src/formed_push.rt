@@ -1,9 +1,8 @@
 //! What a push forms, before it is made.
 ghost use Rattle.std.specs.Prelude.{◌≡◌, true, ◌^◌, ◌<◌, ◌≤◌, slice_get, option_map, map, length, IfOk};
-ghost use Rattle.std.specs.Str.Lines.{lines};
 ghost use Rattle.minus_text.specs.Found.{AreFoundIn};
 ghost use Rattle.minus_text.specs.FoundRows.{finder_pattern, matches_of};
-ghost use Rattle.minus_text.specs.LineFinds.{finds_in_lines};
+ghost use Rattle.minus_text.specs.Finds.{finds_in_pushed_lines};
 ghost use Rattle.minus_text.specs.Fragments.{rows_in};
 ghost use Rattle.minus_text.specs.Layouts.{relaid};
 
@@ -14,6 +13,7 @@ use crate::lines_row_map::LinesRowMap;
 use crate::row_text::RowText;
 use crate::search::found::{Finder, FoundRow};
 use crate::search::line_finds::find_in_text;
+use crate::stored_line::StoredText;
 use std::alloc::{AllocError, Global};
 use std::marker::Model;
 
@@ -113,23 +113,19 @@ impl FormedPush {
     ) -> Result<Vec<FoundRow>, AllocError>
         requires { self.now.match_lines ≡ true }
         ensures found { IfOk result (λ f. map matches_of f.items
-            ≡ finds_in_lines (finder_pattern finder.old) self.now.tail.wrap self.now.kept_rows
-            (lines self.now.tail.text)) }
+            ≡ finds_in_pushed_lines (finder_pattern finder.old) self.now) }
         ensures stand { IfOk result (λ f.
             AreFoundIn self.now.kept_rows (rows_in self.now.tail) (map matches_of f.items)) }
     {
         let mut found = Vec::new(alloc);
-        find_in_text(
-            alloc,
-            finder,
-            &mut found,
-            self.kept_rows(),
-            self.start.finished.bytes + self.start.bytes,
-            self.tail.as_str(),
-            self.formed.rows.as_slice(),
-            self.formed.first_rows.as_slice(),
-            self.wrap,
-        )?;
+        let text = StoredText {
+            first: self.kept_rows(),
+            base: self.start.finished.bytes + self.start.bytes,
+            text: self.tail.as_str(),
+            rows: self.formed.rows.as_slice(),
+            firsts: self.formed.first_rows.as_slice(),
+        };
+        find_in_text(alloc, finder, &mut found, text, self.wrap)?;
         Ok(found)
     }
 

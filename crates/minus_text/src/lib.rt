@@ -20,6 +20,7 @@ mod number_prefix;
 pub mod pending;
 mod pieces;
 mod plain;
+mod plain_view;
 mod push_text;
 pub mod row_text;
 pub mod rows;
@@ -51,7 +52,7 @@ pub use pending::PendingPush;
 pub use pieces::pieces_join;
 pub use row_text::RowText;
 pub use rows::{Span, format_line, rows_are_determined, rows_fit, wrap_line};
-pub use screen::pieces::{join_pieces, pieces_push_joined};
+pub use screen::pieces::pieces_push_joined;
 pub use screen::searching::Findings;
 pub use screen::{
     FormatResult, Line, OwnedTextBlock, Row, Rows, Screen, TextBlock, line_map_ascends, pushes_join,

@@ -31,9 +31,6 @@ impl LineNumbers {
 impl Not for LineNumbers {
     type Output = LineNumbers;
 
-    ghost use Rattle.std.specs.Prelude.{◌≡◌};
-    ghost use Rattle.minus_text.specs.NumberPrefix.{toggled};
-
     ghost not_gives = { λ numbers r. r ≡ toggled numbers };
 
     fn not(self) -> LineNumbers {

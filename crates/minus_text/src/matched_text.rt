@@ -1,8 +1,8 @@
 //! The texts of rows with their matches, and what of them is shown in some columns.
-ghost use Rattle.std.specs.Prelude.{◌≡◌, ◌++◌, Some, option_map, string_bytes, IfOk, OnOk};
+ghost use Rattle.std.specs.Prelude.{◌≡◌, ◌++◌, Some, string_bytes, IfOk, OnOk};
 ghost use Rattle.minus_text.specs.Crop.{cropped};
-ghost use Rattle.minus_text.specs.Found.{IsPlaced, IsPlacedSome, IsPlacedSome-prop};
-ghost use Rattle.minus_text.specs.FoundRows.{matches_of};
+ghost use Rattle.minus_text.specs.Found.{IsPlaced};
+ghost use Rattle.minus_text.specs.FoundRows.{matches_of, FoundStands, FoundStands-prop};
 ghost use Rattle.minus_text.specs.ShownMatches.{marked_within, cropped_match};
 
 use crate::crop::{Window, push_units};
@@ -18,7 +18,7 @@ use std::alloc::{AllocError, Global};
 pub struct MatchedText<'t> {
     pub(crate) text: RowText<'t>,
     pub(crate) found: Option<&'t FoundRow>,
-    pub(crate) ghost placed: { IsPlacedSome text.text.now (option_map (λ f. matches_of f.now) found) } by { IsPlacedSome-prop text.text.now (option_map (λ f. matches_of f.now) found) },
+    pub(crate) ghost placed: { FoundStands text.text.now found } by { FoundStands-prop text.text.now found },
 }
 
 // A row's text with those of its matches in reverse that are shown in some columns.
@@ -82,8 +82,6 @@ fn push_found_in<T: PushText>(
 }
 
 impl<'t> MatchedText<'t> {
-    ghost use Rattle.std.specs.Prelude.{◌≡◌, ◌++◌, string_bytes, OnOk};
-    ghost use Rattle.minus_text.specs.Crop.{cropped};
     ghost use Rattle.minus_text.specs.MatchedTexts.{text_within};
 
     // Adds what is shown of it to a row, or to the bytes of a drawing.

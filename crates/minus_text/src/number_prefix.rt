@@ -53,9 +53,6 @@ fn push_number<T: PushText>(out: &mut T, columns: usize, line: usize) -> Result<
 }
 
 impl RowPrefix {
-    ghost use Rattle.std.specs.Prelude.{◌≡◌, ◌++◌, OnOk};
-    ghost use Rattle.minus_text.specs.Formatted.{prefix_of};
-
     pub(crate) const NONE: RowPrefix = RowPrefix {
         numbers: false,
         line_count: 0,

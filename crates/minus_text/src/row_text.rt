@@ -25,7 +25,7 @@ pub(crate) fn escapes_end(known: usize, len: usize, piece: &str) -> usize
 pub struct RowText<'t> {
     pub(crate) text: &'t str,
     pub(crate) escapes_end: usize,
-    pub(crate) ghost unescaped: { IsUnescapedFrom escapes_end text.now } by { IsUnescapedFrom-prop escapes_end text.now },
+    pub(crate) ghost plain: { IsUnescapedFrom escapes_end text.now } by { IsUnescapedFrom-prop escapes_end text.now },
 }
 
 impl<'t> RowText<'t> {

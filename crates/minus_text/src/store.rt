@@ -1,5 +1,5 @@
 //! A text with its rows.
-ghost use Rattle.std.specs.Prelude.{◌≡◌, ◌+◌, ◌-◌, ◌^◌, ◌<◌, ◌≤◌, [], ◌++◌, length, map, take, drop, IsTrue, None, IfOk, OnOk, OnErr, slice_get, option_map, string_bytes, vec_len, vec_capacity};
+ghost use Rattle.std.specs.Prelude.{◌≡◌, ◌+◌, ◌-◌, ◌^◌, ◌<◌, ◌≤◌, [], ◌++◌, length, take, drop, IsTrue, None, IfOk, OnOk, OnErr, slice_get, option_map, string_bytes, vec_len, vec_capacity};
 ghost use Rattle.std.specs.List.Sorted.{IsStrictlyIncreasing};
 ghost use Rattle.std.specs.Str.{IsUtf8, IsCharBoundary};
 ghost use Rattle.std.specs.Str.Lines.{lines};
@@ -10,7 +10,7 @@ ghost use Rattle.minus_text.specs.LinePlaces.{row_places};
 ghost use Rattle.minus_text.specs.FormatResults.{TellsAll};
 ghost use Rattle.minus_text.specs.Formatted.{prefix_of};
 ghost use Rattle.minus_text.specs.RowText.{IsUnescapedFrom};
-ghost use Rattle.minus_text.specs.FoundRows.{finder_pattern, matches_of};
+ghost use Rattle.minus_text.specs.FoundRows.{finder_pattern, AddsFound};
 ghost use Rattle.minus_text.specs.Found.{ArePlaced};
 ghost use Rattle.minus_text.specs.StoredLines.{IsStoredLine, finds_in_line_at};
 
@@ -314,16 +314,14 @@ impl Store {
         k: usize,
     ) -> Result<(), AllocError>
         requires { k < line_count self.now }
-        ensures found { OnOk result (map matches_of found.new.items ≡ map matches_of found.old.items
-            ++ finds_in_line_at (finder_pattern finder.old) self.now k) }
+        ensures found { OnOk result (AddsFound found.old.items found.new.items
+            (finds_in_line_at (finder_pattern finder.old) self.now k)) }
         ensures stands { OnOk result (ArePlaced 0 (rows_of self.now)
             (finds_in_line_at (finder_pattern finder.old) self.now k)) }
         ensures same { finder_pattern finder.new ≡ finder_pattern finder.old }
     {
         let line = self.line(k);
-        find_in_line(
-            alloc, finder, found, line.first, line.base, line.text, line.rows,
-        )?;
+        find_in_line(alloc, finder, found, line)?;
         Ok(())
     }
 

@@ -1,6 +1,5 @@
-//! A line of a text, with its rows.
+//! A line of a text, or several, with the rows.
 ghost use Rattle.std.specs.Prelude.{◌≡◌, [], ◌<◌, length, get_or};
-ghost use Rattle.std.specs.Str.{IsUtf8};
 ghost use Rattle.minus_text.specs.Lines.{cut};
 ghost use Rattle.minus_text.specs.LineSplits.{lines_of};
 
@@ -14,6 +13,17 @@ pub(crate) struct StoredLine<'s> {
     pub(crate) base: usize,
     pub(crate) text: &'s str,
     pub(crate) rows: &'s [Span],
+}
+
+// Lines, the number of their first row, where they begin in the bytes of a text, the places of their rows there, and
+// the number of the first row of each line.
+#[derive(Clone, Copy)]
+pub(crate) struct StoredText<'s> {
+    pub(crate) first: usize,
+    pub(crate) base: usize,
+    pub(crate) text: &'s str,
+    pub(crate) rows: &'s [Span],
+    pub(crate) firsts: &'s [usize],
 }
 
 // The first line of a text, without the newline that ends it, if one does, and a carriage return before that.

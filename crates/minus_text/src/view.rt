@@ -1,8 +1,8 @@
 //! The rows of a text, or those that a push of it would leave, and what was found in them.
 ghost use Rattle.std.specs.Prelude.{◌≡◌, option_map, string_bytes, IfOk};
 ghost use Rattle.minus_text.specs.Document.{rows_of};
-ghost use Rattle.minus_text.specs.Found.{ArePlaced, Ascend, ArePlaced-prop, Ascend-prop};
-ghost use Rattle.minus_text.specs.FoundBy.{found_rows, AreJumps, AreJumps-prop};
+ghost use Rattle.minus_text.specs.Found.{Ascend, Ascend-prop};
+ghost use Rattle.minus_text.specs.FoundBy.{found_rows, AreJumps, AreJumps-prop, FoundRowsStand, FoundRowsStand-prop};
 ghost use Rattle.minus_text.specs.NextPushes.{IsPendingBehind, IsPendingBehind-prop};
 ghost use Rattle.minus_text.specs.ViewedRows.{viewed_text};
 
@@ -32,7 +32,7 @@ pub struct RowsView<'s> {
     pub(crate) store: &'s Store,
     pub(crate) found: &'s FoundRows,
     pub(crate) next: Option<NextPush<'s>>,
-    pub(crate) ghost placed: { ArePlaced 0 (rows_of store.now) (found_rows found.now) } by { ArePlaced-prop 0 (rows_of store.now) (found_rows found.now) },
+    pub(crate) ghost placed: { FoundRowsStand store.now found.now } by { FoundRowsStand-prop store.now found.now },
     pub(crate) ghost ascend: { Ascend 0 (found_rows found.now) } by { Ascend-prop 0 (found_rows found.now) },
     pub(crate) ghost jumps: { AreJumps found.now } by { AreJumps-prop found.now },
     pub(crate) ghost pending: { IsPendingBehind store.now next } by { IsPendingBehind-prop store.now next },
@@ -49,17 +49,16 @@ fn row_of(alloc: Global, row: Option<ViewedRow<'_>>) -> Result<Option<Row>, Allo
 }
 
 impl<'s> RowsView<'s> {
-    ghost use Rattle.std.specs.Prelude.{◌≡◌, ◌==◌, Some, length, string_bytes, option_map, slice_get, IfOk, IfSome};
+    ghost use Rattle.std.specs.Prelude.{◌==◌, Some, length, slice_get, IfSome};
     ghost use Rattle.std.specs.List.{position_or_len};
-    ghost use Rattle.minus_text.specs.Document.{rows_of, line_count, IsPrefixOf};
+    ghost use Rattle.minus_text.specs.Document.{line_count, IsPrefixOf};
     ghost use Rattle.minus_text.specs.Formatted.{prefix_of};
-    ghost use Rattle.minus_text.specs.Found.{Ascend, ArePlacedAt, found_of_row, jump_rows, match_total, matches_above};
+    ghost use Rattle.minus_text.specs.Found.{ArePlacedAt, found_of_row, jump_rows, match_total, matches_above};
     ghost use Rattle.minus_text.specs.JumpRows.{counted};
     ghost use Rattle.minus_text.specs.MatchedTexts.{IsMatchedRow};
     ghost use Rattle.minus_text.specs.Matches.{counts_first, nearest, nth_match};
     ghost use Rattle.minus_text.specs.Searched.{IsRowBehind, IsStoredRow, IsHighlightedRow};
     ghost use Rattle.minus_text.specs.Views.{viewed};
-    ghost use Rattle.minus_text.specs.ViewedRows.{viewed_text};
 
     /// The number of rows. It takes no memory.
     pub fn len(self) -> usize

@@ -1,7 +1,7 @@
 //! A row of a view.
-ghost use Rattle.std.specs.Prelude.{◌≡◌, ◌++◌, Some, option_map, OnOk};
-ghost use Rattle.minus_text.specs.Found.{marked, IsPlaced, IsPlacedSome, IsPlacedSome-prop};
-ghost use Rattle.minus_text.specs.FoundRows.{matches_of};
+ghost use Rattle.std.specs.Prelude.{◌≡◌, ◌++◌, Some, OnOk};
+ghost use Rattle.minus_text.specs.Found.{marked, IsPlaced};
+ghost use Rattle.minus_text.specs.FoundRows.{matches_of, FoundStands, FoundStands-prop};
 
 use crate::carried_style::StyleSource;
 use crate::formatted::FormattedRow;
@@ -35,7 +35,7 @@ pub struct ViewedRow<'s> {
     pub(crate) row: FormattedRow<'s>,
     pub(crate) style: StyleSource<'s>,
     pub(crate) found: Option<&'s FoundRow>,
-    pub(crate) ghost placed: { IsPlacedSome row.row.now (option_map (λ f. matches_of f.now) found) } by { IsPlacedSome-prop row.row.now (option_map (λ f. matches_of f.now) found) },
+    pub(crate) ghost placed: { FoundStands row.row.now found } by { FoundStands-prop row.row.now found },
 }
 
 // Adds a row's text with what was found in it in reverse.
@@ -59,7 +59,7 @@ fn push_found<T: PushText>(
 }
 
 impl<'s> ViewedRow<'s> {
-    ghost use Rattle.std.specs.Prelude.{◌≡◌, ◌++◌, string_bytes, IfOk, OnOk};
+    ghost use Rattle.std.specs.Prelude.{string_bytes, IfOk};
     ghost use Rattle.minus_text.specs.ViewedRows.{viewed_text};
 
     // Bytes enough for it, where it has no escape sequences and no style is carried to it.

@@ -1,5 +1,6 @@
 -- The units of some bytes, one after another, and their events.
-use Rattle.std.specs.Prelude.{ℕ, ◌≡◌, List, [], ◌∷◌, ◌++◌, length, Some, None, filter_map, bytes_eq, if◌then◌else◌}
+use Rattle.std.specs.Prelude.{ℕ, ◌≡◌, List, [], ◌∷◌, ◌++◌, length, take, Option, Some, None, option_map, filter_map}
+use Rattle.std.specs.Prelude.{bytes_eq, if◌then◌else◌}
 use Rattle.minus_term.specs.declared.event.Event.{Event}
 use Rattle.minus_term.specs.declared.event.KeyCode.TheVariants.{Esc}
 use Rattle.minus_view.specs.Keys.{press}
@@ -19,6 +20,10 @@ events_of units = filter_map meaning units
 -- the events of whole units at the front of bytes are added, and a rest is left
 abbrev pub AddsEvents : (old new : List Event) → (bytes rest : List ℕ) → Type 0
 AddsEvents old new bytes rest = (units : List (List ℕ)) × Reads units bytes rest × (new ≡ old ++ events_of units)
+
+-- the first unit of some bytes: how many bytes it is, and its event, if it has one; nothing where it is cut
+abbrev pub first_unit : List ℕ → Option (ℕ × Option Event)
+first_unit bytes = option_map (λ n. (n, meaning (take n bytes))) (unit_len bytes)
 
 -- the events of a rest that nothing has followed for a while: one `ESC` is the Esc key, and any other rest waits
 abbrev pub late_events : List ℕ → List Event

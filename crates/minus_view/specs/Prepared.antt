@@ -86,6 +86,12 @@ TakesFront old new bytes n =
     (marks : Bool) (tabs col : ℕ) → IsPlain old → IsAt marks tabs col old → IsText bytes
     → Takes marks tabs col old new bytes (drop n bytes)
 
+-- all of the bytes were taken
+abbrev pub TakesAll : (old new : Preparation) → List ℕ → Type 0
+TakesAll old new bytes =
+    (marks : Bool) (tabs col : ℕ) → IsPlain old → IsAt marks tabs col old → IsText bytes
+    → Takes marks tabs col old new bytes []
+
 -- a tab was taken: spaces stand for it
 abbrev pub TakesTab : (old new : Preparation) → Type 0
 TakesTab old new =

@@ -6,6 +6,7 @@ use Rattle.std.specs.Int.{is_in_range}
 use Rattle.std.specs.List.{flat_map}
 use Rattle.std.specs.Str.{encode_utf8_all}
 use Rattle.std.specs.Fmt.{decimal}
+use Rattle.minus_view.specs.declared.prompt_place.Place.{Place}
 use Rattle.minus_view.specs.Prepared.{char_columns}
 
 -- the characters that a character of a name is shown as: a control character is `^` and its letter or sign, and one
@@ -14,10 +15,6 @@ abbrev pub shown_as : ℕ → List ℕ
 shown_as c =
     if is_in_range 0 0x1F c then 94 ∷ (c + 64) ∷ []
     else (if c == 0x7F then 94 ∷ 63 ∷ [] else (if is_in_range 0x80 0x9F c then 63 ∷ [] else c ∷ []))
-
--- a name without control characters
-abbrev pub clean_name : List ℕ → List ℕ
-clean_name name = encode_utf8_all (flat_map shown_as (chars name))
 
 -- how many per cent of a whole a part is; nothing is all of nothing
 abbrev pub percent : ℕ → ℕ → ℕ
@@ -39,22 +36,24 @@ name_within room name =
     if fits room name then encode_utf8_all name
     else (if nat_lt room 2 then [] else codes ".." ++ encode_utf8_all (end_within (room - 2) name))
 
--- as `20-43/100  27%`; lines are counted from 1
-abbrev pub numbers : ℕ → ℕ → ℕ → ℕ → List ℕ
-numbers first last lines part =
-    decimal first
-    ++ (codes "-" ++ (decimal last ++ (codes "/" ++ (decimal lines ++ (codes "  " ++ (decimal part ++ codes "%"))))))
+-- as `20-43/100  27%`: the displayed lines, counted from 1, how many lines there are, and the part of the text up to
+-- the last displayed row
+abbrev pub numbers : Place → List ℕ
+numbers place =
+    let part = percent place.end place.bytes in
+    decimal place.first
+    ++ (codes "-" ++ (decimal place.last
+    ++ (codes "/" ++ (decimal place.lines ++ (codes "  " ++ (decimal part ++ codes "%"))))))
 
 -- as `notes.txt  20-43/100  27%`, where there is a name; it has the columns that the numbers and two blanks leave
 abbrev pub with_name : List ℕ → List ℕ → List ℕ
-with_name [] place = place
-with_name (b ∷ name) place = (b ∷ name) ++ (codes "  " ++ place)
+with_name [] said = said
+with_name (b ∷ name) said = (b ∷ name) ++ (codes "  " ++ said)
 
--- the text of the prompt row, for a number of columns: the name, of which `..` and its end are shown where the columns
--- that the place and two blanks leave are too few, and then the place; first and last are lines counted from 1, lines
--- is how many there are, and part is in per cent
-abbrev pub place_text : ℕ → List ℕ → ℕ → ℕ → ℕ → ℕ → List ℕ
-place_text columns name first last lines part =
-    let place = numbers first last lines part in
-    let room = columns - (length place + 2) in
-    with_name (name_within room (flat_map shown_as (chars name))) place
+-- the text of the prompt row, for a number of columns: the name without control characters, of which `..` and its end
+-- are shown where the columns that the numbers of the place and two blanks leave are too few, and then these numbers
+abbrev pub place_text : ℕ → List ℕ → Place → List ℕ
+place_text columns name place =
+    let said = numbers place in
+    let room = columns - (length said + 2) in
+    with_name (name_within room (flat_map shown_as (chars name))) said

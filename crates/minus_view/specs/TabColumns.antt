@@ -1,5 +1,5 @@
 -- The columns that tabs lead to: how far they stand apart, how wide a tab is, and the column behind some bytes.
-use Rattle.std.specs.Prelude.{ℕ, ◌+◌, ◌-◌, ◌%◌, ◌==◌, List, [], ◌∷◌, min, max, if◌then◌else◌}
+use Rattle.std.specs.Prelude.{ℕ, ◌≡◌, ◌+◌, ◌-◌, ◌%◌, ◌==◌, List, [], ◌∷◌, min, max, if◌then◌else◌}
 use Rattle.minus_view.specs.declared.prepare.Shape.{Shape}
 
 -- how far tabs stand apart
@@ -18,3 +18,7 @@ next_column tabs col b = if b == 9 then col + tab_len tabs col else (if b == 10 
 abbrev pub column_after : ℕ → ℕ → List ℕ → ℕ
 column_after tabs col [] = col
 column_after tabs col (b ∷ bytes) = column_after tabs (next_column tabs col b) bytes
+
+-- the column behind these bytes, as far as tabs can tell
+abbrev pub IsColumnAfter : ℕ → ℕ → List ℕ → ℕ → Type 0
+IsColumnAfter tabs col bytes behind = behind % tabs ≡ column_after tabs col bytes % tabs

@@ -1,6 +1,7 @@
 -- Tabs that are shown as spaces: their marks in a prepared text, where they stand in it, and the text with tabs again.
-use Rattle.std.specs.Prelude.{ℕ, ◌+◌, ◌-◌, ◌==◌, ◌&&◌, Bool, nat_le, nat_lt, zero, suc, List, [], ◌∷◌, ◌++◌, Option}
-use Rattle.std.specs.Prelude.{Some, None, length, take, drop, replicate, unwrap_or, option_and_then, if◌then◌else◌}
+use Rattle.std.specs.Prelude.{ℕ, ◌≡◌, ◌+◌, ◌-◌, ◌==◌, ◌&&◌, Bool, true, nat_le, nat_lt, zero, suc, List, [], ◌∷◌, ◌++◌}
+use Rattle.std.specs.Prelude.{Option, Some, None, length, take, drop, replicate, unwrap_or, option_and_then}
+use Rattle.std.specs.Prelude.{if◌then◌else◌}
 use Rattle.std.specs.Int.{is_in_range}
 use Rattle.std.specs.List.{prefix_len}
 use Rattle.minus_view.specs.declared.tab_marks.Tab.{Tab}
@@ -76,6 +77,12 @@ has_tab place text tab =
     nat_le place tab.start
     && (nat_lt tab.start tab.end
     && nat_le (tab.end - tab.start) (prefix_len (is_in_range 32 32) (drop (tab.start - place) text)))
+
+-- a text that begins at a place has the spaces of a tab, and these bytes stand before and behind them
+abbrev pub IsCutAt : ℕ → List ℕ → Tab → (front behind : List ℕ) → Type 0
+IsCutAt place text tab front behind =
+    (has_tab place text tab ≡ true)
+    × (front ≡ take (tab.start - place) text) × (behind ≡ drop (tab.end - place) text)
 
 -- a text that begins at a place with these tabs in the place of their spaces, where it has them
 abbrev pub with_tabs : ℕ → List ℕ → List Tab → List ℕ

@@ -1,7 +1,8 @@
 //! All events that some bytes make, and how many of the bytes they are.
 ghost use Rattle.std.specs.Prelude.{◌≡◌, ◌+◌, ◌++◌, ◌∷◌, [], ◌≤◌, drop, take, length, IfOk, IfErr, None};
 ghost use Rattle.minus_view.specs.KeySequences.{unit_len};
-ghost use Rattle.minus_view.specs.Events.{AddsEvents, events_of, late_events, PiecesJoin, UnitsAreDetermined};
+ghost use Rattle.minus_view.specs.Events.{AddsEvents, events_of, first_unit, late_events};
+ghost use Rattle.minus_view.specs.Events.{PiecesJoin, UnitsAreDetermined};
 
 use crate::key_sequences::unit_len;
 use crate::keys::press;
@@ -57,6 +58,17 @@ pub fn read_events(events: &mut Vec<Event>, bytes: &[u8]) -> Result<usize, Alloc
         events.truncate(count);
     }
     taken
+}
+
+/// The first unit of the bytes: how many bytes it is, and its event, if it has one. Nothing where the bytes end before
+/// it does. It takes no memory.
+pub fn read_unit(bytes: &[u8]) -> Option<(usize, Option<Event>)>
+    ensures { result ≡ first_unit bytes.now }
+{
+    match unit_len(bytes) {
+        Some(len) => Some((len, meaning(&bytes[..len]))),
+        None => None,
+    }
 }
 
 /// Adds the event of a rest that nothing has followed for a while, and answers how many bytes it takes of the rest:

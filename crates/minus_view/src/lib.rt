@@ -20,11 +20,11 @@ mod tab_marks;
 mod text_queue;
 
 pub use arguments::{ArgumentFault, Arguments, AtEnd, Case, Opening, Paging, parse_arguments};
-pub use events::{pieces_join, read_events, read_late_events, units_are_determined};
+pub use events::{pieces_join, read_events, read_late_events, read_unit, units_are_determined};
 pub use history::{History, steps_lead_back};
 pub use keys::press;
 pub use prepare::{Preparation, Shape, plain_text_stays};
-pub use prompt_place::{clean_name, percent, place_text};
+pub use prompt_place::{Place, percent, place_text};
 pub use search_keys::{SearchKey, search_key};
 pub use shown::{shown_texts_are_clean, shown_texts_join};
 pub use tab_marks::{Tab, Unmarked, marks_are_taken_out, tabs_come_back, take_marks, with_tabs};

@@ -13,9 +13,9 @@
 ghost use Rattle.std.specs.Prelude.{ℕ, Bool, ◌≡◌, ◌++◌, ◌≤◌, ◌<◌, [], true, false, length, string_bytes, IfOk, IfErr};
 ghost use Rattle.std.specs.List.{prefix_len};
 ghost use Rattle.minus_view.specs.Shown.{is_plain, IsShown};
-ghost use Rattle.minus_view.specs.Prepared.{glyph_bytes, held, IsAt, IsPlain, IsPlainAt, IsText, PlainTextStays, Takes};
+ghost use Rattle.minus_view.specs.Prepared.{glyph_bytes, held, IsAt, IsPlain, IsPlainAt, PlainTextStays};
 ghost use Rattle.minus_view.specs.TabColumns.{apart};
-ghost use Rattle.minus_view.specs.Prepared.{HandsOut, HandsOutHeld, TakesFront};
+ghost use Rattle.minus_view.specs.Prepared.{HandsOut, HandsOutHeld, TakesAll, TakesFront};
 
 mod begun;
 mod bytes;
@@ -192,9 +192,7 @@ impl Preparation {
 
     // Takes the bytes.
     fn take(&mut self, bytes: &[u8]) -> Result<(), AllocError>
-        ensures text { IfOk result (λ _. (marks : Bool) (tabs col : ℕ)
-            → IsPlain self.old → IsAt marks tabs col self.old → IsText bytes.now
-            → Takes marks tabs col self.old self.new bytes.now []) }
+        ensures text { IfOk result (λ _. TakesAll self.old self.new bytes.now) }
     {
         let mut rest = bytes;
         while !rest.is_empty() {

@@ -2,10 +2,25 @@
 ghost use Rattle.std.specs.Prelude.{◌≡◌, ◌++◌, string_bytes, IfOk};
 ghost use Rattle.std.specs.List.{flat_map};
 ghost use Rattle.std.specs.Str.{chars, encode_utf8_all};
-ghost use Rattle.minus_view.specs.PromptPlace.{shown_as, clean_name, percent, fits, end_within, name_within, place_text};
+ghost use Rattle.minus_view.specs.PromptPlace.{shown_as, percent, fits, end_within, name_within, place_text};
 
 use crate::prepare::columns;
 use std::alloc::{AllocError, Global};
+
+/// Where in its text a page is.
+#[derive(Clone, Copy, Debug, PartialEq, Eq)]
+pub struct Place {
+    /// The first displayed line, counted from 1; 0 where there is none.
+    pub first: usize,
+    /// The last displayed line, counted from 1; 0 where there is none.
+    pub last: usize,
+    /// How many lines there are.
+    pub lines: usize,
+    /// Where the row behind the last displayed one begins, in bytes; behind all rows, where the text ends.
+    pub end: usize,
+    /// The length of the text in bytes.
+    pub bytes: usize,
+}
 
 // Adds the characters that a character of a name is shown as.
 fn push_clean(shown: &mut Vec<char>, c: char) -> Result<(), AllocError>
@@ -26,7 +41,8 @@ fn push_clean(shown: &mut Vec<char>, c: char) -> Result<(), AllocError>
     Ok(())
 }
 
-// The characters of a name, as they are shown.
+// The characters of a name, as they are shown: `^A` stands for a control character, and `?` for one from U+0080 to
+// U+009F.
 fn clean_characters(alloc: Global, name: &str) -> Result<Vec<char>, AllocError>
     ensures { IfOk result (λ shown. shown.items ≡ flat_map shown_as (chars name.now)) }
 {
@@ -45,20 +61,6 @@ fn push_all(text: &mut String, characters: &[char]) -> Result<(), AllocError>
         text.push(*c)?;
     }
     Ok(())
-}
-
-/// A name as it is shown: `^A` stands for a control character, and `?` for one from U+0080 to U+009F.
-///
-/// # Errors
-///
-/// [`AllocError`] where there is no memory.
-pub fn clean_name(alloc: Global, name: &str) -> Result<String, AllocError>
-    ensures { IfOk result (λ text. string_bytes text ≡ clean_name name.now) }
-{
-    let shown = clean_characters(alloc, name)?;
-    let mut text = String::new(alloc);
-    push_all(&mut text, &shown)?;
-    Ok(text)
 }
 
 /// How many per cent of a whole a part of it is, rounded down and at most 100; 100 where the whole is nothing.
@@ -113,9 +115,9 @@ fn name_within(alloc: Global, room: usize, name: &[char]) -> Result<String, Allo
     Ok(text)
 }
 
-/// The text of the prompt row, as `notes.txt  20-43/100  27%`: the name, cleaned; the first and the last displayed
-/// line, counted from 1; how many lines there are; and a part of the text, in per cent. A text wider than the row has
-/// `..` and the end of the name, or no name; the numbers are always there.
+/// The text of the prompt row, as `notes.txt  20-43/100  27%`: the name, with `^A` for a control character; the first
+/// and the last displayed line; how many lines there are; and the part of the text up to the last displayed row, in per
+/// cent. A text wider than the row has `..` and the end of the name, or no name; the numbers are always there.
 ///
 /// # Errors
 ///
@@ -124,13 +126,12 @@ pub fn place_text(
     alloc: Global,
     columns: usize,
     name: &str,
-    first: usize,
-    last: usize,
-    lines: usize,
-    part: usize,
+    place: Place,
 ) -> Result<String, AllocError>
-    ensures { IfOk result (λ text. string_bytes text ≡ place_text columns name.now first last lines part) }
+    ensures { IfOk result (λ text. string_bytes text ≡ place_text columns name.now place) }
 {
+    let (first, last, lines) = (place.first, place.last, place.lines);
+    let part = percent(place.end, place.bytes);
     let numbers = format!(in alloc; "{first}-{last}/{lines}  {part}%")?;
     let room = columns.saturating_sub(numbers.len() + 2);
     let name = name_within(alloc, room, &clean_characters(alloc, name)?)?;

@@ -1,5 +1,5 @@
 //! The grammar that every prepared text meets, read from the left.
-ghost use Rattle.std.specs.Prelude.{◌≡◌, ◌==◌, ◌||◌, chars};
+ghost use Rattle.std.specs.Prelude.{◌≡◌, chars};
 ghost use Rattle.minus_view.specs.Shown.{step, read, is_control, ShownTextsJoin, ShownTextsAreClean};
 
 /// Where a shown text stands, behind some of its characters.

@@ -1,8 +1,8 @@
 //! The tabs of a text that is shown with spaces for them: the marks that report them are taken out of it before it is
 //! shown, and the tabs come back where some of it is copied.
-ghost use Rattle.std.specs.Prelude.{◌≡◌, option_map, string_bytes, IfOk, MatchOption, None, drop, take, ◌-◌, ◌<◌, ◌++◌, true, false};
+ghost use Rattle.std.specs.Prelude.{◌≡◌, option_map, string_bytes, IfOk, MatchOption, None, ◌<◌, ◌++◌, false};
 ghost use Rattle.minus_view.specs.Prepared.{MarksAreTakenOut, TabsComeBack};
-ghost use Rattle.minus_view.specs.TabMarks.{begun_tab, ended_tab, has_tab, past, past_mark, tab_places, unmarked, with_tabs};
+ghost use Rattle.minus_view.specs.TabMarks.{IsCutAt, begun_tab, ended_tab, has_tab, past, past_mark, tab_places, unmarked, with_tabs};
 
 use crate::key_sequences::run_len;
 use std::alloc::{AllocError, Global};
@@ -92,8 +92,8 @@ pub fn take_marks(alloc: Global, text: &str) -> Result<Unmarked, AllocError>
 
 // What stands before and behind the spaces of a tab in a text that begins at a place, where it has them.
 fn cut_at_tab(place: usize, text: &str, tab: Tab) -> Option<(&str, &str)>
-    ensures { MatchOption result (has_tab place text.now tab ≡ false) (λ x. (has_tab place text.now tab ≡ true)
-        × (x.0.now ≡ take (tab.start - place) text.now) × (x.1.now ≡ drop (tab.end - place) text.now)) }
+    ensures { MatchOption result (has_tab place text.now tab ≡ false)
+        (λ cut. IsCutAt place text.now tab cut.0.now cut.1.now) }
 {
     if tab.start < place || tab.end <= tab.start {
         return None;

@@ -44,7 +44,6 @@ fn ask<F: Fn(&SearchOpts<'_>) -> bool>(condition: &F, opts: &SearchOpts<'_>) -> 
 }
 
 impl ConditionCall for KeptCondition {
-    ghost use Rattle.std.specs.Prelude.{◌≡◌};
     ghost use Rattle.std.specs.Borrow.{Bor};
     ghost use Rattle.minus_state.specs.declared.search.opts.SearchOpts.{SearchOpts};
 
@@ -62,7 +61,7 @@ impl ConditionCall for KeptCondition {
 pub struct NeverShows;
 
 impl ConditionCall for NeverShows {
-    ghost use Rattle.std.specs.Prelude.{◌≡◌, false};
+    ghost use Rattle.std.specs.Prelude.{false};
 
     ghost judges = { λ condition opts answer. answer ≡ false };
 

@@ -50,7 +50,7 @@ fn typed(alloc: Global, character: char, query: &str) -> Result<String, AllocErr
 }
 
 impl OpenPrompt {
-    ghost use Rattle.std.specs.Prelude.{◌≡◌, ◌+◌, ◌≤◌, Some, false, length, chars, string_bytes, OnOk, OnErr, IfOk, IfErr};
+    ghost use Rattle.std.specs.Prelude.{◌+◌, ◌≤◌, Some, false, length, OnOk, OnErr, IfErr};
     ghost use Rattle.minus_term.specs.Refusals.{refusal_of};
     ghost use Rattle.minus_text.specs.WordStarts.{AreWithin};
     ghost use Rattle.minus_state.specs.OpenPrompts.{prompt_of, fed, cursor_moved, IsUnopened};

@@ -13,6 +13,7 @@ use crate::change::{Change, MessageChange, NextText, Redraw, Told};
 use crate::prompt::{PromptRow, format_prompt};
 use crate::showing::{ShownRow, ShownRows};
 use crate::state::PagerState;
+use crate::writing::write_texts;
 use minus_term::page_len;
 use minus_text::RowPlace;
 use std::alloc::{AllocError, Global};
@@ -40,7 +41,7 @@ fn text_after<'a>(next: &'a Option<String>, before: &'a String) -> &'a str
 }
 
 impl PagerState {
-    ghost use Rattle.std.specs.Prelude.{◌≡◌, None, true, string_bytes, IfOk};
+    ghost use Rattle.std.specs.Prelude.{None, true};
     ghost use Rattle.std.specs.Option.{option_map, unwrap_or};
     ghost use Rattle.minus_state.specs.ShownPrompt.{prompt_row, row_or};
     ghost use Rattle.minus_state.specs.PromptRow.{seen_prompt};
@@ -110,8 +111,11 @@ impl PagerState {
         }
     }
 
-    /// The prompt row after a change, where it may be another one; `None` where it stays as it is. Fails for want of
-    /// memory alone.
+    /// The prompt row after a change, where it may be another one; `None` where it stays as it is.
+    ///
+    /// # Errors
+    ///
+    /// [`AllocError`] if memory runs out.
     pub fn new_prompt_row(
         &self,
         alloc: Global,
@@ -216,6 +220,10 @@ pub fn write_between(
     let count = count_after(state, change).min(end);
     let start = first.min(count);
     let showing = showing(state, change);
+    if showing.is_plain() {
+        write_texts(showing.view, out, change.mark + start, change.mark + count)?;
+        return Ok(());
+    }
     let mut place = RowPlace::TOP;
     for i in start..count {
         showing.write_shown(alloc, out, change.mark + i, &mut place)?;

@@ -18,7 +18,7 @@ fn append_redraw(keeps_rows: bool) -> Redraw
 }
 
 impl PagerState {
-    ghost use Rattle.std.specs.Prelude.{◌≡◌, ◌==◌, string_bytes, IfOk, IfErr};
+    ghost use Rattle.std.specs.Prelude.{◌==◌, string_bytes, IfOk, IfErr};
     ghost use Rattle.minus_state.specs.RedrawExtent.{append_redraw};
     ghost use Rattle.minus_state.specs.Appending.{first_changed, lengthened};
     ghost use Rattle.minus_state.specs.States.{control_of, IsFormed};

@@ -30,11 +30,10 @@ fn query_taken(alloc: Global, search: &OpenSearch) -> Result<Option<Rc<Regex>>, 
 }
 
 impl PagerState {
-    ghost use Rattle.std.specs.Prelude.{◌≡◌, true, Option, IfOk, IfErr};
+    ghost use Rattle.std.specs.Prelude.{true, Option};
     ghost use Rattle.regex.specs.Patterns.{Re};
     ghost use Rattle.minus_state.specs.Changes.{Leads};
     ghost use Rattle.minus_state.specs.Confirming.{entered};
-    ghost use Rattle.minus_state.specs.OpenSearches.{seen_search};
     ghost use Rattle.minus_state.specs.QueryPatterns.{MayTake};
     ghost use Rattle.minus_state.specs.States.{control_of};
 

@@ -43,8 +43,6 @@ pub enum HelpChange {
 }
 
 impl HelpChange {
-    ghost use Rattle.std.specs.Prelude.{◌≡◌};
-    ghost use Rattle.minus_state.specs.Aside.{aside_of};
     ghost use Rattle.minus_state.specs.Changes.{help_after};
 
     // Puts what is saved in its place.
@@ -81,10 +79,10 @@ pub(crate) fn add_aside(saved: &mut Option<Saved>, text: &str) -> Result<(), Min
 }
 
 impl PagerState {
-    ghost use Rattle.std.specs.Prelude.{◌≡◌, [], string_bytes, not, OnOk, OnErr, IfOk, IfErr};
-    ghost use Rattle.std.specs.Option.{option_map, unwrap_or};
+    ghost use Rattle.std.specs.Prelude.{not, IfOk};
+    ghost use Rattle.std.specs.Option.{option_map};
     ghost use Rattle.minus_state.specs.Changes.{Leads};
-    ghost use Rattle.minus_state.specs.Help.{help_open, put_aside, opened, closed, shown_help, left_help, restored, turned, with_text};
+    ghost use Rattle.minus_state.specs.Help.{help_open, put_aside, opened, closed, shown_help, left_help, prompt_restored, toggled_with, with_text};
     ghost use Rattle.minus_state.specs.Aside.{aside_in};
     ghost use Rattle.minus_state.specs.States.{control_of, IsFormed};
     ghost use Rattle.minus_state.specs.Appending.{with_more};
@@ -184,9 +182,9 @@ impl PagerState {
     /// # Errors
     ///
     /// [`MinusError::Memory`] where there is no memory for it.
-    pub fn restored(&self, alloc: Global) -> Result<Change, MinusError>
+    pub fn prompt_restored(&self, alloc: Global) -> Result<Change, MinusError>
         ensures next { IfOk result (λ c. Leads self.now c
-            (restored (control_of self.now) (control_of self.now).help)) }
+            (prompt_restored (control_of self.now) (control_of self.now).help)) }
         ensures redraw { IfOk result (λ c. c.redraw ≡ whole_where (help_open (control_of self.now))) }
         ensures memory { IfErr result (λ e. e ≡ MinusError.Memory) }
     {
@@ -201,9 +199,9 @@ impl PagerState {
     /// # Errors
     ///
     /// [`MinusError::Memory`] where there is no memory for it.
-    pub fn turned(&self, alloc: Global, text: Option<String>) -> Result<Change, MinusError>
+    pub fn help_toggled(&self, alloc: Global, text: Option<String>) -> Result<Change, MinusError>
         ensures next { IfOk result (λ c. Leads self.now c
-            (turned (control_of self.now) (control_of self.now).help (unwrap_or (option_map string_bytes text) []))) }
+            (toggled_with (control_of self.now) (option_map string_bytes text))) }
         ensures redraw { IfOk result (λ c. c.redraw ≡ Redraw.Whole) }
         ensures memory { IfErr result (λ e. e ≡ MinusError.Memory) }
     {

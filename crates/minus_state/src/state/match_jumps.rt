@@ -16,7 +16,6 @@ fn row_above(mark: usize, row: Option<usize>) -> Option<usize>
 }
 
 impl PagerState {
-    ghost use Rattle.std.specs.Prelude.{◌≡◌};
     ghost use Rattle.minus_state.specs.Changes.{Leads};
     ghost use Rattle.minus_state.specs.MatchJumps.{next_match, prev_match, next_match_row, prev_match_row};
     ghost use Rattle.minus_state.specs.MatchJumps.{telling_next, telling_prev};

@@ -26,7 +26,7 @@ fn is_long(query: &str) -> bool
 }
 
 impl PagerState {
-    ghost use Rattle.std.specs.Prelude.{◌≡◌, true, None, Some, option_map, IfOk, IfErr};
+    ghost use Rattle.std.specs.Prelude.{true, None, Some, option_map, IfOk, IfErr};
     ghost use Rattle.regex.specs.Strings.{regex_pattern};
     ghost use Rattle.minus_term.specs.Refusals.{refusal_of};
     ghost use Rattle.minus_state.specs.Changes.{Leads};

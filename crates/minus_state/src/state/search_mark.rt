@@ -15,9 +15,7 @@ pub(crate) fn search_mark_anew(view: RowsView<'_>, mark: usize) -> usize
 }
 
 impl PagerState {
-    ghost use Rattle.std.specs.Prelude.{◌≡◌};
     ghost use Rattle.minus_state.specs.SearchMark.{search_mark_after};
-    ghost use Rattle.minus_text.specs.Views.{viewed};
 
     // Where an append leaves the search mark: at most at the last match, or, where all rows are formed again, as that
     // sets it.

@@ -19,9 +19,9 @@ fn whole_where(changed: bool) -> Redraw
 }
 
 impl PagerState {
-    ghost use Rattle.std.specs.Prelude.{◌≡◌, ◌-◌, ◌==◌, ◌<◌, ◌&&◌, min, is_some};
+    ghost use Rattle.std.specs.Prelude.{◌-◌, ◌==◌, ◌<◌, ◌&&◌, min, is_some};
     ghost use Rattle.minus_state.specs.Selecting.{no_ends, has_ends, end_at, ends_begun, is_led, mark_led_to, mark_led, ends_led_to, ends_led, is_same_end};
-    ghost use Rattle.minus_state.specs.RedrawExtent.{whole_where, led_redraw};
+    ghost use Rattle.minus_state.specs.RedrawExtent.{led_redraw};
     ghost use Rattle.minus_state.specs.States.{control_of, ends_of, IsFormed};
     ghost use Rattle.minus_state.specs.Changes.{Leads};
 
@@ -128,8 +128,8 @@ impl PagerState {
         mark == self.upper_mark && ends.selection == self.selection
     }
 
-    /// The state with its selection led to a place of the page.
-    pub fn led(&self, x: u16, y: u16) -> Change
+    /// The state with its selection dragged to a place of the page.
+    pub fn dragged(&self, x: u16, y: u16) -> Change
         ensures next { Leads self.now result
             (record (control_of self.now) {
               mark = mark_led (control_of self.now) y;

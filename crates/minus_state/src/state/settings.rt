@@ -37,13 +37,6 @@ impl PagerState {
         self.follow = follow;
     }
 
-    /// Shows the prompt row, or hides it.
-    pub fn set_prompt_shown(&mut self, is_shown: bool)
-        ensures { self.new ≡ record self.old { prompt_shown = is_shown } }
-    {
-        self.prompt_shown = is_shown;
-    }
-
     /// The state with its prompt row shown, or hidden.
     pub fn with_prompt_shown(&self, is_shown: bool) -> Change
         ensures next { Leads self.now result (with_prompt_shown (control_of self.now) is_shown) }

@@ -43,8 +43,7 @@ pub(crate) fn shared_pattern(pattern: &Option<Rc<Regex>>) -> Option<&Regex>
 }
 
 impl PagerState {
-    ghost use Rattle.std.specs.Prelude.{◌≡◌, Some, option_map, OnOk, OnErr, IfOk, IfErr};
-    ghost use Rattle.regex.specs.Strings.{regex_pattern};
+    ghost use Rattle.std.specs.Prelude.{Some, OnOk, OnErr, IfOk, IfErr};
     ghost use Rattle.minus_text.specs.Document.{rows_of};
     ghost use Rattle.minus_text.specs.Found.{AreFoundIn, jump_rows};
     ghost use Rattle.minus_text.specs.Finds.{finds};

@@ -1,5 +1,5 @@
 //! Pushes behind the text of a screen, and texts put in its place.
-ghost use Rattle.std.specs.Prelude.{◌≡◌, [], OnOk, OnErr, IfOk, IfErr, Option, None};
+ghost use Rattle.std.specs.Prelude.{◌≡◌, [], OnOk, OnErr, IfOk, IfErr, None};
 ghost use Rattle.minus_text.specs.Document.{pushed};
 ghost use Rattle.minus_text.specs.Fragments.{rows_in};
 ghost use Rattle.minus_text.specs.Pending.{Pending, IsPending, IsPreparedFor, SearchesAlike};
@@ -7,8 +7,7 @@ ghost use Rattle.minus_text.specs.FormatResults.{TellsAll, TellsPush, TellsPrepa
 ghost use Rattle.minus_text.specs.Found.{AreFoundIn};
 ghost use Rattle.minus_text.specs.FoundRows.{pattern_of};
 ghost use Rattle.minus_text.specs.FoundBy.{found_rows, AreJumps};
-ghost use Rattle.minus_text.specs.Searched.{searched, IsFoundBy, IsFoundInPush, FindsOn};
-ghost use Rattle.regex.specs.Patterns.{Re};
+ghost use Rattle.minus_text.specs.Searched.{searched, IsFoundBy, IsFoundInPush, FindsOn, FindsOnAlike};
 
 use crate::formed_push::FormedPush;
 use crate::layout::Layout;
@@ -80,8 +79,7 @@ impl Screen {
         requires stand { AreFoundIn push.kept_rows (rows_in push.tail) (found_rows found) }
         requires jumps { AreJumps found }
         ensures ok { OnOk result (self.new.document ≡ pushed self.old.document text.now push.numbers push.cols) }
-        ensures found { OnOk result ((term : Option Re) → SearchesAlike term self.old.document push →
-            FindsOn term self.old (record { push = push; found = found_rows found }) self.new) }
+        ensures found { OnOk result (FindsOnAlike self.old (record { push = push; found = found_rows found }) self.new) }
         ensures told { IfOk result (λ r.
             TellsFound r self.new.found self.old.document text.now push.numbers push.cols) }
         ensures err { OnErr result (self.new ≡ self.old) }

@@ -40,8 +40,8 @@ impl Model for Findings {
 }
 
 impl Findings {
-    ghost use Rattle.std.specs.Prelude.{◌≡◌, length, slice_get};
-    ghost use Rattle.minus_text.specs.Found.{jump_rows, match_total, matches_above};
+    ghost use Rattle.std.specs.Prelude.{length, slice_get};
+    ghost use Rattle.minus_text.specs.Found.{match_total, matches_above};
     ghost use Rattle.minus_text.specs.JumpRows.{counted};
 
     /// The number of rows in which matches begin.
@@ -105,9 +105,8 @@ pub fn view_after<'s>(
 
 impl Screen {
     ghost use Rattle.std.specs.Prelude.{◌++◌, length, slice_get};
-    ghost use Rattle.minus_text.specs.Found.{found_above, jump_rows, match_total, matches_above};
+    ghost use Rattle.minus_text.specs.Found.{found_above, match_total, matches_above};
     ghost use Rattle.minus_text.specs.JumpRows.{counted};
-    ghost use Rattle.minus_text.specs.Views.{viewed};
 
     /// Its rows, with what is kept as found in them.
     pub fn view(&self) -> RowsView<'_>

@@ -125,8 +125,11 @@ pub(crate) fn part_line<'l>(
     Ok(parted)
 }
 
-/// A text without its escape sequences, which the fixed pattern of `Patterns` finds. Fails for want of
-/// memory alone.
+/// A text without its escape sequences, which the fixed pattern of `Patterns` finds.
+///
+/// # Errors
+///
+/// [`AllocError`] if memory runs out.
 pub fn strip_escapes(alloc: Global, patterns: &Patterns, text: &str) -> Result<String, AllocError>
     ensures { IfOk result (λ s. string_bytes s ≡ stripped text.now) }
 {

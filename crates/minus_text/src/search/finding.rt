@@ -1,16 +1,15 @@
 //! Searches for a term in a text: in each of its rows by itself, or in each of its lines.
-ghost use Rattle.std.specs.Prelude.{◌≡◌, ℕ, true, false, ◌-◌, ◌≤◌, ◌<◌, map, option_map, Some, slice_get, IfOk, OnOk};
-ghost use Rattle.regex.specs.Strings.{regex_pattern};
+ghost use Rattle.std.specs.Prelude.{◌≡◌, true, false, ◌-◌, ◌≤◌, ◌<◌, map, option_map, Some, slice_get, IfOk, OnOk};
 ghost use Rattle.minus_text.specs.Document.{rows_of};
 ghost use Rattle.minus_text.specs.Matches.{match_at};
 ghost use Rattle.std.specs.Option.{unwrap_or};
 ghost use Rattle.minus_text.specs.Highlight.{line_matches};
 ghost use Rattle.minus_text.specs.Fragments.{rows_in};
 ghost use Rattle.minus_text.specs.Found.{found_in_rows, found_between, jump_rows, AreFoundIn};
-ghost use Rattle.minus_text.specs.Finds.{finds, found_in};
-ghost use Rattle.minus_text.specs.FoundRows.{finder_pattern, matches_of, AddsFound, StaysPlaced};
+ghost use Rattle.minus_text.specs.Finds.{finds, finds_in_push};
+ghost use Rattle.minus_text.specs.FoundRows.{finder_pattern, term_pattern, matches_of, AddsFound, StaysPlaced};
 ghost use Rattle.minus_text.specs.FoundBy.{found_in_some};
-ghost use Rattle.minus_text.specs.Searched.{IsFoundBetween};
+ghost use Rattle.minus_text.specs.Searched.{IsFoundBetween, searched_as};
 ghost use Rattle.minus_text.specs.StoredLines.{finds_between, first_from, IsFoundOfLines};
 
 use crate::formed_push::FormedPush;
@@ -48,7 +47,7 @@ fn find_in_rows(
     end: usize,
 ) -> Result<Vec<FoundRow>, AllocError>
     ensures found { IfOk result (λ f. map matches_of f.items
-        ≡ found_between (regex_pattern term.entry.pattern.now) (rows_of store.now) start end) }
+        ≡ found_between (term_pattern term.entry) (rows_of store.now) start end) }
     ensures stand { IfOk result (λ f. AreFoundIn 0 (rows_of store.now) (map matches_of f.items)) }
 {
     let mut finder = Finder::new(alloc, term)?;
@@ -66,7 +65,7 @@ fn find_in_push(
     pending: &FormedPush,
 ) -> Result<Vec<FoundRow>, AllocError>
     ensures found { IfOk result (λ f. map matches_of f.items
-        ≡ found_in_rows (regex_pattern term.entry.pattern.now) pending.now.kept_rows (rows_in pending.now.tail)) }
+        ≡ found_in_rows (term_pattern term.entry) pending.now.kept_rows (rows_in pending.now.tail)) }
     ensures stand { IfOk result (λ f.
         AreFoundIn pending.now.kept_rows (rows_in pending.now.tail) (map matches_of f.items)) }
 {
@@ -130,7 +129,7 @@ fn first_of_rows(
     mark: usize,
 ) -> Result<Option<usize>, AllocError>
     ensures { IfOk result (λ row. row
-        ≡ match_at (jump_rows (found_in_rows (regex_pattern term.entry.pattern.now) 0 (rows_of store.now))) mark) }
+        ≡ match_at (jump_rows (found_in_rows (term_pattern term.entry) 0 (rows_of store.now))) mark) }
 {
     let mut finder = Finder::new(alloc, term)?;
     let count = store.formatted_lines_count();
@@ -153,7 +152,7 @@ fn find_in_lines(
 ) -> Result<Vec<FoundRow>, AllocError>
     requires { start ≤ end }
     ensures found { IfOk result (λ f. map matches_of f.items
-        ≡ finds_between (regex_pattern term.entry.pattern.now) store.now start end) }
+        ≡ finds_between (term_pattern term.entry) store.now start end) }
     ensures stand { IfOk result (λ f. AreFoundIn 0 (rows_of store.now) (map matches_of f.items)) }
 {
     let mut finder = Finder::new(alloc, term)?;
@@ -172,7 +171,7 @@ fn find_in_lines_of(
     start: usize,
     end: usize,
 ) -> Result<Vec<FoundRow>, AllocError>
-    ensures found { IfOk result (λ f. IsFoundOfLines (regex_pattern term.entry.pattern.now) store.now
+    ensures found { IfOk result (λ f. IsFoundOfLines (term_pattern term.entry) store.now
         (map matches_of f.items) start end) }
     ensures stand { IfOk result (λ f. AreFoundIn 0 (rows_of store.now) (map matches_of f.items)) }
 {
@@ -233,7 +232,7 @@ fn first_of_lines(
 ) -> Result<Option<usize>, AllocError>
     requires { store.now.layout.match_lines ≡ true }
     ensures { IfOk result (λ row. row
-        ≡ match_at (jump_rows (finds (Some (regex_pattern term.entry.pattern.now)) store.now)) mark) }
+        ≡ match_at (jump_rows (finds (Some (term_pattern term.entry)) store.now)) mark) }
 {
     let Some(line) = store.lines_to_row_map().row_to_line(mark) else {
         return Ok(None);
@@ -255,7 +254,7 @@ pub(crate) fn find_all(
     store: &Store,
 ) -> Result<Vec<FoundRow>, AllocError>
     ensures found { IfOk result (λ f. map matches_of f.items
-        ≡ finds (Some (regex_pattern term.entry.pattern.now)) store.now) }
+        ≡ finds (Some (term_pattern term.entry)) store.now) }
     ensures stand { IfOk result (λ f. AreFoundIn 0 (rows_of store.now) (map matches_of f.items)) }
 {
     if store.layout().match_lines {
@@ -273,8 +272,8 @@ pub(crate) fn find_between(
     start: usize,
     end: usize,
 ) -> Result<Vec<FoundRow>, AllocError>
-    ensures found { IfOk result (λ f. IsFoundBetween (Some (regex_pattern term.entry.pattern.now))
-        (record { document = store.now; found = map matches_of f.items }) start end) }
+    ensures found { IfOk result (λ f.
+        IsFoundBetween (Some (term_pattern term.entry)) (searched_as store.now f.items) start end) }
     ensures stand { IfOk result (λ f. AreFoundIn 0 (rows_of store.now) (map matches_of f.items)) }
 {
     if store.layout().match_lines {
@@ -290,8 +289,7 @@ pub(crate) fn find_formed(
     pending: &FormedPush,
 ) -> Result<Vec<FoundRow>, AllocError>
     ensures found { IfOk result (λ f. map matches_of f.items
-        ≡ found_in (Some (regex_pattern term.entry.pattern.now)) pending.now.match_lines pending.now.kept_rows
-        pending.now.tail) }
+        ≡ finds_in_push (term_pattern term.entry) pending.now) }
     ensures stand { IfOk result (λ f.
         AreFoundIn pending.now.kept_rows (rows_in pending.now.tail) (map matches_of f.items)) }
 {
@@ -310,7 +308,7 @@ pub(crate) fn first_match(
     mark: usize,
 ) -> Result<Option<usize>, AllocError>
     ensures { IfOk result (λ row. row
-        ≡ match_at (jump_rows (finds (Some (regex_pattern term.entry.pattern.now)) store.now)) mark) }
+        ≡ match_at (jump_rows (finds (Some (term_pattern term.entry)) store.now)) mark) }
 {
     if store.layout().match_lines {
         return first_of_lines(alloc, term, store, mark);

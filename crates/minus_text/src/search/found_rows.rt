@@ -1,5 +1,5 @@
 //! What is kept of what a term finds in a text.
-ghost use Rattle.std.specs.Prelude.{◌≡◌, true, ◌+◌, ◌-◌, ◌≤◌, [], ◌++◌, length, map, option_map, nat_le, slice_get, slice_index_or, IfOk, OnOk, ◌<◌, ◌^◌};
+ghost use Rattle.std.specs.Prelude.{◌≡◌, true, ◌+◌, ◌-◌, ◌≤◌, [], ◌++◌, length, map, option_map, nat_le, slice_get, slice_index_or, IfOk, OnOk, IsTrue, ◌<◌, ◌^◌};
 ghost use Rattle.std.specs.List.{position_or_len};
 ghost use Rattle.minus_text.specs.Document.{rows_of};
 ghost use Rattle.minus_text.specs.Matches.{counts_first};
@@ -272,6 +272,13 @@ impl FoundRows {
     {
         self.rows.clear();
         self.jumps.clear();
+    }
+
+    // Whether nothing was found.
+    pub(crate) fn is_empty(&self) -> bool
+        ensures { IsTrue result → found_rows self.now ≡ [] }
+    {
+        self.rows.is_empty()
     }
 
     // In how many rows matches begin.

@@ -1,7 +1,7 @@
 //! Lines with the matches of a pattern shown in reverse.
 ghost use Rattle.std.specs.Prelude.{◌≡◌, [], false, ◌++◌, ◌≤◌, map, length, drop, IfOk, OnOk, string_bytes};
 ghost use Rattle.minus_text.specs.Escapes.{insert_of, outside, inside, CutsText};
-ghost use Rattle.minus_text.specs.Highlight.{count_before, before, behind, moved, closed, of_match, ordered, put_in, highlighted, line_matches, matches_text, StandIn, StandIn-prop, HighlightsAddMarkersAlone, OnlyMatchesAreHighlighted};
+ghost use Rattle.minus_text.specs.Highlight.{count_before, before, behind, moved, closed, of_match, ordered, put_in, highlighted, line_matches, matches_text, StandIn, InsertsStand, InsertsStand-prop, HighlightsAddMarkersAlone, OnlyMatchesAreHighlighted};
 ghost use Rattle.regex.specs.Strings.{regex_pattern, matcher_pattern};
 
 use crate::crop::Window;
@@ -141,7 +141,7 @@ pub struct HighlightMatchesArgs<'l> {
     text: String,
     puts: Vec<Insert<'l>>,
     is_match: bool,
-    ghost stand: { StandIn (string_bytes text) 0 (map insert_of puts.items) } by { StandIn-prop (string_bytes text) 0 (map insert_of puts.items) },
+    ghost stand: { InsertsStand (string_bytes text) puts.items } by { InsertsStand-prop (string_bytes text) puts.items },
 }
 
 // Hand-written: a derived drop would stand again in the proof of each function that lets one go.

@@ -1,5 +1,5 @@
 //! The rows that jumps go to, counted with their matches.
-ghost use Rattle.std.specs.Prelude.{◌≡◌, ◌≤◌, ◌+◌, ◌^◌, ◌<◌, length, map, IfOk, OnOk};
+ghost use Rattle.std.specs.Prelude.{◌≡◌, ◌≤◌, ◌<◌, length, map, IfOk, OnOk};
 ghost use Rattle.std.specs.List.{position_or_len};
 ghost use Rattle.minus_text.specs.Matches.{counts_first};
 ghost use Rattle.minus_text.specs.FoundRows.{matches_of};

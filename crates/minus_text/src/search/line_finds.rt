@@ -1,15 +1,14 @@
 //! What a term finds in lines, and what of it lies in each row.
-ghost use Rattle.std.specs.Prelude.{◌≡◌, ◌+◌, ◌<◌, ◌^◌, ◌++◌, ℕ, map, length, OnOk, List};
+ghost use Rattle.std.specs.Prelude.{◌≡◌, ◌+◌, ◌<◌, ◌^◌, length, OnOk};
 ghost use Rattle.minus_text.specs.LineFinds.{finds_in_row, finds_in_rows, MatchTotalIsOfLines};
 ghost use Rattle.minus_text.specs.LineLaws.{UnwrappedLinesAreRows, JumpsGoToAllRows, LinesFormAgain};
-ghost use Rattle.minus_text.specs.FindsStand.{FindsStandInRows, LineFindsStand, LineFindsAscend};
-ghost use Rattle.minus_text.specs.LineSplits.{Ordered, RowsOrdered, in_line, stretch_of, lines_of, finds_at, finds_in_text};
+ghost use Rattle.minus_text.specs.FindsStand.{FindsStandInRows, LineFindsStand, LineFindsAscend, TextFindsStand};
+ghost use Rattle.minus_text.specs.LineSplits.{Ordered, RowsOrdered, rows_in_line, stretch_of, lines_of};
+ghost use Rattle.minus_text.specs.LineSplits.{finds_at, finds_in_text, FindsStandIn};
 ghost use Rattle.minus_text.specs.Lines.{cut};
 ghost use Rattle.minus_text.specs.Kept.{stored_from};
-ghost use Rattle.minus_text.specs.Document.{first_rows, rows_of_lines};
-ghost use Rattle.minus_text.specs.FoundRows.{matches_of, finder_pattern};
-ghost use Rattle.minus_text.specs.Rows.{ArePlaces};
-ghost use Rattle.minus_text.specs.Found.{AreFoundIn};
+ghost use Rattle.minus_text.specs.Document.{first_rows};
+ghost use Rattle.minus_text.specs.FoundRows.{finder_pattern, AddsFound};
 ghost use Rattle.minus_text.specs.WorkedLines.{WorkedLines};
 
 use crate::layout::Wrap;
@@ -19,6 +18,7 @@ use crate::search::found::{Finder, FoundRow, outside_matches};
 use crate::search::line_splits::{
     RowStretch, Walk, between, ended_count, place_in_line, rows_end, stretch_at,
 };
+use crate::stored_line::{StoredLine, StoredText};
 use std::alloc::{AllocError, Global};
 
 // Adds what is found in a row, if it shows some of a match.
@@ -33,8 +33,8 @@ fn note_row(
 ) -> Result<(), AllocError>
     requires escapes { Ordered 0 escapes.now }
     requires matches { Ordered 0 matches.now }
-    ensures { OnOk result (map matches_of found.new.items ≡ map matches_of found.old.items
-        ++ finds_in_row n escapes.now matches.now place (stretch_of row)) }
+    ensures { OnOk result (AddsFound found.old.items found.new.items
+        (finds_in_row n escapes.now matches.now place (stretch_of row))) }
 {
     let parts = row.parts_in(alloc, matches)?;
     if parts.is_empty() {
@@ -50,35 +50,32 @@ fn note_row(
     Ok(())
 }
 
-// Adds what is found in the rows of a line that has these escape sequences and matches. Its first row has a number, and
-// the line begins at a place of the text in which the rows stand.
-pub(crate) fn note_rows(
+// Adds what is found in the rows of a line that has these escape sequences and matches.
+fn note_rows(
     alloc: Global,
     found: &mut Vec<FoundRow>,
-    first: usize,
-    base: usize,
+    line: StoredLine<'_>,
     escapes: &[(usize, usize)],
     matches: &[(usize, usize)],
-    spans: &[Span],
 ) -> Result<(), AllocError>
     requires escapes { Ordered 0 escapes.now }
     requires matches { Ordered 0 matches.now }
-    requires rows { RowsOrdered base spans.now }
-    requires few { first + length spans.now < 2 ^ 64 }
-    ensures { OnOk result (map matches_of found.new.items ≡ map matches_of found.old.items
-        ++ finds_in_rows first escapes.now matches.now (map (in_line base) spans.now)) }
+    requires rows { RowsOrdered line.base line.rows.now }
+    requires few { line.first + length line.rows.now < 2 ^ 64 }
+    ensures { OnOk result (AddsFound found.old.items found.new.items
+        (finds_in_rows line.entry.first escapes.now matches.now (rows_in_line line.entry))) }
 {
     let mut walk = Walk::START;
     let mut done = 0;
-    for i in 0..spans.len() {
-        let place = place_in_line(spans[i], base);
+    for i in 0..line.rows.len() {
+        let place = place_in_line(line.rows[i], line.base);
         walk = walk.go_to(escapes, place.start);
-        let row = stretch_at(walk, escapes, place, base, &spans[i + 1..]);
+        let row = stretch_at(walk, escapes, place, line.base, &line.rows[i + 1..]);
         done += ended_count(&matches[done..], row.start);
         note_row(
             alloc,
             found,
-            first + i,
+            line.first + i,
             place,
             row,
             &escapes[walk.passed..],
@@ -88,74 +85,61 @@ pub(crate) fn note_rows(
     Ok(())
 }
 
-// Adds what is found in a line. Its first row has a number, and the line begins at a place of the text in which its
-// rows stand. A line in which nothing is found costs its search alone.
+// Adds what is found in a line. A line in which nothing is found costs its search alone.
 pub(crate) fn find_in_line(
     alloc: Global,
     finder: &mut Finder<'_>,
     found: &mut Vec<FoundRow>,
-    first: usize,
-    base: usize,
-    line: &str,
-    rows: &[Span],
+    line: StoredLine<'_>,
 ) -> Result<(), AllocError>
-    requires rows { RowsOrdered base rows.now }
-    requires few { first + length rows.now < 2 ^ 64 }
-    ensures found { OnOk result (map matches_of found.new.items ≡ map matches_of found.old.items
-        ++ finds_at (finder_pattern finder.old) first base line.now rows.now) }
-    ensures stands { OnOk result ((own : List (List ℕ)) → ArePlaces line.now (map (in_line base) rows.now) own →
-        AreFoundIn first own (finds_at (finder_pattern finder.old) first base line.now rows.now)) }
+    requires rows { RowsOrdered line.base line.rows.now }
+    requires few { line.first + length line.rows.now < 2 ^ 64 }
+    ensures found { OnOk result (AddsFound found.old.items found.new.items
+        (finds_at (finder_pattern finder.old) line.entry)) }
+    ensures stands { OnOk result (FindsStandIn (finder_pattern finder.old) line.entry) }
     ensures same { finder_pattern finder.new ≡ finder_pattern finder.old }
 {
-    let escapes = finder.escape_places(alloc, line)?;
-    let matches = outside_matches(alloc, &mut finder.term, line, &escapes)?;
+    let escapes = finder.escape_places(alloc, line.text)?;
+    let matches = outside_matches(alloc, &mut finder.term, line.text, &escapes)?;
     if matches.is_empty() {
         return Ok(());
     }
-    note_rows(alloc, found, first, base, &escapes, &matches, rows)?;
+    note_rows(alloc, found, line, &escapes, &matches)?;
     Ok(())
 }
 
-// Adds what is found in the lines of a text that begins at a place of another one. Their rows stand in that, the first
-// row has a number, and `firsts` has the number of the first row of each line. They are wrapped so.
+// Adds what is found in lines, which are wrapped so.
 pub(crate) fn find_in_text(
     alloc: Global,
     finder: &mut Finder<'_>,
     found: &mut Vec<FoundRow>,
-    first: usize,
-    base: usize,
-    text: &str,
-    rows: &[Span],
-    firsts: &[usize],
+    text: StoredText<'_>,
     wrap: Wrap,
 ) -> Result<(), AllocError>
-    requires rows { rows.now ≡ stored_from wrap base (cut text.now) }
-    requires firsts { firsts.now ≡ first_rows wrap first (lines_of (cut text.now)) }
-    requires few { first + length rows.now < 2 ^ 64 }
-    requires room { base + length text.now < 2 ^ 64 }
-    ensures found { OnOk result (map matches_of found.new.items ≡ map matches_of found.old.items
-        ++ finds_in_text (finder_pattern finder.old) wrap first text.now) }
-    ensures stands { OnOk result (AreFoundIn first (rows_of_lines wrap (lines_of (cut text.now)))
-        (finds_in_text (finder_pattern finder.old) wrap first text.now)) }
+    requires rows { text.rows.now ≡ stored_from wrap text.base (cut text.text.now) }
+    requires firsts { text.firsts.now ≡ first_rows wrap text.first (lines_of (cut text.text.now)) }
+    requires few { text.first + length text.rows.now < 2 ^ 64 }
+    requires room { text.base + length text.text.now < 2 ^ 64 }
+    ensures found { OnOk result (AddsFound found.old.items found.new.items
+        (finds_in_text (finder_pattern finder.old) wrap text.entry.first text.entry.text.now)) }
+    ensures stands { OnOk result
+        (TextFindsStand (finder_pattern finder.old) wrap text.entry.first text.entry.text.now) }
     ensures same { finder_pattern finder.new ≡ finder_pattern finder.old }
 {
     let _wrap = wrap;
-    let mut rest = text;
-    let mut at = base;
+    let mut rest = text.text;
+    let mut at = text.base;
     let mut line_number = 0;
     let mut done = 0;
     while let Some((line, more)) = split_line(rest) {
-        let end = rows_end(firsts, line_number + 1, first, rows.len());
-        let own = &rows[done..end];
-        find_in_line(
-            alloc,
-            finder,
-            found,
-            first + done,
-            at,
-            without_return(line),
-            own,
-        )?;
+        let end = rows_end(text.firsts, line_number + 1, text.first, text.rows.len());
+        let stored = StoredLine {
+            first: text.first + done,
+            base: at,
+            text: without_return(line),
+            rows: &text.rows[done..end],
+        };
+        find_in_line(alloc, finder, found, stored)?;
         done = end;
         at += line.len() + 1;
         line_number += 1;
@@ -164,7 +148,13 @@ pub(crate) fn find_in_text(
     if rest.is_empty() {
         return Ok(());
     }
-    find_in_line(alloc, finder, found, first + done, at, rest, &rows[done..])?;
+    let last = StoredLine {
+        first: text.first + done,
+        base: at,
+        text: rest,
+        rows: &text.rows[done..],
+    };
+    find_in_line(alloc, finder, found, last)?;
     Ok(())
 }
 

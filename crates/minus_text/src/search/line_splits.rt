@@ -1,7 +1,7 @@
 //! How the matches of a line are parted among its rows: walks over places, and the rows of a line without its escape
 //! sequences.
 ghost use Rattle.std.specs.Prelude.{◌≡◌, ◌+◌, ◌≤◌, ◌<◌, map, length, get_or, IfOk};
-ghost use Rattle.minus_text.specs.LineFinds.{outside_before, between, is_before, lies_in, begins_in, part_in, parts_in, first_start, begin_count};
+ghost use Rattle.minus_text.specs.LineFinds.{outside_before, between, is_before, lies_in, begins_in, part_in, parts_in, first_start, begin_count, stretch_in};
 ghost use Rattle.minus_text.specs.LineSplits.{Ordered, RowsOrdered, IsWalk, ended_count, in_line, stretch_of, rows_end};
 
 use crate::rows::Span;
@@ -217,11 +217,7 @@ pub(crate) fn stretch_at(
     requires far { walk.passed < length escapes.now → place.start < (get_or escapes.now walk.passed (0, 0)).1 }
     requires order { place.start ≤ place.end }
     requires rows { RowsOrdered (base + place.end) rest.now }
-    ensures { stretch_of result ≡ record {
-      start = outside_before 0 escapes.now place.start;
-      end = outside_before 0 escapes.now place.end;
-      next = first_start escapes.now (map (in_line base) rest.now);
-    } }
+    ensures { stretch_of result ≡ stretch_in escapes.now place (map (in_line base) rest.now) }
 {
     let end = walk.go_to(escapes, place.end);
     RowStretch {

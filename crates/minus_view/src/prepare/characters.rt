@@ -1,10 +1,9 @@
 //! Characters on their way to the sheet.
-ghost use Rattle.std.specs.Prelude.{ℕ, Bool, ◌≡◌, ◌+◌, ◌%◌, ◌≤◌, ◌++◌, [], true, false, string_bytes, IfOk, None};
+ghost use Rattle.std.specs.Prelude.{ℕ, Bool, ◌≡◌, ◌+◌, ◌≤◌, ◌++◌, [], true, false, string_bytes, IfOk, None};
 ghost use Rattle.std.specs.List.{list_all};
 ghost use Rattle.minus_view.specs.Shown.{is_plain};
 ghost use Rattle.minus_view.specs.Prepared.{char_columns, held, IsAt, IsPlain, IsPlainGlyph};
-ghost use Rattle.minus_view.specs.TabColumns.{apart, column_after};
-ghost use Rattle.minus_view.specs.declared.look.Look.TheVariants.{Plain};
+ghost use Rattle.minus_view.specs.TabColumns.{apart, column_after, IsColumnAfter};
 ghost use Rattle.minus_view.specs.declared.prepare.Place.TheVariants.{Text};
 
 use super::tab_columns::{apart, column_after};
@@ -155,8 +154,8 @@ impl Preparation {
         ensures plain { IfOk result (λ _. newlines ≡ true → IsPlain self.new
             × (string_bytes self.new.sheet.text ≡ string_bytes self.old.sheet.text ++ bytes.now)) }
         ensures shape { self.new.shape ≡ self.old.shape }
-        ensures column { IfOk result (λ _. self.new.column % apart self.old.shape
-            ≡ column_after (apart self.old.shape) self.old.column bytes.now % apart self.old.shape) }
+        ensures column { IfOk result (λ _.
+            IsColumnAfter (apart self.old.shape) self.old.column bytes.now self.new.column) }
     {
         if !bytes.is_empty() {
             self.open(Look::Plain)?;

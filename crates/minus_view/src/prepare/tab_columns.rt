@@ -1,9 +1,9 @@
 //! A tab and its columns: how far tabs stand apart, and the column behind some characters.
-ghost use Rattle.std.specs.Prelude.{ℕ, Bool, ◌≡◌, ◌+◌, ◌%◌, ◌<◌, ◌≤◌, true, IfOk};
+ghost use Rattle.std.specs.Prelude.{ℕ, Bool, ◌≡◌, ◌+◌, ◌<◌, ◌≤◌, true, IfOk};
 ghost use Rattle.std.specs.List.{list_all};
 ghost use Rattle.minus_view.specs.Shown.{is_plain};
 ghost use Rattle.minus_view.specs.Prepared.{IsAt, TakesTab};
-ghost use Rattle.minus_view.specs.TabColumns.{apart, column_after, tab_len};
+ghost use Rattle.minus_view.specs.TabColumns.{apart, tab_len, IsColumnAfter};
 
 use super::{Preparation, Shape};
 use crate::look::Look;
@@ -26,7 +26,7 @@ pub(super) fn column_after(tabs: usize, column: usize, plain: &[u8]) -> usize
     requires plain { list_all (is_plain true) plain.now ≡ true }
     requires some { 0 < tabs }
     requires most { tabs ≤ 65535 }
-    ensures { result % tabs ≡ column_after tabs column plain.now % tabs }
+    ensures { IsColumnAfter tabs column plain.now result }
 {
     let mut start = plain.len();
     while 0 < start && plain[start - 1] != b'\n' {

@@ -5,7 +5,7 @@ use Rattle.std.proofs.lemmas.List.{length-take, length-drop}
 use Rattle.regex.specs.Patterns.{Re}
 use Rattle.minus_term.specs.FullRedraw.{row_ops}
 use Rattle.minus_term.specs.Written.{written_all}
-use Rattle.minus_text.specs.Document.{Document}
+use Rattle.minus_text.specs.Document.{Document, rows_of}
 use Rattle.minus_text.specs.Found.{found_of_row}
 use Rattle.minus_text.specs.Searched.{Searched, IsFoundBy}
 use Rattle.minus_text.specs.Views.{viewed}
@@ -19,8 +19,27 @@ use Rattle.minus_state.specs.States.{term_of}
 use Rattle.minus_state.proofs.ShownLaws.{shown_part}
 use Rattle.minus_state.proofs.ShowingLaws.{row_shown}
 use Rattle.minus_state.proofs.WritingLaws.{nothing_written, written_next}
+use Rattle.minus_state.proofs.OwnTextsLaws.{own_rows, page_part}
 use Rattle.minus_state.proofs.ChangeLaws.{found_next}
 use Rattle.minus_state.proofs.state.after.write_between.Goals as goal
+
+pub returns-then-is_plain : goal.returns-then-is_plain
+returns-then-is_plain c next =
+    let d : Document = next_document c.args.state.now.screen.document c.args.change.now.text in
+    let left : ℕ = c.args.change.now.left in
+    let ends : SelectionEnds = c.args.change.now.ends in
+    let term : Option Re = next_term (term_of c.args.state.now) c.args.change.now.text in
+    let rows : List (List ℕ) = shown_of term d left ends in
+    let mark : ℕ = c.args.change.now.mark in
+    let showing = c.showing-showing.ensures in
+    let view : Searched = viewed c.showing-showing.result.view in
+    let set : SelectionEnds = c.showing-showing.result.ends in
+    let found = subst (λ (x : Searched). IsFoundBy term x) (sym showing.view) (found_next term c.args.state.now.screen c.args.change.now.text next) in
+    let own = own_rows term view left set (c.is_plain.ensures c.if-is_plain.true) found in
+    let same : rows_of view.document ≡ rows =
+    sym own ∙ ap (λ (x : Searched). shown_of term x.document left set) showing.view ∙ ap (λ (e : SelectionEnds). shown_of term d left e) showing.ends in
+    let count : c.min-count.result ≡ min (length (take (c.args.change.now.rows - 1) (drop mark rows))) c.args.end = c.min-count.ensures ∙ ap (λ n. min n c.args.end) c.count_after.ensures.count in
+    c.in_ok-write_texts.ensures ∙ ap (λ (ts : List (List ℕ)). c.args.out.now.items ++ written_all (flat_map row_ops ts)) (page_part (rows_of view.document) rows mark (c.args.change.now.rows - 1) c.args.first c.args.end c.min-count.result c.min-start.result same count c.min-start.ensures)
 
 pub loop-i-init : goal.loop-i-init
 loop-i-init c next = nothing_written c.args.out.now.items c.min-start.result (drop c.args.change.now.mark (shown_of (next_term (term_of c.args.state.now) c.args.change.now.text) (next_document c.args.state.now.screen.document c.args.change.now.text) c.args.change.now.left c.args.change.now.ends))

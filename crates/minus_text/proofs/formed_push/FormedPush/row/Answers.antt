@@ -73,7 +73,7 @@ invariant_of-result c =
     let count = (c.in-Some.row.now.end - n) - start in
     let part : c.range.result.now ≡ take count (drop start (string_bytes c.self.inside.tail)) = c.range.ensures.value ∙ ap (λ (t : List ℕ). take count (drop start t)) c.as_str-text.ensures.value in
     let is = unescaped_part c.self.inside.escapes_end start count (string_bytes c.self.inside.tail) c.self.invariant.1 in
-    record { unescaped = rw (c.saturating_sub.ensures, part) is }
+    record { plain = rw (c.saturating_sub.ensures, part) is }
 
 pub overflow_sub-row-in-Some-2 : goal.overflow_sub-row-in-Some-2
 overflow_sub-row-in-Some-2 c =

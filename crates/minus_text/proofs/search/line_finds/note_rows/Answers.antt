@@ -17,8 +17,8 @@ pub loop-i-preserved : goal.loop-i-preserved
 loop-i-preserved c =
     let es = c.args.escapes.now in
     let ms = c.args.matches.now in
-    let spans = c.args.spans.now in
-    let base = c.args.base in
+    let spans = c.args.line.rows.now in
+    let base = c.args.line.base in
     let i = c.loop-i.i in
     let more = c.loop-i-test.true in
     let inv = c.loop-i.invariant in
@@ -38,7 +38,7 @@ loop-i-preserved c =
     ∙ ap₂ (λ (q : Span) (l : List Span). let x : Stretch = record { start = outside_before 0 es q.start; end = outside_before 0 es q.end; next = first_start es (map (in_line base) l) } in x) pe (take_rest spans (i + 1)) in
     let inner : between p.start p.end (drop walk.passed es) ≡ between p.start p.end es = c.go_to-walk.ensures.walk.behind p.start p.end on in
     let inner_there = subst (λ (q : Span). between q.start q.end (drop walk.passed es) ≡ between q.start q.end es) pe inner in
-    let n = c.args.first + i in
+    let n = c.args.line.first + i in
     let old = map matches_of c.loop-i.found.items in
     let new = map matches_of c.note_row.new.found.items in
     let put : new ≡ old ++ finds_in_row n (drop walk.passed es) (drop k ms) p r =
@@ -49,6 +49,6 @@ loop-i-preserved c =
       walk = c.go_to-walk.ensures.walk;
       rows = rows_lower (base + walk.at) (get_or spans i (record { start = 0; end = 0 })).end rest (omega (arith, on, starts, up, over)) here.2;
       few = let w = c.ended_count-done.ensures.within in omega (arith, w, ap length (take_rest ms c.loop-i.done), length-drop c.loop-i.done ms, inv.few);
-      so_far = one_row_more es ms spans base i more n c.loop-i.done c.ended_count-done.result walk.passed k (c.args.first + (i + 1)) c.loop-i.walk.at r old new _
+      so_far = one_row_more es ms spans base i more n c.loop-i.done c.ended_count-done.result walk.passed k (c.args.line.first + (i + 1)) c.loop-i.walk.at r old new _
           inv.rows is ended refl (omega arith) inner_there put_there inv.so_far;
     }

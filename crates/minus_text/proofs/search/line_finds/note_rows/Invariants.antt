@@ -8,8 +8,8 @@ use Rattle.minus_text.proofs.search.line_finds.note_rows.Given as goal
 abbrev pub invariant-loop-i : goal.invariant-loop-i
 invariant-loop-i l = record {
   walk : IsWalk l.escapes l.walk;
-  rows : RowsOrdered (l.base + l.walk.at) (drop l.i l.spans);
+  rows : RowsOrdered (l.line.base + l.walk.at) (drop l.i l.line.rows.now);
   few : l.done ≤ length l.matches;
-  so_far : map matches_of l.found.items ++ finds_in_rows (l.first + l.i) l.escapes (drop l.done l.matches) (map (in_line l.base) (drop l.i l.spans))
-      ≡ map matches_of l.initial.found.items ++ finds_in_rows l.first l.escapes l.matches (map (in_line l.base) l.spans);
+  so_far : map matches_of l.found.items ++ finds_in_rows (l.line.first + l.i) l.escapes (drop l.done l.matches) (map (in_line l.line.base) (drop l.i l.line.rows.now))
+      ≡ map matches_of l.initial.found.items ++ finds_in_rows l.line.first l.escapes l.matches (map (in_line l.line.base) l.line.rows.now);
 }

@@ -52,4 +52,4 @@ invariant_of-result c =
     let r = c.in-Some.row.now in
     let part : c.range.result.now ≡ take (r.end - r.start) (drop r.start (string_bytes c.self.inside.text)) = c.range.ensures.value ∙ ap (λ (t : List ℕ). take (r.end - r.start) (drop r.start t)) c.as_str-text.ensures.value in
     let is = unescaped_part c.self.inside.escapes_end r.start (r.end - r.start) (string_bytes c.self.inside.text) c.self.invariant.1 in
-    record { unescaped = rw (c.saturating_sub.ensures, part) is }
+    record { plain = rw (c.saturating_sub.ensures, part) is }

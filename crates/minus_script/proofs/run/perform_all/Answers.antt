@@ -3,7 +3,7 @@ use Rattle.std.proofs.Common.{[], ◌++◌, map, None, Some, is_some, inl, refl,
 use Rattle.minus.specs.Core.{seen_of}
 use Rattle.minus_commands.specs.Reads.{told_of}
 use Rattle.minus_script.proofs.RunLaws.{worked_none, some_left, none_left, run_as, ran_on, ran_less, ran_last, ran_running, whole_by_exit, ran_into}
-use Rattle.minus_script.proofs.run.work_off.Goals as goal
+use Rattle.minus_script.proofs.run.perform_all.Goals as goal
 
 pub loop-session-init : goal.loop-session-init
 loop-session-init g c = ([], worked_none (seen_of c.args.session.now) (map told_of c.args.inputs.items) (g.S.OutputSink.seen c.args.session.now.sink).bytes, refl, c.requires)

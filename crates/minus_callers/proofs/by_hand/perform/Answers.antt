@@ -6,9 +6,9 @@ use Rattle.minus_commands.specs.declared.commands.CommandOf.{CommandOf}
 use Rattle.minus_commands.specs.EvHandler.{HandlesAs}
 use Rattle.minus_commands.specs.Queued.{waiting_in}
 use Rattle.minus_commands.specs.Reads.{io_of}
-use Rattle.minus_callers.specs.ByHand.{CannotWorkOff}
+use Rattle.minus_callers.specs.ByHand.{CannotPerform}
 use Rattle.minus_callers.proofs.ByHandLaws.{all_done}
-use Rattle.minus_callers.proofs.by_hand.work_off.Goals as goal
+use Rattle.minus_callers.proofs.by_hand.perform.Goals as goal
 
 pub returns-clause-done : goal.returns-clause-done
 returns-clause-done g c none =
@@ -27,10 +27,10 @@ pub returns-in_err-handled-clause-refused : goal.returns-in_err-handled-clause-r
 returns-in_err-handled-clause-refused g c =
     let says = g.P.Classifier.InputClassifier.says in
     let e = c.in_err-handled.field-0.0 in
-    passed_on c.from_residual.result (λ x. CannotWorkOff (refusal_of x) says c.args.parts.now c.args.command) e c.from_residual.ensures (inr c.in_err-handled.ensures.refused)
+    passed_on c.from_residual.result (λ x. CannotPerform (refusal_of x) says c.args.parts.now c.args.command) e c.from_residual.ensures (inr c.in_err-handled.ensures.refused)
 
 pub returns-in_err-do_waiting-clause-refused : goal.returns-in_err-do_waiting-clause-refused
 returns-in_err-do_waiting-clause-refused g c =
     let says = g.P.Classifier.InputClassifier.says in
     let e = c.in_err-do_waiting.field-0.0 in
-    passed_on c.from_residual-in_err-do_waiting.result (λ x. CannotWorkOff (refusal_of x) says c.args.parts.now c.args.command) e c.from_residual-in_err-do_waiting.ensures (inl c.in_err-do_waiting.ensures.refused)
+    passed_on c.from_residual-in_err-do_waiting.result (λ x. CannotPerform (refusal_of x) says c.args.parts.now c.args.command) e c.from_residual-in_err-do_waiting.ensures (inl c.in_err-do_waiting.ensures.refused)

@@ -9,7 +9,7 @@ use Rattle.minus_state.specs.Selecting.{is_led, end_at, mark_led, ends_led_to, e
 use Rattle.minus_state.specs.RedrawExtent.{whole_where}
 use Rattle.minus_state.proofs.ChangeLaws.{at_mark, leads_to}
 use Rattle.minus_state.proofs.SelectingLaws.{led_mark, led_ends, unled_mark, unled_ends, unled_stays}
-use Rattle.minus_state.proofs.state.PagerState.led.Goals as goal
+use Rattle.minus_state.proofs.state.PagerState.dragged.Goals as goal
 
 pub returns-then-not-is_led-clause-next : goal.returns-then-not-is_led-clause-next
 returns-then-not-is_led-clause-next c = λ f.
