@@ -31,7 +31,10 @@
  * Out of memory is an answer (MINUS_MEMORY), and no call ends the process.
  *
  * The library has no global state, no threads, reads no clock, no environment and no file, and calls nothing else but
- * memcpy, memmove and memset.
+ * memcpy, memmove and memset. It is for Linux on an x86-64 processor with SSE4.2 and POPCNT (x86-64-v2). For a language
+ * that loads a shared object, make one of it and heap.c:
+ *
+ *     cc -shared -fPIC -o libminus.so heap.c -Wl,--whole-archive libminus_c.a -Wl,--no-whole-archive
  */
 #ifndef MINUS_H
 #define MINUS_H
@@ -44,6 +47,9 @@
 extern "C" {
 #endif
 
+/* The version of the library, as `minus --version` says it. */
+#define MINUS_VERSION "0.1.0"
+
 /* A pager, as it is handed in. */
 struct minus_pager {
     void *at;
@@ -55,16 +61,13 @@ struct minus_handed {
     bool given;
 };
 
-/* Why a call was refused. */
+/* Why a call was refused; minus_refusal_text says it in words. */
 enum minus_refusal {
     MINUS_DONE = 0,               /* it was not */
     MINUS_MEMORY = 1,             /* memory ran out; nothing has changed, or, where an input had waited, the pager has failed */
     MINUS_NEWLINE_IN_PROMPT = 2,  /* a prompt or a message has a newline; nothing has changed */
-    MINUS_HOOK_ID_TAKEN = 3,      /* no call answers it */
-    MINUS_NO_FREE_HOOK_ID = 4,    /* no call answers it */
     MINUS_BAD_SIZE = 5,           /* columns or rows are not from 1 to 65,535; nothing has changed */
     MINUS_BAD_DESCRIPTION = 6,    /* a text describes no key, or no action of the mouse */
-    MINUS_BOUND = 7,              /* no call answers it */
     MINUS_QUERY_FULL = 8,         /* a query has 65,534 characters; nothing has changed */
     MINUS_BAD_MODE = 9,           /* the call is not for the stage that the pager is in; nothing has changed */
     MINUS_FAILED = 10,            /* the pager has failed before; nothing has changed */
@@ -73,10 +76,10 @@ enum minus_refusal {
     MINUS_CLEANUP = 13,           /* the bytes that clean a terminal up found no memory: the pager has failed */
     MINUS_DRAW = 14,              /* a drawing found no memory: the pager has failed, or is over */
     MINUS_SEARCH_EXP_ERROR = 15,  /* a pattern was not built */
-    MINUS_FMT_WRITE_ERROR = 16,   /* no call answers it */
-    MINUS_OTHER = 253,            /* no call answers it */
     MINUS_NOT_UTF8 = 254,         /* a text is not UTF-8; nothing has changed */
-    MINUS_BAD_ARGUMENT = 255      /* a number stands for nothing; nothing has changed */
+    MINUS_BAD_ARGUMENT = 255,     /* a number stands for nothing; nothing has changed */
+    /* No call of this header answers these. */
+    MINUS_HOOK_ID_TAKEN = 3, MINUS_NO_FREE_HOOK_ID = 4, MINUS_BOUND = 7, MINUS_FMT_WRITE_ERROR = 16, MINUS_OTHER = 253
 };
 
 /* What a call told. */
@@ -154,6 +157,22 @@ struct minus_mouse_event {
     uint16_t row;       /* from 0 */
 };
 
+/* What a terminal's bytes begin with. */
+enum minus_read_kind {
+    MINUS_READ_MORE = 0,   /* nothing yet: more bytes have to come */
+    MINUS_READ_KEY = 1,    /* `key` */
+    MINUS_READ_MOUSE = 2,  /* `mouse` */
+    MINUS_READ_OTHER = 3   /* what is neither, or means nothing */
+};
+
+/* What a terminal's bytes begin with, and how many of them it is. */
+struct minus_read {
+    uint8_t kind;       /* enum minus_read_kind */
+    size_t taken;       /* 0 at MINUS_READ_MORE, and never else */
+    struct minus_key_event key;
+    struct minus_mouse_event mouse;
+};
+
 /* What an event asks for: with `first` and `second` what it says more, 0 where nothing is named here. */
 enum minus_input_event {
     MINUS_IGNORE = 0,
@@ -210,7 +229,8 @@ enum minus_stage {
     MINUS_OVER = 2                   /* also where a session has failed */
 };
 
-/* Where a pager stands. All but `stage` is 0 where it never ran; after an exit it is as it was then. */
+/* Where a pager stands. After an exit or a failure it is as it was then; all but `stage` is 0 while it waits, and after
+ * minus_finish or a text that was written and not paged. */
 struct minus_state {
     size_t cols;
     size_t rows;
@@ -307,9 +327,19 @@ struct minus_told minus_show_search(struct minus_pager pager, bool is_shown, str
 
 /* ---- Input ---- */
 
+/* What a terminal's bytes begin with; call it again with the bytes behind those that it is, until it answers
+ * MINUS_READ_MORE. At most 65 bytes are left then: keep them, and put what comes next behind them. `late` says that
+ * nothing has come behind these bytes for a while, such as 50 ms: one ESC is the Esc key then. */
+struct minus_read minus_read(const uint8_t *bytes, size_t len, bool late);
+
 /* A key: by the default bindings, or of the search prompt. MINUS_BAD_ARGUMENT where `code`, `kind` or `value` stand for
  * nothing. MINUS_BAD_MODE where no session has begun. */
 struct minus_told minus_key(struct minus_pager pager, struct minus_key_event key, struct minus_handed *out);
+
+/* The query that a key would leave in the search prompt, if one is open, so that a caller can decide by minus_show_search
+ * before the key; nothing is done. MINUS_QUERY_FULL and MINUS_BAD_ARGUMENT as minus_key, MINUS_BAD_MODE as minus_text. */
+struct minus_found minus_query_after(struct minus_pager pager, struct minus_key_event key, uint8_t *room, size_t len,
+                                     struct minus_handed *out);
 
 /* The mouse: as a key. */
 struct minus_told minus_mouse(struct minus_pager pager, struct minus_mouse_event mouse, struct minus_handed *out);
@@ -344,7 +374,8 @@ uint8_t minus_take_hooks(struct minus_pager pager, struct minus_handed *out);
 
 struct minus_state minus_state(struct minus_pager pager, struct minus_handed *out);
 
-/* A text of a pager that has started: enum minus_piece; MINUS_BAD_ARGUMENT at another number. */
+/* A text of a session: enum minus_piece; MINUS_BAD_ARGUMENT at another number. This and the two below answer as
+ * minus_state does: after an exit or a failure as it was then, and MINUS_BAD_MODE where all is 0 there. */
 struct minus_found minus_text(struct minus_pager pager, uint8_t piece, uint8_t *room, size_t len, struct minus_handed *out);
 
 /* A row of the displayed text, with its line number and the marks of matches, if there is such a row. */
@@ -376,6 +407,9 @@ struct minus_asked minus_classify_key(struct minus_pager pager, struct minus_key
 struct minus_asked minus_classify_mouse(struct minus_pager pager, struct minus_mouse_event mouse, struct minus_handed *out);
 
 /* ---- No session ---- */
+
+/* What the number of a refusal says, in English; not there where no refusal has the number. */
+struct minus_found minus_refusal_text(uint8_t refusal, uint8_t *room, size_t len);
 
 /* A line with each match of a pattern in reverse. `is_there` says whether it matches; `value` is the length in each
  * case. Escape sequences inside a match stay where they stand where `accurate` is true, and else come right behind it.

@@ -3,7 +3,7 @@
  *   c_faults lives [STEP]   for each n (or each STEP-th): a life whose n-th request is refused alone, with the call made
  *                           again that it refused, and one whose n-th and all later ones are refused. Made again, the
  *                           call is done and the life writes the same bytes, unless the pager has failed
- *   c_faults arguments      each call with each kind of bad argument, in each stage
+ *   c_faults arguments      each call with each kind of bad argument, in each stage, and what bytes of a terminal begin with
  *
  * It ends with status 0 where each call handed its pager back and answered as the header says, and no block was left. */
 #include "minus.h"
@@ -120,7 +120,9 @@ static void settings(void) {
 
 static void keys(void) {
     static const char typed[] = "jjkG3gh/on";
+    static uint8_t room[256];
     for (const char *c = typed; *c; c++) TELL(minus_key(IN, KEY((uint8_t)*c), OUT));
+    FIND_IN(minus_query_after(IN, KEY('x'), room, sizeof room, OUT));
     TELL(minus_push(IN, TEXT("it waits\nuntil the prompt is closed\n"), OUT));
     TELL(minus_key(IN, PLAIN(BACKSPACE), OUT));
     TELL(minus_key(IN, PLAIN(ENTER), OUT));
@@ -282,6 +284,7 @@ static void bad_keys(void) {
         key = (struct minus_key_event){.code = (uint8_t)n, .value = 'x'};
         if (n > MINUS_KEY_KEYPAD_BEGIN) REFUSED(minus_key(IN, key, OUT), MINUS_BAD_ARGUMENT);
         if (n > MINUS_KEY_KEYPAD_BEGIN) REFUSED(minus_classify_key(IN, key, OUT), MINUS_BAD_ARGUMENT);
+        if (n > MINUS_KEY_KEYPAD_BEGIN) REFUSED(minus_query_after(IN, key, NULL_ROOM, 0, OUT), MINUS_BAD_ARGUMENT);
         key = (struct minus_key_event){.kind = (uint8_t)n, .value = 'x'};
         if (n > MINUS_RELEASE) REFUSED(minus_key(IN, key, OUT), MINUS_BAD_ARGUMENT);
         struct minus_mouse_event mouse = {.kind = (uint8_t)n};
@@ -361,8 +364,84 @@ static void small_rooms(void) {
     if (found.refusal || found.is_there) fault("minus_line_first_row", found.refusal);
 }
 
+/* What bytes of a terminal begin with. */
+static void readings(void) {
+    static const struct {
+        const uint8_t *bytes;
+        size_t len;
+        bool late;
+        struct minus_read read;
+    } cases[] = {
+        {TEXT(""), true, {0}},
+        {TEXT("jk"), false, {.kind = MINUS_READ_KEY, .taken = 1, .key = {.value = 'j'}}},
+        {TEXT("\xc3"), true, {0}},
+        {TEXT("\xc3\xa9"), false, {.kind = MINUS_READ_KEY, .taken = 2, .key = {.value = 0xe9}}},
+        {TEXT("\x1b[1;5D"), false, {.kind = MINUS_READ_KEY, .taken = 6, .key = {.code = MINUS_KEY_LEFT, .modifiers = MINUS_CONTROL}}},
+        {TEXT("\x1b[15~q"), false, {.kind = MINUS_READ_KEY, .taken = 5, .key = {.code = MINUS_KEY_F, .value = 5}}},
+        {TEXT("\x1b"), false, {0}},
+        {TEXT("\x1b"), true, {.kind = MINUS_READ_KEY, .taken = 1, .key = {.code = MINUS_KEY_ESC}}},
+        {TEXT("\x1b["), true, {0}},
+        {TEXT("\x1b[<35;10;5M"), false, {.kind = MINUS_READ_MOUSE, .taken = 11, .mouse = {.kind = MINUS_MOUSE_MOVED, .column = 9, .row = 4}}},
+        {TEXT("\x1b[Iq"), false, {.kind = MINUS_READ_OTHER, .taken = 3}},
+        {TEXT("\xffq"), false, {.kind = MINUS_READ_OTHER, .taken = 1}},
+    };
+    for (size_t i = 0; i < sizeof cases / sizeof *cases; i++) {
+        struct minus_read wanted = cases[i].read, read = minus_read(cases[i].bytes, cases[i].len, cases[i].late);
+        calls++;
+        if (read.kind != wanted.kind || read.taken != wanted.taken || memcmp(&read.key, &wanted.key, sizeof read.key) ||
+            memcmp(&read.mouse, &wanted.mouse, sizeof read.mouse))
+            fault("minus_read", i);
+    }
+}
+
+/* Each refusal has a text, and nothing else has. */
+static void texts_of_refusals(void) {
+    static uint8_t room[80];
+    for (int n = 0; n < 256; n++) {
+        struct minus_found found = minus_refusal_text((uint8_t)n, room, sizeof room);
+        calls++;
+        if (found.refusal || found.is_there != (n <= MINUS_FMT_WRITE_ERROR || n >= MINUS_OTHER) || found.value > sizeof room)
+            fault("minus_refusal_text", n);
+    }
+}
+
+/* The query that a key would leave, beside the one that stands. */
+static void queries(void) {
+    static uint8_t room[8];
+    static const struct {
+        struct minus_key_event key;
+        const char *query;
+    } cases[] = {{KEY('n'), "on"}, {PLAIN(BACKSPACE), ""}, {PLAIN(ESC), "o"}};
+    if (minus_query_after(IN, KEY('n'), room, sizeof room, OUT).is_there) fault("minus_query_after", 0);
+    minus_key(IN, KEY('/'), OUT);
+    minus_key(IN, KEY('o'), OUT);
+    for (size_t i = 0; i < sizeof cases / sizeof *cases; i++) {
+        struct minus_found found = minus_query_after(IN, cases[i].key, room, sizeof room, OUT);
+        size_t len = strlen(cases[i].query);
+        if (!found.is_there || found.value != len || memcmp(room, cases[i].query, len)) fault("minus_query_after", i);
+        found = minus_text(IN, MINUS_QUERY, room, sizeof room, OUT);
+        if (found.value != 1 || *room != 'o') fault("a query is another one", i);
+        calls += 2;
+    }
+    minus_key(IN, PLAIN(ESC), OUT);
+}
+
+/* Where a session stands is answered after its exit, and neither before the start nor after the end. */
+static void standing(uint8_t refusal) {
+    static uint8_t room[80];
+    struct minus_state state = minus_state(IN, OUT);
+    if ((state.cols != 0) != (refusal == MINUS_DONE)) fault("minus_state", refusal);
+    if (minus_text(IN, MINUS_TEXT, room, sizeof room, OUT).refusal != refusal) fault("minus_text", refusal);
+    if (minus_row(IN, 0, room, sizeof room, OUT).refusal != refusal) fault("minus_row", refusal);
+    if (minus_line_first_row(IN, 0, OUT).refusal != refusal) fault("minus_line_first_row", refusal);
+    calls += 4;
+}
+
 static int arguments(void) {
+    readings();
+    texts_of_refusals();
     if (minus_new(&held)) return 1;
+    standing(MINUS_BAD_MODE);
     bad_texts();
     bad_keys();
     bad_numbers();
@@ -377,13 +456,16 @@ static int arguments(void) {
     stage_refusals(MINUS_BAD_MODE, 0);
     REFUSED(minus_set_prompt(IN, TEXT("two\nlines"), OUT), MINUS_NEWLINE_IN_PROMPT);
     REFUSED(minus_send_message(IN, TEXT("two\nlines"), OUT), MINUS_NEWLINE_IN_PROMPT);
+    queries();
     small_rooms();
     if (!minus_key(IN, KEY('q'), OUT).exited) fault("q", 0);
     bad_texts();
     bad_keys();
     bad_numbers();
     stage_refusals(MINUS_ENDED, MINUS_ENDED);
+    standing(MINUS_DONE);
     if (minus_finish(IN, OUT).refusal) fault("minus_finish", 0);
+    standing(MINUS_BAD_MODE);
     stage_refusals(MINUS_ENDED, MINUS_ENDED);
     minus_drop(held.pager);
     if (blocks) fault("blocks left", blocks);

@@ -1,8 +1,8 @@
 #!/usr/bin/env python3
 """Checks that include/minus.h and the exports of crates/minus_c agree: check_header.py
 
-Names, parameters, results and order of the functions, the fields of the structs, and the numbers of the enums. It reads
-the text of both, and says what differs.
+Names, parameters, results and order of the functions, the fields of the structs, the numbers of the enums, and the version,
+which is the pager's. It reads the text of both, and says what differs.
 """
 import glob
 import os
@@ -14,8 +14,8 @@ SOURCES = os.path.join(TOP, 'crates', 'minus_c', 'src')
 
 # A struct of the header, and the one of the crate.
 STRUCTS = {'minus_pager': 'Kept', 'minus_handed': 'Handed', 'minus_told': 'Told', 'minus_found': 'Found',
-           'minus_key_event': 'KeyNumbers', 'minus_mouse_event': 'MouseNumbers', 'minus_asked': 'AskedNumbers',
-           'minus_state': 'State'}
+           'minus_key_event': 'KeyNumbers', 'minus_mouse_event': 'MouseNumbers', 'minus_read': 'ReadNumbers',
+           'minus_asked': 'AskedNumbers', 'minus_state': 'State'}
 NUMBERS = {'uint8_t': 'u8', 'uint16_t': 'u16', 'uint32_t': 'u32', 'size_t': 'usize', 'bool': 'bool', 'void': '()'}
 
 # Where the numbers of an enum stand in the sources: the file, the function, and the pattern of a line with a number and a name.
@@ -85,8 +85,20 @@ def c_struct(name, fields):
 
 
 def crate_struct(text):
-    fields = re.findall(r'^    (?:pub )?(\w+): ([^,\n]+),', text, re.M)
-    return [(name, kind) for name, kind in fields if kind != 'Global']
+    """The fields of a struct of the crate, with a struct inside taken apart."""
+    found = []
+    for name, kind in re.findall(r'^    (?:pub )?(\w+): ([^,\n]+),', text, re.M):
+        if kind in STRUCTS.values():
+            found += crate_struct(crate_text(kind))
+        elif kind != 'Global':
+            found.append((name, kind))
+    return found
+
+
+def crate_text(name):
+    """The fields of a struct of the crate, as they stand there."""
+    found = re.search(rf'#\[repr\(C\)\]\n(?:#\[.*\]\n)*pub struct {name} \{{\n(.*?)^\}}', everything, re.S | re.M)
+    return found and found.group(1)
 
 
 def c_parameters(name, parameters):
@@ -125,11 +137,11 @@ everything = '\n'.join(sources.values())
 structs = {}
 for name, fields in re.findall(r'struct (\w+) \{(.*?)\};', plain):
     structs[name] = c_struct(name, fields)
-    found = re.search(rf'#\[repr\(C\)\]\n(?:#\[.*\]\n)*pub struct {STRUCTS.get(name)} \{{\n(.*?)^\}}', everything, re.S | re.M)
-    if not found:
+    found = crate_text(STRUCTS.get(name))
+    if found is None:
         fault(f'struct {name} has no struct in the crate')
     else:
-        same(f'struct {name}', structs[name], crate_struct(found.group(1)))
+        same(f'struct {name}', structs[name], crate_struct(found))
 for name in STRUCTS.keys() - structs.keys():
     fault(f'struct {name} is not in the header')
 
@@ -173,14 +185,20 @@ refusals = {key: value for key, value in refusals.items() if value}
 refusals.update((key, int(value)) for key, value in re.findall(r'pub const (\w+): u8 = (\d+);', sources['told.rt']))
 same('enum minus_refusal', enums['minus_refusal'], {'DONE': 0, **refusals})
 
-# the bits of modifiers, the stages and the pieces
+# the bits of modifiers, the stages, what bytes begin with, and the pieces
 bits = text_of(TOP, 'crates', 'minus_term', 'src', 'event.rt')
 bits = re.search(r'impl KeyModifiers: u8 \{(.*?)\}', bits, re.S).group(1)
 same('enum minus_modifiers', enums['minus_modifiers'], {key: int(value) for key, value in re.findall(r'const (\w+) = (\d+);', bits)})
 stages = {key: int(value) for key, value in re.findall(r'^const (WAITING|RUNNING|OVER): u8 = (\d+);', sources['state.rt'], re.M)}
 same('enum minus_stage', enums['minus_stage'], stages)
+kinds = {f'READ_{key}': int(value) for key, value in re.findall(r'^const (\w+): u8 = (\d+);', sources['reading.rt'], re.M)}
+same('enum minus_read_kind', enums['minus_read_kind'], kinds)
 pieces = re.search(r'fn piece_of\(.*?^\}', sources['state.rt'], re.S | re.M).group()
 same('the number of pieces', sorted(enums['minus_piece'].values()), [int(it) for it in re.findall(r'^        (\d+) =>', pieces, re.M)])
+
+# the version
+pager = text_of(TOP, 'crates', 'minus_pager', 'src', 'main.rt')
+same('the version', re.search(r'#define MINUS_VERSION "(.*)"', header).group(1), re.search(r'"minus ([\d.]+)\\n"', pager).group(1))
 
 for it in faults:
     print(it)

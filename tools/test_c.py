@@ -63,6 +63,43 @@ class Pages:
             if keys != '12':
                 self.assert_rows(first, prompt)
 
+    def test_reads_a_terminal(self):
+        self.page()
+        for keys, first in (('\x1b[B', 1), ('\x1bOB', 2), ('\x1b[A', 1), ('\x1b[6~', 8), ('\x1b[<65;3;3M', 13), ('\x1b[<64;3;3M', 8),
+                            ('\x1b[<35;10;5Mj', 9), ('\x1b[I\x1bzj', 10)):
+            self.terminal.send(keys)
+            self.assert_rows(first)
+        # Esc alone leaves the search prompt, and a query may have any character.
+        self.terminal.send('/\xe9')
+        self.terminal.wait(lambda: self.terminal.player.texts()[7] == '/\xe9', 'a query')
+        self.terminal.send('\x1b')
+        self.assert_rows(10)
+
+    def test_takes_another_size(self):
+        self.page()
+        self.assert_rows(0)
+        self.terminal.resize(30, 5)
+        self.terminal.wait(lambda: [row.strip() for row in self.terminal.player.texts()] == [*LINES[:4], 'minus'], 'a page of four rows')
+        self.terminal.send('j')
+        self.terminal.wait(lambda: self.terminal.player.texts()[0] == 'line 2', 'the second line')
+
+    def test_reads_a_long_text(self):
+        with open(os.path.join(self.folder, 'text'), 'a') as file:
+            file.writelines(f'a longer line of number {n}\n' for n in range(100_000))
+        self.page()
+        self.terminal.send('G')
+        self.terminal.wait_for('a longer line of number 99999')
+
+    def test_writes_a_text_to_no_terminal(self):
+        ran = subprocess.run(self.COMMAND.split(), cwd=self.folder, stdin=subprocess.DEVNULL, capture_output=True, text=True)
+        self.assertEqual((ran.stdout.splitlines(), ran.stderr, ran.returncode), ([*LINES, ''], '', 0))
+
+    def test_says_what_is_refused(self):
+        with open(os.path.join(self.folder, 'text'), 'wb') as file:
+            file.write(b'\xff')
+        self.terminal.send(self.COMMAND + '\n')
+        self.terminal.wait_for('page: the text is not UTF-8')
+
     def test_searches(self):
         self.page()
         self.terminal.send('/line 2\r')

@@ -4,6 +4,8 @@ pub mod InputEvents
 pub mod Keys
 pub mod Mouse
 pub mod Pieces
+pub mod Reading
+pub mod RefusalTexts
 pub mod Refused
 pub mod Rooms
 pub mod Sessions

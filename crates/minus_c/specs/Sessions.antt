@@ -13,6 +13,7 @@ use Rattle.minus.specs.declared.init.StartErrorOf.{StartErrorOf}
 use Rattle.minus.specs.declared.session.Core.{Core}
 use Rattle.minus.specs.declared.static_pager.PagedOf.{PagedOf}
 use Rattle.minus.specs.declared.status.Status.TheVariants as status
+use Rattle.minus_commands.specs.Queued.{waiting_of}
 use Rattle.minus_commands.specs.Pager.{WaitsBehind}
 use Rattle.minus_commands.specs.Reads.{Told}
 use Rattle.minus_commands.specs.Registration.{a_condition}
@@ -88,7 +89,7 @@ AreDefault keys = register_of keys ≡ default_register
 
 -- a command waits behind what waited in a pager
 abbrev pub Queues : Wanted AsTold Keys → (old new : Unstarted) → Type 0
-Queues wanted old new = WaitsBehind old.pager.queue.items new.pager.queue.items wanted
+Queues wanted old new = WaitsBehind (waiting_of old.pager) (waiting_of new.pager) wanted
 
 -- a condition of the caller's is set
 abbrev pub sets_condition : AsTold → Wanted AsTold Keys

@@ -1,5 +1,6 @@
 -- What a call leaves of a pager.
 use Rattle.std.specs.Prelude.{◌≡◌, ◌⊎◌, ℕ, List, [], Bool, true, false, Option, None, Some, if◌then◌else◌}
+use Rattle.minus_commands.specs.Queued.{waiting_of}
 use Rattle.minus.specs.Core.{seen_of}
 use Rattle.minus.specs.Starts.{IsEarly}
 use Rattle.minus.specs.Steps.{mode_told}
@@ -149,7 +150,7 @@ FinishesUnclean e old new = ⊥
 
 -- a command is refused: where a pager waits, what waits stays; else its session refuses so
 abbrev pub RefusesCommand : (MinusError → Session → Session → Type 0) → MinusError → Stage → Stage → Type 0
-RefusesCommand so e (Waiting old) (Waiting new) = new.pager.queue.items ≡ old.pager.queue.items
+RefusesCommand so e (Waiting old) (Waiting new) = waiting_of new.pager ≡ waiting_of old.pager
 RefusesCommand so e (Waiting old) new = ⊥
 RefusesCommand so e old new = Refuses (so e) e old new
 

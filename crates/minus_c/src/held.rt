@@ -69,12 +69,12 @@ fn put_numbers(room: &mut [u8], refusals: &[MinusError]) -> usize
 }
 
 impl Held {
-    ghost use Rattle.std.specs.Prelude.{◌≡◌, ◌<◌, ◌≤◌, [], length, take, drop, map, string_bytes, false, IsUtf8};
+    ghost use Rattle.std.specs.Prelude.{[], string_bytes, false, IsUtf8};
     ghost use Rattle.std.specs.Prelude.{OnOk, IfOk, IfErr};
     ghost use Rattle.minus_commands.specs.Reads.{a_command, told_of, wanted_of};
     ghost use Rattle.minus_c.specs.HeldSteps.{IsStepTold, IsRefusalTold, IsDoneTold, IsConditionRefused};
     ghost use Rattle.minus_c.specs.HeldSteps.{refusing, copied_in, refused_in};
-    ghost use Rattle.minus_c.specs.Refused.{refusal_number, IsUncopied};
+    ghost use Rattle.minus_c.specs.Refused.{IsUncopied};
     ghost use Rattle.minus_c.specs.Rooms.{IsPutIf};
     ghost use Rattle.minus_c.specs.declared.session.AsTold.{AsTold};
     ghost use Rattle.minus_c.specs.Sessions.{Queues, sets_condition, Steps, RefusesStep};

@@ -144,7 +144,6 @@ fn numbers_of(event: InputEvent) -> (u8, usize, usize)
 }
 
 impl AskedNumbers {
-    ghost use Rattle.std.specs.Prelude.{◌≡◌};
     ghost use Rattle.minus_c.specs.InputEvents.{asked_nothing, asked_numbers};
 
     /// It was not asked about.

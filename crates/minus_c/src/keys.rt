@@ -142,7 +142,6 @@ fn kind_number(kind: KeyEventKind) -> u8
 }
 
 impl KeyNumbers {
-    ghost use Rattle.std.specs.Prelude.{◌≡◌};
     ghost use Rattle.minus_c.specs.Keys.{key_of, numbers_of_key};
 
     /// The key that these numbers stand for, if they stand for one.

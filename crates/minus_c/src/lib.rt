@@ -19,6 +19,8 @@ mod input_events;
 mod kept;
 mod keys;
 mod mouse;
+mod reading;
+mod refusal_text;
 mod room;
 mod session;
 mod stage;

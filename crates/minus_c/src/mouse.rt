@@ -65,7 +65,6 @@ fn mouse_kind_number(kind: MouseEventKind) -> u8
 }
 
 impl MouseNumbers {
-    ghost use Rattle.std.specs.Prelude.{◌≡◌};
     ghost use Rattle.minus_c.specs.Mouse.{mouse_of, numbers_of_mouse};
 
     /// What these numbers stand for, if they stand for something.

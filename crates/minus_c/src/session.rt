@@ -31,8 +31,6 @@ pub struct AsTold {
 }
 
 impl ConditionCall for AsTold {
-    ghost use Rattle.std.specs.Prelude.{⊤};
-
     ghost judges = { λ condition opts answer. ⊤ };
 
     fn ask(&self, _opts: &SearchOpts<'_>) -> bool {
@@ -45,7 +43,6 @@ impl ConditionCall for AsTold {
 pub struct NoAction;
 
 impl ActionCall for NoAction {
-    ghost use Rattle.std.specs.Prelude.{◌≡◌};
     ghost use Rattle.minus_state.specs.declared.input.InputEvent.TheVariants.{Ignore};
 
     ghost answers = { λ action event state answer. answer ≡ Ignore };

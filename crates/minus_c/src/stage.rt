@@ -1,13 +1,14 @@
 //! The stages of a pager: it waits, it runs, or it is over.
-ghost use Rattle.std.specs.Prelude.{◌≡◌, ◌<◌, ◌≤◌, [], length, take, drop, Err, OnOk, OnErr, IfErr};
+ghost use Rattle.std.specs.Prelude.{◌≡◌, ◌<◌, ◌≤◌, [], length, take, drop, Err, OnOk, OnErr, IfErr, IfOk};
 ghost use Rattle.minus_commands.specs.Pager.{WaitsBehind};
-ghost use Rattle.minus_commands.specs.Reads.{wanted_of};
+ghost use Rattle.minus_commands.specs.Queued.{waiting_of};
+ghost use Rattle.minus_commands.specs.Reads.{wanted_of, told_of};
 ghost use Rattle.minus.specs.SessionStarts.{IsStart, IsRefusedStart};
 ghost use Rattle.minus.specs.Starts.{IsEarly};
 ghost use Rattle.minus.specs.StaticPager.{IsPaged, IsUnpaged};
 ghost use Rattle.minus_term.specs.Refusals.{refusal_of};
-ghost use Rattle.minus_c.specs.Sessions.{sink_seen};
-ghost use Rattle.minus_c.specs.Stages.{IsEmptied, Runs, Shows, Leaves, left_with};
+ghost use Rattle.minus_c.specs.Sessions.{sink_seen, RefusesStep, Steps};
+ghost use Rattle.minus_c.specs.Stages.{IsEmptied, Runs, Shows, Leaves, left_with, IsSame};
 
 use crate::room::put_bytes;
 use crate::session::{Bytes, OwnKeys, OwnKinds, Session, Unstarted};
@@ -92,36 +93,20 @@ fn page(
     }
 }
 
-/// Lets a command wait in a pager.
+/// Lets a command wait in a pager, but for what an event asks for and for a drawing, which only a session does.
 pub fn queue(pager: &mut PagerOf<OwnKinds>, command: CommandOf<OwnKinds>) -> Result<(), MinusError>
-    ensures ok { OnOk result (WaitsBehind pager.old.queue.items pager.new.queue.items (wanted_of command)) }
-    ensures err { OnErr result (pager.new.queue.items ≡ pager.old.queue.items) }
+    ensures ok { OnOk result (WaitsBehind (waiting_of pager.old) (waiting_of pager.new) (wanted_of command)) }
+    ensures err { OnErr result (waiting_of pager.new ≡ waiting_of pager.old) }
 {
-    match command {
-        CommandOf::AppendData(text) => pager.push_str(&text),
-        CommandOf::SetData(text) => pager.set_text(&text),
-        CommandOf::SetPrompt(text) => pager.set_prompt(&text),
-        CommandOf::SendMessage(text) => pager.send_message(&text),
-        CommandOf::ShowPrompt(is_shown) => pager.show_prompt(is_shown),
-        CommandOf::SetLineNumbers(numbers) => pager.set_line_numbers(numbers),
-        CommandOf::LineWrapping(wrapping) => pager.horizontal_scroll(!wrapping),
-        CommandOf::SetMatchLines(on) => pager.set_match_lines(on),
-        CommandOf::SetCarryStyle(on) => pager.set_carry_style(on),
-        CommandOf::FollowOutput(follow) => pager.follow_output(follow),
-        CommandOf::SetExitStrategy(strategy) => pager.set_exit_strategy(strategy),
-        CommandOf::SetRunNoOverflow(on) => pager.set_run_no_overflow(on),
-        CommandOf::IncrementalSearchCondition(condition) => {
-            pager.set_incremental_search_condition(condition)
-        }
-        _ => Err(MinusError::BadMode),
+    if matches!(command, CommandOf::UserInput(_) | CommandOf::Io(_)) {
+        return Err(MinusError::BadMode);
     }
+    pager.tell(command)?;
+    Ok(())
 }
 
 impl Session {
-    ghost use Rattle.std.specs.Prelude.{◌≡◌, ◌<◌, ◌≤◌, length, take, drop, IfOk, IfErr};
-    ghost use Rattle.minus_commands.specs.Reads.{told_of};
-    ghost use Rattle.minus_c.specs.Sessions.{Steps, RefusesStep};
-    ghost use Rattle.minus_c.specs.Stages.{IsSame, IsTakenFrom};
+    ghost use Rattle.minus_c.specs.Stages.{IsTakenFrom};
 
     // Hands an input in, and answers too how many bytes wait then.
     fn step(
@@ -180,13 +165,10 @@ fn take_bytes(sink: &mut Bytes, room: &mut [u8]) -> usize
 }
 
 impl Stage {
-    ghost use Rattle.std.specs.Prelude.{◌≡◌, ◌<◌, ◌≤◌, length, take, drop, Err, OnOk, IfOk, IfErr, IfSome};
-    ghost use Rattle.minus_commands.specs.Reads.{told_of};
-    ghost use Rattle.minus.specs.Starts.{IsEarly};
-    ghost use Rattle.minus_term.specs.Refusals.{refusal_of};
+    ghost use Rattle.std.specs.Prelude.{IfSome};
     ghost use Rattle.minus_c.specs.Pieces.{InState};
-    ghost use Rattle.minus_c.specs.Sessions.{Steps, RefusesStep, StartsAs, RefusesStart, PagesAs, RefusesPaging};
-    ghost use Rattle.minus_c.specs.Stages.{unread, IsAsBefore, IsSame, IsTaken, Between, Refuses, Starts, Pages};
+    ghost use Rattle.minus_c.specs.Sessions.{StartsAs, RefusesStart, PagesAs, RefusesPaging};
+    ghost use Rattle.minus_c.specs.Stages.{unread, IsAsBefore, IsTaken, Between, Refuses, Starts, Pages};
     ghost use Rattle.minus_c.specs.Stages.{RefusesBegin, Finishes, FinishesUnclean, FindsNoRoom};
     ghost use Rattle.minus_c.specs.Stages.{is_written, runs, start_fault};
 

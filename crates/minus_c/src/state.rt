@@ -1,13 +1,16 @@
 //! Where a pager stands, and its texts.
 ghost use Rattle.std.specs.Prelude.{◌≡◌, ◌<◌, option_map, IfOk, IfErr};
+ghost use Rattle.minus_state.specs.OpenPrompts.{fed};
+ghost use Rattle.minus_state.specs.QueryKeys.{edit_of};
 ghost use Rattle.minus_c.specs.Pieces.{IsPiece};
 
 use crate::enum_numbers::{number_of_mode, number_of_numbers};
 use crate::found::Found;
 use crate::held::Held;
 use crate::stage::Stage;
-use crate::told::BAD_ARGUMENT;
-use minus::{LineNumbers, MinusError, PagerState, SearchMode};
+use crate::told::{BAD_ARGUMENT, refusal_number};
+use minus::{Event, KeyEvent, LineNumbers, MinusError, OpenPrompt, PagerState, SearchMode};
+use std::alloc::Global;
 
 /// Where a pager stands.
 #[repr(C)]
@@ -38,7 +41,7 @@ const RUNNING: u8 = 1;
 const OVER: u8 = 2;
 
 impl State {
-    ghost use Rattle.std.specs.Prelude.{◌≡◌, is_some, length};
+    ghost use Rattle.std.specs.Prelude.{is_some, length};
     ghost use Rattle.minus_state.specs.Help.{help_open};
     ghost use Rattle.minus_state.specs.States.{control_of};
     ghost use Rattle.minus_text.specs.Document.{rows_of, line_count, longest};
@@ -119,11 +122,22 @@ fn piece_of(state: &PagerState, piece: u8) -> Result<Option<&str>, u8>
     }
 }
 
+// A search prompt of a state, as an event leaves it.
+fn fed(
+    alloc: Global,
+    state: &PagerState,
+    prompt: &OpenPrompt,
+    event: &Event,
+) -> Result<OpenPrompt, MinusError>
+    ensures { IfOk result (λ new. new ≡ fed prompt.now (edit_of event.now)) }
+{
+    let mut new = prompt.copied(alloc)?;
+    new.feed(alloc, state.patterns(), event)?;
+    Ok(new)
+}
+
 impl Held {
-    ghost use Rattle.std.specs.Prelude.{◌≡◌, List, ℕ, Option};
-    ghost use Rattle.minus_text.specs.Searched.{IsStoredRow};
-    ghost use Rattle.minus_c.specs.Pieces.{IsPiece, InState};
-    ghost use Rattle.minus_c.specs.Rooms.{IsPutIf};
+    ghost use Rattle.minus_c.specs.Pieces.{InState, PutsPiece, PutsRow};
 
     /// Where the pager stands.
     pub fn state(&self) -> State {
@@ -139,8 +153,7 @@ impl Held {
 
     /// A text of the pager, where there is room for it.
     pub fn text(&self, piece: u8, room: &mut [u8]) -> Found
-        ensures { result.refusal ≡ 0 → InState (λ state. (text : Option (List ℕ))
-            × IsPiece piece state text × IsPutIf text room.old room.new result) self.now.stage }
+        ensures { result.refusal ≡ 0 → InState (PutsPiece piece room.old room.new result) self.now.stage }
     {
         let Some(state) = self.stage.state() else {
             return Found::refusing(MinusError::BadMode.number());
@@ -153,8 +166,7 @@ impl Held {
 
     /// A row of the displayed text, where there is room for it.
     pub fn row(&self, row: usize, room: &mut [u8]) -> Found
-        ensures { result.refusal ≡ 0 → InState (λ state. (text : Option (List ℕ))
-            × IsStoredRow state.screen row text × IsPutIf text room.old room.new result) self.now.stage }
+        ensures { result.refusal ≡ 0 → InState (PutsRow row room.old room.new result) self.now.stage }
     {
         let Some(state) = self.stage.state() else {
             return Found::refusing(MinusError::BadMode.number());
@@ -162,6 +174,20 @@ impl Held {
         match state.screen.formatted_row(self.alloc, row) {
             Ok(text) => Found::put(text.as_deref(), room),
             Err(_) => Found::refusing(MinusError::Memory.number()),
+        }
+    }
+
+    /// The query that a key leaves in the search prompt, where there is room for it; nothing where none is open.
+    pub fn query_after(&self, key: KeyEvent, room: &mut [u8]) -> Found {
+        let Some(state) = self.stage.state() else {
+            return Found::refusing(MinusError::BadMode.number());
+        };
+        let Some(search) = state.open_search() else {
+            return Found::nothing();
+        };
+        match fed(self.alloc, state, &search.prompt, &Event::Key(key)) {
+            Ok(prompt) => Found::put(Some(prompt.query()), room),
+            Err(refusal) => Found::refusing(refusal_number(&refusal)),
         }
     }
 

@@ -44,7 +44,6 @@ pub fn refusal_number(refusal: &MinusError) -> u8
 }
 
 impl Told {
-    ghost use Rattle.std.specs.Prelude.{◌≡◌};
     ghost use Rattle.minus_c.specs.HeldSteps.{told_by, refusing};
 
     /// The call was refused.

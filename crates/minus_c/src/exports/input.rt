@@ -4,14 +4,25 @@ ghost use Rattle.minus_c.specs.Keys.{key_of};
 ghost use Rattle.minus_c.specs.Mouse.{mouse_of};
 ghost use Rattle.minus_c.specs.InputEvents.{input_event_of};
 ghost use Rattle.minus_c.specs.EnumNumbers.{io_of};
+ghost use Rattle.minus_c.specs.Reading.{read_first};
 
 use crate::enum_numbers::io_of;
+use crate::found::Found;
 use crate::input_events::input_event_of;
 use crate::kept::{Handed, Kept, hand_back, opened};
 use crate::keys::KeyNumbers;
 use crate::mouse::MouseNumbers;
+use crate::reading::{ReadNumbers, read_first};
 use crate::told::{BAD_ARGUMENT, Told};
 use minus::{CommandOf, Event, InputOf};
+
+/// What a terminal's bytes begin with; `late` says that nothing has followed them for a while.
+#[unsafe(no_mangle)]
+pub extern "C" fn minus_read(bytes: &[u8], late: bool) -> ReadNumbers
+    ensures { result ≡ read_first bytes.now late }
+{
+    read_first(bytes, late)
+}
 
 /// Hands in a key.
 #[unsafe(no_mangle)]
@@ -23,6 +34,25 @@ pub extern "C" fn minus_key(kept: Kept, key: KeyNumbers, out: &mut Handed) -> To
     let answer = match key.key() {
         Some(key) => held.step(InputOf::Event(Event::Key(key))),
         None => held.refuse(BAD_ARGUMENT),
+    };
+    hand_back(held, out, answer)
+}
+
+/// The query that a key would leave in the search prompt, where there is room for it.
+#[unsafe(no_mangle)]
+pub extern "C" fn minus_query_after(
+    kept: Kept,
+    key: KeyNumbers,
+    room: &mut [u8],
+    out: &mut Handed,
+) -> Found
+    ensures given { out.new.given ≡ true }
+    ensures bad { key_of key ≡ None → result.refusal ≡ 255 }
+{
+    let held = opened(kept);
+    let answer = match key.key() {
+        Some(key) => held.query_after(key, room),
+        None => Found::refusing(BAD_ARGUMENT),
     };
     hand_back(held, out, answer)
 }

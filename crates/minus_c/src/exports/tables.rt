@@ -1,11 +1,12 @@
 //! The tables of keys, and what needs no session.
-ghost use Rattle.std.specs.Prelude.{◌≡◌, ◌≤◌, ◌<◌, length, take, true, None, IsUtf8, IfSome};
+ghost use Rattle.std.specs.Prelude.{◌≡◌, ◌<◌, true, None, IsUtf8, IfSome};
 ghost use Rattle.minus_input.specs.Description.{DescribesKey, DescribesMouse};
 ghost use Rattle.minus_input.specs.HelpTable.{key_name};
 ghost use Rattle.minus_term.specs.declared.event.KeyEvent.{KeyEvent};
 ghost use Rattle.minus_term.specs.declared.event.MouseEvent.{MouseEvent};
 ghost use Rattle.minus_c.specs.Keys.{key_of, numbers_of_key};
-ghost use Rattle.minus_c.specs.Rooms.{IsPut};
+ghost use Rattle.minus_c.specs.RefusalTexts.{refusal_text};
+ghost use Rattle.minus_c.specs.Rooms.{IsPut, IsPutIf};
 ghost use Rattle.minus_c.specs.Mouse.{mouse_of, numbers_of_mouse};
 
 use crate::found::Found;
@@ -13,6 +14,7 @@ use crate::input_events::AskedNumbers;
 use crate::kept::{Handed, Kept, hand_back, opened};
 use crate::keys::KeyNumbers;
 use crate::mouse::MouseNumbers;
+use crate::refusal_text::refusal_text;
 use crate::room::put_bytes;
 use crate::session::OwnKeys;
 use crate::told::{BAD_ARGUMENT, NOT_UTF8, refusal_number};
@@ -23,6 +25,14 @@ use minus::{
 use regex::{Error, Regex};
 use std::alloc::{AllocError, Global};
 use std::collections::BTreeSet;
+
+/// What the number of a refusal says, where there is room for it; nothing where it is of none.
+#[unsafe(no_mangle)]
+pub extern "C" fn minus_refusal_text(refusal: u8, room: &mut [u8]) -> Found
+    ensures { IsPutIf (refusal_text refusal) room.old room.new result }
+{
+    Found::put(refusal_text(refusal), room)
+}
 
 // The number of a text that describes nothing.
 const BAD_DESCRIPTION: u8 = 6;
