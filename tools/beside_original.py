@@ -15,6 +15,7 @@ import time
 from rust_terminal import Program
 
 TOP = os.path.dirname(os.path.dirname(os.path.abspath(__file__)))
+CRATES = os.path.join(TOP, 'tools', 'debian_crates.toml')
 RUNS = 9  # of each program that is measured: the table has their medians
 NAMES = ('static_text', 'fed_by_a_thread', 'less_like', 'own_keys', 'hooks', 'file_at_once')
 MANIFEST = '''[package]
@@ -31,19 +32,14 @@ def build(work, name, path):
     """Builds the programs over the crate at a path, and answers the folder that they are in."""
     folder = os.path.join(work, name)
     os.makedirs(os.path.join(folder, 'src', 'bin'), exist_ok=True)
-    os.makedirs(os.path.join(folder, '.cargo'), exist_ok=True)
     with open(os.path.join(folder, 'Cargo.toml'), 'w') as file:
         file.write(MANIFEST.format(path=path))
-    with open(os.path.join(TOP, 'rust', 'minus', '.cargo', 'config.toml')) as file:
-        config = file.read()
-    with open(os.path.join(folder, '.cargo', 'config.toml'), 'w') as file:
-        file.write(config)
     for program in NAMES:
         link = os.path.join(folder, 'src', 'bin', f'{program}.rs')
         if not os.path.islink(link):
             os.symlink(os.path.join(TOP, 'rust', 'minus', 'examples', f'{program}.rs'), link)
     environment = dict(os.environ, CARGO_TARGET_DIR=os.path.join(folder, 'target'))
-    words = ['cargo', 'build', '--release', '--offline', '--quiet', '-j2']
+    words = ['cargo', 'build', '--config', CRATES, '--release', '--quiet', '-j2']
     subprocess.run(words, cwd=folder, env=environment, check=True)
     return os.path.join(folder, 'target', 'release')
 

@@ -1,8 +1,9 @@
 #!/usr/bin/env python3
 """Counts what the steps of a session take, beside those of the original Rust crate, like with like.
 
-usage: tools/measure.py [--original FOLDER] [--before FILE] [--json FILE] [--into DOCUMENT] [--memory] [--only WORK,..]
-                        [--small] [--jobs N] [--profiles FOLDER] PROGRAM
+usage: tools/measure.py [--original FOLDER] [--into DOCUMENT] [--memory] [--only WORK,..] [--small] [--jobs N]
+                        [--profiles FOLDER] PROGRAM
+       tools/measure.py --check DOCUMENT [--only WORK,..] [--jobs N] PROGRAM
 
 PROGRAM is crates/minus_bench/out/minus_bench, built by `rt run`; FOLDER is what tools/original/build.sh built. Both are
 given one text and the same words, start a session of 80 columns and 24 rows over a sink that keeps nothing, and step
@@ -13,20 +14,27 @@ the tool says so and fails.
 
 The table is in Markdown: a row for each work, at its greatest size, with the instructions of each push, byte, line or
 act here and in the original. `growth` is that here, by the same at half the size: 1.00 where a work takes no longer for
-a longer text. --before adds what an earlier run kept by --json. --memory adds a table of the greatest sizes of the
-processes, and --into puts the tables into a document in the place of those with their heads. --profiles keeps
-callgrind's files, for callgrind_annotate.
+a longer text. --memory adds a table of the greatest sizes of the processes, and --into puts the tables into a document
+in the place of those with their heads, with the commit and the command. --profiles keeps callgrind's files, for
+callgrind_annotate.
+
+--check counts each work of a document's table at its size, and fails where one costs more than the table says by 5 in
+100, cannot be counted, or stands in the tool or in the table alone; --into makes the table again in a change that means
+it. Without valgrind it says that this was left out, and passes.
 """
 import argparse
 import concurrent.futures
-import json
+import contextlib
 import os
 import re
+import shutil
 import subprocess
 import sys
 import tempfile
 from dataclasses import dataclass
 
+import measured_tables as tables
+from measured_tables import Measured, NoTable, grouped
 from measured_works import MEMORY, WORKS
 
 # the functions whose calls are counted: of a start, and of all other works
@@ -34,6 +42,10 @@ COUNTED = {
     "here": ("minus::init::init_core::*", "minus_bench::work::work_off*"),
     "original": ("*::driver::counted",) * 2,
 }
+
+
+class NotCounted(Exception):
+    """A run that ended with a fault, or in which nothing was counted."""
 
 
 @dataclass
@@ -57,7 +69,7 @@ def counted(program, side, work, size, profile=None):
         taken = parse_collected(run.stderr)
         if run.returncode or not taken:
             ended = f"status {run.returncode}, {taken} instructions: {run.stderr[-300:]}"
-            sys.exit(f"measure.py: {program} {' '.join(work.words())}: {ended}")
+            raise NotCounted(f"{program} {' '.join(work.words())}: {ended}")
         return Run(taken, run.stdout)
 
 
@@ -78,56 +90,6 @@ def greatest_size(program, side, work, size, profile=None):
         return Run(int(told.read().split()[-1]) * 1024 - len(whole), run.stdout)
 
 
-def grouped(number):
-    """A figure with commas, and a decimal where it is small."""
-    return f"{number:,.1f}" if number < 1000 else f"{number:,.0f}"
-
-
-@dataclass
-class Measured:
-    """What was measured of a work: the size, the instructions of each by program, and their growth."""
-
-    size: int
-    each: dict
-    growth: float | None
-
-
-def ratio(here, original):
-    """One by the other, where both are known."""
-    return f"{here / original:.2f}" if here and original else ""
-
-
-def row(name, work, measured, before):
-    """A row of the table; `before` has by name what an earlier run kept."""
-    here, original = measured.each["here"], measured.each.get("original")
-    earlier = before.get(name, {}).get("here")
-    figures = [grouped(each) if each else "" for each in (here, earlier, original)]
-    growth = f"{measured.growth:.2f}" if measured.growth else ""
-    ratios = [ratio(here, original), ratio(earlier, original)]
-    return in_row([f"{work.what} (`{name}`)", f"{measured.size:,}", *figures, *ratios, growth])
-
-
-def memory_row(name, taken):
-    """A row of the table of memory."""
-    sizes = [f"{taken[side] / 1e6:.1f}" if side in taken else "" for side in ("here", "original")]
-    share = ratio(taken["here"], taken.get("original"))
-    return in_row([f"{WORKS[name].what} (`{name}`)", f"{MEMORY[name]:,}", *sizes, share])
-
-
-def head_rows(head):
-    return [in_row(head), "|" + "---|" * len(head)]
-
-
-def in_row(cells):
-    """A row of a table in Markdown."""
-    return "|" + "".join(f" {cell} |" if cell else " |" for cell in cells)
-
-
-EACH = ["here, each", "before, each", "original, each"]
-HEAD = ["work", "size", *EACH, "here / original", "before / original", "growth"]
-MEMORY_HEAD = ["work", "size", "here, MB", "original, MB", "here / original"]
-
-
 def alike(name, done):
     """What the programs took, by program; where they ended with different pages, of this one alone."""
     if len({run.end for run in done.values()}) > 1:
@@ -135,14 +97,6 @@ def alike(name, done):
         print(f"measure.py: {name}: the programs ended differently: {ends}", file=sys.stderr)
         return {"here": done["here"].taken}
     return {side: run.taken for side, run in done.items()}
-
-
-def with_table(document, table):
-    """The document with a table in the place of the one that has the same head."""
-    rows = document.split("\n")
-    first = rows.index(table[0])
-    end = next(at for at in range(first, len(rows)) if not rows[at].startswith("|"))
-    return "\n".join(rows[:first] + table + rows[end:])
 
 
 class Measuring:
@@ -182,68 +136,128 @@ def each_of(name, size, taken):
 
 def table_of(measuring, names, given):
     """The rows of the table, each printed as it comes."""
-    before = json.load(open(given.before)) if given.before else {}
     sizes = {name: WORKS[name].sizes[:1] if given.small else WORKS[name].sizes for name in names}
     runs = {(name, size): measuring.runs(counted, name, size) for name in names for size in sizes[name]}
-    kept = {}
-    yield from head_rows(HEAD)
+    yield from tables.head_rows(tables.HEAD)
     for name in names:
         each = [each_of(name, size, measuring.taken(runs[name, size], name)) for size in sizes[name]]
         growth = each[-1]["here"] / each[0]["here"] if len(each) > 1 else None
-        kept[name] = {side: round(count, 2) for side, count in each[-1].items()}
-        yield row(name, WORKS[name], Measured(sizes[name][-1], each[-1], growth), before)
-    if given.json:
-        with open(given.json, "w") as it:
-            json.dump(kept, it, indent=1)
+        yield tables.row(name, WORKS[name], Measured(sizes[name][-1], each[-1], growth))
 
 
 def table_of_memory(measuring, names):
     runs = {name: measuring.runs(greatest_size, name, MEMORY[name]) for name in names if name in MEMORY}
-    yield from head_rows(MEMORY_HEAD)
+    yield from tables.head_rows(tables.MEMORY_HEAD)
     for name in runs:
-        yield memory_row(name, measuring.taken(runs[name], name))
+        yield tables.memory_row(name, measuring.taken(runs[name], name))
 
 
-def printed(table, into):
+def printed(table, given):
     """Prints a table, and puts it into a document."""
     rows = []
     for line in table:
         print(line, flush=True)
         rows.append(line)
     print()
-    if into:
-        with open(into) as it:
-            document = with_table(it.read(), rows)
-        with open(into, "w") as it:
+    if given.into:
+        with open(given.into) as it:
+            document = tables.with_table(it.read(), rows, made_by(given))
+        with open(given.into, "w") as it:
             it.write(document)
 
 
-def main():
+def made_by(given):
+    """At which commit a table is made, and by which command."""
+    flags = [" --original FOLDER"] * bool(given.original) + [" --memory"] * given.memory
+    command = f"tools/measure.py{''.join(flags)} --into {given.into} {given.program}"
+    return f"{tables.MADE}{tables.commit()} by `{command}`."
+
+
+def checked(measuring, figures):
+    """What is wrong with the works of a table, and what is to be known of them, as they are counted now."""
+    # (the longest first, so that all processors end together)
+    order = sorted(figures, key=lambda name: -figures[name].size)
+    runs = {name: measuring.runs(counted, name, figures[name].size) for name in order}
+    faults, notes = [], []
+    for name, figure in figures.items():
+        try:
+            each = each_of(name, figure.size, measuring.taken(runs[name], name))["here"]
+        except NotCounted as told:
+            faults.append(f"{name}: not counted: {told}")
+            continue
+        says = f"{name} takes {grouped(each)}, and {grouped(figure.each)} in the table"
+        if tables.is_above(each, figure):
+            faults.append(f"{says}: {100 * each / figure.each - 100:.1f} in 100 more")
+        elif tables.is_below(each, figure):
+            notes.append(f"{says}: make the table again")
+    return faults, notes
+
+
+def check(given, only):
+    """Counts the works of a document's table; whether none costs more than it says."""
+    if not shutil.which("valgrind"):
+        print("measure.py: left out: the instructions of the works, since there is no valgrind")
+        return True
+    with open(given.check) as it:
+        figures = tables.figures_of(it.read())
+    faults = tables.apart(figures, only or WORKS)
+    figures = {name: figure for name, figure in figures.items() if name in (only or WORKS)}
+    with measuring_of(given) as measuring:
+        more, notes = checked(measuring, figures)
+    for note in notes:
+        print(f"measure.py: {note}")
+    for fault in faults + more:
+        print(f"measure.py: FAILED: {fault}")
+    print(f"measure.py: {len(figures)} works counted, {len(faults + more)} not as {given.check} says")
+    return not faults + more
+
+
+@contextlib.contextmanager
+def measuring_of(given):
+    """The runs that arguments ask for, ended behind the block."""
+    measuring = Measuring(given)
+    try:
+        yield measuring
+    finally:
+        measuring.pool.shutdown(cancel_futures=True)
+
+
+def arguments():
     parser = argparse.ArgumentParser(description=__doc__, formatter_class=argparse.RawDescriptionHelpFormatter)
     parser.add_argument("program")
     parser.add_argument("--original", help="the folder of the built original")
-    parser.add_argument("--before", help="what an earlier run kept")
-    parser.add_argument("--json", help="where this run keeps its figures")
     parser.add_argument("--only", help="these works alone")
     parser.add_argument("--small", action="store_true", help="the smallest size of each alone")
     parser.add_argument("--jobs", type=int, default=os.cpu_count(), help="the number of runs at once")
     parser.add_argument("--memory", action="store_true", help="the greatest sizes of the processes too")
     parser.add_argument("--into", help="the document whose tables are to be these")
+    parser.add_argument("--check", help="the document whose table no work is to exceed")
     parser.add_argument("--profiles", help="where callgrind's files are kept")
     given = parser.parse_args()
-    names = given.only.split(",") if given.only else list(WORKS)
-    unknown = [name for name in names if name not in WORKS]
-    if unknown:
-        sys.exit(f"measure.py: no work has the name {unknown[0]}")
     if given.into and (given.only or given.small):
         sys.exit("measure.py: a document takes the tables of all works alone")
-    measuring = Measuring(given)
+    if given.check and (given.into or given.original or given.memory or given.small):
+        sys.exit("measure.py: --check counts this program alone, and makes no table")
+    return given
+
+
+def main():
+    given = arguments()
+    only = given.only.split(",") if given.only else []
+    unknown = [name for name in only if name not in WORKS]
+    if unknown:
+        sys.exit(f"measure.py: no work has the name {unknown[0]}")
+    if not os.path.isfile(given.program):
+        sys.exit(f"measure.py: FAILED: there is no program {given.program}")
     try:
-        printed(table_of(measuring, names, given), given.into)
-        if given.memory:
-            printed(table_of_memory(measuring, names), given.into)
-    finally:
-        measuring.pool.shutdown(cancel_futures=True)
+        if given.check:
+            sys.exit(0 if check(given, only) else 1)
+        with measuring_of(given) as measuring:
+            printed(table_of(measuring, only or list(WORKS), given), given)
+            if given.memory:
+                printed(table_of_memory(measuring, only or list(WORKS)), given)
+    except (NoTable, NotCounted) as told:
+        sys.exit(f"measure.py: FAILED: {told}")
     sys.exit(0 if measuring.all_alike else 1)
 
 

@@ -23,6 +23,8 @@ import tempfile
 import termios
 import time
 
+from measured_tables import commit
+
 TOP = os.path.dirname(os.path.dirname(os.path.abspath(__file__)))
 COLS, ROWS = 80, 24
 MB = 1_000_000
@@ -314,7 +316,8 @@ def print_large(programs, text, last, runs):
     row(f'a key after, of {KEYS}', *map(milliseconds, keys))
     row(f'a resize, of {len(RESIZES)}', *map(milliseconds, resizes))
     done = zip(searches(less, text, last), searches(minus, text, last))
-    for name, times in zip(('a search for the last line', 'for what is in no line', 'the next match', 'from q to the end'), done):
+    names = ('a search for the last line', 'for what is in no line', 'the next match', 'from q to the end')
+    for name, times in zip(names, done):
         row(name, *(milliseconds([seconds]) for seconds in times))
     for name, number in (('memory at rest', 0), ('its peak', 1), ('its peak after the resizes', 2)):
         of_less, of_minus = memories[0][number], memories[1][number]
@@ -326,7 +329,8 @@ def machine():
     model = next(models, 'unknown')
     less = subprocess.run(['less', '--version'], stdout=subprocess.PIPE, text=True).stdout.split('\n')[0]
     shell = os.path.basename(os.path.realpath('/bin/sh'))
-    return f'{less}; {shell}; Linux {platform.release()}; {os.cpu_count()} x {model}; load {os.getloadavg()[0]:.2f}'
+    system = f'Linux {platform.release()}; {os.cpu_count()} x {model}; load {os.getloadavg()[0]:.2f}'
+    return f'commit {commit()}; {less}; {shell}; {system}'
 
 
 def main():

@@ -73,10 +73,6 @@ def trailing(size):
     return changed(size, lambda it: it.replace("\n", " \n"))
 
 
-def hyphens(size):
-    return changed(size, lambda it: it.replace(" ", "-"))
-
-
 def short(size):
     """The first five letters of each line."""
     return "".join(line[:5] + "\n" for line in block(size).split("\n"))
@@ -84,10 +80,6 @@ def short(size):
 
 def one_line(size):
     return block(size).replace("\n", " ")
-
-
-def one_word(size):
-    return block(size).replace("\n", " ").replace(" ", "x")
 
 
 def long_rows(size):
@@ -177,16 +169,12 @@ WORKS = {
     "push-nowrap": of_pushes("push of a line, no wrapping", [2500, 5000], line_pushes, ["unwrapped"]),
     "push-follow": of_pushes("push of a line, followed", [2500, 5000], line_pushes, ["following"]),
     "push-term": of_pushes("push of a line, under a term", [5000, 10_000], line_pushes, TAKEN),
-    "push-term-many": of_pushes("push of a line, 100,000 under a term", [100_000], line_pushes, TAKEN),
     "pieces": of_pushes("line in pieces of 10 bytes", [1000, 2000], line_pieces),
     "tiny": of_pushes("push of 10 bytes, no newline", [400, 800], lambda n: pushes(pieces(one_line(10 * n)))),
-    "tiny-word": of_pushes("push of 10 bytes, one word", [400, 800], lambda n: pushes(pieces(one_word(10 * n)))),
     "start": Work("push that waits for a start", [5000, 10_000], line_pushes, "waiting"),
-    "start-many": Work("push of 100,000 that wait for a start", [100_000], line_pushes, "waiting"),
     "block": of_bytes("byte of one push", block, 1_000_000),
     "set": of_bytes("byte of a text set", block, 1_000_000, coming="set"),
     "dates": of_bytes("byte of one push, dates and hyphens", dates),
-    "hyphens": of_bytes("byte of one push, hyphens for blanks", hyphens),
     "trailing": of_bytes("byte of one push, blanks at line ends", trailing),
     "wide": of_bytes("byte of one push, wide characters", wide),
     "accents": of_bytes("byte of one push, accents", accents),
@@ -213,7 +201,10 @@ WORKS = {
     "help": of_acts("help opened or left", ["help"], turns=10),
     "term": of_lines("line, a term taken", ["key=enter"], keys("needle")),
     "next": of_acts("next match", ["key=n"], TAKEN, turns=500),
-    "prev": of_acts("previous match", ["key=p"], [*TAKEN, "key=5", "key=0", "key=0", "key=n"], turns=500),
+    # (a text of 5,000 lines has no 500 matches behind the first)
+    "prev": of_acts(
+        "previous match", ["key=p"], [*TAKEN, "key=5", "key=0", "key=0", "key=n"], turns=500, sizes=(10_000, 20_000)
+    ),
     "edits": of_edits("edit of a query, match in the last line", "499"),
     "edits-none": of_edits("edit of a query, no match", "zq"),
     "drag": of_acts("selection dragged", ["drag"], ["select=3,2"]),

@@ -1,5 +1,6 @@
 #!/usr/bin/env python3
-"""Tests that what the documents name is there: files, links and their headings, the clauses of docs/PROVED.md, and names.
+"""Tests that what the documents name is there: files, links and their headings, the clauses of docs/PROVED.md, names, and
+what CALLING.md shows of a file.
 
 It reads all hand-written documents. A name is looked for as a word in the sources, the specs, the proofs, the tools, the
 scripts and `rust/minus`; a file from the top, in `crates`, beside the document, and in the folders named below.
@@ -10,7 +11,7 @@ from pathlib import Path
 
 TOP = Path(__file__).resolve().parent.parent
 CRATES = TOP / "crates"
-DOCUMENTS = [TOP / name for name in ("README.md", "CALLING.md", "CONTRIBUTING.md")] + sorted(
+DOCUMENTS = [TOP / name for name in ("README.md", "CALLING.md", "CONTRIBUTING.md", "CHANGELOG.md")] + sorted(
     file for file in (TOP / "docs").glob("*.md") if file.name != "DEFINITIONS.md"
 )
 
@@ -21,6 +22,9 @@ NAME = re.compile(r"[A-Za-z_]\w*(?:(?:::|\.)[A-Za-z_]\w*)*$")
 CLAUSE = re.compile(r"`([\w/]+\.rt)`")
 SPEC = re.compile(r"\b([A-Z]\w+)\.(\w+)\b")
 MODULE = re.compile(r"^## (minus\w*)$")
+SHOWN = re.compile(r"^```rust\n(.*?)^```", re.S | re.M)
+SOURCE = re.compile(r"\b[Ff]rom `([\w/]+\.rt)`")
+PROGRAM = re.compile(r"^    // crates/yours/src/main.rt\n    #!\[tactic\(auto\)\]\n((?:    .*\n|\n)+)", re.M)
 
 # Files that a user writes, or that a build makes: no part of the repository.
 MADE = {
@@ -79,6 +83,19 @@ def heading(title):
     return re.sub(r"[^\w -]", "", title.lower()).strip().replace(" ", "-")
 
 
+def shown(text):
+    """Returns each block of code with the file that it is from, which the text above it names last."""
+    at = 0
+    for block in SHOWN.finditer(text):
+        files = SOURCE.findall(text[at : block.start()])
+        yield (files or [""])[-1], block[1]
+        at = block.end()
+
+
+def joined(text):
+    return " ".join(text.split())
+
+
 def sections():
     """Returns the lines of docs/PROVED.md with the crate that they are about."""
     crate = None
@@ -118,6 +135,18 @@ class Documents(unittest.TestCase):
             parts = {part for name in names if NAME.match(name) and len(name) > 2 for part in re.split(r"::|\.", name)}
             with self.subTest(file.name):
                 self.assertEqual(sorted(parts - known), [])
+
+    def test_what_is_shown_stands_in_its_file(self):
+        for name, block in shown((TOP / "CALLING.md").read_text()):
+            text = joined((CRATES / name).read_text()) if (CRATES / name).is_file() else ""
+            # (what stands between two parts may be left out where an empty line is)
+            for part in block.split("\n\n"):
+                with self.subTest(name):
+                    self.assertIn(joined(part), text)
+
+    def test_the_program_of_README_is_the_first_of_CALLING(self):
+        program, (_, first) = PROGRAM.search((TOP / "README.md").read_text()), next(shown((TOP / "CALLING.md").read_text()))
+        self.assertEqual(joined(program[1]), joined(first))
 
     def test_clauses_stand_where_PROVED_says(self):
         for crate, line in sections():

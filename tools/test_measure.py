@@ -1,5 +1,5 @@
 #!/usr/bin/env python3
-"""Tests of measure.py: the texts and words of works, what callgrind tells, the rows of the tables, and ends that differ."""
+"""Tests of measure.py: the texts and words of works, what callgrind tells, the tables, and what a check says."""
 import contextlib
 import io
 import os
@@ -7,8 +7,11 @@ import sys
 import unittest
 
 sys.path.insert(0, os.path.dirname(os.path.abspath(__file__)))
-from measure import Measured, Run, alike, each_of, grouped, memory_row, parse_collected, row, with_table
-from measured_works import SEPARATOR, WORKS, Work, block, coloured, dates, keys, line_pieces, line_pushes, lines, long_rows, text, wide
+from measure import NotCounted, Run, alike, checked, each_of, parse_collected
+from measured_tables import HEAD, Figure, Measured, NoTable
+from measured_tables import apart, figures_of, grouped, head_rows, memory_row, row, with_table
+from measured_works import SEPARATOR, WORKS, Work
+from measured_works import block, coloured, dates, keys, line_pieces, line_pushes, lines, long_rows, text, wide
 
 WORK = Work("scroll", [10, 20], text, acts=["next"], turns=50, each="turns")
 
@@ -64,24 +67,69 @@ class Told(unittest.TestCase):
 
 class Rows(unittest.TestCase):
     def test_a_figure(self):
-        self.assertEqual([grouped(24.23), grouped(999.9), grouped(8431.2)], ["24.2", "999.9", "8,431"])
+        self.assertEqual([grouped(it) for it in (8.04, 24.23, 999.9, 8431.2)], ["8.04", "24.2", "999.9", "8,431"])
 
     def test_all_columns(self):
-        known = {"scroll": {"here": 4000}}
         measured = Measured(20, {"here": 3000, "original": 2000}, 1.0)
-        self.assertEqual(row("scroll", WORK, measured, known), "| scroll (`scroll`) | 20 | 3,000 | 4,000 | 2,000 | 1.50 | 2.00 | 1.00 |")
+        self.assertEqual(row("scroll", WORK, measured), "| scroll (`scroll`) | 20 | 3,000 | 2,000 | 1.50 | 1.00 |")
 
     def test_this_program_alone(self):
-        self.assertEqual(row("scroll", WORK, Measured(20, {"here": 3000}, None), {}), "| scroll (`scroll`) | 20 | 3,000 | | | | | |")
+        measured = Measured(20, {"here": 3000}, None)
+        self.assertEqual(row("scroll", WORK, measured), "| scroll (`scroll`) | 20 | 3,000 | | | |")
 
     def test_memory(self):
-        self.assertEqual(memory_row("push", {"here": 3e6, "original": 6e6}), "| push of a line (`push`) | 100,000 | 3.0 | 6.0 | 0.50 |")
-        self.assertEqual(memory_row("push", {"here": 3e6}), "| push of a line (`push`) | 100,000 | 3.0 | | |")
+        first = "| push of a line (`push`) | 100,000 | 3.0 |"
+        self.assertEqual(memory_row("push", {"here": 3e6, "original": 6e6}), f"{first} 6.0 | 0.50 |")
+        self.assertEqual(memory_row("push", {"here": 3e6}), f"{first} | |")
 
     def test_a_table_takes_the_place_of_that_with_its_head(self):
         document = "# A\n\n| a | b |\n|---|---|\n| 1 | 2 |\n\ntext | b\n"
         table = ["| a | b |", "|---|---|", "| 3 | 4 |", "| 5 | 6 |"]
-        self.assertEqual(with_table(document, table), "# A\n\n| a | b |\n|---|---|\n| 3 | 4 |\n| 5 | 6 |\n\ntext | b\n")
+        first = with_table(document, table, "Made at commit 1.")
+        self.assertEqual(first, "# A\n\nMade at commit 1.\n\n| a | b |\n|---|---|\n| 3 | 4 |\n| 5 | 6 |\n\ntext | b\n")
+        self.assertEqual(with_table(first, table, "Made at commit 2."), first.replace("1.", "2."))
+        with self.assertRaises(NoTable):
+            with_table("# A\n", table, "Made at commit 1.")
+
+
+class Counted:
+    """Stands for the runs of all works: what each takes is said before, but for those that cannot be counted."""
+
+    def __init__(self, takes):
+        self.takes = takes
+
+    def runs(self, measure, name, size):
+        return name
+
+    def taken(self, runs, name):
+        if runs not in self.takes:
+            raise NotCounted("status 1")
+        return {"here": self.takes[runs]}
+
+
+class Checks(unittest.TestCase):
+    def test_a_document_is_read_as_it_was_made(self):
+        measured = [row("push", WORKS["push"], Measured(10_000, {"here": 5812.4, "original": 10_985}, 1.0))]
+        measured += [row("block", WORKS["block"], Measured(1_000_000, {"here": 8.04}, None))]
+        document = "\n".join(["# A", "", *head_rows(HEAD), *measured, "", "| a | b |", "|---|---|", "| 1 | 2 |"])
+        self.assertEqual(figures_of(document), {"push": Figure(10_000, 5812), "block": Figure(1_000_000, 8.04)})
+
+    def test_no_table_and_no_figures(self):
+        for document in ("# A\n", "\n".join([*head_rows(HEAD), "| push of a line | 10 | 7 |"])):
+            with self.assertRaises(NoTable):
+                figures_of(document)
+
+    def test_works_of_the_table_or_the_tool_alone(self):
+        figures = {name: Figure(1, 1) for name in WORKS if name != "push"} | {"gone": Figure(1, 1)}
+        self.assertEqual(apart(figures, WORKS), ["gone: the tool has no such work", "push: the table has no such work"])
+
+    def test_a_work_may_cost_5_in_100_more(self):
+        figures = {"push": Figure(10, 1000), "pages": Figure(10, 1000), "redraw": Figure(10, 1000)}
+        self.assertEqual(checked(Counted({"push": 10_500, "pages": 100_000, "redraw": 95_000}), figures), ([], []))
+        faults, notes = checked(Counted({"push": 10_510, "pages": 94_000}), figures)
+        above = "push takes 1,051, and 1,000 in the table: 5.1 in 100 more"
+        self.assertEqual(faults, [above, "redraw: not counted: status 1"])
+        self.assertEqual(notes, ["pages takes 940.0, and 1,000 in the table: make the table again"])
 
 
 if __name__ == "__main__":

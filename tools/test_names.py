@@ -1,5 +1,6 @@
 #!/usr/bin/env python3
-"""Tests that every public name of the crates below `minus`, and of its own modules, stands at the root of `minus`."""
+"""Tests that every public name of the crates below `minus`, and of its own modules, stands at the root of `minus`, or, if
+it is a law, in its module `laws`."""
 import re
 import unittest
 from pathlib import Path
@@ -61,7 +62,8 @@ class Reading(unittest.TestCase):
 
 class Names(unittest.TestCase):
     def setUp(self):
-        self.root = set(names((CRATES / "minus" / "src" / "lib.rt").read_text()))
+        files = [CRATES / "minus" / "src" / name for name in ("lib.rt", "laws.rt")]
+        self.root = {name for file in files for name in names(file.read_text())}
 
     def test_those_below_stand_at_the_root(self):
         for crate in BELOW:

@@ -4,8 +4,10 @@
 set -eu
 top=$(cd "$(dirname "$0")/.." && pwd)
 cd "$top/rust/minus"
-archive=${MINUS_C_LIB:-$top/crates/minus_c/out}/libminus_c.a
+export MINUS_C_LIB="${MINUS_C_LIB:-$top/crates/minus_c/out}"
+archive=$MINUS_C_LIB/libminus_c.a
 registry=/usr/share/cargo/registry
+crates=$top/tools/debian_crates.toml
 
 left_out() {
     echo "test_rust: left out: $1"
@@ -23,7 +25,7 @@ fi
 for crate in crossterm crossbeam-channel parking_lot regex thiserror; do
     if ! ls -d "$registry/$crate"-* >/dev/null 2>&1; then
         package=librust-$(echo $crate | tr _ -)-dev
-        left_out "lints and tests, since $registry has no $crate (the package $package)"
+        left_out "lints, documents and tests, since $registry has no $crate (the package $package)"
         exit 0
     fi
 done
@@ -32,22 +34,24 @@ if command -v python3 >/dev/null; then
 else
     left_out 'the declarations beside the header, since there is no python3'
 fi
+if cargo clippy --version >/dev/null 2>&1; then
+    for features in '' static_output dynamic_output,search static_output,dynamic_output,search,clipboard; do
+        cargo clippy --quiet --config "$crates" --all-targets --features "$features" -- --deny warnings
+    done
+else
+    left_out 'lints, since there is no cargo clippy'
+fi
+# (with no library, which documents and checks do not need: two lines say that it is missing)
+MINUS_C_LIB=/nowhere RUSTDOCFLAGS='--deny warnings' cargo doc --quiet --config "$crates" --no-deps --all-features
 if [ ! -f "$archive" ]; then
-    left_out "lints and tests, since there is no $archive (rt lib in crates/minus_c makes it)"
+    left_out "tests, since there is no $archive (rt lib in crates/minus_c makes it)"
     exit 0
 fi
-for features in '' static_output dynamic_output,search static_output,dynamic_output,search,clipboard; do
-    if cargo clippy --version >/dev/null 2>&1; then
-        cargo clippy --quiet --offline --all-targets --features "$features" -- --deny warnings
-    else
-        left_out "lints with the features '$features', since there is no cargo clippy"
-    fi
-done
-cargo test --offline --all-features
+cargo test --config "$crates" --all-features
 if ! command -v python3 >/dev/null; then
     left_out 'programs in a pseudo terminal, since there is no python3'
     exit 0
 fi
-cargo build --quiet --offline --all-features --examples
+cargo build --quiet --config "$crates" --all-features --examples
 python3 "$top/tools/test_rust.py" "${CARGO_TARGET_DIR:-target}/debug/examples"
 echo 'test_rust: all was run'

@@ -105,7 +105,7 @@ class LauncherTests(TerminalTests):
 
 
 class InstallTests(TerminalTests):
-    """The tools that install the pager and make a release, over a copy of what they read."""
+    """The tool that installs the pager, over a copy of what it reads."""
 
     FILES = {
         'bin/minus': 0o755, 'bin/minus-run': 0o755, 'libexec/minus/minus_pager': 0o755, 'share/man/man1/minus.1': 0o644,
@@ -113,7 +113,7 @@ class InstallTests(TerminalTests):
 
     def setUp(self):
         super().setUp()
-        for path in ('bin', 'tools/install.sh', 'tools/release.sh', 'docs/minus.1', 'LICENSE-MIT', 'LICENSE-APACHE'):
+        for path in ('bin', 'tools/install.sh', 'docs/minus.1'):
             copy = os.path.join(self.folder, 'top', path)
             os.makedirs(os.path.dirname(copy), exist_ok=True)
             (shutil.copytree if path == 'bin' else shutil.copy)(os.path.join(TOP, path), copy)
@@ -148,26 +148,6 @@ class InstallTests(TerminalTests):
         self.page('prefix/bin/minus notes')
         self.terminal.wait_for('1-7/100')
         self.quit()
-
-    def test_a_release_is_the_same_twice(self):
-        shutil.copy(programs.PAGER, self.built)
-        archives = []
-        for folder in ('first', 'second'):
-            mask = '022' if archives else '077'
-            self.run_tool('-c', 'umask $1; sh top/tools/release.sh "$2"', 'sh', mask, folder)
-            names = sorted(os.listdir(os.path.join(self.folder, folder)))
-            self.assertEqual(len(names), 2)
-            self.assertEqual(names[1], names[0] + '.sha256')
-            archives.append([contents(os.path.join(self.folder, folder, name)) for name in names])
-            os.utime(os.path.join(self.folder, 'top', 'bin', 'minus'), (1, 1))
-        self.assertEqual(archives[0], archives[1])
-        subprocess.run(['sha256sum', '-c', '--quiet', names[1]], cwd=os.path.join(self.folder, 'second'), check=True)
-        subprocess.run(['tar', 'xzf', names[0]], cwd=os.path.join(self.folder, 'second'), check=True)
-        top = os.path.join(self.folder, 'second', names[0][:-len('.tar.gz')])
-        self.assertTrue(all(os.path.isfile(os.path.join(top, path)) for path in self.FILES))
-        run = subprocess.run([os.path.join(top, 'bin', 'minus'), '--version'], capture_output=True)
-        self.assertEqual((run.returncode, run.stderr), (0, b''))
-        self.assertTrue(run.stdout.startswith(b'minus '))
 
     def test_the_manual_page_is_whole(self):
         if shutil.which('groff'):

@@ -8,11 +8,11 @@ use Rattle.minus_text.specs.Document.{line_map, rows_of}
 use Rattle.minus_text.specs.LineMaps.{IsLineOfRow}
 use Rattle.minus_text.specs.LinePlaces.{row_places}
 use Rattle.minus_state.specs.declared.state.PagerState.{PagerState}
-use Rattle.minus_view.specs.PromptPlace.{percent, place_text}
+use Rattle.minus_view.specs.declared.prompt_place.Place.{Place}
+use Rattle.minus_view.specs.PromptPlace.{place_text}
 use Rattle.minus_app.specs.declared.prompt.Notice.{Notice}
 use Rattle.minus_app.specs.declared.prompt.Notice.TheVariants.{Nothing, CutShort, OutOfMemory, NotFound, Reading}
 use Rattle.minus_app.specs.declared.prompt.Notice.TheVariants.{NotCopied}
-use Rattle.minus_app.specs.declared.prompt.Place.{Place}
 
 -- what is said of a text of `bytes` bytes besides the place of the page
 abbrev pub notice_text : Notice → ℕ → List ℕ
@@ -50,14 +50,9 @@ pub record IsPlace (state : PagerState) (place : Place) : Type 0 where
   pub end : place.end ≡ start_of state (row_behind state)
   pub bytes : place.bytes ≡ length state.screen.document.text
 
--- the title of a text, and the place of the page in it
-abbrev pub titled : ℕ → List ℕ → Place → List ℕ
-titled columns title place =
-    place_text columns title place.first place.last place.lines (percent place.end place.bytes)
-
 -- what is said of the text, and behind it what the application says, or else the title and the place of the
 -- page, for a prompt row with `columns` columns
 abbrev pub prompt_text : ℕ → Option (List ℕ) → List ℕ → Place → Notice → List ℕ
 prompt_text columns own title place notice =
     let said = notice_text notice place.bytes in
-    said ++ unwrap_or own (titled (columns - length said) title place)
+    said ++ unwrap_or own (place_text (columns - length said) title place)

@@ -7,6 +7,8 @@ use Rattle.minus_text.specs.Document.{rows_of}
 use Rattle.minus_state.specs.declared.state.PagerState.{PagerState}
 use Rattle.minus_state.specs.Help.{help_open}
 use Rattle.minus_state.specs.States.{control_of}
+use Rattle.minus_view.specs.declared.arguments.Opening.{Opening}
+use Rattle.minus_view.specs.declared.arguments.Opening.TheVariants as opening
 use Rattle.minus_app.specs.declared.options.Options.{Options}
 use Rattle.minus_app.specs.declared.view.goals.Goal.{Goal}
 use Rattle.minus_app.specs.declared.view.goals.Goal.TheVariants.{Line, End}
@@ -15,10 +17,17 @@ use Rattle.minus_app.specs.declared.view.goals.Goal.TheVariants.{Line, End}
 abbrev pub first_line : ℕ → Option Goal
 first_line line = if nat_lt line 2 then None else Some (Line (line - 1))
 
--- what the text is read on for at first: nothing where it is followed, and else its end or the line that is shown first
+-- what the text is read on for so that the first page begins there: its end, or a line that is not its first one
+abbrev pub goal_of_opening : Opening → Option Goal
+goal_of_opening opening.First = None
+goal_of_opening (opening.Line line) = first_line line
+goal_of_opening opening.End = Some End
+goal_of_opening opening.Follows = None
+goal_of_opening (opening.Finds query) = None
+
+-- what the text is read on for at first
 abbrev pub first_goal : Options → Option Goal
-first_goal options =
-    if options.follows then None else if options.begins_at_end then Some End else first_line options.line
+first_goal options = goal_of_opening options.opening
 
 -- the bytes from the start of a row to the end of another
 abbrev pub bytes_from_to : Option Span → Option Span → ℕ

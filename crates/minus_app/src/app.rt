@@ -128,7 +128,7 @@ pub trait App: Drop {
         false
     }
 
-    /// Whether the end of the text is followed from the first page on.
+    /// Whether the end of the text is followed from the first page on, wherever the options let that begin.
     fn follows(&self) -> bool {
         false
     }

@@ -31,7 +31,6 @@ pub enum KeyAction {
 }
 
 impl ActionCall for KeyAction {
-    ghost use Rattle.std.specs.Prelude.{◌≡◌};
     ghost use Rattle.minus_app.specs.Actions.{key_answer};
 
     ghost answers = { λ bound event state answer. answer ≡ key_answer bound event state };
@@ -120,7 +119,7 @@ fn push_keys(kept: &mut Vec<Event>, texts: &[&str]) -> Result<(), MinusError>
 }
 
 impl<A: Copy + Drop> AppKeys<A> {
-    ghost use Rattle.std.specs.Prelude.{◌≡◌, ◌++◌, ◌∷◌, [], map, vec_len, true, false, IfOk, IfErr, OnOk, OnErr};
+    ghost use Rattle.std.specs.Prelude.{◌++◌, ◌∷◌, [], map, vec_len, true, false, IfOk, OnOk, OnErr};
     ghost use Rattle.std.specs.List.{list_any};
     ghost use Rattle.minus_term.specs.Refusals.{refusal_of};
     ghost use Rattle.minus_input.specs.Described.{IsKey};
@@ -128,7 +127,6 @@ impl<A: Copy + Drop> AppKeys<A> {
     ghost use Rattle.minus_input.specs.DefaultActions.{default_description};
     ghost use Rattle.minus_input.specs.DefaultBindings.{default_register};
     ghost use Rattle.minus_input.specs.RegisterCalls.{IsAdded, IsAddRefused};
-    ghost use Rattle.minus_app.specs.Actions.{ends_program};
     ghost use Rattle.minus_app.specs.Keys.{act_at, done_at, keyed, HidesNothing, SomeEnds};
     ghost use Rattle.minus_app.specs.Moves.{view_description};
     ghost use Rattle.minus_app.specs.declared.keys.KeyAction.TheVariants.{Pager, View, Own};

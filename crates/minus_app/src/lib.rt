@@ -27,6 +27,7 @@ pub use keyboard::Keyboard;
 pub use keys::{AppKeys, KeyAction};
 pub use launch::Launch;
 pub use links::Links;
+pub use minus_view::{AtEnd, Case, Opening};
 pub use options::Options;
 pub use paging::{end_program, page_all, print, run};
 pub use program::{Program, Terminal};

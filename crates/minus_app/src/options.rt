@@ -3,7 +3,8 @@ ghost use Rattle.std.specs.Prelude.{◌≡◌};
 ghost use Rattle.minus_app.specs.Reading.{first_goal};
 
 use crate::view::Goal;
-use minus_view::{AtEnd, Case};
+use minus::{Layout, LineNumbers};
+use minus_view::{AtEnd, Case, Opening};
 
 /// How a text is paged.
 #[derive(Clone, Copy, Debug, PartialEq, Eq)]
@@ -14,8 +15,6 @@ pub struct Options<'a> {
     pub chops: bool,
     /// Whether a text that fits the terminal is printed, and not paged.
     pub prints: bool,
-    /// Whether the end of the text is followed.
-    pub follows: bool,
     /// Whether the pager takes the mouse.
     pub mouse: bool,
     /// Whether the page stays on the terminal where the program ends.
@@ -24,12 +23,8 @@ pub struct Options<'a> {
     pub case: Case,
     /// What the end of the text does.
     pub at_end: AtEnd,
-    /// The line that is shown first, counted from 1.
-    pub line: usize,
-    /// Whether the first page is the last one of the whole text.
-    pub begins_at_end: bool,
-    /// What is searched for at first; empty where nothing is.
-    pub finds: &'a str,
+    /// Where the first page begins.
+    pub opening: Opening<'a>,
 }
 
 impl<'a> Options<'a> {
@@ -39,38 +34,48 @@ impl<'a> Options<'a> {
             numbers: false,
             chops: false,
             prints: false,
-            follows: false,
             mouse: true,
             leaves: false,
             case: Case::Exact,
             at_end: AtEnd::Stays,
-            line: 1,
-            begins_at_end: false,
-            finds: "",
+            opening: Opening::First,
         }
     }
 
     // With what an application says of following; a text that is followed is not printed.
     pub(crate) fn with_following(&self, follows: bool) -> Options<'a> {
         let mut options = *self;
-        options.follows = self.follows || follows;
-        options.prints = self.prints && !options.follows;
+        if follows {
+            options.opening = Opening::Follows;
+        }
+        options.prints = self.prints && options.opening != Opening::Follows;
         options
+    }
+
+    // How the rows of a text are formed in this many columns. A term is searched for in lines, and colours go on over
+    // their rows.
+    pub(crate) fn layout(&self, cols: usize) -> Layout {
+        Layout {
+            cols,
+            wrapping: !self.chops,
+            numbers: if self.numbers {
+                LineNumbers::Enabled
+            } else {
+                LineNumbers::Disabled
+            },
+            match_lines: true,
+            carry_style: true,
+        }
     }
 
     // What the text is read on for at first: its end, or the line that is shown first, where that is not its first one.
     pub(crate) fn first_goal(&self) -> Option<Goal>
         ensures { result ≡ first_goal self.now }
     {
-        if self.follows {
-            return None;
+        match self.opening {
+            Opening::Line(line) if line > 1 => Some(Goal::Line(line - 1)),
+            Opening::End => Some(Goal::End),
+            Opening::First | Opening::Line(_) | Opening::Follows | Opening::Finds(_) => None,
         }
-        if self.begins_at_end {
-            return Some(Goal::End);
-        }
-        if self.line <= 1 {
-            return None;
-        }
-        Some(Goal::Line(self.line - 1))
     }
 }

@@ -22,7 +22,6 @@ fn is_previewed(seen: &Option<IncrementalSearchOpts<'_>>) -> bool
 pub struct ShowsWithin;
 
 impl ConditionCall for ShowsWithin {
-    ghost use Rattle.std.specs.Prelude.{◌≡◌};
     ghost use Rattle.minus_app.specs.Preview.{shows_within};
 
     ghost judges = { λ condition opts answer. answer ≡ shows_within opts };

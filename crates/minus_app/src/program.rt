@@ -30,6 +30,7 @@ use crate::program::turning::TopLines;
 use crate::size::SizeFile;
 use crate::view::{Start, View};
 use minus::{Event, OutputSink};
+use minus_view::Opening;
 use std::io::Read;
 use std::mem;
 
@@ -88,7 +89,7 @@ impl<A: App, S: Drop, R: Drop> Drop for Program<A, S, R> {
 }
 
 impl<A: App, S: OutputSink + Drop, R: Read + Drop> Program<A, S, R> {
-    ghost use Rattle.std.specs.Prelude.{◌≡◌, OnOk};
+    ghost use Rattle.std.specs.Prelude.{OnOk};
     ghost use Rattle.minus_input.specs.EventTables.{register_of};
     ghost use Rattle.minus_app.specs.Keys.{own_act_at, SomeEnds};
 
@@ -153,7 +154,9 @@ impl<A: App, S: OutputSink + Drop, R: Read + Drop> Program<A, S, R> {
         let is_whole = self.growth.is_whole();
         self.view.set_whole(is_whole);
         let _ = self.view.pursue()?;
-        self.view.search(options.finds)?;
+        if let Opening::Finds(query) = options.opening {
+            self.view.search(query)?;
+        }
         self.show_place()?;
         self.view.make_room(self.app.bytes_left());
         Ok(())

@@ -1,10 +1,9 @@
 //! What the prompt row of the program says.
-ghost use Rattle.std.specs.Prelude.{◌≡◌, ◌+◌, ◌<◌, min, option_map, string_bytes, IfOk};
+ghost use Rattle.std.specs.Prelude.{◌≡◌, ◌+◌, min, option_map, string_bytes, IfOk};
 ghost use Rattle.minus_app.specs.Prompt.{start_of, notice_text, prompt_text, IsLineNumber, IsPlace};
 
-use minus::PagerState;
-use minus_term::page_len;
-use minus_view::{percent, place_text};
+use minus::{PagerState, page_len};
+use minus_view::{Place, place_text};
 use std::alloc::{AllocError, Global};
 
 /// What the prompt row says of the text besides the place of the page.
@@ -25,9 +24,6 @@ pub enum Notice {
 }
 
 impl Notice {
-    ghost use Rattle.std.specs.Prelude.{◌≡◌, string_bytes, IfOk};
-    ghost use Rattle.minus_app.specs.Prompt.{notice_text};
-
     // What the prompt row says, of a text of this many bytes.
     fn text(self, alloc: Global, bytes: usize) -> Result<String, AllocError>
         ensures { IfOk result (λ text. string_bytes text ≡ notice_text self bytes) }
@@ -79,21 +75,6 @@ pub fn start_of(state: &PagerState, row: usize) -> usize
     }
 }
 
-/// Where in its text a page is.
-#[derive(Clone, Copy, Debug, PartialEq, Eq)]
-pub struct Place {
-    /// The first displayed line, counted from 1; 0 where there is none.
-    pub first: usize,
-    /// The last displayed line, counted from 1; 0 where there is none.
-    pub last: usize,
-    /// How many lines there are.
-    pub lines: usize,
-    /// Where the row behind the last displayed one begins, in bytes; behind all rows, where the text ends.
-    pub end: usize,
-    /// The length of the text in bytes.
-    pub bytes: usize,
-}
-
 /// Where in its text the page is.
 pub fn place_of(state: &PagerState) -> Place
     ensures { IsPlace state.now result }
@@ -133,16 +114,7 @@ pub fn prompt_text(
     match own {
         Some(own) => format!(in alloc; "{notice}{own}"),
         None => {
-            let part = percent(place.end, place.bytes);
-            let place = place_text(
-                alloc,
-                room,
-                title,
-                place.first,
-                place.last,
-                place.lines,
-                part,
-            )?;
+            let place = place_text(alloc, room, title, place)?;
             format!(in alloc; "{notice}{place}")
         }
     }

@@ -119,7 +119,7 @@ impl Drop for Text {
 }
 
 impl Text {
-    ghost use Rattle.std.specs.Prelude.{◌≡◌, Some, string_bytes, IfOk};
+    ghost use Rattle.std.specs.Prelude.{Some, string_bytes, IfOk};
     ghost use Rattle.minus_app.specs.Texts.{left_in};
 
     // A text of which this many bytes are read at once, at most.
@@ -242,7 +242,7 @@ impl Text {
     }
 
     // Reads from its beginning what has the name of the file now, where that is another file, or was cut.
-    fn begin_anew(&mut self, rt: &HostRuntime) {
+    fn begin_again(&mut self, rt: &HostRuntime) {
         if let Some(file) = self.new_file(rt) {
             self.origin = Origin::File(file);
             self.read = 0;
@@ -253,7 +253,7 @@ impl Text {
     fn read_and_look(&mut self, rt: &HostRuntime) -> Result<Fed, Fault> {
         let fed = self.read_on(rt.alloc())?;
         if let Fed::EndForNow = &fed {
-            self.begin_anew(rt);
+            self.begin_again(rt);
         }
         Ok(fed)
     }

@@ -21,6 +21,7 @@ mod starting;
 mod tabs;
 mod typed;
 
+use crate::app::Neighbour;
 use crate::fault::Fault;
 use crate::keys::Table;
 use crate::preview::ShowsWithin;
@@ -63,10 +64,8 @@ pub enum Onward {
     Interrupted,
     /// The end of the text was reached, where that ends the program, unless there is a next text.
     EndReached,
-    /// The reader has asked for the next text.
-    Next,
-    /// The reader has asked for the text before.
-    Before,
+    /// The reader has asked for another text.
+    Turns(Neighbour),
 }
 
 /// The pager on the terminal, as an action of an application has it.
@@ -115,7 +114,6 @@ impl<S: Drop> Drop for View<S> {
 }
 
 impl<S: OutputSink + Drop> View<S> {
-    ghost use Rattle.std.specs.Prelude.{◌≡◌};
     ghost use Rattle.minus_state.specs.States.{control_of};
     ghost use Rattle.minus_app.specs.Lines.{IsTopLine};
 

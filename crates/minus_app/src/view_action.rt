@@ -51,7 +51,6 @@ pub enum ViewAction {
 }
 
 impl ViewAction {
-    ghost use Rattle.std.specs.Prelude.{◌≡◌};
     ghost use Rattle.minus_app.specs.Moves.{holds_in_help, view_description};
 
     /// What help says of it.
@@ -70,7 +69,7 @@ impl ViewAction {
             ViewAction::Left => "half a page to the left, or N columns",
             ViewAction::NextMatch => "next match in the direction of the search",
             ViewAction::PreviousMatch => "match against the direction of the search",
-            ViewAction::Redraw => "draw the page anew",
+            ViewAction::Redraw => "draw the page again",
             ViewAction::Interrupt => "end following, reading on, or the program",
             ViewAction::SetMark => "keep this place under a letter",
             ViewAction::GoToMark => "go to the place of a letter, ' back",

@@ -5,7 +5,7 @@ ghost use Rattle.minus_pager.specs.Pagings.{bare_options, options_of};
 use crate::exit_status::Refusal;
 use crate::files::Files;
 use minus_app::{AppKeys, Options, run};
-use minus_view::{Opening, Paging, Shape};
+use minus_view::{Paging, Shape};
 
 // How a text is paged; one of several is not printed.
 fn options_of<'a>(paging: &Paging<'a>) -> Options<'a>
@@ -15,20 +15,11 @@ fn options_of<'a>(paging: &Paging<'a>) -> Options<'a>
         numbers: paging.numbers,
         chops: paging.chops,
         prints: paging.prints && paging.texts.len() < 2,
-        follows: paging.opening == Opening::Follows,
         mouse: paging.mouse,
         leaves: paging.leaves,
         case: paging.case,
         at_end: paging.at_end,
-        line: match paging.opening {
-            Opening::Line(line) => line,
-            _ => 1,
-        },
-        begins_at_end: paging.opening == Opening::End,
-        finds: match paging.opening {
-            Opening::Finds(pattern) => pattern,
-            _ => "",
-        },
+        opening: paging.opening,
     }
 }
 

@@ -3,7 +3,7 @@
 #![tactic(auto)]
 
 use minus::OutputSink;
-use minus_app::{App, AppKeys, Fault, Fed, Flow, Options, Text, View, end_program, run};
+use minus_app::{App, AppKeys, Fault, Fed, Flow, Opening, Options, Text, View, end_program, run};
 use std::process::ExitCode;
 
 /// What its own key does.
@@ -59,7 +59,7 @@ fn page(rt: &HostRuntime) -> Result<(), Fault> {
     let mut keys = AppKeys::less(rt.alloc())?;
     keys.bind(&["e"], "go to the next error", NextError)?;
     let mut options = Options::new();
-    options.follows = true;
+    options.opening = Opening::Follows;
     run(rt, report, keys, options)
 }
 

@@ -68,8 +68,7 @@ impl<A: App, S: OutputSink + Drop, R: Read + Drop> Program<A, S, R> {
             match self.tell_one(rt, *event)? {
                 Onward::On => {}
                 Onward::Suspended => self.suspend(rt)?,
-                Onward::Next => self.turn_by_key(rt, Neighbour::Next)?,
-                Onward::Before => self.turn_by_key(rt, Neighbour::Before)?,
+                Onward::Turns(neighbour) => self.turn_by_key(rt, neighbour)?,
                 Onward::EndReached => {
                     if !self.turn_to(rt, Neighbour::Next)? {
                         return Ok(false);

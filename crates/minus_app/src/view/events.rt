@@ -61,7 +61,6 @@ fn held(is_help: bool, action: Option<ViewAction>) -> Option<ViewAction>
 }
 
 impl<S: OutputSink + Drop> View<S> {
-    ghost use Rattle.std.specs.Prelude.{◌≡◌};
     ghost use Rattle.minus_input.specs.EventTables.{register_of};
     ghost use Rattle.minus_app.specs.Keys.{own_number_at, view_action_at};
 

@@ -1,4 +1,5 @@
 //! The places that are kept under letters, and the keys that are typed behind another.
+use crate::app::Neighbour;
 use crate::fault::Fault;
 use crate::view::goals::Goal;
 use crate::view::typed::Pending;
@@ -128,8 +129,8 @@ impl<S: OutputSink + Drop> View<S> {
     fn do_command(&mut self, letter: char) -> Result<Onward, Fault> {
         match letter {
             'q' | 'Q' => Ok(Onward::Ended),
-            'n' => Ok(Onward::Next),
-            'p' => Ok(Onward::Before),
+            'n' => Ok(Onward::Turns(Neighbour::Next)),
+            'p' => Ok(Onward::Turns(Neighbour::Before)),
             'e' => {
                 self.typed.pending = Some(Pending::Line);
                 Ok(Onward::On)

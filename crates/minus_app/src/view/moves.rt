@@ -1,11 +1,10 @@
 //! Where a move of the page leads.
-ghost use Rattle.std.specs.Prelude.{◌≡◌, ◌≤◌};
+ghost use Rattle.std.specs.Prelude.{◌≡◌};
 ghost use Rattle.minus_app.specs.Lines.{row_of_line};
 ghost use Rattle.minus_app.specs.Moves.{last_count, line_at, row_of_move};
 
 use crate::view_action::ViewAction;
-use minus::PagerState;
-use minus_term::page_len;
+use minus::{PagerState, page_len};
 
 /// The first row of a line, counted from 0, or else a row behind all.
 pub fn row_of_line(state: &PagerState, line: usize) -> usize

@@ -1,24 +1,10 @@
 //! What stays on the terminal: a text that fits it, and the page that was displayed.
-ghost use Rattle.std.specs.Prelude.{◌≡◌};
 
-use crate::options::Options;
 use minus::{
-    Layout, LineNumbers, MinusError, OutputSink, OwnedTextBlock, PagerState, Screen, fit_columns,
+    Layout, MinusError, OutputSink, OwnedTextBlock, PagerState, Screen, fit_columns, page_len,
     write_bytes,
 };
-use minus_term::page_len;
 use std::alloc::{AllocError, Global};
-
-/// How the rows of a text are formed.
-pub fn layout_of(options: &Options<'_>, cols: usize) -> Layout {
-    let mut layout = Layout::plain(cols);
-    layout.wrapping = !options.chops;
-    layout.carry_style = true;
-    if options.numbers {
-        layout.numbers = LineNumbers::Enabled;
-    }
-    layout
-}
 
 // The rows of a text that has numbers.
 fn numbered(alloc: Global, screen: &Screen) -> Result<String, AllocError> {

@@ -1,5 +1,4 @@
 //! How a view is started: with the beginning of a text, which is printed where it is all of it and fits the terminal.
-ghost use Rattle.std.specs.Prelude.{◌≡◌};
 
 use crate::fault::Fault;
 use crate::keys::Table;
@@ -8,16 +7,15 @@ use crate::preview::ShowsWithin;
 use crate::size::Size;
 use crate::view::copying::Mouse;
 use crate::view::kept_place::Places;
-use crate::view::printing::{layout_of, print_if_fits};
+use crate::view::printing::print_if_fits;
 use crate::view::prompt_row::Notices;
 use crate::view::queries::Queries;
 use crate::view::reading::Reading;
 use crate::view::tabs::Tabs;
 use crate::view::typed::Typed;
 use crate::view::{AppKinds, View};
-use minus::{
-    CommandOf, Core, LineNumbers, MinusError, OutputSink, PagerOf, RunMode, init_core_with,
-};
+use minus::{CommandOf, Core, Layout, MinusError, OutputSink, PagerOf, RunMode, init_core_with};
+use minus_view::Opening;
 use std::alloc::Global;
 
 /// What a view is started with.
@@ -39,27 +37,23 @@ pub struct Start<S> {
     pub marks_tabs: bool,
 }
 
-// Sets what a text is shown by, before it is there; a term is searched for in lines, and colours go on over their rows.
-fn set_up(pager: &mut PagerOf<AppKinds>, options: &Options<'_>) -> Result<(), MinusError> {
-    if options.numbers {
-        pager.set_line_numbers(LineNumbers::Enabled)?;
-    }
-    if options.chops {
-        pager.horizontal_scroll(true)?;
-    }
-    pager.set_match_lines(true)?;
-    pager.set_carry_style(true)?;
+// Sets what a text is shown by, before it is there.
+fn set_up(pager: &mut PagerOf<AppKinds>, layout: Layout) -> Result<(), MinusError> {
+    pager.set_line_numbers(layout.numbers)?;
+    pager.horizontal_scroll(!layout.wrapping)?;
+    pager.set_match_lines(layout.match_lines)?;
+    pager.set_carry_style(layout.carry_style)?;
     pager.set_incremental_search_condition(ShowsWithin)
 }
 
 // A pager with the beginning of a text.
 fn pager_of(
     alloc: Global,
-    options: &Options<'_>,
+    layout: Layout,
     beginning: &str,
 ) -> Result<PagerOf<AppKinds>, MinusError> {
     let mut pager = PagerOf::new(alloc);
-    set_up(&mut pager, options)?;
+    set_up(&mut pager, layout)?;
     pager.push_str(beginning)?;
     Ok(pager)
 }
@@ -126,11 +120,11 @@ impl<S: OutputSink + Drop> View<S> {
         let text = tabs.take(alloc, String::from_str(alloc, beginning)?)?;
         let beginning = text.as_str();
         let (cols, rows) = (usize::from(size.cols), usize::from(size.rows));
-        let (mut pages, layout) = (pages, layout_of(options, cols));
+        let (mut pages, layout) = (pages, options.layout(cols));
         if prints && print_if_fits(alloc, &mut pages, beginning, layout, rows)? {
             return Ok(None);
         }
-        let pager = pager_of(alloc, options, beginning)?;
+        let pager = pager_of(alloc, layout, beginning)?;
         let session = session_of(pager, pages, (cols, rows), keys)?;
         let view = View::of_session(alloc, session, beside, copies, tabs, options);
         Ok(Some(view))
@@ -143,7 +137,7 @@ impl<S: OutputSink + Drop> View<S> {
     /// [`Fault::Pager`] where the session refuses.
     pub(crate) fn set_options(&mut self, options: &Options<'_>) -> Result<(), Fault> {
         self.release_mouse()?;
-        if options.follows {
+        if options.opening == Opening::Follows {
             self.command(CommandOf::FollowOutput(true))?;
         }
         Ok(())
