@@ -133,7 +133,8 @@ impl<P: Parts> PagerOf<P> {
     /// [`MinusError::NewlineInPrompt`] where the text has a newline, and [`MinusError::Memory`] where there is no
     /// memory; nothing has changed.
     pub fn send_message<T: AsStr + Drop>(&mut self, text: T) -> Result<(), MinusError>
-        ensures ok { OnOk result (WaitsBehind (waiting_of self.old) (waiting_of self.new) (sends_message (T.text text))) }
+        ensures ok { OnOk result
+            (WaitsBehind (waiting_of self.old) (waiting_of self.new) (sends_message (T.text text))) }
         ensures one_line { OnOk result (has_newline (T.text text) ≡ false) }
         ensures err { OnErr result (waiting_of self.new ≡ waiting_of self.old) }
         ensures refused { IfErr result (λ e. IsUnsaid (refusal_of e) (T.text text)) }

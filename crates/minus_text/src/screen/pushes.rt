@@ -79,7 +79,8 @@ impl Screen {
         requires stand { AreFoundIn push.kept_rows (rows_in push.tail) (found_rows found) }
         requires jumps { AreJumps found }
         ensures ok { OnOk result (self.new.document ≡ pushed self.old.document text.now push.numbers push.cols) }
-        ensures found { OnOk result (FindsOnAlike self.old (record { push = push; found = found_rows found }) self.new) }
+        ensures found { OnOk result
+            (FindsOnAlike self.old (record { push = push; found = found_rows found }) self.new) }
         ensures told { IfOk result (λ r.
             TellsFound r self.new.found self.old.document text.now push.numbers push.cols) }
         ensures err { OnErr result (self.new ≡ self.old) }
