@@ -8,7 +8,7 @@ use std::alloc::{AllocError, Global};
 use std::io::Write;
 
 /// What a feed gives.
-#[derive(Debug, Drop)]
+#[derive(Drop)]
 pub enum Fed {
     /// A piece of text.
     Text(String),
@@ -21,7 +21,7 @@ pub enum Fed {
 }
 
 /// How a program goes on after an action.
-#[derive(Clone, Copy, Debug, PartialEq, Eq)]
+#[derive(Clone, Copy, PartialEq, Eq)]
 pub enum Flow {
     /// As before.
     On,
@@ -30,7 +30,7 @@ pub enum Flow {
 }
 
 /// Another text of an application.
-#[derive(Clone, Copy, Debug, PartialEq, Eq)]
+#[derive(Clone, Copy, PartialEq, Eq)]
 pub enum Neighbour {
     /// The next one.
     Next,
@@ -39,7 +39,7 @@ pub enum Neighbour {
 }
 
 /// The action of an application that has no keys of its own.
-#[derive(Clone, Copy, Debug, Drop)]
+#[derive(Clone, Copy, Drop)]
 pub struct NoAct;
 
 /// How many bytes below the page are read at first, where an application says nothing else.

@@ -20,7 +20,7 @@ use minus::{
 use std::alloc::Global;
 
 /// What a key of an application is bound to.
-#[derive(Clone, Copy, Debug, Drop)]
+#[derive(Clone, Copy, Drop)]
 pub enum KeyAction {
     /// An action of the pager's.
     Pager(DefaultAction),

@@ -15,7 +15,7 @@ const VARIABLE: &str = "MINUS_TTY";
 const CLIPBOARD: &str = "MINUS_CLIPBOARD";
 
 /// The terminal as the launcher reports it.
-#[derive(Debug, Drop)]
+#[derive(Drop)]
 pub struct Launch {
     /// Its size at the start.
     pub size: Size,

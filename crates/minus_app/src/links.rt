@@ -11,7 +11,7 @@ const END: &[u8] = b"\x1b]8;;\x1b\\";
 /// A writer before another one, which gets what is written to it, with links: a sequence of a link, as a
 /// [`minus_view::Preparation`] with `links` makes them, opens it (`ESC]8;;..`), and the next reset ends it. One that is
 /// no such link is dropped; all other bytes stay.
-#[derive(Debug, Drop)]
+#[derive(Drop)]
 pub struct Links<W> {
     inner: W,
     // What the inner writer is to get next, and how much of that it has.

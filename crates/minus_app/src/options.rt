@@ -7,7 +7,7 @@ use minus::{Layout, LineNumbers};
 use minus_view::{AtEnd, Case, Opening};
 
 /// How a text is paged.
-#[derive(Clone, Copy, Debug, PartialEq, Eq)]
+#[derive(Clone, Copy, PartialEq, Eq)]
 pub struct Options<'a> {
     /// Whether lines have numbers.
     pub numbers: bool,

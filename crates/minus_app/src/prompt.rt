@@ -7,7 +7,7 @@ use minus_view::{Place, place_text};
 use std::alloc::{AllocError, Global};
 
 /// What the prompt row says of the text besides the place of the page.
-#[derive(Clone, Copy, Debug, PartialEq, Eq)]
+#[derive(Clone, Copy, PartialEq, Eq)]
 pub enum Notice {
     /// Nothing.
     Nothing,

@@ -5,7 +5,7 @@ use std::fs::File;
 use std::io::Read;
 
 /// The terminal's size, and how often the program went on, as the launcher tells them.
-#[derive(Clone, Copy, Debug, PartialEq, Eq)]
+#[derive(Clone, Copy, PartialEq, Eq)]
 pub struct Size {
     /// The terminal's rows.
     pub rows: u16,
@@ -28,7 +28,7 @@ fn parse_size(bytes: &[u8]) -> Option<Size> {
 }
 
 /// The launcher's file, and what it said last.
-#[derive(Debug, Drop)]
+#[derive(Drop)]
 pub struct SizeFile {
     path: Option<String>,
     last: Size,

@@ -37,7 +37,7 @@ enum Origin {
 }
 
 // What a read of the text found.
-#[derive(Clone, Copy, Debug, PartialEq, Eq)]
+#[derive(Clone, Copy, PartialEq, Eq)]
 enum Found {
     Bytes(usize),
     // There may be more later.

@@ -52,7 +52,7 @@ type AppKinds = Kinds<NeverCalled, NeverCalled, ShowsWithin, Table>;
 const MOUSE_OFF: &str = "\x1b[?1006l\x1b[?1015l\x1b[?1003l\x1b[?1002l\x1b[?1000l";
 
 /// How the program goes on.
-#[derive(Clone, Copy, Debug, PartialEq, Eq)]
+#[derive(Clone, Copy, PartialEq, Eq)]
 pub enum Onward {
     /// As before.
     On,

@@ -3,7 +3,7 @@ ghost use Rattle.std.specs.Prelude.{◌≡◌};
 
 /// What a key does that no default action of the pager does: as in `less`, where that has it. A number before the key
 /// is its count.
-#[derive(Clone, Copy, Debug, PartialEq, Eq)]
+#[derive(Clone, Copy, PartialEq, Eq)]
 pub enum ViewAction {
     /// Moves down by a page, or by as many rows as are counted.
     PageDown,

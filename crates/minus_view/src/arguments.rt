@@ -17,7 +17,7 @@ use reading::read_options;
 use words::read_words;
 
 /// Whether the capitals of a query count.
-#[derive(Clone, Copy, Debug, PartialEq, Eq)]
+#[derive(Clone, Copy, PartialEq, Eq)]
 pub enum Case {
     /// They do.
     Exact,
@@ -28,7 +28,7 @@ pub enum Case {
 }
 
 /// Where the first page begins.
-#[derive(Clone, Copy, Debug, PartialEq, Eq)]
+#[derive(Clone, Copy, PartialEq, Eq)]
 pub enum Opening<'a> {
     /// At the first line.
     First,
@@ -43,7 +43,7 @@ pub enum Opening<'a> {
 }
 
 /// What the end of the text does.
-#[derive(Clone, Copy, Debug, PartialEq, Eq)]
+#[derive(Clone, Copy, PartialEq, Eq)]
 pub enum AtEnd {
     /// Nothing.
     Stays,
@@ -54,7 +54,7 @@ pub enum AtEnd {
 }
 
 /// How a text is paged.
-#[derive(Clone, Copy, Debug, PartialEq, Eq)]
+#[derive(Clone, Copy, PartialEq, Eq)]
 pub struct Paging<'a> {
     /// Whether lines have numbers.
     pub numbers: bool,
@@ -83,7 +83,7 @@ pub struct Paging<'a> {
 }
 
 /// What the words ask for.
-#[derive(Clone, Copy, Debug, PartialEq, Eq)]
+#[derive(Clone, Copy, PartialEq, Eq)]
 pub enum Arguments<'a> {
     /// To page texts.
     Page(Paging<'a>),
@@ -94,7 +94,7 @@ pub enum Arguments<'a> {
 }
 
 /// Why the words ask for nothing, with the word at fault.
-#[derive(Clone, Copy, Debug, PartialEq, Eq)]
+#[derive(Clone, Copy, PartialEq, Eq)]
 pub enum ArgumentFault<'a> {
     /// An option that there is not.
     UnknownOption(&'a str),

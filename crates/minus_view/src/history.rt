@@ -5,7 +5,6 @@ use std::alloc::{AllocError, Global};
 use std::marker::Model;
 
 /// The queries that were taken, and where among them the reader is: at one of them, or at what they typed before.
-#[derive(Debug)]
 pub struct History {
     alloc: Global,
     // oldest first

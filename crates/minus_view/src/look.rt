@@ -1,7 +1,7 @@
 //! How a character is shown: as it was struck, once, twice or with a line below it, or as one of a mark.
 
 /// How a character is shown.
-#[derive(Clone, Copy, Debug, PartialEq, Eq)]
+#[derive(Clone, Copy, PartialEq, Eq)]
 pub(crate) enum Look {
     Plain,
     Bold,
@@ -11,7 +11,7 @@ pub(crate) enum Look {
 }
 
 /// A character that may still be struck over.
-#[derive(Clone, Copy, Debug)]
+#[derive(Clone, Copy)]
 pub(crate) struct Glyph {
     pub(crate) c: char,
     pub(crate) look: Look,

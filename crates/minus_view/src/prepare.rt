@@ -30,7 +30,7 @@ pub(crate) use characters::columns;
 use std::alloc::{AllocError, Global};
 
 // What the next byte stands in.
-#[derive(Clone, Copy, Debug)]
+#[derive(Clone, Copy)]
 enum Place {
     Text,
     // Behind a carriage return.
@@ -60,7 +60,7 @@ enum Place {
 }
 
 /// How a text is laid out.
-#[derive(Clone, Copy, Debug, PartialEq, Eq)]
+#[derive(Clone, Copy, PartialEq, Eq)]
 pub struct Shape {
     /// How far tabs stand apart, in columns: from 1 to 65535; any other number stands for the nearest of these.
     pub tabs: usize,
@@ -73,7 +73,7 @@ pub struct Shape {
 }
 
 /// What is prepared, as far as it was read.
-#[derive(Debug, Drop)]
+#[derive(Drop)]
 pub struct Preparation {
     shape: Shape,
     // What is ready.

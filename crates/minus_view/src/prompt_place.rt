@@ -8,7 +8,7 @@ use crate::prepare::columns;
 use std::alloc::{AllocError, Global};
 
 /// Where in its text a page is.
-#[derive(Clone, Copy, Debug, PartialEq, Eq)]
+#[derive(Clone, Copy, PartialEq, Eq)]
 pub struct Place {
     /// The first displayed line, counted from 1; 0 where there is none.
     pub first: usize,

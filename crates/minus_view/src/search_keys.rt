@@ -5,7 +5,7 @@ ghost use Rattle.minus_view.specs.SearchKeys.{plain_key, control_key, pressed_ke
 use minus_term::{Event, KeyCode, KeyEvent, KeyEventKind, KeyModifiers};
 
 /// What a pager program does with an event while its search prompt is open.
-#[derive(Clone, Copy, Debug, PartialEq, Eq)]
+#[derive(Clone, Copy, PartialEq, Eq)]
 pub enum SearchKey {
     /// It hands the event to the prompt, where it types, moves or removes, or does nothing.
     Types,

@@ -19,7 +19,7 @@ const MARK: &str = "\x1b[m";
 const STYLED_MARK: &str = "\x1b[:m";
 
 /// A shown text, but that a style may be open at its end.
-#[derive(Debug, Drop)]
+#[derive(Drop)]
 pub(crate) struct Sheet {
     text: String,
     styled: bool,

@@ -3,7 +3,7 @@ ghost use Rattle.std.specs.Prelude.{◌≡◌, chars};
 ghost use Rattle.minus_view.specs.Shown.{step, read, is_control, ShownTextsJoin, ShownTextsAreClean};
 
 /// Where a shown text stands, behind some of its characters.
-#[derive(Clone, Copy, Debug)]
+#[derive(Clone, Copy)]
 pub(crate) enum Spot {
     /// In a line, and whether a style is open there.
     Line(bool),

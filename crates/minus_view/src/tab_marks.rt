@@ -8,7 +8,7 @@ use crate::key_sequences::run_len;
 use std::alloc::{AllocError, Global};
 
 /// A tab that is shown as spaces: these are the bytes of the text from the first of two places on up to the other.
-#[derive(Clone, Copy, Debug, PartialEq, Eq)]
+#[derive(Clone, Copy, PartialEq, Eq)]
 pub struct Tab {
     /// Where the first space stands, in bytes.
     pub start: usize,
@@ -17,7 +17,7 @@ pub struct Tab {
 }
 
 /// A text without the marks of its tabs.
-#[derive(Debug, Drop)]
+#[derive(Drop)]
 pub struct Unmarked {
     /// The text.
     pub text: String,

@@ -11,7 +11,6 @@ const PIECE: usize = 65_536;
 const MOST_PIECES: usize = 1024;
 
 /// A text that waits in pieces, so that a pager can take one after another and hear its keys between them.
-#[derive(Debug)]
 pub struct TextQueue {
     alloc: Global,
     pieces: VecDeque<String>,

@@ -6,7 +6,7 @@ use crate::view::moves::{line_at, row_of_line};
 use minus::PagerState;
 
 /// What the text is read on for.
-#[derive(Clone, Copy, Debug, PartialEq, Eq)]
+#[derive(Clone, Copy, PartialEq, Eq)]
 pub enum Goal {
     /// A line, counted from 0; the last page where the text has no such line.
     Line(usize),

@@ -8,7 +8,7 @@ use minus::{CommandOf, InputOf, IoCommand, LineNumbers, OutputSink, PagerState};
 use std::alloc::Global;
 
 /// The place that a page was put at: it may begin before that, in the row in which the place stands.
-#[derive(Clone, Copy, Debug, PartialEq, Eq)]
+#[derive(Clone, Copy, PartialEq, Eq)]
 pub struct PutAt {
     // The row that the page begins with.
     mark: usize,
@@ -17,7 +17,7 @@ pub struct PutAt {
 }
 
 /// What the rows of a text depend on.
-#[derive(Clone, Copy, Debug, PartialEq, Eq)]
+#[derive(Clone, Copy, PartialEq, Eq)]
 pub struct Shape {
     cols: usize,
     rows: usize,

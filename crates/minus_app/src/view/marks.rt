@@ -8,7 +8,7 @@ use minus::{CommandOf, Event, InputEvent, InputOf, KeyCode, KeyModifiers, Output
 use minus_view::Case;
 
 /// A place that is kept under a letter.
-#[derive(Clone, Copy, Debug)]
+#[derive(Clone, Copy)]
 pub struct Mark {
     letter: char,
     // In bytes of the text.

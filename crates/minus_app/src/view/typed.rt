@@ -3,7 +3,7 @@ use crate::view::moves::remember;
 use std::mem;
 
 /// What the next key is typed for.
-#[derive(Clone, Copy, Debug, PartialEq, Eq)]
+#[derive(Clone, Copy, PartialEq, Eq)]
 pub enum Pending {
     /// The letter that this place is kept under.
     SetMark,

@@ -5,7 +5,7 @@ ghost use Rattle.minus_view.specs.OptionTable.{is_idle_letter, letter_setting, l
 use super::{AtEnd, Case};
 
 /// What an option without a value sets.
-#[derive(Clone, Copy, Debug)]
+#[derive(Clone, Copy)]
 pub(super) enum Setting {
     /// Nothing here.
     Idle,
@@ -20,7 +20,7 @@ pub(super) enum Setting {
 }
 
 /// What the value of an option is.
-#[derive(Clone, Copy, Debug)]
+#[derive(Clone, Copy)]
 pub(super) enum Valued {
     /// A number that means nothing here.
     Number,
@@ -34,7 +34,7 @@ pub(super) enum Valued {
 }
 
 /// What an option is.
-#[derive(Clone, Copy, Debug)]
+#[derive(Clone, Copy)]
 pub(super) enum Kind {
     Sets(Setting),
     Takes(Valued),

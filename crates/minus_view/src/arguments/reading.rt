@@ -13,7 +13,7 @@ use super::option_effects::{with_setting, with_value};
 use super::option_table::{Kind, Valued, letter_kind, name_kind};
 
 /// What stands in options.
-#[derive(Clone, Copy, Debug)]
+#[derive(Clone, Copy)]
 enum Class {
     Blank,
     Name,
@@ -24,7 +24,7 @@ enum Class {
 
 /// An option at the front of some bytes: its value, if it has one, stands from one place to another one, where the
 /// next option begins.
-#[derive(Clone, Copy, Debug)]
+#[derive(Clone, Copy)]
 pub(super) struct Item {
     kind: Kind,
     from: usize,
@@ -32,7 +32,7 @@ pub(super) struct Item {
 }
 
 /// What a text of options says beside the options that were taken.
-#[derive(Clone, Copy, Debug)]
+#[derive(Clone, Copy)]
 pub(super) enum Ending {
     Nothing,
     Help,
@@ -44,7 +44,7 @@ pub(super) enum Ending {
 }
 
 /// The options that were read so far.
-#[derive(Clone, Copy, Debug)]
+#[derive(Clone, Copy)]
 pub(super) struct Reading<'a> {
     pub(super) paging: Paging<'a>,
     /// Whether options are set back.

@@ -10,7 +10,7 @@ use super::reading::{Ending, read_options};
 use super::{ArgumentFault, Arguments, Paging};
 
 /// What the words so far ask for.
-#[derive(Clone, Copy, Debug)]
+#[derive(Clone, Copy)]
 struct Words<'a> {
     paging: Paging<'a>,
     /// The option of a word whose value is the next word.
@@ -18,7 +18,7 @@ struct Words<'a> {
 }
 
 /// What a word is.
-#[derive(Clone, Copy, Debug)]
+#[derive(Clone, Copy)]
 enum Step<'a> {
     /// Options, or the value of one.
     Options(Words<'a>),

@@ -1,7 +1,7 @@
 //! The bytes of a character that has begun.
 
 /// This many bytes, from the first on.
-#[derive(Clone, Copy, Debug)]
+#[derive(Clone, Copy)]
 pub(super) struct Begun {
     bytes: [u8; 4],
     len: usize,
