@@ -23,8 +23,8 @@ TOOLS = [
     "test_wrong_bodies.py", "test_measure.py", "test_names.py", "definitions.py --check", "test_docs.py",
     "test_refuse_memory.py", "test_declarations.py", "check_header.py", "test_cases.py",
 ]
-# (the least number of cases that have to be there)
-CASES = ["tools/cases.py", "--least", "1900"]
+# (as many cases as there are, so that none is left out unseen; test_cases.py counts them)
+CASES = ["tools/cases.py", "--least", "1966"]
 # (crates whose tests of refused memory run once for each request)
 REFUSE_MEMORY = ["minus_part_tests", "minus_tests"]
 

@@ -15,6 +15,7 @@ import case_programs
 import cases
 from plain_rows import TextRows, marks_of
 from player import played_rows
+import test_all
 
 FILE = r'''# A theme.
 let two push a\nb
@@ -214,6 +215,13 @@ class Screens(unittest.TestCase):
 
     def test_what_is_drawn_is_cut(self):
         self.assertEqual(case_programs.pieces('\x1b[1;1Ha\n\rb\x1b[2S'), [r'\e[1;1Ha\n', r'\rb', r'\e[2S'])
+
+
+class Count(unittest.TestCase):
+    def test_as_many_cases_are_asked_for_as_there_are(self):
+        """A case that is lost fails, and so does one that test_all.py does not count yet."""
+        count = sum(case.count() for path in cases.files_of([cases.FOLDER]) for case in case_files.read(path))
+        self.assertEqual(test_all.CASES[-1], str(count))
 
 
 if __name__ == '__main__':
