@@ -56,6 +56,8 @@ class Ended:
 
 class Program:
     """A built program. What it printed is kept, by its words and its script."""
+    # how long a run may take
+    SECONDS = 600
 
     def __init__(self, name):
         self.name, self.path, self.kept = name, programs.built(name), {}
@@ -63,7 +65,10 @@ class Program:
     def run(self, key):
         words, script = key
         given = ''.join(line + '\n' for line in script).encode()
-        ran = subprocess.run([self.path, *words], input=given, capture_output=True, timeout=600)
+        try:
+            ran = subprocess.run([self.path, *words], input=given, capture_output=True, timeout=self.SECONDS)
+        except subprocess.TimeoutExpired:
+            raise Fault(f'{self.name} has not ended within {self.SECONDS} seconds') from None
         return Ended(ran.stdout.decode(), f'{ran.returncode} {ran.stderr.decode(errors="replace").strip()}'.strip())
 
     def run_all(self, keys):

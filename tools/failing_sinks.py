@@ -66,23 +66,28 @@ def fault_of(script, refused, records):
 
 
 def faults(program):
-    """Runs all, and tells what is wrong."""
-    tries = [(script, refused, most, tuple(lines_of(script[0], taken, refused, most))) for script, taken, refused, most in scripts()]
+    """Runs all, the tries of a script in one run, and tells what is wrong."""
+    groups = {}
+    for script, taken, refused, most in scripts():
+        groups.setdefault((id(script), refused, most), []).append((script, lines_of(script[0], taken, refused, most)))
+    runs = {key: tuple(line for _, lines in tries for line in lines) for key, tries in groups.items()}
     exits = [(number, tuple(lines_of(HOOKS, number, 1, MAX))) for number in range(7)]
-    program.run_all([((), tuple(line for *_, lines in tries for line in lines)), ((), tuple(line for _, lines in exits for line in lines))])
-    records = records_of(program.printed((), tuple(line for *_, lines in tries for line in lines)))
+    behind = tuple(line for _, lines in exits for line in lines)
+    program.run_all([((), run) for run in (*runs.values(), behind)])
     wrong, whole = [], {}
-    for script, refused, most, lines in tries:
-        mine, records = records[:len(lines)], records[len(lines):]
-        fault, is_whole = fault_of(script, refused, mine)
-        whole.setdefault((id(script), refused, most), []).append(is_whole)
-        wrong += [f'{lines}: {fault}'] if fault else []
+    for (key, tries), run in zip(groups.items(), runs.values()):
+        records = records_of(program.printed((), run))
+        for script, lines in tries:
+            mine, records = records[:len(lines)], records[len(lines):]
+            fault, is_whole = fault_of(script, key[1], mine)
+            whole.setdefault(key, []).append(is_whole)
+            wrong += [f'{lines}: {fault}'] if fault else []
     for calls in whole.values():
         if calls != sorted(calls) or not calls[-1]:
             wrong.append(f'calls are refused out of turn: {calls}')
     if whole[id(SCROLL), 1, 1].index(True) != SCROLL_CALLS:
         wrong.append(f'a scroll makes {whole[id(SCROLL), 1, 1].index(True)} calls')
-    records = records_of(program.printed((), tuple(line for _, lines in exits for line in lines)))
+    records = records_of(program.printed((), behind))
     for number, lines in exits:
         mine, records = records[:len(lines)], records[len(lines):]
         called = [answer for answer in mine[-2].told['answers'] if answer.startswith('called')]

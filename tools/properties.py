@@ -26,6 +26,8 @@ NUMBERED = 'one two\n\nwell-known\n日本 語\n\x1b[31mred\x1b[0m r\r\n6\n7\n8\n
 STYLED = 'ab \x1b[31mcd ef gh\x1b[0m ij kl\n\x1b[1mmn op\x1b[32m qr st\x1b[m uv wx\nyz'
 SIZES = [1, 2, 3, 7, 80, 255, 256, 257, 65_534, 65_535]
 NO_SIZES = [0, 65_536, 2 ** 64 - 1]
+# how many runs the pieces of texts are put into
+RUNS = 8
 FOLDER = cases.FOLDER / 'minus_cases'
 
 
@@ -195,7 +197,9 @@ def main():
     pairs = list(distinct(pieces()))
     both = {id(run): run for pair in pairs for run in pair}
     stepped = case_programs.Stepped(program)
-    stepped.load([*every, Case(pathlib.Path('pieces'), 0, 'pieces', list(both.values()))])
+    # (the pieces go side by side, as each file is a run)
+    parts = [list(both.values())[at::RUNS] for at in range(RUNS)]
+    stepped.load([*every, *(Case(pathlib.Path(f'pieces {at}'), 0, 'pieces', part) for at, part in enumerate(parts))])
     failed = 0
     for case in every:
         wrong, _ = cases.differences(stepped, case)

@@ -179,6 +179,13 @@ class Steps(WithFile):
         self.assertEqual([case_programs.Stepped.lines(run) for run in case.runs],
                          [['pager 6 3', 'push a', 'start'], ['pager 6 3', 'start', 'push a']])
 
+    def test_a_program_that_does_not_end_is_told(self):
+        program = case_programs.Program('minus_cases')
+        program.path, program.SECONDS = 'sleep', 0.01
+        with self.assertRaises(case_files.Fault) as told:
+            program.run((('60',), ()))
+        self.assertEqual(str(told.exception), 'minus_cases has not ended within 0.01 seconds')
+
 
 class Rows(unittest.TestCase):
     """The rule for rows, by which the plain pager of random_steps.py goes."""
