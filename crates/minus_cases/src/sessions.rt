@@ -207,32 +207,65 @@ impl Cases {
         Ok(WithTty::new(NotesBytes { noted }, is_terminal))
     }
 
-    // Starts the pager that waits, or prints its text.
-    fn start(&mut self, starts: Starts) -> Result<(), AllocError> {
-        let Stands::Waits(pager, cols, rows) = std::mem::replace(&mut self.stands, Stands::Nowhere)
-        else {
-            return self.print_refusal(&MinusError::BadMode);
-        };
-        let keys = CaseKeys {
+    // The keys that a session is started with.
+    fn keys(&self) -> Result<CaseKeys, AllocError> {
+        Ok(CaseKeys {
             keys: DefaultKeys::new(self.alloc)?,
             help: None,
+        })
+    }
+
+    // Starts the pager that waits, or prints its text.
+    fn start(&mut self, starts: Starts) -> Result<(), AllocError> {
+        let stood = std::mem::replace(&mut self.stands, Stands::Nowhere);
+        let Stands::Waits(pager, cols, rows) = stood else {
+            return self.print_refusal(&MinusError::BadMode);
         };
-        let sink = self.sink(matches!(starts, Starts::Shown | Starts::Printed))?;
-        let started = match starts {
-            Starts::Shown | Starts::Bare => {
-                match init_core_with(pager, RunMode::Dynamic, sink, cols, rows, keys) {
-                    Ok(session) => Ok(PagedOf::Started(session)),
-                    Err(refused) => Err(refused),
-                }
-            }
-            Starts::Printed | Starts::BarePrinted => page_all_with(pager, sink, cols, rows, keys),
-        };
-        match started {
-            Ok(PagedOf::Started(session)) => self.stands = Stands::Runs(session),
-            Ok(PagedOf::Written(_)) => push_line(&mut self.out, "a ", "written")?,
-            Err(refused) => self.print_refusal(&refused.cause)?,
+        match starts {
+            Starts::Shown => self.show(pager, cols, rows, true),
+            Starts::Bare => self.show(pager, cols, rows, false),
+            Starts::Printed => self.print(pager, cols, rows, true),
+            Starts::BarePrinted => self.print(pager, cols, rows, false),
         }
-        Ok(())
+    }
+
+    // Starts a pager.
+    fn show(
+        &mut self,
+        pager: PagerOf<CaseKinds>,
+        cols: usize,
+        rows: usize,
+        is_terminal: bool,
+    ) -> Result<(), AllocError> {
+        let keys = self.keys()?;
+        let sink = self.sink(is_terminal)?;
+        match init_core_with(pager, RunMode::Dynamic, sink, cols, rows, keys) {
+            Ok(session) => {
+                self.stands = Stands::Runs(session);
+                Ok(())
+            }
+            Err(refused) => self.print_refusal(&refused.cause),
+        }
+    }
+
+    // Prints the text of a pager, or starts it.
+    fn print(
+        &mut self,
+        pager: PagerOf<CaseKinds>,
+        cols: usize,
+        rows: usize,
+        is_terminal: bool,
+    ) -> Result<(), AllocError> {
+        let keys = self.keys()?;
+        let sink = self.sink(is_terminal)?;
+        match page_all_with(pager, sink, cols, rows, keys) {
+            Ok(PagedOf::Started(session)) => {
+                self.stands = Stands::Runs(session);
+                Ok(())
+            }
+            Ok(PagedOf::Written(_)) => push_line(&mut self.out, "a ", "written"),
+            Err(refused) => self.print_refusal(&refused.cause),
+        }
     }
 
     // Makes parts of the size of the pager that waits.
