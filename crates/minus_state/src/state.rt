@@ -333,10 +333,8 @@ impl PagerState {
             }
             NextText::Pushed(piece, pending) => {
                 let term = searching(&self.patterns, kept_pattern(&self.term));
-                let _ = self
-                    .screen
-                    .place_push(alloc, &piece, Box::into_inner(pending), term)?;
-                Ok(())
+                self.screen
+                    .take_push(alloc, &piece, Box::into_inner(pending), term)
             }
             NextText::Found(pattern, findings) => self.place_found(alloc, pattern, findings),
             NextText::SavedWhole(text) => {

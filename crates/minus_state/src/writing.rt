@@ -95,12 +95,12 @@ impl<'s> ShownRows<'s> {
     ) -> Result<(), AllocError>
         ensures { OnOk result (WritesStored self.entry i out.old.items out.new.items) }
     {
-        let Some(row) = self.view.row(i, place) else {
+        if i >= self.view.len() {
             return Ok(());
-        };
+        }
         write_row_start(out)?;
         let from = out.len();
-        row.write_to(alloc, out)?;
+        self.view.write_row(alloc, out, i, place)?;
         self.write_ended(alloc, out, from)?;
         write_row_end(out)?;
         Ok(())

@@ -1,6 +1,7 @@
 pub mod CutsLaws
 pub mod StretchesLaws
 pub mod UnitsLaws
+pub mod RangeWidthsLaws
 pub mod FrontsLaws
 pub mod PartsLaws
 pub mod WordsLaws
@@ -65,6 +66,7 @@ mod MeasuredLaws
 pub mod BlockLaws
 pub mod FoundInLaws
 pub mod SearchedLaws
+pub mod WrittenRowLaws
 pub mod LinePartsLaws
 pub mod RowHomesLaws
 pub mod StoredKeptLaws
