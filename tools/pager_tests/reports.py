@@ -42,17 +42,17 @@ class ReportTests(TerminalTests):
     def test_a_report_is_followed(self):
         writer = self.open_pipe()
         self.page('(seq 20; cat to_come) | ./minus-run minus_report')
-        self.terminal.wait_for('14-20')
+        self.terminal.wait_for('14-20/20')
         os.write(writer, b'error: late\n')
-        self.terminal.wait_for('15-21')
+        self.terminal.wait_for('15-21/21')
         self.press('g')
-        self.terminal.wait_for('  1-7')
+        self.terminal.wait_for('1-7/21')
         self.suspend()
         self.terminal.resize(30, 12)
         self.resume()
-        self.terminal.wait_for('  1-11')
+        self.terminal.wait_for('1-11/21')
         self.press('e')
-        self.terminal.wait_for('11-21')
+        self.terminal.wait_for('11-21/21')
         self.end_pipe(writer)
 
     def test_its_words_are_its_own(self):

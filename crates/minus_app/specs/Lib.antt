@@ -10,10 +10,8 @@ pub mod Keys
 pub mod Lines
 pub mod Moves
 pub mod Preview
-pub mod PrintedRows
 pub mod Prompt
 pub mod Reading
 pub mod RowOfByte
-pub mod SeenColumns
 pub mod Sizes
 pub mod Texts

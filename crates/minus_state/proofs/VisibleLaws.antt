@@ -1,17 +1,14 @@
 -- Laws on the visible characters of a row.
-use Rattle.std.proofs.Common.{◌≡◌, ℕ, ◌+◌, ◌-◌, ◌<◌, true, false, ◌&&◌, eqb, ltb, List, [], ◌∷◌, ◌++◌, length, take, drop, chars, ◌≤◌, subst, subst₂, arith, refl, sym, ap, ap₂, ◌∙◌, append_assoc, inl, inr}
-use Rattle.std.specs.List.{concat, list_all, slice_range}
+use Rattle.std.proofs.Common.{◌≡◌, ℕ, ◌+◌, ◌-◌, ◌<◌, true, false, ◌&&◌, eqb, ltb, List, [], ◌∷◌, ◌++◌, length, take, drop, chars, ◌≤◌, subst, arith, refl, sym, ap, ◌∙◌, append_assoc, inl, inr}
+use Rattle.std.specs.List.{concat, slice_range}
 use Rattle.std.specs.Str.{IsUtf8, IsCharBoundary, encode_utf8_all}
 use Rattle.std.specs.Prelude.{encode_utf8}
-use Rattle.std.proofs.lemmas.Bool.{cases_Bool, le-ltb, lt-ltb, ne_eqb, and_parts, and_right, and_from, not_from_false}
+use Rattle.std.proofs.lemmas.Bool.{cases_Bool, le-ltb, lt-ltb, ne_eqb, and_right, and_from, not_from_false}
 use Rattle.std.proofs.lemmas.List.{append-nil, append_cancel_left, length-append, take_at, drop_at}
-use Rattle.std.proofs.lemmas.Str.{encodes-append, encodes-chars, encodes-IsAscii, IsUtf8-past_char, IsCharBoundary-at_seam}
-use Rattle.minus_text.specs.Plain.{is_printable}
-use Rattle.minus_text.specs.Singles.{singles}
+use Rattle.std.proofs.lemmas.Str.{encodes-append, encodes-chars, IsUtf8-past_char, IsCharBoundary-at_seam}
 use Rattle.minus_text.specs.Units.{begins_sequence}
 use Rattle.minus_text.specs.Highlight.{reverse_on, reverse_off}
 use Rattle.minus_text.proofs.FrontsLaws.{concat-append}
-use Rattle.minus_text.proofs.PlainLaws.{printable_ascii}
 use Rattle.minus_text.proofs.TextUnitsLaws.{text_units_join}
 use Rattle.minus_state.specs.VisibleCharacters.{before_visible, behind_visible, text_of, row_units, has_visible, place_after_visible, marked, MarksAloneAreAdded}
 
@@ -59,23 +56,6 @@ pub passes_visible : (count left : ℕ) (all rest more : List (List ℕ)) (unit 
 passes_visible count left all rest more unit text bytes bytes_rest bytes_more s e b t q z =
     passed count left (left - 1) all rest more unit text bytes bytes_rest bytes_more s b t (ap (behind_visible left) e ∙ rw (q, z) refl) (ap (before_visible left) e ∙ rw (q, z) refl)
 
-printable_bytes : (c : ℕ) → is_printable c ≡ true → c ∷ [] ≡ encode_utf8_all (c ∷ [])
-printable_bytes c h = sym (encodes-IsAscii (c ∷ []) (printable_ascii (c ∷ []) (rw h refl)))
-
--- characters of printable ASCII are passed together, where that many visible characters come before
-pub passes_run : (count left : ℕ) (all rest more : List (List ℕ)) (run bytes bytes_rest bytes_more : List ℕ) → VisibleSoFar count left all rest bytes bytes_rest → rest ≡ singles run ++ more → bytes_rest ≡ run ++ bytes_more → list_all is_printable run ≡ true → length run ≤ left
-    → VisibleSoFar count (left - length run) all more bytes bytes_more
-passes_run count left all rest more [] bytes bytes_rest bytes_more s e b p few =
-    let same : left ≡ left - 0 = omega arith in
-    subst (λ n. VisibleSoFar count n all more bytes bytes_more) same (subst₂ (λ us bs. VisibleSoFar count left all us bytes bs) e b s)
-passes_run count left all rest more (c ∷ run) bytes bytes_rest bytes_more s e b p few =
-    let both = and_parts (is_printable c) (list_all is_printable run) p in
-    let next : List (List ℕ) = singles run ++ more in
-    let some : eqb left 0 ≡ false = ne_eqb left 0 (λ z. omega (arith, z, few)) in
-    let one : VisibleSoFar count (left - 1) all next bytes (run ++ bytes_more) = passes_visible count left all rest next (c ∷ []) (c ∷ []) bytes bytes_rest (run ++ bytes_more) s e b (printable_bytes c both.0) refl some in
-    let sum : left - 1 - length run ≡ left - length (c ∷ run) = omega arith in
-    subst (λ n. VisibleSoFar count n all more bytes bytes_more) sum (passes_run count (left - 1) all next more run bytes (run ++ bytes_more) bytes_more one refl refl both.1 (omega (arith, few)))
-
 -- what is found where the visible character is there, and where it is not
 pub record Found (count : ℕ) (all : List (List ℕ)) (bytes : List ℕ) (rest : List (List ℕ)) (bytes_rest : List ℕ) : Type 0 where
   pub units : rest ≡ behind_visible count all
@@ -85,15 +65,6 @@ found : (count left : ℕ) (all rest : List (List ℕ)) (bytes bytes_rest : List
 found count left all rest bytes bytes_rest s behind before =
     let none : text_of (before_visible count all) ≡ s.done = s.before ∙ ap (λ us. s.done ++ text_of us) before ∙ append-nil s.done in
     record { units = sym behind ∙ s.behind; bytes_are = s.bytes_are ∙ ap (λ bs. bs ++ bytes_rest) (sym none) }
-
--- no unit is left
-pub found_at_end : (count left : ℕ) (all rest : List (List ℕ)) (bytes bytes_rest : List ℕ) → VisibleSoFar count left all rest bytes bytes_rest → rest ≡ [] → Found count all bytes rest bytes_rest
-found_at_end count left all rest bytes bytes_rest s e = found count left all rest bytes bytes_rest s (ap (behind_visible left) e ∙ sym e) (ap (before_visible left) e)
-
--- the next unit is the visible character that is looked for
-pub found_here : (count left : ℕ) (all rest more : List (List ℕ)) (unit bytes bytes_rest : List ℕ) → VisibleSoFar count left all rest bytes bytes_rest → rest ≡ unit ∷ more → begins_sequence unit ≡ false → left ≡ 0 → Found count all bytes rest bytes_rest
-found_here count left all rest more unit bytes bytes_rest s e q z =
-    found count left all rest bytes bytes_rest s (ap₂ behind_visible z e ∙ rw q refl ∙ sym e) (ap₂ before_visible z e ∙ rw q refl)
 
 -- ---- marks
 

@@ -35,7 +35,7 @@ use crate::search::{SearchMode, SearchState};
 use crate::selection::{Selection, SelectionEnds};
 use crate::state::help::{Saved, add_aside, replace_aside};
 use crate::state::term::{KeptTerm, kept_pattern, shared_pattern};
-use minus_term::{MinusError, ScrollBy};
+use minus_term::MinusError;
 use minus_text::{Findings, Layout, LineNumbers, Patterns, Screen, Term};
 use regex::Regex;
 use std::alloc::Global;
@@ -136,7 +136,6 @@ pub struct PagerState {
     pub(crate) anchor: Option<Selection>,
     pub(crate) prompt: String,
     pub(crate) prompt_shown: bool,
-    pub(crate) scroll_by: ScrollBy,
     pub(crate) follow: bool,
     pub(crate) saved: Option<Saved>,
     pub(crate) open_search: Option<OpenSearch>,
@@ -164,7 +163,6 @@ impl Drop for PagerState {
             anchor: _,
             prompt: _,
             prompt_shown: _,
-            scroll_by: _,
             follow: _,
             saved: _,
             open_search: _,
@@ -216,7 +214,6 @@ impl PagerState {
             anchor: None,
             prompt: String::from_str(alloc, PROMPT)?,
             prompt_shown: true,
-            scroll_by: ScrollBy::Scrolls,
             follow: false,
             saved: None,
             open_search: None,
@@ -333,8 +330,10 @@ impl PagerState {
             }
             NextText::Pushed(piece, pending) => {
                 let term = searching(&self.patterns, kept_pattern(&self.term));
-                self.screen
-                    .take_push(alloc, &piece, Box::into_inner(pending), term)
+                let _ = self
+                    .screen
+                    .place_push(alloc, &piece, Box::into_inner(pending), term)?;
+                Ok(())
             }
             NextText::Found(pattern, findings) => self.place_found(alloc, pattern, findings),
             NextText::SavedWhole(text) => {

@@ -11,8 +11,7 @@ const REVERSE_ON: &str = "\x1b[7m";
 
 const REVERSE_OFF: &str = "\x1b[27m";
 
-// The units from a visible character on, where this many come before it. Characters of printable ASCII are skipped
-// together, since each is a visible character.
+// The units from a visible character on, where this many come before it.
 fn from_visible(units: Units<'_>, count: usize) -> Units<'_>
     ensures units { units_left result ≡ behind_visible count (units_left units.entry) }
     ensures bytes { bytes_left units.entry ≡ text_of (before_visible count (units_left units.entry))
@@ -20,20 +19,16 @@ fn from_visible(units: Units<'_>, count: usize) -> Units<'_>
 {
     let mut left = count;
     let mut rest = units;
-    loop {
-        let (run, behind) = rest.split_printable_up_to(left);
-        left -= run.len();
-        let Some((unit, more)) = behind.split_first() else {
-            return behind;
-        };
+    while let Some((unit, more)) = rest.split_first() {
         if !unit.is_sequence {
             if left == 0 {
-                return behind;
+                return rest;
             }
             left -= 1;
         }
         rest = more;
     }
+    rest
 }
 
 /// The place in a row's bytes where its visible character of this number, counted from 0, begins; the row's

@@ -95,12 +95,12 @@ impl<'s> ShownRows<'s> {
     ) -> Result<(), AllocError>
         ensures { OnOk result (WritesStored self.entry i out.old.items out.new.items) }
     {
-        if i >= self.view.len() {
+        let Some(row) = self.view.row(i, place) else {
             return Ok(());
-        }
+        };
         write_row_start(out)?;
         let from = out.len();
-        self.view.write_row(alloc, out, i, place)?;
+        row.write_to(alloc, out)?;
         self.write_ended(alloc, out, from)?;
         write_row_end(out)?;
         Ok(())

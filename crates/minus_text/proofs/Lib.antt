@@ -1,7 +1,6 @@
 pub mod CutsLaws
 pub mod StretchesLaws
 pub mod UnitsLaws
-pub mod RangeWidthsLaws
 pub mod FrontsLaws
 pub mod PartsLaws
 pub mod WordsLaws
@@ -66,7 +65,6 @@ mod MeasuredLaws
 pub mod BlockLaws
 pub mod FoundInLaws
 pub mod SearchedLaws
-pub mod WrittenRowLaws
 pub mod LinePartsLaws
 pub mod RowHomesLaws
 pub mod StoredKeptLaws

@@ -10,7 +10,7 @@ use Rattle.std.proofs.lemmas.List.Sums.{sum_by-append}
 use Rattle.std.proofs.lemmas.Str.{chars-append, chars-IsAscii, encodes-chars, encodes-IsAscii, IsUtf8-from_ascii}
 use Rattle.minus_text.specs.Plain.{is_printable}
 use Rattle.minus_text.specs.Hyphens.{is_unhyphened, parts, part_len_after, begins_alphanumeric}
-use Rattle.minus_text.specs.Units.{char_columns, units, unit_len, unit_columns}
+use Rattle.minus_text.specs.Units.{units, unit_len, unit_columns}
 use Rattle.minus_text.specs.Singles.{singles}
 use Rattle.minus_text.specs.Pieces.{fronts, with_spaces}
 use Rattle.minus_text.specs.declared.pieces.Measured.{Measured}
@@ -19,7 +19,7 @@ use Rattle.minus_text.proofs.CutsLaws.{cuts-nil}
 use Rattle.minus_text.proofs.UnitsLaws.{units_join}
 use Rattle.minus_text.proofs.PartsLaws.{part_empty}
 use Rattle.minus_text.proofs.WordsLaws.{word_last}
-use Rattle.minus_text.proofs.PlainLaws.{printable_ascii, sum_columns, one_front}
+use Rattle.minus_text.proofs.PlainLaws.{printable_ascii, one_front}
 use Rattle.minus_text.proofs.CropPlainLaws.{units_front, printable_unescaped, singles_columns}
 
 -- ---- columns
@@ -31,13 +31,6 @@ columns_behind text front rest e p =
     let split : chars text ≡ front ++ chars rest = ap chars e ∙ chars-append front rest (IsUtf8-from_ascii front small) ∙ ap (λ cs. cs ++ chars rest) (chars-IsAscii front small) in
     let parted : units (chars text) ≡ singles front ++ units (chars rest) = ap units split ∙ units_front front (chars rest) (printable_unescaped front p) in
     omega (arith, ap (sum_by unit_columns) parted, sum_by-append unit_columns (singles front) (units (chars rest)), singles_columns front p)
-
--- and so it does by characters
-pub chars_behind : (text front rest : List ℕ) → text ≡ front ++ rest → list_all is_printable front ≡ true → sum_by char_columns (chars text) ≡ length front + sum_by char_columns (chars rest)
-chars_behind text front rest e p =
-    let small : IsAscii front = printable_ascii front p in
-    let split : chars text ≡ front ++ chars rest = ap chars e ∙ chars-append front rest (IsUtf8-from_ascii front small) ∙ ap (λ cs. cs ++ chars rest) (chars-IsAscii front small) in
-    omega (arith, ap (sum_by char_columns) split, sum_by-append char_columns front (chars rest), sum_columns front p)
 
 -- ---- a part that fits
 

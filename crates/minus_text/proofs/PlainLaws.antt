@@ -40,7 +40,7 @@ printable_ascii [] h i = omega arith
 printable_ascii (b ∷ bs) h zero = let one = and_parts (is_printable b) (list_all is_printable bs) h in printable_small b one.0
 printable_ascii (b ∷ bs) h (suc i) = let one = and_parts (is_printable b) (list_all is_printable bs) h in printable_ascii bs one.1 i
 
-pub sum_columns : (cs : List ℕ) → list_all is_printable cs ≡ true → sum_by char_columns cs ≡ length cs
+sum_columns : (cs : List ℕ) → list_all is_printable cs ≡ true → sum_by char_columns cs ≡ length cs
 sum_columns [] h = refl
 sum_columns (c ∷ cs) h =
     let one = and_parts (is_printable c) (list_all is_printable cs) h in

@@ -31,7 +31,7 @@ StaysPlaced n row old new =
 
 -- the pattern that it finds
 abbrev pub finder_pattern : Finder → Re
-finder_pattern f = matcher_pattern f.term.value
+finder_pattern f = matcher_pattern f.term
 
 -- the pattern of a term
 abbrev pub term_pattern : Term → Re

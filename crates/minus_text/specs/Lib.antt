@@ -54,7 +54,6 @@ pub mod CarriedStyles
 pub mod StyleSources
 pub mod StylesStay
 pub mod Searched
-pub mod WrittenRow
 pub mod StoredLines
 pub mod RowSearches
 pub mod WordStarts

@@ -221,17 +221,6 @@ impl<'s> RowsView<'s> {
     pub(crate) fn style_source(self, i: usize) -> StyleSource<'s>
         ensures { source_style result ≡ carried_style (viewed self.entry).document i }
     {
-        if !self.layout().carry_style {
-            return StyleSource::NONE;
-        }
-        self.carried_source(i)
-    }
-
-    // It where styles are carried. It stands apart, so that a row without them costs one test.
-    #[inline(never)]
-    fn carried_source(self, i: usize) -> StyleSource<'s>
-        ensures { source_style result ≡ carried_style (viewed self.entry).document i }
-    {
         match self.next {
             Some(next) => source_after(self.store, next.text, next.pending.push(), i),
             None => self.store.style_source(i),

@@ -145,7 +145,7 @@ fn highlight_row<'l>(
 {
     let places = finder.escape_places(alloc, line)?;
     let parted = part(alloc, line, &places)?;
-    let highlight = HighlightMatchesArgs::of_parted(alloc, &mut *finder.term, parted, false)?;
+    let highlight = HighlightMatchesArgs::of_parted(alloc, &mut finder.term, parted, false)?;
     Ok(highlight)
 }
 

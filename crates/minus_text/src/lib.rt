@@ -34,7 +34,6 @@ mod stored_line;
 pub mod units;
 pub mod view;
 mod viewed_row;
-mod written_row;
 
 pub use buffers::{AppendableBuffer, ReusableRows};
 pub use carried_style::{carried_styles_stay, styles_stand_before};

@@ -21,29 +21,18 @@ pub(crate) fn is_printable(text: &str) -> bool
     are_printable(text.as_bytes())
 }
 
-// How many bytes at the front of a text are of printable ASCII, this many at most.
-pub(crate) fn printable_front_up_to(text: &str, most: usize) -> usize
-    ensures few { result ≤ most }
-    ensures within { result ≤ length text.now }
-    ensures boundary { IsCharBoundary text.now result }
-    ensures printable { list_all is_printable (take result text.now) ≡ true }
-{
-    let bytes = text.as_bytes();
-    let end = most.min(bytes.len());
-    let mut at = 0;
-    while at < end && matches!(bytes[at], b' '..=b'~') {
-        at += 1;
-    }
-    at
-}
-
 // How many bytes at the front of a text are of printable ASCII.
 pub(crate) fn printable_front(text: &str) -> usize
     ensures within { result ≤ length text.now }
     ensures boundary { IsCharBoundary text.now result }
     ensures printable { list_all is_printable (take result text.now) ≡ true }
 {
-    printable_front_up_to(text, text.len())
+    let bytes = text.as_bytes();
+    let mut at = 0;
+    while at < bytes.len() && matches!(bytes[at], b' '..=b'~') {
+        at += 1;
+    }
+    at
 }
 
 // Whether no byte is ESC.

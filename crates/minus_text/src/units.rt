@@ -9,7 +9,7 @@ ghost use Rattle.std.specs.Str.{encode_utf8_all};
 ghost use Rattle.minus_text.specs.Singles.{singles};
 ghost use Rattle.minus_text.specs.TextUnits.{text_units, units_left, bytes_left};
 
-use crate::plain::{is_printable, is_unescaped, printable_front, printable_front_up_to};
+use crate::plain::{is_printable, is_unescaped, printable_front};
 use unicode_width::UnicodeWidthChar;
 
 /// A unit of a text: an `ESC[` sequence, which takes no columns, or a character with its columns.
@@ -44,17 +44,12 @@ pub(crate) fn split_char(text: &str) -> Option<(char, &str)>
     }
 }
 
-// The columns of a character: none where it has no width. Latin letters and Chinese characters need no look into the
-// table of widths.
+// The columns of a character: none where it has no width.
 pub(crate) fn char_columns(c: char) -> usize
     ensures value { result ≡ char_columns c }
     ensures few { result ≤ 2 * len_utf8 c }
 {
-    match c {
-        '\u{C0}'..='\u{24F}' => 1,
-        '\u{4E00}'..='\u{9FFF}' => 2,
-        _ => c.width().unwrap_or(0),
-    }
+    c.width().unwrap_or(0)
 }
 
 // What an escape sequence has from its final character on, where its `ESC[` is gone: a byte that ends
@@ -83,18 +78,6 @@ fn past_sequence(text: &str) -> &str
     }
 }
 
-// What follows `[`, where a text begins with it: no other text goes on with a sequence behind ESC.
-fn strip_bracket(text: &str) -> Option<&str>
-    ensures inside { MatchOption result (begins_sequence (27 ∷ chars text.now) ≡ false)
-        (λ x. chars text.now ≡ 91 ∷ chars x.now) }
-    ensures less { IfSome result (λ x. length x.now < length text.now) }
-{
-    match split_char(text) {
-        Some(('[', inside)) => Some(inside),
-        _ => None,
-    }
-}
-
 // What follows `ESC[`, where a text begins with it.
 pub(crate) fn strip_escape(text: &str) -> Option<&str>
     ensures inside { MatchOption result (begins_sequence (chars text.now) ≡ false)
@@ -104,7 +87,10 @@ pub(crate) fn strip_escape(text: &str) -> Option<&str>
     let Some(('\x1b', rest)) = split_char(text) else {
         return None;
     };
-    strip_bracket(rest)
+    match split_char(rest) {
+        Some(('[', inside)) => Some(inside),
+        _ => None,
+    }
 }
 
 // The columns of the first unit of a text, and what follows it.
@@ -120,7 +106,7 @@ pub(crate) fn split_unit(text: &str) -> Option<(usize, &str)>
     if c != '\x1b' {
         return Some((char_columns(c), rest));
     }
-    match strip_bracket(rest) {
+    match strip_escape(text) {
         Some(inside) => Some((0, past_sequence(inside))),
         None => Some((char_columns(c), rest)),
     }
@@ -176,32 +162,14 @@ pub(crate) fn without_spaces(text: &str) -> &str
     body
 }
 
-// The columns of the characters of printable ASCII at the front of a text, or else of its first
-// character, and what follows them.
-fn split_char_columns(text: &str) -> Option<(usize, &str)>
-    ensures columns { MatchOption result (chars text.now ≡ [])
-        (λ x. sum_by char_columns (chars text.now) ≡ x.0 + sum_by char_columns (chars x.1.now)) }
-    ensures room { IfSome result (λ x. x.0 + 2 * length x.1.now ≤ 2 * length text.now) }
-    ensures less { IfSome result (λ x. length x.1.now < length text.now) }
-{
-    let run = printable_front(text);
-    if run > 0 {
-        return Some((run, &text[run..]));
-    }
-    match split_char(text) {
-        Some((c, rest)) => Some((char_columns(c), rest)),
-        None => None,
-    }
-}
-
 // The columns of the characters of a text.
 fn chars_columns(text: &str) -> usize
     ensures { result ≡ sum_by char_columns (chars text.now) }
 {
     let mut width = 0;
     let mut rest = text;
-    while let Some((more, after)) = split_char_columns(rest) {
-        width += more;
+    while let Some((c, after)) = split_char(rest) {
+        width += char_columns(c);
         rest = after;
     }
     width
@@ -257,21 +225,6 @@ impl<'t> Units<'t> {
         ensures bytes { bytes_left self.entry ≡ result.0.now ++ bytes_left result.1 }
     {
         let (run, rest) = self.body.split_at(printable_front(self.body));
-        let behind = Units {
-            body: rest,
-            spaces: self.spaces,
-        };
-        (run, behind)
-    }
-
-    /// The characters of printable ASCII at the front, this many at most and each a unit, and what is left behind them.
-    pub fn split_printable_up_to(self, most: usize) -> (&'t str, Units<'t>)
-        ensures few { length result.0.now ≤ most }
-        ensures units { units_left self.entry ≡ singles result.0.now ++ units_left result.1 }
-        ensures printable { list_all is_printable result.0.now ≡ true }
-        ensures bytes { bytes_left self.entry ≡ result.0.now ++ bytes_left result.1 }
-    {
-        let (run, rest) = self.body.split_at(printable_front_up_to(self.body, most));
         let behind = Units {
             body: rest,
             spaces: self.spaces,

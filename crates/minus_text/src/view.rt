@@ -132,7 +132,7 @@ impl<'s> RowsView<'s> {
 
     // What stands before the text of a row, counted from 0. Its line is looked for near a line first; without numbers
     // none is looked for.
-    pub(crate) fn prefix(self, i: usize, near: usize) -> RowPrefix
+    fn prefix(self, i: usize, near: usize) -> RowPrefix
         ensures { IsPrefixOf (viewed self.entry).document i (prefix_of result) }
     {
         if !self.layout().numbers.is_on() {
@@ -157,7 +157,7 @@ impl<'s> RowsView<'s> {
     }
 
     // What knows of a row, counted from 0, what was found in it.
-    pub(crate) fn found_at(self, i: usize) -> &'s FoundRows
+    fn found_at(self, i: usize) -> &'s FoundRows
         ensures ascend { Ascend 0 (found_rows result.now) }
         ensures found { found_of_row i (found_rows result.now) ≡ found_of_row i (viewed self.entry).found }
         ensures placed { ArePlacedAt (rows_of (viewed self.entry).document) i (found_rows result.now) }

@@ -39,7 +39,7 @@ pub struct ViewedRow<'s> {
 }
 
 // Adds a row's text with what was found in it in reverse.
-pub(crate) fn push_found<T: PushText>(
+fn push_found<T: PushText>(
     alloc: Global,
     out: &mut T,
     row: &str,
@@ -72,7 +72,7 @@ impl<'s> ViewedRow<'s> {
         self.row.prefix.room().saturating_add(text)
     }
 
-    // Adds it to a row.
+    // Adds it to a row, or to the bytes of a drawing.
     fn push_to<T: PushText>(self, alloc: Global, out: &mut T) -> Result<(), AllocError>
         ensures { OnOk result (T.bytes out.new ≡ T.bytes out.old ++ viewed_text self.entry) }
     {
@@ -84,6 +84,18 @@ impl<'s> ViewedRow<'s> {
             None => out.push_text(row)?,
         }
         Ok(())
+    }
+
+    /// Adds it to the bytes of a drawing: what stands before its text, the style that is carried to it, and its text
+    /// with its matches in reverse.
+    ///
+    /// # Errors
+    ///
+    /// [`AllocError`] where there is no memory for it: a beginning of it was added.
+    pub fn write_to(self, alloc: Global, out: &mut Vec<u8>) -> Result<(), AllocError>
+        ensures { OnOk result (out.new.items ≡ out.old.items ++ viewed_text self.entry) }
+    {
+        self.push_to(alloc, out)
     }
 
     /// It as a row of its own: what stands before its text, the style that is carried to it, and its text with its

@@ -7,7 +7,7 @@ use crate::preview::ShowsWithin;
 use crate::size::Size;
 use crate::view::copying::Mouse;
 use crate::view::kept_place::Places;
-use crate::view::printing::{Printed, print_if_fits};
+use crate::view::printing::print_if_fits;
 use crate::view::prompt_row::Notices;
 use crate::view::queries::Queries;
 use crate::view::reading::Reading;
@@ -33,8 +33,6 @@ pub struct Start<S> {
     pub keys: Table,
     /// Whether the text is all there, and is to be printed where it fits the terminal.
     pub prints: bool,
-    /// How much of it was printed.
-    pub printed: Printed,
     /// Whether the text comes with marks of its tabs.
     pub marks_tabs: bool,
 }
@@ -85,7 +83,7 @@ impl<S: OutputSink + Drop> View<S> {
             alloc,
             session,
             terminal,
-            typed: Typed::new(alloc),
+            typed: Typed::default(),
             notices: Notices::new(),
             queries: Queries::new(alloc, options.case),
             reading: Reading::new(options.first_goal()),
@@ -93,14 +91,12 @@ impl<S: OutputSink + Drop> View<S> {
             mouse: Mouse::new(options.mouse, copies),
             tabs,
             at_end: options.at_end,
-            ends_at_interrupt: options.ends_at_interrupt,
             leaves: options.leaves,
         }
     }
 
     /// Starts a session with the beginning of a text. Where that is all of it, and is to be printed where it fits the
-    /// terminal, what was not printed yet is printed there, and there is no session; else what was printed is taken
-    /// away.
+    /// terminal, it is printed there, and there is no session.
     ///
     /// # Errors
     ///
@@ -118,7 +114,6 @@ impl<S: OutputSink + Drop> View<S> {
             copies,
             keys,
             prints,
-            printed,
             marks_tabs,
         } = start;
         let mut tabs = Tabs::new(alloc, marks_tabs);
@@ -126,10 +121,9 @@ impl<S: OutputSink + Drop> View<S> {
         let beginning = text.as_str();
         let (cols, rows) = (usize::from(size.cols), usize::from(size.rows));
         let (mut pages, layout) = (pages, options.layout(cols));
-        if prints && print_if_fits(alloc, &mut pages, beginning, layout, rows, printed)? {
+        if prints && print_if_fits(alloc, &mut pages, beginning, layout, rows)? {
             return Ok(None);
         }
-        printed.erase(alloc, &mut pages)?;
         let pager = pager_of(alloc, layout, beginning)?;
         let session = session_of(pager, pages, (cols, rows), keys)?;
         let view = View::of_session(alloc, session, beside, copies, tabs, options);

@@ -18,10 +18,13 @@ const LAYOUT: Layout = Layout {
 // Whether a row that is looked for near a place is written as it is formed.
 fn is_written(alloc: Global, rows: RowsView<'_>, i: usize, place: &mut RowPlace) -> bool {
     let mut out = Vec::new(alloc);
-    let is_written = rows.write_row(alloc, &mut out, i, place).is_ok();
+    let is_there = match rows.row(i, place) {
+        Some(row) => row.write_to(alloc, &mut out).is_ok(),
+        None => false,
+    };
     match rows.formatted_row(alloc, i) {
-        Ok(Some(row)) => is_written && out.as_slice() == row.as_bytes(),
-        Ok(None) => is_written && out.is_empty() && i >= rows.len(),
+        Ok(Some(row)) => is_there && out.as_slice() == row.as_bytes(),
+        Ok(None) => !is_there && i >= rows.len(),
         Err(_) => false,
     }
 }

@@ -84,10 +84,6 @@ impl PagerState {
             before.now event.now (option_map regex_pattern f)) }
         ensures memory { IfErr result (λ e. e ≡ MinusError.Memory) }
     {
-        // Without a condition this is known at once, and a pattern takes many steps to build.
-        if condition.is_none() && !self.shows_by_default(prompt) {
-            return Ok(None);
-        }
         let Some(pattern) = pattern_of(alloc, prompt.query())? else {
             return Ok(None);
         };

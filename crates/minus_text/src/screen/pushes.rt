@@ -95,28 +95,6 @@ impl Screen {
         Ok(told.with_matches(matches))
     }
 
-    // Puts these as `put` does, where nobody asks what was formed. An `Err` changes nothing.
-    fn put_unasked(
-        &mut self,
-        text: &str,
-        push: FormedPush,
-        found: FoundRows,
-    ) -> Result<(), AllocError>
-        requires prepared { IsPreparedFor self.old.document text.now push }
-        requires stand { AreFoundIn push.kept_rows (rows_in push.tail) (found_rows found) }
-        requires jumps { AreJumps found }
-        ensures ok { OnOk result (self.new.document ≡ pushed self.old.document text.now push.numbers push.cols) }
-        ensures found { OnOk result
-            (FindsOnAlike self.old (record { push = push; found = found_rows found }) self.new) }
-        ensures err { OnErr result (self.new ≡ self.old) }
-    {
-        let first = push.kept_rows();
-        self.found.reserve(&found)?;
-        self.store.take_push(text, push)?;
-        self.found.replace_from(first, found);
-        Ok(())
-    }
-
     /// Forms what a push of this text would form, beside the rows that would stay, and searches that for
     /// a term. The screen stays as it is; `view_after` shows the rows that the push would leave.
     ///
@@ -175,36 +153,6 @@ impl Screen {
         drop(push);
         drop(found);
         self.push_screen_buf(alloc, text, numbers, cols, term)
-    }
-
-    /// Pushes a text as [`Screen::place_push`] does, where nobody asks what was formed.
-    ///
-    /// # Errors
-    ///
-    /// [`MinusError::Memory`] where there is no memory for it. Nothing has changed then.
-    pub fn take_push(
-        &mut self,
-        alloc: Global,
-        text: TextBlock<'_>,
-        pending: PendingPush,
-        term: Option<Term<'_>>,
-    ) -> Result<(), MinusError>
-        ensures ok { OnOk result (self.new.document
-            ≡ pushed self.old.document text.now pending.push.numbers pending.push.cols) }
-        ensures found { OnOk result (FindsOn (pattern_of term.entry) self.old pending self.new) }
-        ensures err { OnErr result (self.new ≡ self.old) }
-        ensures memory { IfErr result (λ e. e ≡ MinusError.Memory) }
-    {
-        let PendingPush { push, found } = pending;
-        let lines = self.matches_lines(&term);
-        if self.store.is_prepared(text, &push, lines) {
-            return Ok(self.put_unasked(text, push, found)?);
-        }
-        let (numbers, cols) = (push.numbers, push.cols);
-        drop(push);
-        drop(found);
-        let _told = self.push_screen_buf(alloc, text, numbers, cols, term)?;
-        Ok(())
     }
 
     /// Forms all rows again in a layout, and searches them for a term.

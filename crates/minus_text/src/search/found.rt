@@ -22,12 +22,11 @@ pub(crate) struct FoundRow {
     pub(crate) begins: usize,
 }
 
-// What searches rows for a term: made once for all of them. Its escape matcher waits for a row that may need it. That of
-// the term stands in a box, since a matcher has thousands of bytes, and a finder moves.
+// What searches rows for a term: made once for all of them. Its escape matcher waits for a row that may need it.
 pub(crate) struct Finder<'p> {
     patterns: &'p Patterns,
     escapes: Option<Matcher<'p>>,
-    pub(crate) term: Box<Matcher<'p>>,
+    pub(crate) term: Matcher<'p>,
     ghost escape_matches: { ForSome escapes (λ m. MatchesAs (matcher_pattern m) escape_sequence) },
 }
 
@@ -94,7 +93,7 @@ impl<'p> Finder<'p> {
         Ok(Finder {
             patterns: term.patterns,
             escapes: None,
-            term: Box::new(alloc, term.pattern.matcher(alloc)?)?,
+            term: term.pattern.matcher(alloc)?,
         })
     }
 
@@ -145,7 +144,7 @@ impl<'p> Finder<'p> {
         ensures same { finder_pattern self.new ≡ finder_pattern self.old }
     {
         let escapes = self.escape_places(alloc, row)?;
-        let matches = outside_matches(alloc, &mut *self.term, row, &escapes)?;
+        let matches = outside_matches(alloc, &mut self.term, row, &escapes)?;
         let begins = matches.len();
         Ok(FoundRow {
             row: n,
@@ -182,6 +181,6 @@ impl<'p> Finder<'p> {
         ensures same { finder_pattern self.new ≡ finder_pattern self.old }
     {
         let escapes = self.escape_places(alloc, row)?;
-        matches_outside(alloc, &mut *self.term, row, &escapes)
+        matches_outside(alloc, &mut self.term, row, &escapes)
     }
 }

@@ -345,9 +345,6 @@ impl FoundRows {
         requires { Ascend 0 (found_rows self.now) }
         ensures { option_map (λ f. matches_of f.now) result ≡ found_of_row n (found_rows self.now) }
     {
-        if self.is_empty() {
-            return None;
-        }
         let at = count_above_near(self.rows.as_slice(), n, *near);
         *near = at;
         let Some(found) = self.rows.get(at) else {

@@ -100,7 +100,7 @@ pub(crate) fn find_in_line(
     ensures same { finder_pattern finder.new ≡ finder_pattern finder.old }
 {
     let escapes = finder.escape_places(alloc, line.text)?;
-    let matches = outside_matches(alloc, &mut *finder.term, line.text, &escapes)?;
+    let matches = outside_matches(alloc, &mut finder.term, line.text, &escapes)?;
     if matches.is_empty() {
         return Ok(());
     }

@@ -79,36 +79,6 @@ impl Store {
 
     // Puts a piece, and what is formed of it and of what it goes on, behind what is kept. An `Err`
     // changes nothing.
-    fn put_formed(
-        &mut self,
-        piece: &str,
-        start: Restart,
-        formed: &Formed,
-        layout: Layout,
-        plan: Plan,
-    ) -> Result<(), AllocError>
-        requires wrap { plan.wrap ≡ wrap_of layout (length (lines (self.old.text ++ piece.now))) }
-        requires keeps { plan.keeps ≡ true → plan.wrap ≡ wrap_in self.old }
-        requires start { IsRestartOf self.old.text plan start }
-        requires formed { IsFormOf plan.wrap (line_going_on self.old.text plan)
-            (piece_behind self.old.text plan piece.now) start formed.now }
-        ensures ok { OnOk result (self.new ≡ record { text = self.old.text ++ piece.now; layout = layout }) }
-        ensures err { OnErr result (self.new ≡ self.old) }
-    {
-        let _plan = plan;
-        let escapes_end = escapes_end(self.escapes_end, self.text.len(), piece);
-        self.text.reserve(piece.len())?;
-        replace_rows(&mut self.rows, &mut self.first_rows, start, formed)?;
-        push_str_reserved(&mut self.text, piece);
-        self.layout = layout;
-        self.finished = formed.finished;
-        self.longest = formed.longest_behind(start);
-        self.border = formed.border;
-        self.escapes_end = escapes_end;
-        Ok(())
-    }
-
-    // It, and what was formed, for a caller that asks.
     fn place_formed(
         &mut self,
         alloc: Global,
@@ -128,7 +98,15 @@ impl Store {
         ensures err { OnErr result (self.new ≡ self.old) }
     {
         let clean = attaches_nothing(self.finished, self.text.len(), plan);
-        self.put_formed(piece, start, &formed, layout, plan)?;
+        let escapes_end = escapes_end(self.escapes_end, self.text.len(), piece);
+        self.text.reserve(piece.len())?;
+        replace_rows(&mut self.rows, &mut self.first_rows, start, &formed)?;
+        push_str_reserved(&mut self.text, piece);
+        self.layout = layout;
+        self.finished = formed.finished;
+        self.longest = formed.longest_behind(start);
+        self.border = formed.border;
+        self.escapes_end = escapes_end;
         Ok(told(alloc, start, formed, clean))
     }
 
@@ -226,29 +204,6 @@ impl Store {
         let plan = self.plan(text, numbers, cols);
         let layout = self.layout.relaid(numbers, cols);
         Ok(self.place_formed(alloc, text, start, formed, layout, plan)?)
-    }
-
-    // Pushes a text of which this is formed, where nobody asks what was formed. An `Err` changes nothing.
-    pub(crate) fn take_push(&mut self, text: &str, pending: FormedPush) -> Result<(), AllocError>
-        requires { IsPreparedFor self.old text.now pending }
-        ensures pending { OnOk result (IsPending self.old text.now pending.numbers pending.cols pending) }
-        ensures ok { OnOk result (self.new ≡ pushed self.old text.now pending.numbers pending.cols) }
-        ensures err { OnErr result (self.new ≡ self.old) }
-    {
-        let FormedPush {
-            tail,
-            start,
-            formed,
-            wrap: _,
-            numbers,
-            cols,
-            escapes_end: _,
-            match_lines: _,
-        } = pending;
-        drop(tail);
-        let plan = self.plan(text, numbers, cols);
-        let layout = self.layout.relaid(numbers, cols);
-        self.put_formed(text, start, &formed, layout, plan)
     }
 
     // Forms all rows again in a layout. An `Err` changes nothing.

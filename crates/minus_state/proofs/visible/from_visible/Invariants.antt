@@ -4,8 +4,8 @@ use Rattle.minus_text.specs.TextUnits.{units_left, bytes_left}
 use Rattle.minus_state.proofs.VisibleLaws.{VisibleSoFar}
 use Rattle.minus_state.proofs.visible.from_visible.Given as goal
 
-abbrev pub invariant-loop-left : goal.invariant-loop-left
-invariant-loop-left l = VisibleSoFar l.count l.left (units_left l.units) (units_left l.rest) (bytes_left l.units) (bytes_left l.rest)
+abbrev pub invariant-loop-unit : goal.invariant-loop-unit
+invariant-loop-unit l = VisibleSoFar l.count l.left (units_left l.units) (units_left l.rest) (bytes_left l.units) (bytes_left l.rest)
 
-abbrev pub decreases-loop-left : goal.decreases-loop-left
-decreases-loop-left l = length (bytes_left l.rest)
+abbrev pub decreases-loop-unit : goal.decreases-loop-unit
+decreases-loop-unit l = length (bytes_left l.rest)

@@ -1,5 +1,4 @@
 use Rattle.std.proofs.Common.{length, refl, ap, ap₂, ◌∙◌}
-use Rattle.regex.specs.Strings.{matcher_pattern}
 use Rattle.minus_text.specs.Escapes.{stripped, outside}
 use Rattle.minus_text.specs.FixedPatterns.{match_places}
 use Rattle.minus_text.proofs.search.found.Finder.find.Goals as goal
@@ -7,7 +6,7 @@ use Rattle.minus_text.proofs.search.found.Finder.find.Goals as goal
 pub returns-clause-matches : goal.returns-clause-matches
 unfolding stripped
 returns-clause-matches c =
-    c.in_ok-matches.ensures.found ∙ ap₂ match_places (ap matcher_pattern c.deref_mut.ensures.value ∙ c.escape_places.ensures.same) (ap (outside c.args.row.now 0) (c.deref.ensures.value ∙ c.in_ok-escapes.ensures.found))
+    c.in_ok-matches.ensures.found ∙ ap₂ match_places c.escape_places.ensures.same (ap (outside c.args.row.now 0) (c.deref.ensures.value ∙ c.in_ok-escapes.ensures.found))
 
 pub returns-clause-row : goal.returns-clause-row
 returns-clause-row c = refl
@@ -15,5 +14,5 @@ returns-clause-row c = refl
 pub returns-clause-begins : goal.returns-clause-begins
 unfolding stripped
 returns-clause-begins c =
-    let found = c.in_ok-matches.ensures.found ∙ ap₂ match_places (ap matcher_pattern c.deref_mut.ensures.value ∙ c.escape_places.ensures.same) (ap (outside c.args.row.now 0) (c.deref.ensures.value ∙ c.in_ok-escapes.ensures.found)) in
+    let found = c.in_ok-matches.ensures.found ∙ ap₂ match_places c.escape_places.ensures.same (ap (outside c.args.row.now 0) (c.deref.ensures.value ∙ c.in_ok-escapes.ensures.found)) in
     c.len-begins.ensures ∙ c.in_ok-matches.matches.ok.0 ∙ ap length found

@@ -1,15 +1,12 @@
 -- The first row that stands not above one is that one, or there is none.
-use Rattle.std.proofs.Common.{◌≡◌, nat_le, true, false, eqb, map, Some, None, refl, sym, ap, ◌∙◌, length}
+use Rattle.std.proofs.Common.{◌≡◌, nat_le, true, false, eqb, map, Some, None, refl, ap, ◌∙◌, length}
 use Rattle.std.specs.List.{position_or_len, slice_get}
 use Rattle.std.proofs.lemmas.Bool.{eq-eqb, ne_eqb}
 use Rattle.std.proofs.lemmas.Option.{slice_get_read, slice_get_past}
-use Rattle.minus_text.specs.Found.{RowMatches, found_of_row}
+use Rattle.minus_text.specs.Found.{RowMatches}
 use Rattle.minus_text.specs.FoundRows.{matches_of}
 use Rattle.minus_text.proofs.FoundInLaws.{row_found}
 use Rattle.minus_text.proofs.search.found_rows.FoundRows.of_row.Goals as goal
-
-pub returns-then-is_empty : goal.returns-then-is_empty
-returns-then-is_empty c = sym (ap (found_of_row c.args.n) (c.is_empty.ensures c.if-is_empty.true))
 
 pub returns-in_default : goal.returns-in_default
 returns-in_default c =
