@@ -19,7 +19,7 @@ use std::alloc::Global;
 use std::collections::BTreeSet;
 
 /// Does a call, if there is one of this name, and adds what it answers.
-pub fn call(
+pub(crate) fn call(
     alloc: Global,
     texts: &mut Texts,
     out: &mut String,

@@ -4,7 +4,7 @@ use minus::{CommandOf, InputOf, MinusError, PagerOf};
 use minus_script::ScriptKinds;
 
 /// The input of a session of cases that a line of a script stands for; none for what no line does.
-pub fn input_of(input: InputOf<ScriptKinds>) -> Option<InputOf<CaseKinds>> {
+pub(crate) fn input_of(input: InputOf<ScriptKinds>) -> Option<InputOf<CaseKinds>> {
     match input {
         InputOf::Command(command) => Some(InputOf::Command(command_of(command)?)),
         InputOf::Event(event) => Some(InputOf::Event(event)),
@@ -30,7 +30,7 @@ fn command_of(command: CommandOf<ScriptKinds>) -> Option<CommandOf<CaseKinds>> {
 }
 
 /// Lets a command wait in a pager; one that is none of a pager is refused by `BadMode`.
-pub fn wait(
+pub(crate) fn wait(
     pager: &mut PagerOf<CaseKinds>,
     command: CommandOf<CaseKinds>,
 ) -> Result<(), MinusError> {

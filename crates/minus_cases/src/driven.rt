@@ -28,7 +28,7 @@ pub struct Driven {
 
 impl Driven {
     /// Parts without a text; what waits for a command is drawn, or let go.
-    pub fn new(
+    pub(crate) fn new(
         alloc: Global,
         cols: usize,
         rows: usize,
@@ -53,7 +53,7 @@ impl Driven {
     }
 
     /// Handles a command, and adds what waits then, an exit and what was copied.
-    pub fn take(
+    pub(crate) fn take(
         &mut self,
         out: &mut String,
         command: CommandOf<CaseKinds>,
@@ -80,7 +80,7 @@ impl Driven {
     }
 
     /// Searches for a term, or for none.
-    pub fn set_term(&mut self, search: Option<Search>) -> Result<(), MinusError> {
+    pub(crate) fn set_term(&mut self, search: Option<Search>) -> Result<(), MinusError> {
         let term = match search {
             Some(search) => Some(search.pattern),
             None => None,
@@ -92,7 +92,7 @@ impl Driven {
     }
 
     /// Adds the page, the state, and whether a text that fits is paged.
-    pub fn print(&self, out: &mut String) -> Result<(), MinusError> {
+    pub(crate) fn print(&self, out: &mut String) -> Result<(), MinusError> {
         for row in &page_of(self.alloc, &self.parts.state)?.rows {
             push_line(out, "p ", row.as_str())?;
         }

@@ -49,7 +49,7 @@ pub struct Notes {
 pub type Noted = Rc<RefCell<Notes>>;
 
 /// Notes of nothing, for a sink that refuses nothing.
-pub fn begin_notes(alloc: Global) -> Result<Noted, AllocError> {
+pub(crate) fn begin_notes(alloc: Global) -> Result<Noted, AllocError> {
     let notes = Notes {
         alloc,
         drawn: Vec::new(alloc),

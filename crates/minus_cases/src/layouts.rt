@@ -12,14 +12,14 @@ pub struct Search {
 
 impl Search {
     /// A search for a pattern; none where a text is no pattern.
-    pub fn of(alloc: Global, text: &str) -> Option<Search> {
+    pub(crate) fn of(alloc: Global, text: &str) -> Option<Search> {
         match (Patterns::new(alloc), Regex::new(alloc, text)) {
             (Ok(patterns), Ok(pattern)) => Some(Search { patterns, pattern }),
             _ => None,
         }
     }
 
-    pub fn term(&self) -> Term<'_> {
+    pub(crate) fn term(&self) -> Term<'_> {
         Term {
             patterns: &self.patterns,
             pattern: &self.pattern,
@@ -28,7 +28,7 @@ impl Search {
 }
 
 /// The layout that words say: the columns, and what is on.
-pub fn parse_layout(words: &str) -> Layout {
+pub(crate) fn parse_layout(words: &str) -> Layout {
     let mut layout = Layout::plain(0);
     for word in words.split(' ') {
         match word {
@@ -44,13 +44,13 @@ pub fn parse_layout(words: &str) -> Layout {
 }
 
 /// The number that a text begins with, and what stands behind the blank after it.
-pub fn split_number(text: &str) -> Option<(usize, &str)> {
+pub(crate) fn split_number(text: &str) -> Option<(usize, &str)> {
     let (number, rest) = text.split_once(' ')?;
     Some((parse_usize(number)?, rest))
 }
 
 /// Three numbers that a text begins with, and the rest.
-pub fn split_counts(text: &str) -> Option<((usize, usize, usize), &str)> {
+pub(crate) fn split_counts(text: &str) -> Option<((usize, usize, usize), &str)> {
     let (lines, rest) = split_number(text)?;
     let (rows, rest) = split_number(rest)?;
     let (unfinished, rest) = split_number(rest)?;

@@ -254,7 +254,7 @@ fn parse_command(word: &str, text: &str) -> Option<CommandOf<CaseKinds>> {
 }
 
 /// What a line asks for that no line of a script does.
-pub fn parse_line(line: &str) -> Option<Line> {
+pub(crate) fn parse_line(line: &str) -> Option<Line> {
     match line {
         "start" => return Some(Line::Start(Starts::Shown)),
         "start bare" => return Some(Line::Start(Starts::Bare)),

@@ -11,7 +11,7 @@ use minus_state::{
 use std::alloc::Global;
 
 /// Calls on a row: two numbers and its text.
-pub fn call_on_row(
+pub(crate) fn call_on_row(
     alloc: Global,
     out: &mut String,
     word: &str,
@@ -73,7 +73,7 @@ fn parse_end(text: &str) -> Option<(Option<Selection>, &str)> {
 }
 
 /// Calls on the text of a screen, as a page displays it.
-pub fn call_on_page(
+pub(crate) fn call_on_page(
     alloc: Global,
     texts: &Texts,
     out: &mut String,

@@ -7,7 +7,7 @@ use std::alloc::{AllocError, Global};
 const LONGEST_TEXT: usize = 4096;
 
 /// A text with its escape characters, ends of lines and backslashes written as scripts write them.
-pub fn push_escaped(out: &mut String, text: &str) -> Result<(), AllocError> {
+pub(crate) fn push_escaped(out: &mut String, text: &str) -> Result<(), AllocError> {
     for character in text.chars() {
         match character {
             '\x1b' => out.push_str("\\e")?,
@@ -21,7 +21,7 @@ pub fn push_escaped(out: &mut String, text: &str) -> Result<(), AllocError> {
 }
 
 /// Adds a line: a letter that says what it tells, and a text.
-pub fn push_line(out: &mut String, kind: &str, text: &str) -> Result<(), AllocError> {
+pub(crate) fn push_line(out: &mut String, kind: &str, text: &str) -> Result<(), AllocError> {
     out.push_str(kind)?;
     push_escaped(out, text)?;
     out.push('\n')?;
@@ -29,7 +29,7 @@ pub fn push_line(out: &mut String, kind: &str, text: &str) -> Result<(), AllocEr
 }
 
 /// Adds a line that a `format!` made.
-pub fn push_made(
+pub(crate) fn push_made(
     out: &mut String,
     kind: &str,
     text: Result<String, AllocError>,
@@ -38,7 +38,7 @@ pub fn push_made(
 }
 
 /// The lines that an answer of a step comes to.
-pub fn answered(alloc: Global, out: &mut String, answer: &Answer) -> Result<(), AllocError> {
+pub(crate) fn answered(alloc: Global, out: &mut String, answer: &Answer) -> Result<(), AllocError> {
     for refusal in &answer.refused {
         let number = refusal.number();
         push_made(
@@ -68,7 +68,11 @@ pub fn answered(alloc: Global, out: &mut String, answer: &Answer) -> Result<(), 
 }
 
 /// The marks of a state, its rows, its selection, and the direction of its last search.
-pub fn print_state(alloc: Global, out: &mut String, state: &PagerState) -> Result<(), AllocError> {
+pub(crate) fn print_state(
+    alloc: Global,
+    out: &mut String,
+    state: &PagerState,
+) -> Result<(), AllocError> {
     push_made(out, "m ", format!(in alloc; "mark {}", state.upper_mark))?;
     push_made(out, "m ", format!(in alloc; "left {}", state.left_mark))?;
     push_made(
@@ -104,7 +108,7 @@ pub fn print_state(alloc: Global, out: &mut String, state: &PagerState) -> Resul
 }
 
 /// The text that is written with the escapes of scripts; an empty one where one is faulty.
-pub fn text_of(alloc: Global, written: &str) -> Result<String, AllocError> {
+pub(crate) fn text_of(alloc: Global, written: &str) -> Result<String, AllocError> {
     let line = format!(in alloc; "push {written}")?;
     let Ok(inputs) = parse_script(alloc, line.as_bytes()) else {
         return Ok(String::new(alloc));

@@ -34,7 +34,7 @@ fn event_of(text: &str) -> Option<Event> {
 
 impl Query {
     /// The editor of a query that is typed; none where memory runs out, or a character is refused.
-    pub fn typed(alloc: Global, text: &str) -> Option<Query> {
+    pub(crate) fn typed(alloc: Global, text: &str) -> Option<Query> {
         let patterns = Patterns::new(alloc).ok()?;
         let mut editor = QueryEditor::new(alloc, &patterns).ok()?;
         for character in text.chars() {
@@ -45,7 +45,7 @@ impl Query {
     }
 
     /// Presses a key this many times.
-    pub fn press(&mut self, alloc: Global, text: &str) -> Result<(), MinusError> {
+    pub(crate) fn press(&mut self, alloc: Global, text: &str) -> Result<(), MinusError> {
         let Some((key, times)) = text.split_once(' ') else {
             return Ok(());
         };
@@ -58,7 +58,12 @@ impl Query {
     }
 
     /// Feeds an event, and adds what came of it, the cursor and the query.
-    pub fn feed(&mut self, alloc: Global, out: &mut String, text: &str) -> Result<(), MinusError> {
+    pub(crate) fn feed(
+        &mut self,
+        alloc: Global,
+        out: &mut String,
+        text: &str,
+    ) -> Result<(), MinusError> {
         let Some(event) = event_of(text) else {
             return Ok(());
         };
@@ -70,7 +75,7 @@ impl Query {
     }
 
     /// Adds where the words of the query start.
-    pub fn push_starts(&self, alloc: Global, out: &mut String) -> Result<(), AllocError> {
+    pub(crate) fn push_starts(&self, alloc: Global, out: &mut String) -> Result<(), AllocError> {
         push_made(
             out,
             "= ",

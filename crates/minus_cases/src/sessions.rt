@@ -45,7 +45,7 @@ pub struct Cases {
 
 impl Cases {
     /// No case yet.
-    pub fn new(alloc: Global) -> Result<Cases, AllocError> {
+    pub(crate) fn new(alloc: Global) -> Result<Cases, AllocError> {
         Ok(Cases {
             alloc,
             stands: Stands::Nowhere,
@@ -55,7 +55,7 @@ impl Cases {
     }
 
     /// Runs all lines, and answers what is printed.
-    pub fn run_all(mut self, lines: &[u8]) -> Result<String, ScriptFault> {
+    pub(crate) fn run_all(mut self, lines: &[u8]) -> Result<String, ScriptFault> {
         let Ok(text) = str::from_utf8(lines) else {
             return Err(ScriptFault::Line(0));
         };

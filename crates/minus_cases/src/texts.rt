@@ -12,7 +12,7 @@ use minus_text::{
 use std::alloc::{AllocError, Global};
 
 /// Adds the rows of a text as they are displayed, with their matches, from one up to another.
-pub fn push_rows(
+pub(crate) fn push_rows(
     alloc: Global,
     out: &mut String,
     rows: RowsView<'_>,
@@ -74,7 +74,7 @@ pub struct Texts {
 
 impl Texts {
     /// A screen without a text, of no columns.
-    pub fn new(alloc: Global) -> Texts {
+    pub(crate) fn new(alloc: Global) -> Texts {
         Texts {
             alloc,
             screen: Screen::new(alloc),
@@ -87,7 +87,12 @@ impl Texts {
     }
 
     /// Does a call, if there is one of this name, and adds what it answers.
-    pub fn call(&mut self, out: &mut String, word: &str, rest: &str) -> Result<bool, MinusError> {
+    pub(crate) fn call(
+        &mut self,
+        out: &mut String,
+        word: &str,
+        rest: &str,
+    ) -> Result<bool, MinusError> {
         match word {
             "screen" => {
                 *self = Texts::new(self.alloc);

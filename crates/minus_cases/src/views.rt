@@ -193,7 +193,7 @@ fn push_place_row(alloc: Global, out: &mut String, rest: &str) -> Result<(), Min
 }
 
 /// Calls on bytes and words of the pager program.
-pub fn call_on_view(
+pub(crate) fn call_on_view(
     alloc: Global,
     out: &mut String,
     word: &str,
