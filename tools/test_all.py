@@ -134,6 +134,7 @@ def programs(crates, is_built):
         ("the pager on a terminal", [python, "tools/test_pager.py", made("minus_pager")], ["minus_pager", "minus_show", "minus_report"]),
         ("the library from C and Python", ["sh", "-c", of_c], ["minus_c"]),
         ("the library from Rust", ["sh", "-c", of_rust], []),
+        ("the archives of a release", [python, "tools/test_release.py"], ["minus_pager", "minus_c"]),
         ("measured works", [python, "tools/measure.py", "--check", "docs/MEASURING.md", made("minus_bench")], ["minus_bench"]),
     ]:
         yield Part(name, words, left_out=why_not(crates, needs, is_built))
