@@ -92,7 +92,8 @@ class Tried(Program):
                 pathlib.Path(folder, name).write_text(''.join(line + '\n' for line in script))
                 pathlib.Path(folder, name + '.args').write_text(''.join(word + '\n' for word in words))
             crate = os.path.join(programs.TOP, 'crates', self.name)
-            words = ['rt', 'try', '--seconds', '900', '--steps', '9000000000', '--cases', folder]
+            # (few steps for rt's interpreter, which would take a quarter of an hour: the compiled program answers alone)
+            words = ['rt', 'try', '--seconds', '900', '--steps', '1000', '--cases', folder]
             ran = subprocess.run(words, cwd=crate, capture_output=True)
         self.keep(names, ran.stdout.decode(), ran.stderr.decode(errors='replace'))
 
