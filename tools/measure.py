@@ -39,7 +39,7 @@ from measured_works import MEMORY, WORKS
 
 # the functions whose calls are counted: of a start, and of all other works
 COUNTED = {
-    "here": ("minus::init::init_core::*", "minus_bench::work::work_off*"),
+    "here": ("minus::init::init_core::*", "minus_bench::work::run_counted*"),
     "original": ("*::driver::counted",) * 2,
 }
 

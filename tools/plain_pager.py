@@ -264,7 +264,7 @@ class PlainPager:
         self.hooks.append(held or max([1, *self.hooks]) + 1)
         return 0
 
-    def work_off(self, word, *arguments):
+    def perform(self, word, *arguments):
         """Does a step, with no search prompt open, and answers the number by which it is refused, or 0."""
         refused = 0
         if word == 'event':
@@ -298,7 +298,7 @@ class PlainPager:
         self.led = Led()
         refused = self.refusal(step)
         if refused or not self.query:
-            return refused or self.work_off(*step)
+            return refused or self.perform(*step)
         if step[0] == 'key':
             plain_keys.feed(self, step[1])
         elif step[0] != 'mouse' and step[:2] != ('event', 'focus'):
@@ -306,7 +306,7 @@ class PlainPager:
         for _ in range(len(self.waiting)):
             if self.query or self.led.exited:
                 break
-            refused = self.work_off(*self.waiting.pop(0))
+            refused = self.perform(*self.waiting.pop(0))
             self.led.refused += [refused] if refused else []
         return 0
 

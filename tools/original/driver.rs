@@ -214,7 +214,7 @@ impl Core {
     }
 
     /// Does what comes before, and then what is counted.
-    fn work_off(&mut self, mut before: VecDeque<Step>, mut steps: VecDeque<Step>) {
+    fn run_steps(&mut self, mut before: VecDeque<Step>, mut steps: VecDeque<Step>) {
         let slash = Event::Key(KeyEvent::from(KeyCode::Char('/')));
         while let Some(step) = before.pop_front() {
             match step {
@@ -268,10 +268,10 @@ pub fn main() {
         match coming.as_str() {
             "shown" => {
                 before.push_front(Step::Command(Command::AppendData(text)));
-                core.work_off(before, steps);
+                core.run_steps(before, steps);
             }
-            "pushed" => core.work_off(before, pushes(&text)),
-            "set" => core.work_off(before, VecDeque::from([Step::Command(Command::SetData(text))])),
+            "pushed" => core.run_steps(before, pushes(&text)),
+            "set" => core.run_steps(before, VecDeque::from([Step::Command(Command::SetData(text))])),
             _ => panic!("the text comes shown, pushed, set or waiting"),
         }
     }

@@ -71,7 +71,7 @@ fn told(alloc: Global, plan: &Plan, text: &str) -> Result<Pager, MinusError> {
 
 // The inputs that can be counted alone.
 #[inline(never)]
-fn work_off<P: Calls>(session: &mut Bench<P>, inputs: Vec<InputOf<P>>) -> RanOf<P> {
+fn run_counted<P: Calls>(session: &mut Bench<P>, inputs: Vec<InputOf<P>>) -> RanOf<P> {
     session.run(inputs)
 }
 
@@ -104,7 +104,7 @@ pub(crate) fn do_work(rt: &HostRuntime, plan: &Plan, text: &str) -> Result<()> {
         Err(refused) => return Err(anyhow::Error::from(refused.cause)),
     };
     all_done(session.run(before))?;
-    all_done(work_off(&mut session, counted))?;
+    all_done(run_counted(&mut session, counted))?;
     print_end(rt, session.state())?;
     Ok(())
 }
