@@ -240,6 +240,13 @@ class TerminalTests(unittest.TestCase):
         os.mkfifo(path)
         return os.open(path, os.O_RDWR)
 
+    def wait_for_reader(self):
+        """Waits until `cat` has the pipe open: what is written before that is lost where this end is closed too early."""
+        path = os.path.realpath(os.path.join(self.folder, 'to_come'))
+        files = lambda pid: glob.glob(f'/proc/{pid}/fd/*')
+        cats = lambda: self.terminal.processes('cat')
+        self.terminal.wait(lambda: any(os.path.realpath(it) == path for pid in cats() for it in files(pid)), 'the reader')
+
     def end_pipe(self, writer):
         """The pager ends before the pipe's producer does, and then the shell goes on."""
         self.press('q')
@@ -297,6 +304,7 @@ class TerminalTests(unittest.TestCase):
         """Pages a pipe whose producer writes what a command says and then what this test writes: to this descriptor."""
         writer = self.open_pipe()
         self.page(f'({begin}; cat to_come) | ./minus {options}')
+        self.wait_for_reader()
         return writer
 
     def select(self, first, last):

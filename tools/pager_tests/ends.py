@@ -129,6 +129,7 @@ class EndTests(TerminalTests):
     def test_a_pipe_goes_on_behind_the_pager(self):
         writer = self.open_pipe()
         self.page('(seq 3; cat to_come) | { ./minus; cat; }')
+        self.wait_for_reader()
         self.terminal.wait_for('1-3/3')
         self.press('q')
         self.terminal.wait(lambda: not self.terminal.processes('minus'), 'the end of the launcher')

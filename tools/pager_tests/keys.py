@@ -51,6 +51,7 @@ class KeyTests(TerminalTests):
         self.terminal = Terminal(self.folder, 40, 8)
         self.terminal.send('(seq 3; cat to_come) | ./minus -F\n')
         self.terminal.wait(lambda: self.terminal.processes('minus_pager'), 'the program')
+        self.wait_for_reader()
         self.terminal.wait_for_turns()
         self.assertFalse(self.terminal.player.modes.get(1049))
         self.press('j')

@@ -42,6 +42,7 @@ class ReportTests(TerminalTests):
     def test_a_report_is_followed(self):
         writer = self.open_pipe()
         self.page('(seq 20; cat to_come) | ./minus-run minus_report')
+        self.wait_for_reader()
         self.terminal.wait_for('14-20/20')
         os.write(writer, b'error: late\n')
         self.terminal.wait_for('15-21/21')
