@@ -321,6 +321,10 @@ struct minus_told minus_set_match_lines(struct minus_pager pager, bool on, struc
 /* Puts each row with the style that its line carries to it, or rows as their texts are. */
 struct minus_told minus_set_carry_style(struct minus_pager pager, bool on, struct minus_handed *out);
 
+/* Moves the page's rows by lines that are deleted and inserted where it scrolls, which every terminal knows, or by
+ * scrolls. */
+struct minus_told minus_set_scroll_by_lines(struct minus_pager pager, bool on, struct minus_handed *out);
+
 /* Whether the page shows where a query leads while it is typed: from the first call on the caller decides, before each
  * key; until then the default rule does. While the search prompt is open the first call waits until it is closed. */
 struct minus_told minus_show_search(struct minus_pager pager, bool is_shown, struct minus_handed *out);

@@ -1,5 +1,6 @@
 """Tests of what keys do."""
 import os
+import random
 import re
 import subprocess
 import time
@@ -55,8 +56,24 @@ class KeyTests(TerminalTests):
         self.terminal.wait_for_turns()
         self.assertFalse(self.terminal.player.modes.get(1049))
         self.press('j')
-        self.terminal.wait_for('1-3/3')
+        self.terminal.wait_for('input  1-3')
         self.end_pipe(writer)
+
+    def test_a_screen_that_knows_no_scrolls_is_right_after_1_000_keys(self):
+        chosen = random.Random(7)
+        lines = ''.join(f'line {n} of the text\n' for n in range(1, 401))
+        self.write('notes', lines)
+        self.page('./minus notes')
+        self.assert_page(lines, 'notes  1-7/400  ')
+        top = 1
+        for _ in range(20):
+            keys = ''.join(chosen.choice('jkjkeydufb') for _ in range(50))
+            for key in keys:
+                rows = {'j': 1, 'e': 1, 'k': -1, 'y': -1, 'd': 4, 'u': -4, 'f': 7, 'b': -7}[key]
+                top = min(max(top + rows, 1), 394)
+            self.press(keys)
+            self.assert_page(lines, f'notes  {top}-{top + 6}/400  ', f'mark {top - 1}')
+        self.quit()
 
     def test_a_resize(self):
         self.page_lines()
@@ -72,11 +89,10 @@ class KeyTests(TerminalTests):
 
     def test_a_slow_pipe_leaves_the_keys_awake(self):
         writer = self.page_pipe('seq 20')
-        self.terminal.wait_for('1-7/20')
+        self.terminal.wait_for('input  1-7')
         self.press('j')
-        self.terminal.wait_for('2-8/20')
+        self.terminal.wait_for('input  2-8')
         os.write(writer, b'end\n')
-        self.terminal.wait_for('2-8/21')
         self.press('G')
         self.terminal.wait_for('end')
         self.end_pipe(writer)
@@ -164,8 +180,7 @@ class KeyTests(TerminalTests):
         self.terminal.wait(lambda: '[F]' not in self.terminal.player.texts()[-1], 'the end of following')
         self.press('k')
         self.terminal.wait_for('93-99/100')
-        self.press('\x03')
-        self.assert_back(0)
+        self.quit()
 
     LONG = ''.join(f'{n} begins, and goes on for more than one row of the screen.\n' for n in range(1, 101))
 
@@ -226,15 +241,37 @@ class KeyTests(TerminalTests):
         self.terminal.wait_for('2-8/100')
         self.quit()
 
-    def test_ctrl_c_ends(self):
-        self.page_lines()
+    def test_ctrl_c_at_rest_ends_nothing_and_who_called_the_pager_hears_it(self):
+        self.write('notes', self.LINES)
+        self.command('client', 'trap "echo heard >told" INT; ./minus notes; exit 7')
+        terminal = self.page('./client')
+        terminal.wait_for('1-7/100')
+        for key, place in (('j', '2-8/100'), (' ', '9-15/100')):
+            self.press('\x03')
+            terminal.wait_for('q ends (Return)')
+            self.press(key)
+            terminal.wait_for(place)
+        self.press('q')
+        self.assert_back(7)
+        self.assertEqual(contents(os.path.join(self.folder, 'told')), b'heard\n')
+
+    def test_ctrl_c_ends_by_an_option(self):
+        self.write('notes', self.LINES)
+        for call in ('./minus -K notes', 'LESS=K ./minus +F notes', './minus --quit-on-intr notes'):
+            terminal = self.page(call)
+            terminal.wait_for('/100')
+            self.press('\x03')
+            self.assert_back(2)
+            self.assertNotIn(b'interrupted', terminal.bytes)
+        self.page('./minus -K -+K notes')
         self.press('\x03')
-        self.assert_back(0)
+        self.terminal.wait_for('q ends (Return)')
+        self.quit()
 
     def test_ctrl_c_ends_what_writes_a_pipe(self):
         self.command('writer', 'trap "echo ended >told; exit" INT; echo one; echo two; while :; do sleep 0.1; done')
         terminal = self.page('./writer | ./minus')
-        terminal.wait_for('1-2/2')
+        terminal.wait_for('input  1-2')
         # (a number that is typed goes first)
         self.press('12\x03')
         terminal.wait_for_turns()
@@ -244,7 +281,8 @@ class KeyTests(TerminalTests):
         terminal.wait_for_turns(4)
         terminal.wait_for('1-2/2')
         self.press('\x03')
-        self.assert_back(0)
+        terminal.wait_for('q ends (Return)')
+        self.quit()
 
     def test_keys_wait_while_a_file_is_read_on(self):
         self.write('long', ''.join(f'line {n}\n' for n in range(1, 2000001)))
@@ -271,12 +309,53 @@ class KeyTests(TerminalTests):
             terminal.wait(lambda: terminal.player.texts()[0].startswith(begin), begin)
         self.quit()
 
+    def test_the_place_before_is_where_a_jump_began_that_led_somewhere(self):
+        terminal = self.page_lines()
+        for keys, place in (
+            ('30G', '30-36'), ('50G', '50-56'), ('/none\r\r', '50-56'), ("''", '30-36'), ('n', '30-36'),
+            ("''", '50-56'), ('/line 6\r', '60-66'), ('/line 6\x03', '60-66'), ("''", '50-56'), ('50G', '50-56'),
+            ("''", '60-66'),
+        ):
+            self.press(keys)
+            terminal.wait_for_turns()
+            terminal.wait_for(f'{place}/100')
+        self.quit()
+
+    def test_per_cent_may_have_a_part(self):
+        self.write('many', ''.join(f'{n}\n' for n in range(1001)))
+        terminal = self.page('./minus many')
+        for keys, line in (('50.5%', 505), ('.5p', 5), ('12.34%', 123), ('7.%', 70), ('99.2%', 992), ('hG..5%q.5%', 5)):
+            self.press(keys)
+            terminal.wait(lambda: terminal.player.texts()[0] == str(line), f'line {line} after {keys!r}')
+        self.quit()
+
+    def test_a_place_is_gone_to_at_once(self):
+        terminal = self.page_lines()
+        self.press('40Gma20G')
+        terminal.wait_for('20-26/100')
+        for keys, place in (("'a", '40-46'), ("''", '20-26'), ("'^", '1-7')):
+            before = len(terminal.bytes)
+            self.press(keys)
+            terminal.wait_for(f'{place}/100')
+            # (and not by the last page)
+            self.assertNotIn(b'line 99', terminal.bytes[before:])
+        self.quit()
+
     def test_a_command_that_is_none_here_takes_its_line(self):
         terminal = self.page_lines()
-        for keys in ('&quit', '!ls -q', 'sqQ', ':eq q', '|aq'):
+        for keys in (
+            '&quit', '!ls -q', 'sqQ', ':eq q', '|aq', ':write-to x', '--quit-at-eof q', '-Pfoo q', 'sq\x7f\x1b[Bq',
+        ):
             self.press(keys)
             terminal.wait_for('not done here')
             self.press('\r')
+            terminal.wait_for('1-7/100')
+        # (Backspace takes a letter, and with the last one the prompt is closed)
+        for keys, left in (('s log\x7f', 's lo'), ('--no\x7f\x7f', '--'), (':x\x7f', ':')):
+            self.press(keys)
+            said = f'not done here, up to Enter: {left}'
+            terminal.wait(lambda: terminal.player.texts()[-1] == said, said)
+            self.press('\x7f' * len(left))
             terminal.wait_for('1-7/100')
         self.press('j')
         terminal.wait_for('2-8/100')

@@ -1,3 +1,4 @@
 pub mod FeedLaws
 pub mod JumpLaws
 pub mod KeptLaws
+pub mod PrintedRowsLaws

@@ -10,8 +10,11 @@ pub mod Keys
 pub mod Lines
 pub mod Moves
 pub mod Preview
+pub mod PrintedRows
 pub mod Prompt
 pub mod Reading
 pub mod RowOfByte
+pub mod SeenColumns
 pub mod Sizes
+pub mod Starting
 pub mod Texts

@@ -1,6 +1,6 @@
 -- How much of a text a program reads, and how it begins to show it.
-use Rattle.std.specs.Prelude.{ℕ, ◌-◌, ◌&&◌, ◌||◌, not, Option, Some, None, Bool, if◌then◌else◌, length, nat_lt}
-use Rattle.std.specs.Prelude.{slice_get}
+use Rattle.std.specs.Prelude.{ℕ, ◌-◌, ◌*◌, ◌&&◌, ◌||◌, not, Option, Some, None, Bool, if◌then◌else◌, length, nat_lt}
+use Rattle.std.specs.Prelude.{min, slice_get}
 use Rattle.minus_text.specs.declared.rows.Span.{Span}
 use Rattle.minus_text.specs.LinePlaces.{row_places}
 use Rattle.minus_text.specs.Document.{rows_of}
@@ -11,16 +11,18 @@ use Rattle.minus_view.specs.declared.arguments.Opening.{Opening}
 use Rattle.minus_view.specs.declared.arguments.Opening.TheVariants as opening
 use Rattle.minus_app.specs.declared.options.Options.{Options}
 use Rattle.minus_app.specs.declared.view.goals.Goal.{Goal}
-use Rattle.minus_app.specs.declared.view.goals.Goal.TheVariants.{Line, End}
+use Rattle.minus_app.specs.declared.view.goals.Goal.TheVariants.{Line, Part, End}
 
 -- the line that is shown first, counted from 0: none where the text begins with its own first line
 abbrev pub first_line : ℕ → Option Goal
 first_line line = if nat_lt line 2 then None else Some (Line (line - 1))
 
--- what the text is read on for so that the first page begins there: its end, or a line that is not its first one
+-- what the text is read on for so that the first page begins there: its end, a part of it in per cent, or a line that
+-- is not its first one
 abbrev pub goal_of_opening : Opening → Option Goal
 goal_of_opening opening.First = None
 goal_of_opening (opening.Line line) = first_line line
+goal_of_opening (opening.Part part) = Some (Part (min part 100 * 10000))
 goal_of_opening opening.End = Some End
 goal_of_opening opening.Follows = None
 goal_of_opening (opening.Finds query) = None

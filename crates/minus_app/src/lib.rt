@@ -21,7 +21,7 @@ mod text;
 mod view;
 mod view_action;
 
-pub use app::{App, Fed, Flow, Neighbour, NoAct};
+pub use app::{App, Fed, Flow, Neighbour, NoAct, Turned};
 pub use fault::Fault;
 pub use keyboard::Keyboard;
 pub use keys::{AppKeys, KeyAction};

@@ -32,14 +32,29 @@ pub fn print(rt: &HostRuntime, text: &str) -> Result<(), Fault> {
     Ok(out.flush()?)
 }
 
+// Says on standard error what is said at first, where the text is not paged.
+fn say_unpaged(rt: &HostRuntime, options: &Options<'_>) -> Result<(), Fault> {
+    if let Some(said) = options.says {
+        rt.eprintln(said)?;
+    }
+    Ok(())
+}
+
+// Standard output as the terminal, whose mouse is the pager's or not.
+fn output_of(rt: &HostRuntime, options: &Options<'_>) -> WithTty<Links<Stdout>> {
+    let links = Links::new(rt.alloc(), rt.stdout());
+    WithTty::new(links.leaving_mouse(!options.mouse), true)
+}
+
 // The terminal that a launcher reports.
 fn terminal_of(
     rt: &HostRuntime,
     launch: Launch,
+    options: &Options<'_>,
 ) -> Result<Terminal<WithTty<Links<Stdout>>, File>, Fault> {
     Ok(Terminal {
-        pages: WithTty::new(Links::new(rt.alloc(), rt.stdout()), true),
-        beside: WithTty::new(Links::new(rt.alloc(), rt.stdout()), true),
+        pages: output_of(rt, options),
+        beside: output_of(rt, options),
         keyboard: Keyboard::open(rt)?,
         launch,
     })
@@ -64,11 +79,12 @@ pub fn run<A: App>(
     }
     let mut app = app;
     let Some(launch) = Launch::read(rt)? else {
+        say_unpaged(rt, &options)?;
         return app.hand_on(rt);
     };
-    let terminal = terminal_of(rt, launch)?;
+    let terminal = terminal_of(rt, launch, &options)?;
     let Some(mut program) = Program::start(rt, app, keys, &options, terminal)? else {
-        return Ok(());
+        return say_unpaged(rt, &options);
     };
     let served = program.serve(rt);
     let cleaned = program.finish();

@@ -116,9 +116,9 @@ impl<A: App, S: OutputSink + Drop, R: Read + Drop> Program<A, S, R> {
             keyboard,
             launch,
         } = terminal;
-        let (mut app, mut keyboard, size) = (app, keyboard, launch.size);
+        let (mut app, mut keyboard, mut pages, size) = (app, keyboard, pages, launch.size);
         let options = options.with_following(app.follows());
-        let beginning = begin_text(rt, &mut app, &mut keyboard, &options, size)?;
+        let beginning = begin_text(rt, &mut app, &mut keyboard, &mut pages, &options, size)?;
         let start = Start {
             pages,
             beside,
@@ -127,6 +127,7 @@ impl<A: App, S: OutputSink + Drop, R: Read + Drop> Program<A, S, R> {
             keys,
             marks_tabs: app.marks_tabs(),
             prints: options.prints && beginning.is_at_end && beginning.pressed.is_empty(),
+            printed: beginning.printed,
         };
         let text = beginning.text.as_str();
         let Some(view) = View::start(rt.alloc(), start, &options, text)? else {
@@ -143,19 +144,23 @@ impl<A: App, S: OutputSink + Drop, R: Read + Drop> Program<A, S, R> {
             idle: Idle::default(),
             top_lines: TopLines::new(rt.alloc()),
         };
-        program.begin(&options)?;
+        program.begin(rt, &options)?;
         Ok(Some(program))
     }
 
-    // Sets what the options ask for, shows where the first page is, goes to the line that is shown first, and makes
-    // room for what is to come.
-    fn begin(&mut self, options: &Options<'_>) -> Result<(), Fault> {
+    // Sets what the options ask for, goes to the line that is shown first, says what is said at first, and makes room
+    // for what is to come.
+    fn begin(&mut self, rt: &HostRuntime, options: &Options<'_>) -> Result<(), Fault> {
         self.view.set_options(options)?;
         let is_whole = self.growth.is_whole();
         self.view.set_whole(is_whole);
         let _ = self.view.pursue()?;
         if let Opening::Finds(query) = options.opening {
             self.view.search(query)?;
+        }
+        if let Some(said) = options.says {
+            let said = format!(in rt.alloc(); "{said} (Return)")?;
+            self.view.message(said)?;
         }
         self.show_place()?;
         self.view.make_room(self.app.bytes_left());

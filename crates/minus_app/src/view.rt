@@ -2,6 +2,7 @@
 ghost use Rattle.std.specs.Prelude.{◌≡◌};
 
 mod actions;
+mod case_preview;
 mod copying;
 mod events;
 mod following;
@@ -10,6 +11,7 @@ mod jumps;
 mod kept_place;
 mod marks;
 mod moves;
+mod printed_rows;
 mod printing;
 mod prompt_row;
 mod queries;
@@ -17,6 +19,7 @@ mod query_row;
 mod reading;
 mod row_of_byte;
 mod searching;
+mod seen_columns;
 mod starting;
 mod tabs;
 mod typed;
@@ -31,6 +34,7 @@ use crate::view::copying::Mouse;
 pub use crate::view::goals::Goal;
 use crate::view::kept_place::Places;
 use crate::view::moves::row_of_line;
+pub use crate::view::printing::Printed;
 use crate::view::printing::page_left;
 use crate::view::prompt_row::Notices;
 use crate::view::queries::Queries;
@@ -60,7 +64,7 @@ pub enum Onward {
     Suspended,
     /// The session has ended.
     Ended,
-    /// The reader has asked that no more of the text is written.
+    /// The reader has asked for an end while nothing went on here.
     Interrupted,
     /// The end of the text was reached, where that ends the program, unless there is a next text.
     EndReached,
@@ -89,6 +93,8 @@ pub struct View<S> {
     tabs: Tabs,
     // What the end of the text does.
     at_end: AtEnd,
+    // Whether Ctrl-C ends the program.
+    ends_at_interrupt: bool,
     // Whether the page stays on the terminal where the program ends.
     leaves: bool,
 }
@@ -108,6 +114,7 @@ impl<S: Drop> Drop for View<S> {
             mouse: _,
             tabs: _,
             at_end: _,
+            ends_at_interrupt: _,
             leaves: _,
         } = self;
     }
@@ -263,6 +270,7 @@ impl<S: OutputSink + Drop> View<S> {
     ///
     /// [`Fault::Pager`] where the terminal refuses.
     pub(crate) fn leave(&mut self) -> Result<(), Fault> {
+        self.clear_prompt_row()?;
         cleanup(&mut self.terminal, true).map_err(MinusError::from)?;
         Ok(())
     }
@@ -279,6 +287,14 @@ impl<S: OutputSink + Drop> View<S> {
         self.command(CommandOf::Io(IoCommand::RedrawDisplay))
     }
 
+    // Clears the prompt row, which stays where the terminal has no other screen to go back to.
+    fn clear_prompt_row(&mut self) -> Result<(), Fault> {
+        let rows = self.session.state().rows;
+        let clear = format!(in self.alloc; "\x1b[{rows};1H\x1b[2K")?;
+        write_bytes(&mut self.terminal, clear.as_bytes())?;
+        Ok(())
+    }
+
     // The session, the terminal once more, and whether the page stays there.
     fn into_parts(self) -> (Core<S, AppKinds>, S, bool) {
         let View {
@@ -293,6 +309,7 @@ impl<S: OutputSink + Drop> View<S> {
             mouse: _,
             tabs: _,
             at_end: _,
+            ends_at_interrupt: _,
             leaves,
         } = self;
         (session, terminal, leaves)
@@ -304,8 +321,10 @@ impl<S: OutputSink + Drop> View<S> {
     ///
     /// [`Fault::Pager`] where the terminal refuses.
     pub(crate) fn finish(self) -> Result<(), Fault> {
-        let alloc = self.alloc;
-        let (session, terminal, leaves) = self.into_parts();
+        let mut view = self;
+        let cleared = view.clear_prompt_row();
+        let alloc = view.alloc;
+        let (session, terminal, leaves) = view.into_parts();
         let mut terminal = terminal;
         let left = if leaves {
             page_left(alloc, session.state())?
@@ -314,6 +333,7 @@ impl<S: OutputSink + Drop> View<S> {
         };
         let (_, cleaned) = session.finish();
         cleaned.map_err(MinusError::from)?;
+        cleared?;
         write_bytes(&mut terminal, left.as_bytes())?;
         Ok(())
     }

@@ -380,12 +380,19 @@ fn the_keys_of_less_move_the_page(rt: HostRuntime) {
 
 #[test]
 fn the_keys_of_less_end_the_program(rt: HostRuntime) {
-    let ends: &[&[&[u8]]] = &[&[b"q"], &[b"Q"], &[b"ZZ"], &[b":q"], &[b"\x03"]];
+    let ends: &[&[&[u8]]] = &[&[b"q"], &[b"Q"], &[b"ZZ"], &[b":q"]];
     for pieces in ends {
         assert!(rt; !as_less(&rt, *pieces).expect(&rt, "typed").on);
     }
-    // (Ctrl-C ends following first, and a key behind another that means nothing ends nothing)
-    let stays: &[&[&[u8]]] = &[&[b"F", b"\x03"], &[b"Zj"], &[b":j"], &[b"-q"], &[b"mq"]];
+    // (nor does Ctrl-C, or a key behind another that means nothing)
+    let stays: &[&[&[u8]]] = &[
+        &[b"F", b"\x03"],
+        &[b"\x03"],
+        &[b"Zj"],
+        &[b":j"],
+        &[b"-q"],
+        &[b"mq"],
+    ];
     for (at, pieces) in stays.iter().enumerate() {
         assert_eq!(rt;
             (at, as_less(&rt, *pieces).expect(&rt, "typed").on),

@@ -164,8 +164,10 @@ fn push_asked(alloc: Global, out: &mut String, rest: &str) -> Result<(), AllocEr
     match parse_arguments("", &words) {
         Ok(Arguments::Help) => push_line(out, "= ", "help"),
         Ok(Arguments::Version) => push_line(out, "= ", "version"),
-        Ok(Arguments::Page(_)) => push_line(out, "= ", "page"),
-        Err(ArgumentFault::UnknownOption(word)) => push_line(out, "= unknown option ", word),
+        Ok(Arguments::Page(paging)) => match paging.skipped {
+            None => push_line(out, "= ", "page"),
+            Some(word) => push_line(out, "= page without ", word),
+        },
         Err(ArgumentFault::BadNumber(word)) => push_line(out, "= bad number ", word),
         Err(ArgumentFault::NoValue(word)) => push_line(out, "= no value ", word),
     }
@@ -186,6 +188,7 @@ fn push_place_row(alloc: Global, out: &mut String, rest: &str) -> Result<(), Min
         lines,
         end: part,
         bytes: 100,
+        is_whole: true,
     };
     let text = place_text(alloc, columns, name.as_str(), place)?;
     push_line(out, "= ", text.as_str())?;

@@ -1,3 +1,4 @@
+pub mod Archives
 pub mod Files
 pub mod Pagings
 pub mod ExitStatus

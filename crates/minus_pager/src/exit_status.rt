@@ -4,7 +4,7 @@ ghost use Rattle.minus_pager.specs.ExitStatus.{status_of};
 
 use minus::MinusError;
 use minus_app::Fault;
-use minus_view::ArgumentFault;
+use minus_view::{ArgumentFault, shown_name};
 use std::alloc::{AllocError, AllocFailed, Global};
 use std::io;
 use thiserror::Error;
@@ -18,6 +18,9 @@ pub enum Refusal {
     /// The text is not there, or the terminal is not, or the pager refuses.
     #[error("{0}")]
     Failed(Fault),
+    /// Ctrl-C has ended the program, which it was asked to do.
+    #[error("interrupted")]
+    Interrupted,
 }
 
 impl Refusal {
@@ -27,14 +30,12 @@ impl Refusal {
     ///
     /// [`AllocError`] where there is no memory.
     pub fn of_words(alloc: Global, fault: &ArgumentFault<'_>) -> Result<Refusal, AllocError> {
-        let said = match fault {
-            ArgumentFault::UnknownOption(word) => format!(in alloc; "no such option: {word}")?,
-            ArgumentFault::BadNumber(word) => format!(in alloc; "no number: {word}")?,
-            ArgumentFault::NoValue(word) => format!(in alloc;
-                "nothing follows the option: {word}"
-            )?,
+        let (why, word) = match fault {
+            ArgumentFault::BadNumber(word) => ("no number", word),
+            ArgumentFault::NoValue(word) => ("nothing follows the option", word),
         };
-        Ok(Refusal::Words(said))
+        let word = shown_name(alloc, word)?;
+        Ok(Refusal::Words(format!(in alloc; "{why}: {word}")?))
     }
 
     /// What is said of a file that is not read.
@@ -43,6 +44,7 @@ impl Refusal {
     ///
     /// [`AllocError`] where there is no memory.
     pub fn of_file(alloc: Global, path: &str, why: &str) -> Result<Refusal, AllocError> {
+        let path = shown_name(alloc, path)?;
         let said = format!(in alloc; "{path}{why}")?;
         Ok(Refusal::Failed(Fault::Own(said)))
     }
@@ -53,6 +55,7 @@ impl Refusal {
     {
         match self {
             Refusal::Words(_) => 2,
+            Refusal::Interrupted => 2,
             Refusal::Failed(_) => 1,
         }
     }
@@ -60,7 +63,10 @@ impl Refusal {
 
 impl From<Fault> for Refusal {
     fn from(cause: Fault) -> Refusal {
-        Refusal::Failed(cause)
+        match cause {
+            Fault::Interrupted => Refusal::Interrupted,
+            cause => Refusal::Failed(cause),
+        }
     }
 }
 

@@ -2,9 +2,10 @@
 ghost use Rattle.std.specs.Prelude.{◌≡◌};
 ghost use Rattle.minus_pager.specs.Files.{neighbour_of};
 
+use crate::archives::Archives;
 use crate::exit_status::Refusal;
-use minus_app::{App, Fault, Fed, Neighbour, NoAct, Notice, Text};
-use minus_view::Shape;
+use minus_app::{App, Fault, Fed, Neighbour, NoAct, Notice, Text, Turned};
+use minus_view::{Shape, prompt_words};
 use std::alloc::{AllocError, Global};
 use std::env;
 use std::fs::File;
@@ -58,7 +59,7 @@ fn name_of_input(rt: &HostRuntime, name: Option<&str>) -> Result<String, AllocEr
         return Ok(told);
     }
     if let Some(name) = name {
-        return String::from_str(rt.alloc(), name);
+        return prompt_words(rt.alloc(), name);
     }
     match env::var(rt, MAN_NAME) {
         Ok(page) => Ok(page),
@@ -87,8 +88,8 @@ fn neighbour_of(at: usize, count: usize, neighbour: Neighbour) -> Option<usize>
     }
 }
 
-// Says on standard error why a text is not read; the launcher shows that at the end.
-fn tell(rt: &HostRuntime, refusal: &Refusal) {
+/// Says on standard error why a text is not read, or no more; the launcher shows that at the end.
+pub fn tell(rt: &HostRuntime, refusal: &Refusal) {
     let _ = eprintln!(rt; "minus: {refusal}");
 }
 
@@ -98,6 +99,8 @@ pub struct Files {
     // What standard input is called.
     input: String,
     shape: Shape,
+    // Those of them that are packed.
+    archives: Archives,
     // The place of the one that is paged.
     at: usize,
     text: Text,
@@ -110,6 +113,7 @@ impl Drop for Files {
             words: _,
             input: _,
             shape: _,
+            archives: _,
             at: _,
             text: _,
         } = self;
@@ -128,6 +132,7 @@ impl Files {
         texts: &[&str],
         name: Option<&str>,
         shape: Shape,
+        archives: Archives,
     ) -> Result<Files, Refusal> {
         let alloc = rt.alloc();
         let mut words = Vec::new(alloc);
@@ -139,12 +144,14 @@ impl Files {
             words.push(String::from_str(alloc, "-")?)?;
         }
         let input = name_of_input(rt, name)?;
-        let (at, text) = Files::first_text(rt, &words, input.as_str())?;
+        let mut archives = archives;
+        let (at, text) = Files::first_text(rt, &words, input.as_str(), &mut archives)?;
         let text = text.shaped(alloc, shape);
         Ok(Files {
             words,
             input,
             shape,
+            archives,
             at,
             text,
         })
@@ -155,15 +162,16 @@ impl Files {
         rt: &HostRuntime,
         words: &[String],
         input: &str,
+        archives: &mut Archives,
     ) -> Result<(usize, Text), Refusal> {
         let last = words.len().saturating_sub(1);
         for at in 0..last {
-            match Files::text_at(rt, words, input, at) {
+            match Files::text_at(rt, words, input, archives, at) {
                 Ok(text) => return Ok((at, text)),
                 Err(refusal) => tell(rt, &refusal),
             }
         }
-        Ok((last, Files::text_at(rt, words, input, last)?))
+        Ok((last, Files::text_at(rt, words, input, archives, last)?))
     }
 
     // The text at a place, with its title: where there are several, that says which one it is.
@@ -171,6 +179,7 @@ impl Files {
         rt: &HostRuntime,
         words: &[String],
         input: &str,
+        archives: &mut Archives,
         at: usize,
     ) -> Result<Text, Refusal> {
         let word = match words.get(at) {
@@ -184,7 +193,10 @@ impl Files {
         } else {
             String::from_str(rt.alloc(), name)?
         };
-        open(rt, word, title.as_str())
+        match archives.text_at(rt, at, title.as_str())? {
+            Some(text) => Ok(text),
+            None => open(rt, word, title.as_str()),
+        }
     }
 }
 
@@ -196,25 +208,28 @@ impl App for Files {
     }
 
     // A text that is not read is skipped, and standard error says why.
-    fn turn_to(&mut self, rt: &HostRuntime, neighbour: Neighbour) -> Result<bool, Fault> {
+    fn turn_to(&mut self, rt: &HostRuntime, neighbour: Neighbour) -> Result<Turned, Fault> {
         let count = self.words.len();
-        let mut at = self.at;
+        let (mut at, mut turned) = (self.at, Turned::NoneThere);
         for _ in 0..count {
             let Some(next) = neighbour_of(at, count, neighbour) else {
-                return Ok(false);
+                break;
             };
             at = next;
             let input = self.input.as_str();
-            match Files::text_at(rt, &self.words, input, at) {
+            match Files::text_at(rt, &self.words, input, &mut self.archives, at) {
                 Ok(text) => {
                     self.at = at;
                     self.text = text.shaped(rt.alloc(), self.shape);
-                    return Ok(true);
+                    return Ok(Turned::There);
                 }
-                Err(refusal) => tell(rt, &refusal),
+                Err(refusal) => {
+                    tell(rt, &refusal);
+                    turned = Turned::Unread(format!(in rt.alloc(); "{refusal}")?);
+                }
             }
         }
-        Ok(false)
+        Ok(turned)
     }
 
     fn is_last(&self) -> bool {
@@ -249,7 +264,7 @@ impl App for Files {
     fn hand_on(&mut self, rt: &HostRuntime) -> Result<(), Fault> {
         for _ in 0..self.words.len() {
             self.text.hand_on(rt)?;
-            if !self.turn_to(rt, Neighbour::Next)? {
+            if !matches!(self.turn_to(rt, Neighbour::Next)?, Turned::There) {
                 break;
             }
         }

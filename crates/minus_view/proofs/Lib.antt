@@ -4,6 +4,7 @@ pub mod EventLaws
 pub mod ExpandedLaws
 pub mod HistoryLaws
 pub mod MeaningLaws
+pub mod NamesLaws
 pub mod PlainLaws
 pub mod PreparedLaws
 pub mod ReadingLaws

@@ -1,10 +1,18 @@
 //! How a program tells its events: each in its turn, to the application or to the pager.
-use crate::app::{App, Flow, Neighbour};
+use crate::app::{App, Flow, Neighbour, Turned};
 use crate::fault::Fault;
 use crate::program::Program;
 use crate::view::Onward;
 use minus::{Event, OutputSink};
 use std::io::Read;
+
+// What is said where there is no other text.
+fn none_there(neighbour: Neighbour) -> &'static str {
+    match neighbour {
+        Neighbour::Next => "no next file",
+        Neighbour::Before => "no file before",
+    }
+}
 
 impl<A: App, S: OutputSink + Drop, R: Read + Drop> Program<A, S, R> {
     // Tells an event: to the application where it leads to an action of the application's, and else to the pager, as a
@@ -27,16 +35,25 @@ impl<A: App, S: OutputSink + Drop, R: Read + Drop> Program<A, S, R> {
 
     // Shows another text, as a key asks, or says that there is none.
     fn turn_by_key(&mut self, rt: &HostRuntime, neighbour: Neighbour) -> Result<(), Fault> {
-        if self.turn_to(rt, neighbour)? {
-            return Ok(());
-        }
-        let said = String::from_str(rt.alloc(), "no such file (Return)")?;
+        let why = match self.turn_to(rt, neighbour)? {
+            Turned::There => return Ok(()),
+            Turned::Unread(why) => why,
+            Turned::NoneThere => String::from_str(rt.alloc(), none_there(neighbour))?,
+        };
+        let said = format!(in rt.alloc(); "{why} (Return)")?;
         self.view.message(said)
     }
 
-    // Whether the launcher can end what is writing the text.
-    fn interrupts(&self) -> bool {
-        self.app.is_written() && !self.growth.is_whole() && self.sizes.is_there()
+    // Lets the launcher interrupt what is started with it, as the terminal's own key would: what writes the text, and
+    // who has called the pager. Where nothing writes, the reader may look for the key that ends the program.
+    fn interrupt(&mut self, rt: &HostRuntime) -> Result<(), Fault> {
+        if !self.app.is_written() || self.growth.is_whole() {
+            self.view.say_end()?;
+        }
+        if self.sizes.is_there() {
+            rt.eprintln("interrupt")?;
+        }
+        Ok(())
     }
 
     // Whether an event waits until the text was read on as far as a key has asked: not where that may never be, as in
@@ -70,12 +87,12 @@ impl<A: App, S: OutputSink + Drop, R: Read + Drop> Program<A, S, R> {
                 Onward::Suspended => self.suspend(rt)?,
                 Onward::Turns(neighbour) => self.turn_by_key(rt, neighbour)?,
                 Onward::EndReached => {
-                    if !self.turn_to(rt, Neighbour::Next)? {
+                    if !matches!(self.turn_to(rt, Neighbour::Next)?, Turned::There) {
                         return Ok(false);
                     }
                 }
-                Onward::Interrupted if self.interrupts() => rt.eprintln("interrupt")?,
-                Onward::Interrupted | Onward::Ended => return Ok(false),
+                Onward::Interrupted => self.interrupt(rt)?,
+                Onward::Ended => return Ok(false),
             }
         }
         Ok(true)

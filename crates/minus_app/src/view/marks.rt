@@ -5,7 +5,7 @@ use crate::view::goals::Goal;
 use crate::view::typed::Pending;
 use crate::view::{Onward, View};
 use minus::{CommandOf, Event, InputEvent, InputOf, KeyCode, KeyModifiers, OutputSink};
-use minus_view::Case;
+use minus_view::{Case, takes_value};
 
 /// A place that is kept under a letter.
 #[derive(Clone, Copy)]
@@ -63,7 +63,7 @@ impl<S: OutputSink + Drop> View<S> {
             return self.say("no such mark (Return)");
         };
         self.begin_jump();
-        self.command(CommandOf::FollowOutput(false))?;
+        let _ = self.end_following()?;
         self.put_at(byte)
     }
 
@@ -121,6 +121,10 @@ impl<S: OutputSink + Drop> View<S> {
             'i' => self.turn_case(Case::Smart),
             'I' => self.turn_case(Case::Ignored),
             'F' => self.say("-F is for the start of the pager (Return)"),
+            _ if letter == '-' || takes_value(letter) => {
+                self.typed.begin_line(Some('-'), letter);
+                Ok(())
+            }
             _ => self.say("no such option here (Return)"),
         }
     }
@@ -131,17 +135,27 @@ impl<S: OutputSink + Drop> View<S> {
             'q' | 'Q' => Ok(Onward::Ended),
             'n' => Ok(Onward::Turns(Neighbour::Next)),
             'p' => Ok(Onward::Turns(Neighbour::Before)),
-            'e' => {
-                self.typed.pending = Some(Pending::Line);
+            _ => {
+                self.typed.begin_line(Some(':'), letter);
                 Ok(Onward::On)
             }
-            _ => Ok(Onward::On),
+        }
+    }
+
+    /// Begins a line behind a key of `less` that does nothing here.
+    pub(super) fn begin_line(&mut self, event: &Event) {
+        if let Some(letter) = typed(event) {
+            self.typed.begin_line(None, letter);
         }
     }
 
     /// Does what a key says that was typed behind another. Esc, Ctrl-C and any other key without a character ask for
-    /// nothing.
+    /// nothing, but for those of a line.
     pub(super) fn take_key(&mut self, pending: Pending, event: Event) -> Result<Onward, Fault> {
+        if pending == Pending::Line {
+            self.typed.type_to_line(&event);
+            return Ok(Onward::On);
+        }
         let Some(letter) = typed(&event) else {
             return Ok(Onward::On);
         };
@@ -151,8 +165,7 @@ impl<S: OutputSink + Drop> View<S> {
             Pending::Option => self.set_option(letter)?,
             Pending::Command => return self.do_command(letter),
             Pending::End if letter == 'Z' => return Ok(Onward::Ended),
-            Pending::End => (),
-            Pending::Line => self.typed.pending = Some(Pending::Line),
+            Pending::End | Pending::Line => (),
         }
         Ok(Onward::On)
     }

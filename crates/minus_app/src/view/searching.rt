@@ -5,10 +5,10 @@
 //! 3. Any other key is the session's, which types it.
 //! 4. A query that was taken leads to its match, once the text was read so far (`goals`).
 //!
-//! So `?err` and Enter, typed on row 40 of a text with matches in the rows 12 and 50, leads to row 12.
+//! So `?err` and Enter, typed on a page of the rows 40 to 62 with matches in the rows 12, 50 and 70, leads to row 50.
 use crate::fault::Fault;
 use crate::view::goals::Goal;
-use crate::view::jumps::{first_match_from, jump_back, jump_to};
+use crate::view::jumps::{QueryPage, jump_to};
 use crate::view::{Onward, View};
 use minus::{
     CommandOf, Event, InputEvent, InputOf, IoCommand, KeyCode, KeyModifiers, MinusError,
@@ -58,11 +58,6 @@ fn word_len(query: &str, cursor: usize) -> usize {
     len
 }
 
-// Whether no row matches what was searched for.
-fn has_missed(state: &PagerState) -> bool {
-    state.term().is_some() && state.matches().is_empty()
-}
-
 impl<S: OutputSink + Drop> View<S> {
     /// Whether the search prompt is open.
     pub(crate) fn is_searching(&self) -> bool {
@@ -76,6 +71,7 @@ impl<S: OutputSink + Drop> View<S> {
             let bytes = if is_open { WRAP_OFF } else { WRAP_ON };
             write_bytes(&mut self.terminal, bytes.as_bytes())?;
         }
+        self.show_any_case()?;
         self.show_query_row()
     }
 
@@ -128,27 +124,23 @@ impl<S: OutputSink + Drop> View<S> {
         self.follow_on()
     }
 
-    // Goes to the match of the query that was taken at this page: the session has searched on, in both directions.
-    fn go_to_match(&mut self, mark: usize) -> Result<(), Fault> {
+    // Goes to the match of the term, seen from the page that its query was taken at. Where there is none in the
+    // direction of the search, the page is that one again, and the search goes round.
+    fn go_from(&mut self, page: QueryPage) -> Result<(), Fault> {
         let state = self.session.state();
-        if state.message.is_some() {
-            return self.restore_match();
-        }
         let is_back = state.search_state.search_mode == SearchMode::Reverse;
-        let first = first_match_from(state, mark);
-        if first < state.matches().len() || self.reading.is_whole {
-            self.notices.was_missed = has_missed(state);
-            if is_back {
-                let back = jump_back(state, mark);
-                return self.command(CommandOf::UserInput(back));
-            }
-            return Ok(());
+        if let Some(place) = page.match_of(state, is_back) {
+            return self.lead_to(place);
         }
-        if is_back && first > 0 {
-            return self.lead_to(first - 1);
+        let goal = if is_back {
+            Goal::LastMatch
+        } else {
+            Goal::Match(state.matches().len())
+        };
+        if state.upper_mark != page.first {
+            self.command(CommandOf::Io(IoCommand::SetUpperMark(page.first)))?;
         }
-        self.command(CommandOf::Io(IoCommand::SetUpperMark(mark)))?;
-        self.head_for(Goal::Match(first))
+        self.head_for(goal)
     }
 
     /// Searches for a pattern from now on, or for none; the page stays. Out of memory, nothing changes, and the prompt
@@ -177,8 +169,8 @@ impl<S: OutputSink + Drop> View<S> {
         self.set_term(Some(term))
     }
 
-    // The pattern of a query, whose capitals may not count; none where it is none, or there is no memory for it.
-    fn pattern_of(&self, query: &str) -> Option<Regex> {
+    /// The pattern of a query, whose capitals may not count; none where it is none, or there is no memory for it.
+    pub(super) fn pattern_of(&self, query: &str) -> Option<Regex> {
         let front = if self.queries.leave_out_case(query) {
             ANY_CASE
         } else {
@@ -186,6 +178,21 @@ impl<S: OutputSink + Drop> View<S> {
         };
         let source = format!(in self.alloc; "{front}{query}").ok()?;
         Regex::new(self.alloc, source.as_str()).ok()
+    }
+
+    /// Searches for the query that was taken last, where nothing is searched for. Answers whether there is one.
+    pub(super) fn search_newest(&mut self) -> Result<bool, Fault> {
+        let Some(term) = self.newest_pattern() else {
+            return Ok(false);
+        };
+        self.say_before("(searching)")?;
+        self.set_term(Some(term))?;
+        Ok(true)
+    }
+
+    // The pattern of the query that was taken last.
+    fn newest_pattern(&self) -> Option<Regex> {
+        self.pattern_of(self.queries.history.newest()?)
     }
 
     // Keeps the pattern whose matches are not shown any more. Out of memory, the one before is kept.
@@ -219,37 +226,30 @@ impl<S: OutputSink + Drop> View<S> {
         self.is_slow() || self.queries.leave_out_case(query)
     }
 
-    // Goes to the match of the term that was set while the page began with a row: as of a query that was taken there.
-    fn go_from(&mut self, mark: usize) -> Result<(), Fault> {
-        let state = self.session.state();
-        let first = first_match_from(state, mark);
-        if state.search_state.search_mode == SearchMode::Reverse && first > 0 {
-            return self.lead_to(first - 1);
-        }
-        self.head_for(Goal::Match(first))
-    }
-
     // Searches for the query beside the search prompt, which is closed. One that is no pattern is the session's to
     // refuse.
     fn search_apart(&mut self, event: Event) -> Result<(), Fault> {
         let Some(term) = self.pattern_of(query_of(self.session.state())) else {
             return self.take_by_key(event);
         };
-        let mark = self.session.state().upper_mark;
+        let page = QueryPage::of(self.session.state());
         let _ = self.step(InputOf::Event(press(KeyCode::Esc, 0)))?;
         self.say_before("(searching)")?;
         self.set_term(Some(term))?;
-        self.go_from(mark)
+        self.go_from(page)
     }
 
-    // Lets the session take the query.
+    // Lets the session take the query, which searches on, in both directions. One that is no pattern leaves a message.
     fn take_by_key(&mut self, event: Event) -> Result<(), Fault> {
-        let mark = self.session.state().upper_mark;
+        let page = QueryPage::of(self.session.state());
         let _ = self.step(InputOf::Event(event))?;
         if self.is_searching() {
             return Ok(());
         }
-        self.go_to_match(mark)
+        if self.session.state().message.is_some() {
+            return self.restore_match();
+        }
+        self.go_from(page)
     }
 
     // Keeps the query, and takes it. Out of memory, it is not kept.

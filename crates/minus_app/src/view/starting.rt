@@ -1,4 +1,7 @@
 //! How a view is started: with the beginning of a text, which is printed where it is all of it and fits the terminal.
+ghost use Rattle.std.specs.Prelude.{◌≡◌, ◌++◌, OnOk};
+ghost use Rattle.minus_commands.specs.Queued.{waiting_of};
+ghost use Rattle.minus_app.specs.Starting.{laid_out};
 
 use crate::fault::Fault;
 use crate::keys::Table;
@@ -7,14 +10,16 @@ use crate::preview::ShowsWithin;
 use crate::size::Size;
 use crate::view::copying::Mouse;
 use crate::view::kept_place::Places;
-use crate::view::printing::print_if_fits;
+use crate::view::printing::{Printed, print_if_fits};
 use crate::view::prompt_row::Notices;
 use crate::view::queries::Queries;
 use crate::view::reading::Reading;
 use crate::view::tabs::Tabs;
 use crate::view::typed::Typed;
 use crate::view::{AppKinds, View};
-use minus::{CommandOf, Core, Layout, MinusError, OutputSink, PagerOf, RunMode, init_core_with};
+use minus::{
+    CommandOf, Core, Layout, MinusError, OutputSink, PagerOf, RunMode, ScrollBy, init_core_with,
+};
 use minus_view::Opening;
 use std::alloc::Global;
 
@@ -33,17 +38,23 @@ pub struct Start<S> {
     pub keys: Table,
     /// Whether the text is all there, and is to be printed where it fits the terminal.
     pub prints: bool,
+    /// How much of it was printed.
+    pub printed: Printed,
     /// Whether the text comes with marks of its tabs.
     pub marks_tabs: bool,
 }
 
-// Sets what a text is shown by, before it is there.
-fn set_up(pager: &mut PagerOf<AppKinds>, layout: Layout) -> Result<(), MinusError> {
+// Tells a pager how rows are laid out, and that its page scrolls by lines that are deleted and inserted, which every
+// terminal knows.
+fn lay_out(pager: &mut PagerOf<AppKinds>, layout: Layout) -> Result<(), MinusError>
+    ensures { OnOk result (waiting_of pager.new ≡ waiting_of pager.old ++ laid_out layout) }
+{
     pager.set_line_numbers(layout.numbers)?;
-    pager.horizontal_scroll(!layout.wrapping)?;
+    pager.tell(CommandOf::LineWrapping(layout.wrapping))?;
     pager.set_match_lines(layout.match_lines)?;
     pager.set_carry_style(layout.carry_style)?;
-    pager.set_incremental_search_condition(ShowsWithin)
+    pager.set_scroll_by(ScrollBy::Lines)?;
+    Ok(())
 }
 
 // A pager with the beginning of a text.
@@ -53,7 +64,8 @@ fn pager_of(
     beginning: &str,
 ) -> Result<PagerOf<AppKinds>, MinusError> {
     let mut pager = PagerOf::new(alloc);
-    set_up(&mut pager, layout)?;
+    lay_out(&mut pager, layout)?;
+    pager.set_incremental_search_condition(ShowsWithin)?;
     pager.push_str(beginning)?;
     Ok(pager)
 }
@@ -83,7 +95,7 @@ impl<S: OutputSink + Drop> View<S> {
             alloc,
             session,
             terminal,
-            typed: Typed::default(),
+            typed: Typed::new(alloc),
             notices: Notices::new(),
             queries: Queries::new(alloc, options.case),
             reading: Reading::new(options.first_goal()),
@@ -91,12 +103,14 @@ impl<S: OutputSink + Drop> View<S> {
             mouse: Mouse::new(options.mouse, copies),
             tabs,
             at_end: options.at_end,
+            ends_at_interrupt: options.ends_at_interrupt,
             leaves: options.leaves,
         }
     }
 
     /// Starts a session with the beginning of a text. Where that is all of it, and is to be printed where it fits the
-    /// terminal, it is printed there, and there is no session.
+    /// terminal, what was not printed yet is printed there, and there is no session; else what was printed is taken
+    /// away.
     ///
     /// # Errors
     ///
@@ -114,6 +128,7 @@ impl<S: OutputSink + Drop> View<S> {
             copies,
             keys,
             prints,
+            printed,
             marks_tabs,
         } = start;
         let mut tabs = Tabs::new(alloc, marks_tabs);
@@ -121,9 +136,10 @@ impl<S: OutputSink + Drop> View<S> {
         let beginning = text.as_str();
         let (cols, rows) = (usize::from(size.cols), usize::from(size.rows));
         let (mut pages, layout) = (pages, options.layout(cols));
-        if prints && print_if_fits(alloc, &mut pages, beginning, layout, rows)? {
+        if prints && print_if_fits(alloc, &mut pages, beginning, layout, rows, printed)? {
             return Ok(None);
         }
+        printed.erase(alloc, &mut pages)?;
         let pager = pager_of(alloc, layout, beginning)?;
         let session = session_of(pager, pages, (cols, rows), keys)?;
         let view = View::of_session(alloc, session, beside, copies, tabs, options);

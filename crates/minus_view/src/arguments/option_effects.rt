@@ -1,10 +1,11 @@
 //! What an option sets, by itself or with its value.
-ghost use Rattle.std.specs.Prelude.{◌≡◌, option_map};
-ghost use Rattle.minus_view.specs.Paging.{bare_paging, with_setting, line_number, with_command, is_number, with_tab_width};
-ghost use Rattle.minus_view.specs.Paging.{words_end, with_name, with_prompt, with_value};
+ghost use Rattle.std.specs.Prelude.{◌≡◌, false, option_map};
+ghost use Rattle.minus_view.specs.Paging.{bare_opening, bare_paging, with_setting, line_from, line_number, once, found};
+ghost use Rattle.minus_view.specs.Paging.{placed, opening_of, with_command, is_number, with_tab_width};
+ghost use Rattle.minus_view.specs.Paging.{words_end, with_name, name_start, with_prompt, with_value};
 
 use super::option_table::{Setting, Valued};
-use super::reading::{cut, number_len};
+use super::reading::{Class, begins_with, cut, number_len, run_of};
 use super::{AtEnd, Case, Opening, Paging};
 use crate::numbers::number;
 
@@ -46,12 +47,16 @@ pub(super) fn with_setting<'a>(so_far: Paging<'a>, resets: bool, setting: Settin
             at_end: if resets { AtEnd::Stays } else { at_end },
             ..so_far
         },
+        Setting::EndsAtInterrupt => Paging {
+            ends_at_interrupt: !resets,
+            ..so_far
+        },
     }
 }
 
-// The number of a line.
-fn line_number(digits: &[u8]) -> Option<usize>
-    ensures { result ≡ line_number digits.now }
+// The number that digits make.
+fn whole_number(digits: &[u8]) -> Option<usize>
+    ensures { result ≡ line_from 0 digits.now }
 {
     let mut line: usize = 0;
     for digit in digits {
@@ -60,19 +65,74 @@ fn line_number(digits: &[u8]) -> Option<usize>
             _ => return None,
         }
     }
-    if line == 0 { None } else { Some(line) }
+    Some(line)
 }
 
-// A command behind `+`: where the first page begins.
+// The number of a line.
+fn line_number(digits: &[u8]) -> Option<usize>
+    ensures { result ≡ line_number digits.now }
+{
+    match whole_number(digits) {
+        Some(0) | None => None,
+        Some(line) => Some(line),
+    }
+}
+
+// A command without a `+` in front, by which `less` does it for each text: here it is done for the first one.
+fn once(command: &str) -> &str
+    ensures { result.now ≡ once command.now }
+{
+    if begins_with(b'+', command.as_bytes()) {
+        cut(command, 1, command.len())
+    } else {
+        command
+    }
+}
+
+// A search behind its `/`: letters in front of the pattern that say where `less` begins are skipped, and there is no
+// search for what does not match.
+fn found(search: &str) -> Option<Opening<'_>>
+    ensures { option_map bare_opening result ≡ found search.now }
+{
+    let from = run_of(Class::Reach, search.as_bytes());
+    match &search.as_bytes()[from..] {
+        [0x0B | 0x0E | 0x12 | b'!', ..] => None,
+        _ => Some(Opening::Finds(cut(search, from, search.len()))),
+    }
+}
+
+// A number and the key behind it.
+fn placed<'a>(digits: &[u8], key: &[u8]) -> Option<Opening<'a>>
+    ensures { option_map bare_opening result ≡ placed digits.now key.now }
+{
+    match key {
+        [] | [b'g' | b'G' | b'<' | b'>'] => Some(Opening::Line(line_number(digits)?)),
+        [b'p' | b'%'] => Some(Opening::Part(whole_number(digits)?)),
+        _ => None,
+    }
+}
+
+// Where the first page begins, by a command.
+fn opening_of(command: &str) -> Option<Opening<'_>>
+    ensures { option_map bare_opening result ≡ opening_of command.now }
+{
+    match command.as_bytes() {
+        [b'G' | b'>'] => Some(Opening::End),
+        [b'g' | b'<'] => Some(Opening::First),
+        [b'F'] => Some(Opening::Follows),
+        [b'/', ..] => found(cut(command, 1, command.len())),
+        bytes => {
+            let end = run_of(Class::Digits, bytes);
+            placed(&bytes[..end], &bytes[end..])
+        }
+    }
+}
+
+// A command behind `+`.
 fn with_command<'a>(so_far: Paging<'a>, command: &'a str) -> Option<Paging<'a>>
     ensures { option_map bare_paging result ≡ with_command (bare_paging so_far.entry) command.now }
 {
-    let opening = match command.as_bytes() {
-        [b'G'] => Opening::End,
-        [b'F'] => Opening::Follows,
-        [b'/', ..] => Opening::Finds(cut(command, 1, command.len())),
-        digits => Opening::Line(line_number(digits)?),
-    };
+    let opening = opening_of(once(command))?;
     Some(Paging { opening, ..so_far })
 }
 
@@ -96,17 +156,18 @@ fn with_tab_width<'a>(so_far: Paging<'a>, value: &[u8]) -> Option<Paging<'a>>
     }
 }
 
-// Where the words of a prompt end, before the first `?` or `%`.
+// Where the words of a prompt end, before the first `?` or `%` that no backslash stands before.
 fn words_end(bytes: &[u8]) -> usize
-    ensures { result ≡ words_end 0 0 bytes.now }
+    ensures { result ≡ words_end 0 0 false bytes.now }
 {
-    let mut end = 0;
+    let (mut end, mut is_escaped) = (0, false);
     for (at, byte) in bytes.iter().enumerate() {
         match *byte {
-            b'?' | b'%' => return end,
-            b' ' => (),
+            b'?' | b'%' if !is_escaped => return end,
+            b' ' if !is_escaped => (),
             _ => end = at + 1,
         }
+        is_escaped = *byte == b'\\' && !is_escaped;
     }
     end
 }
@@ -125,15 +186,25 @@ fn with_name<'a>(so_far: Paging<'a>, prompt: &'a str, from: usize) -> Paging<'a>
     }
 }
 
-// A prompt; the one of help, of `=` or of waiting names no text.
+// Where the words of a prompt begin; the one of help, of `=` or of waiting names no text.
+fn name_start(prompt: &[u8]) -> Option<usize>
+    ensures { result ≡ name_start prompt.now }
+{
+    match prompt {
+        [b'h' | b'=' | b'w', ..] => None,
+        [b's' | b'm' | b'M', b' ', ..] => Some(2),
+        [b's' | b'm' | b'M', ..] => Some(1),
+        _ => Some(0),
+    }
+}
+
+// A prompt.
 fn with_prompt<'a>(so_far: Paging<'a>, prompt: &'a str) -> Paging<'a>
     ensures { bare_paging result ≡ with_prompt (bare_paging so_far.entry) prompt.now }
 {
-    match prompt.as_bytes() {
-        [b'h' | b'=' | b'w', ..] => so_far,
-        [b's' | b'm' | b'M', b' ', ..] => with_name(so_far, prompt, 2),
-        [b's' | b'm' | b'M', ..] => with_name(so_far, prompt, 1),
-        _ => with_name(so_far, prompt, 0),
+    match name_start(prompt.as_bytes()) {
+        Some(from) => with_name(so_far, prompt, from),
+        None => so_far,
     }
 }
 

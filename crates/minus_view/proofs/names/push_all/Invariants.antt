@@ -1,7 +1,7 @@
 -- The characters so far were added.
 use Rattle.std.proofs.Common.{◌≡◌, ◌++◌, drop, string_bytes}
 use Rattle.std.specs.Str.{encode_utf8_all}
-use Rattle.minus_view.proofs.prompt_place.push_all.Given as goal
+use Rattle.minus_view.proofs.names.push_all.Given as goal
 
 abbrev pub invariant-loop-c : goal.invariant-loop-c
 invariant-loop-c l =

@@ -4,8 +4,8 @@ use Rattle.std.specs.Str.Iter.{chars_rest}
 use Rattle.std.proofs.lemmas.List.{flat_map_more}
 use Rattle.std.proofs.lemmas.Iterator.{YieldsList-from_chars}
 use Rattle.std.proofs.lemmas.Iterator.Consumers.{YieldsList-end}
-use Rattle.minus_view.specs.PromptPlace.{shown_as}
-use Rattle.minus_view.proofs.prompt_place.clean_characters.Goals as goal
+use Rattle.minus_view.specs.Names.{shown_as}
+use Rattle.minus_view.proofs.names.clean_characters.Goals as goal
 
 pub loop-c-preserved : goal.loop-c-preserved
 loop-c-preserved c =
