@@ -333,7 +333,8 @@ struct minus_told minus_show_search(struct minus_pager pager, bool is_shown, str
 
 /* What a terminal's bytes begin with; call it again with the bytes behind those that it is, until it answers
  * MINUS_READ_MORE. At most 65 bytes are left then: keep them, and put what comes next behind them. `late` says that
- * nothing has come behind these bytes for a while, such as 50 ms: one ESC is the Esc key then. */
+ * nothing has come behind these bytes for a while, such as 50 ms: one ESC is the Esc key then, and `ESC P` is Alt-P. An
+ * answer of the terminal (DCS, OSC, APC) and a pasted text are read as their bytes are: it is the caller's to drop them. */
 struct minus_read minus_read(const uint8_t *bytes, size_t len, bool late);
 
 /* A key: by the default bindings, or of the search prompt. MINUS_BAD_ARGUMENT where `code`, `kind` or `value` stand for

@@ -37,11 +37,11 @@ class KeyTests(TerminalTests):
         self.press('k')
         self.assert_page(self.LINES, 'notes  30-36/100  ', 'mark 29', 'numbers on')
         self.press('M')
-        self.terminal.wait_for('COMMAND SUMMARY')
+        self.terminal.wait_for('Moving')
         self.press('q')
         self.assert_page(self.LINES, 'notes  30-36/100  ', 'mark 29', 'numbers on')
         self.press('M')
-        self.terminal.wait_for('COMMAND SUMMARY')
+        self.terminal.wait_for('Moving')
         self.press_escape()
         self.press('q')
         self.assert_page(self.LINES, 'notes  30-36/100  ', 'mark 29', 'numbers on')
@@ -211,7 +211,7 @@ class KeyTests(TerminalTests):
             self.press(key)
             wait_for_row('row of the', f'{key!r} twice')
         self.press('h')
-        terminal.wait_for('COMMAND SUMMARY')
+        terminal.wait_for('Moving')
         self.press('q')
         wait_for_row('row of the', 'help')
         for cols, begins in ((100, '20 begins'), (40, 'row of the')):
@@ -294,6 +294,57 @@ class KeyTests(TerminalTests):
         terminal = self.page('./minus long')
         self.press('Gg/qu|1234567$\r')
         terminal.wait(lambda: terminal.player.texts()[0] == 'line 1234567', 'the match')
+        self.quit()
+
+    def test_right_cuts_wrapped_lines_as_long_as_the_page_is_shifted(self):
+        words = [f'w{n:02}' for n in range(20)]
+        line = lambda n: ' '.join([f'{n:02}', *words, 'end'])
+        self.write('long', ''.join(f'{line(n)}\n' for n in range(1, 31)))
+        terminal = self.page('./minus long')
+        shows = lambda *rows: terminal.wait(lambda: terminal.player.texts()[:len(rows)] == [*rows], rows)
+        wrapped = (' '.join(['10', *words[:9]]), ' '.join(words[9:19]))
+        said = 'lines are cut while shifted (Return)'
+        self.press('10g')
+        shows(*wrapped)
+        self.press('\x1b[D')
+        terminal.wait_for_turns()
+        shows(*wrapped)
+        self.press('\x1b[C')
+        shows(line(10)[20:60], line(11)[20:60])
+        terminal.wait_for(said)
+        # (not further than to the end of the longest line; it is said once)
+        for keys, left in (('\x1b[C', 40), ('\x1b[C', 46), ('\x1b[C', 46), ('\x1b[D', 26), ('\x1b[D', 6)):
+            self.press(keys)
+            shows(line(10)[left:left + 40], line(11)[left:left + 40])
+            self.assertNotIn(said, terminal.player.texts()[-1])
+        self.press('\x1b[D')
+        shows(*wrapped)
+        terminal.wait_for(' 10-12/30 ')
+        # (`-S` lets them stay cut)
+        self.press('\x1b[C')
+        terminal.wait_for(said)
+        self.press('-S')
+        terminal.wait_for('long lines are cut (Return)')
+        self.press('\r\x1b[D')
+        shows(line(10)[:40], line(11)[:40])
+        self.press('-S')
+        terminal.wait_for('long lines are wrapped (Return)')
+        shows(*wrapped)
+        self.quit()
+        terminal = self.page('./minus -S long')
+        self.press('\x1b[C')
+        shows(line(1)[20:60])
+        self.assertNotIn(said, terminal.player.texts()[-1])
+        self.press('\x1b[D')
+        shows(line(1)[:40], line(2)[:40])
+        self.quit()
+        # (the next text has its lines wrapped)
+        terminal = self.page('./minus long long', cols=60)
+        self.press('\x1b[C')
+        terminal.wait_for(said)
+        self.press('\r:n')
+        terminal.wait_for('long (file 2 of 2)')
+        terminal.wait(lambda: not terminal.player.texts()[1].startswith('02'), 'wrapped lines')
         self.quit()
 
     def test_a_number_holds_for_the_next_half_page_too(self):
@@ -408,38 +459,40 @@ class KeyTests(TerminalTests):
         self.quit()
 
     def keys_of_the_table(self):
-        """The keys that docs/PAGER.md lists, as help names them: of several that make one command the first."""
+        """The keys of each row of the table in docs/PAGER.md, as help names them: of several that make one command the
+        first."""
         page = contents(os.path.join(TOP, 'docs', 'PAGER.md')).decode()
         table = page.split('| Key | |\n|---|---|\n')[1].split('\n\n')[0]
-        names = {'Space': '<Space>', '`Esc u`': 'Alt-u', '`\\|`': '|'}
-        keys = set()
+        names = {'Enter': 'RETURN', 'PageDown': 'PGDN', 'PageUp': 'PGUP', '`Esc u`': 'ESC-u', '`\\|`': '|'}
         for row in table.splitlines():
-            for key in re.findall(r'`[^`]+`|[A-Z][-A-Za-z]+', row.split(' | ')[0]):
-                if key not in names and key[0] == '`':
-                    key = f'Shift-{key[1].lower()}' if key[1].isupper() else key[1]
-                elif key.startswith('Ctrl-'):
-                    key = key[:-1] + key[-1].lower()
-                keys.add(names.get(key, key))
-        return keys
+            keys = re.findall(r'`[^`]+`|[A-Z][-A-Za-z]+', row.split(' | ')[0])
+            yield {
+                names.get(key) or (key[1] if key[0] == '`' else key.replace('Ctrl-', '^') if '-' in key else key.upper())
+                for key in keys}
 
     def test_help_lists_the_keys(self):
         self.write('notes', self.LINES)
-        terminal = self.page('./minus notes', cols=100, rows=50)
+        terminal = self.page('./minus notes', cols=80, rows=50)
         for key in 'hH':
             terminal.wait_for('1-49/100')
             self.press(key)
-            terminal.wait_for('-- Press q to return to pager --')
-            listed = set()
-            for row in terminal.player.texts():
-                # (each key but the last has a comma behind it)
-                words = row.split()
-                while len(words) > 1 and words[0].endswith(','):
-                    listed.add(words.pop(0)[:-1])
-                listed.update(words[:1])
-            # (as the document says)
-            self.assertEqual(self.keys_of_the_table() - listed, {'Ctrl-z'})
-            # (a terminal sends one byte for these and for Backspace)
-            self.assertFalse(listed & {'Ctrl-h', 'Ctrl-Shift-h'})
+            terminal.wait_for('q leaves help')
+            rows = [row.rstrip() for row in terminal.player.texts()[:-1]]
             self.press('q')
         terminal.wait_for('1-49/100')
         self.quit()
+        listed = {key for row in rows if row.startswith('  ') for key in row[:17].split()}
+        table = list(self.keys_of_the_table())
+        self.assertLessEqual(listed, set.union(*table) | {'M'})
+        # (of each row of the document some)
+        self.assertEqual([row for row in table if not row & listed], [{'^Z'}])
+        for heading in ('Moving', 'Searching', 'Places and files', 'Options', 'Ending'):
+            self.assertIn(heading, rows)
+        for row in (
+            '  j DOWN RETURN  down a row, or N rows', '  G > END        end of the text, or line N',
+            '  SPACE f PGDN   page down, or by N rows', '  ESC-u          show matches no more, or again',
+            "  '              go to the place of a letter, ' back", '  -              set an option: N numbers, S cut, i I case',
+            '  q Q            quit', '  ^C             end following, or reading on',
+        ):
+            self.assertIn(row, rows)
+        self.assertLessEqual(max(map(len, rows)), 72)

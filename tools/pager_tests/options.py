@@ -124,7 +124,8 @@ class OptionTests(TerminalTests):
         for call, there in (
             ('LESS=-i ./minus +/error notes', '95-101/101'), ('LESS="IR" ./minus -p ERROR notes', '95-101/101'),
             ('LESS=i MINUS=R ./minus +G notes', '95-101/101'), ('./minus -i +/Line notes', '(pattern not found)'),
-            ('LESS=-no-such-R ./minus +12 notes', '12-18/101'),
+            ('LESS=-no-such-R ./minus +12 notes', '12-18/101'), ("./minus '+?line 5' notes", '59-65/101'),
+            ("./minus '+?none' notes", '(pattern not found)'), ("./minus '+?(' notes", 'Invalid regular'),
         ):
             self.page(call)
             self.terminal.wait_for(there)
@@ -141,6 +142,23 @@ class OptionTests(TerminalTests):
         self.assert_printed('./minus -F seven', ['x' * 40] + ['y'] * 5)
         self.page('(cat seven; echo y) | ./minus -F')
         self.quit()
+
+    def test_a_search_back_from_the_end_goes_on_back(self):
+        for call in ('./minus "+?^.*0 of" notes', 'cat notes | ./minus "+?^.*0 of"'):
+            self.write('notes', self.LINES)
+            terminal = self.page(call)
+            for keys, place in (('', '94-100/100'), ('n', '90-96/100'), ('n', '80-86/100'), ('N', '90-96/100')):
+                self.press(keys)
+                terminal.wait_for(place)
+            self.assertNotIn('went on', terminal.player.texts()[-1])
+            self.quit()
+
+    def test_a_first_part_may_have_tenths(self):
+        self.write('many', ''.join(f'{n}\n' for n in range(1001)))
+        for words, line in (('+50.5%', 505), ('+.5p', 5), ('+12.34%', 123), ('+7.%', 70), ('+50%', 500)):
+            terminal = self.page(f'./minus {words} many')
+            terminal.wait(lambda: terminal.player.texts()[0] == str(line), f'line {line} by {words}')
+            self.quit()
 
     def test_a_file_goes_on_where_it_was_left(self):
         self.write('one', self.LINES)

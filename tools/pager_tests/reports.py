@@ -28,9 +28,8 @@ class ReportTests(TerminalTests):
         self.press('/error 4\r')
         self.assert_page(self.TEXT, 'report  48-54/100  ', 'mark 7', 'type /error 4', 'key enter')
         self.press('M')
-        self.terminal.wait_for('COMMAND SUMMARY')
-        self.press('G')
-        self.terminal.wait_for('go to the next error')
+        self.terminal.wait_for('Keys of this program')
+        self.terminal.wait_for('  e              go to the next error')
         self.press('e')
         self.terminal.program = 'minus_report'
         self.terminal.wait_for_turns()

@@ -428,6 +428,40 @@ class SearchTests(TerminalTests):
             terminal.wait(lambda: row in terminal.player.texts()[:2], f'{row} after {query}: {terminal.player.texts()}')
         self.quit()
 
+    def test_a_preview_back_is_where_enter_leads(self):
+        terminal = self.page_lines()
+        shows = lambda row: terminal.wait(lambda: terminal.player.texts()[0] == f'line {row} of the text', f'line {row}')
+        for keys, row, place in (
+            # (the last match on the page or above it, or else, round, the last one of all)
+            ('50g?line 4', 49, '49-55'), ('?line 9', 9, '9-15'), ('g?line 95', 94, '94-100'), ('20g?LINE 1', 20, '20-26'),
+        ):
+            self.press(keys)
+            shows(row)
+            self.press('\r')
+            terminal.wait_for(f'{place}/100')
+        # (and the page itself, where it leads nowhere)
+        self.press('\r?line 4\x03')
+        terminal.wait_for('20-26/100')
+        shows(20)
+        self.quit()
+        writer = self.page_pipe('seq 30 60')
+        self.terminal.wait_for('input  1-7')
+        self.press('?5.')
+        self.terminal.wait_for_turns()
+        self.assertEqual(self.terminal.player.texts()[0], '30')
+        self.press('\x03')
+        self.end_pipe(writer)
+
+    def test_a_preview_back_leaves_out_capitals(self):
+        self.write('notes', self.LINES + 'An Error\n' + self.LINES)
+        terminal = self.page('./minus -i +150 notes')
+        terminal.wait_for('150-156/201')
+        self.press('?error')
+        terminal.wait(lambda: terminal.player.texts()[0] == 'An Error', 'the match')
+        self.press('\r')
+        terminal.wait_for('101-107/201')
+        self.quit()
+
     def test_a_text_of_many_lines_has_a_preview(self):
         self.write('many', ''.join(f'line {n}\n' for n in range(1, 20001)))
         terminal = self.page('./minus many')

@@ -2,3 +2,4 @@ pub mod FeedLaws
 pub mod JumpLaws
 pub mod KeptLaws
 pub mod PrintedRowsLaws
+pub mod TypedNameLaws

@@ -8,7 +8,7 @@ use Rattle.minus_app.specs.declared.prompt.Notice.{Notice}
 use Rattle.minus_app.specs.declared.prompt.Notice.TheVariants.{Nothing, NotFound, NotBelow, WentOnAtTop, WentOnAtEnd}
 use Rattle.minus_app.specs.declared.view.goals.Goal.{Goal}
 use Rattle.minus_app.specs.declared.view.goals.Led.{Led}
-use Rattle.minus_app.specs.declared.view.goals.Goal.TheVariants.{Line, End, Part, Match, LastMatch}
+use Rattle.minus_app.specs.declared.view.goals.Goal.TheVariants.{Line, End, Part, Match, LastMatch, MatchFromEnd}
 
 -- the first row of a line that was read, and else a row behind all, once the text is whole
 abbrev pub row_if_read : Option ℕ → Bool → Option ℕ
@@ -24,6 +24,7 @@ row_of_goal state (Part part) whole =
     if whole then Some (row_of_line state (line_at (length (line_map state.screen.document)) part)) else None
 row_of_goal state (Match place) whole = None
 row_of_goal state LastMatch whole = None
+row_of_goal state MatchFromEnd whole = None
 
 -- a search that went past an end of the text leads to the match at a place, where some row matches
 abbrev pub led_round : (count place : ℕ) → Notice → Led
@@ -45,4 +46,6 @@ match_of_goal (Match place) count whole followed =
     else (if whole || followed then Some (led_past_last count place followed) else None)
 match_of_goal LastMatch count whole followed =
     if whole || followed then Some (led_round count (count - 1) WentOnAtEnd) else None
+match_of_goal MatchFromEnd count whole followed =
+    if whole || followed then Some (led_round count (count - 1) Nothing) else None
 match_of_goal goal count whole followed = None

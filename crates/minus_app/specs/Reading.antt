@@ -1,6 +1,6 @@
 -- How much of a text a program reads, and how it begins to show it.
-use Rattle.std.specs.Prelude.{ℕ, ◌-◌, ◌*◌, ◌&&◌, ◌||◌, not, Option, Some, None, Bool, if◌then◌else◌, length, nat_lt}
-use Rattle.std.specs.Prelude.{min, slice_get}
+use Rattle.std.specs.Prelude.{ℕ, ◌-◌, ◌&&◌, ◌||◌, not, Option, Some, None, Bool, if◌then◌else◌, length, nat_lt}
+use Rattle.std.specs.Prelude.{slice_get}
 use Rattle.minus_text.specs.declared.rows.Span.{Span}
 use Rattle.minus_text.specs.LinePlaces.{row_places}
 use Rattle.minus_text.specs.Document.{rows_of}
@@ -17,15 +17,16 @@ use Rattle.minus_app.specs.declared.view.goals.Goal.TheVariants.{Line, Part, End
 abbrev pub first_line : ℕ → Option Goal
 first_line line = if nat_lt line 2 then None else Some (Line (line - 1))
 
--- what the text is read on for so that the first page begins there: its end, a part of it in per cent, or a line that
--- is not its first one
+-- what the text is read on for so that the first page begins there: its end, a part of it, or a line that is not its
+-- first one; a search reads on by itself
 abbrev pub goal_of_opening : Opening → Option Goal
 goal_of_opening opening.First = None
 goal_of_opening (opening.Line line) = first_line line
-goal_of_opening (opening.Part part) = Some (Part (min part 100 * 10000))
+goal_of_opening (opening.Part part) = Some (Part part)
 goal_of_opening opening.End = Some End
 goal_of_opening opening.Follows = None
 goal_of_opening (opening.Finds query) = None
+goal_of_opening (opening.FindsBack query) = None
 
 -- what the text is read on for at first
 abbrev pub first_goal : Options → Option Goal

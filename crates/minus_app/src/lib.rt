@@ -7,6 +7,8 @@ mod app;
 mod clipboard;
 mod fault;
 mod hand_on;
+mod help;
+mod key_table;
 mod keyboard;
 mod keys;
 mod launch;

@@ -82,9 +82,13 @@ impl<'a> Options<'a> {
     {
         match self.opening {
             Opening::Line(line) if line > 1 => Some(Goal::Line(line - 1)),
-            Opening::Part(part) => Some(Goal::Part(part.min(100) * 10_000)),
+            Opening::Part(part) => Some(Goal::Part(part)),
             Opening::End => Some(Goal::End),
-            Opening::First | Opening::Line(_) | Opening::Follows | Opening::Finds(_) => None,
+            Opening::First
+            | Opening::Line(_)
+            | Opening::Follows
+            | Opening::Finds(_)
+            | Opening::FindsBack(_) => None,
         }
     }
 }

@@ -30,7 +30,7 @@ use crate::program::turning::TopLines;
 use crate::size::SizeFile;
 use crate::view::{Start, View};
 use minus::{Event, OutputSink};
-use minus_view::Opening;
+use minus_view::{Heard, Opening};
 use std::io::Read;
 use std::mem;
 
@@ -63,7 +63,7 @@ pub struct Program<A: App, S, R> {
     growth: Growth,
     keyboard: Keyboard<R>,
     // The keys that wait: those pressed before the first page, or while the text is read on.
-    pressed: Vec<Event>,
+    pressed: Vec<Heard>,
     sizes: SizeFile,
     // How long nothing was done.
     idle: Idle,
@@ -155,8 +155,10 @@ impl<A: App, S: OutputSink + Drop, R: Read + Drop> Program<A, S, R> {
         let is_whole = self.growth.is_whole();
         self.view.set_whole(is_whole);
         let _ = self.view.pursue()?;
-        if let Opening::Finds(query) = options.opening {
-            self.view.search(query)?;
+        match options.opening {
+            Opening::Finds(query) => self.view.search(query)?,
+            Opening::FindsBack(query) => self.view.search_from_end(query)?,
+            _ => {}
         }
         if let Some(said) = options.says {
             let said = format!(in rt.alloc(); "{said} (Return)")?;
@@ -209,7 +211,7 @@ impl<A: App, S: OutputSink + Drop, R: Read + Drop> Program<A, S, R> {
     // The application's action that an event leads to.
     fn own_act(&self, event: &Event) -> Option<A::Act>
         ensures { result ≡ own_act_at self.now.acts.items self.now.view.session.parts.state
-            (register_of self.now.view.session.parts.classifier) event.now }
+            (register_of self.now.view.session.parts.classifier.table) event.now }
     {
         let number = self.view.own_number(event)?;
         self.acts.get(number).copied()

@@ -2,6 +2,7 @@
 ghost use Rattle.std.specs.Prelude.{◌≡◌};
 
 mod actions;
+mod back_preview;
 mod case_preview;
 mod copying;
 mod events;
@@ -11,6 +12,7 @@ mod jumps;
 mod kept_place;
 mod marks;
 mod moves;
+mod pasting;
 mod printed_rows;
 mod printing;
 mod prompt_row;
@@ -20,13 +22,14 @@ mod reading;
 mod row_of_byte;
 mod searching;
 mod seen_columns;
+mod shifts;
 mod starting;
 mod tabs;
 mod typed;
 
 use crate::app::Neighbour;
 use crate::fault::Fault;
-use crate::keys::Table;
+use crate::key_table::KeyTable;
 use crate::preview::ShowsWithin;
 use crate::prompt::Notice;
 use crate::size::Size;
@@ -50,7 +53,7 @@ use minus_view::AtEnd;
 use std::alloc::Global;
 
 /// The kinds of an application's session: its register does not depend on the type of the application's actions.
-type AppKinds = Kinds<NeverCalled, NeverCalled, ShowsWithin, Table>;
+type AppKinds = Kinds<NeverCalled, NeverCalled, ShowsWithin, KeyTable>;
 
 /// The bytes that give the mouse back to the terminal.
 const MOUSE_OFF: &str = "\x1b[?1006l\x1b[?1015l\x1b[?1003l\x1b[?1002l\x1b[?1000l";
@@ -88,6 +91,8 @@ pub struct View<S> {
     reading: Reading,
     // The places of the text that are kept.
     places: Places,
+    // Whether long lines are cut only as long as the page is shifted to the side.
+    is_cut_for_shift: bool,
     mouse: Mouse,
     // The tabs of the text, where these are told.
     tabs: Tabs,
@@ -111,6 +116,7 @@ impl<S: Drop> Drop for View<S> {
             queries: _,
             reading: _,
             places: _,
+            is_cut_for_shift: _,
             mouse: _,
             tabs: _,
             at_end: _,
@@ -211,7 +217,8 @@ impl<S: OutputSink + Drop> View<S> {
         self.set_notice(Notice::Nothing);
         self.reading = Reading::new(None);
         self.places = Places::new(self.alloc);
-        self.set_text(String::new(self.alloc))
+        self.set_text(String::new(self.alloc))?;
+        self.end_shift()
     }
 
     // Gives the mouse back to the terminal, where the options ask for that.
@@ -306,6 +313,7 @@ impl<S: OutputSink + Drop> View<S> {
             queries: _,
             reading: _,
             places: _,
+            is_cut_for_shift: _,
             mouse: _,
             tabs: _,
             at_end: _,

@@ -22,9 +22,11 @@ pub enum ViewAction {
     Percent,
     /// Types a point to the number, which has a part then, as `50.5`: as less has it before the per cent.
     Point,
-    /// Moves the page to the right by half of its columns, or by as many as are counted, where lines are not wrapped.
+    /// Moves the page to the right by half of its columns, or by as many as are counted; lines that are wrapped
+    /// are cut for that.
     Right,
-    /// Moves the page to the left by half of its columns, or by as many as are counted, where lines are not wrapped.
+    /// Moves the page to the left by half of its columns, or by as many as are counted; lines that were cut for
+    /// that are wrapped again at the first column.
     Left,
     /// Goes to the next match in the direction of the search, seen from the page; the text is read on for that.
     NextMatch,

@@ -184,7 +184,7 @@ fn help_lists_both_and_keeps_its_keys(rt: HostRuntime) {
     let found = typing(&rt, &[b"M", b"eZ"]).expect(&rt, "typed");
     assert_eq!(rt; (found.on, found.is_help), (true, true));
     assert!(rt; found.text.contains("go to the tenth line"));
-    assert!(rt; found.text.contains("scroll down"));
+    assert!(rt; found.text.contains("down a row, or N rows"));
     let left = typing(&rt, &[b"M", b"q", b"c"]).expect(&rt, "typed");
     assert_eq!(rt; (left.on, left.is_help, left.counted), (true, false, 1));
 }

@@ -29,14 +29,14 @@ is read before the options, which are those of less:
   -i -I       capitals do not count in queries without capitals; in none
   -e -E       end where the end is reached for a second time; at once
   -K          end by Ctrl-C, with status 2
-  -p PATTERN  begin at the first match
+  -p PATTERN  begin at the first match, as +/PATTERN; +?PATTERN at the last one
   +LINE +N%   begin at this line, counted from 1; at this part of the text
   +G +F       begin at the end; follow the end of the text
   --mouse     take the mouse
 
 Keys are those of less: j k scroll, Space b page, g G go to the top and the end,
 F follows the end, / ? search on and back, n N go to the next match and the one
-before, q ends; h lists all.
+before, q ends; h lists more.
 ";
 
 // Does what the words ask for.

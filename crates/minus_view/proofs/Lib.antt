@@ -2,6 +2,7 @@ pub mod CleanLaws
 pub mod OptionWordsLaws
 pub mod EventLaws
 pub mod ExpandedLaws
+pub mod HeardLaws
 pub mod HistoryLaws
 pub mod MeaningLaws
 pub mod NamesLaws

@@ -2,6 +2,7 @@ pub mod Arguments
 pub mod CellMarks
 pub mod OptionWords
 pub mod Events
+pub mod Heard
 pub mod History
 pub mod Keys
 pub mod LineKeys

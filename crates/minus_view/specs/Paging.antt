@@ -1,15 +1,15 @@
 -- What an option sets, by itself or with its value. A text is told by its bytes, wherever it lies.
-use Rattle.std.specs.Prelude.{ℕ, ◌+◌, ◌-◌, ◌*◌, ◌==◌, ◌&&◌, ◌||◌, ◌^◌, Bool, false, not, List, [], ◌∷◌, Option, Some}
-use Rattle.std.specs.Prelude.{None, if◌then◌else◌, codes, bytes_eq, nat_lt, length, map, option_map, take, drop}
+use Rattle.std.specs.Prelude.{ℕ, ◌+◌, ◌-◌, ◌*◌, ◌==◌, ◌&&◌, ◌||◌, ◌^◌, Bool, true, false, not, List, [], ◌∷◌, Option}
+use Rattle.std.specs.Prelude.{Some, None, if◌then◌else◌, codes, bytes_eq, nat_lt, length, map, option_map, take, drop}
 use Rattle.std.specs.Int.{is_in_range}
 use Rattle.std.specs.Borrow.{Bor}
-use Rattle.minus_view.specs.Numbers.{number}
+use Rattle.minus_view.specs.Numbers.{number, past_number, typed_part}
 use Rattle.minus_view.specs.OptionTable.{is_one_of}
 use Rattle.minus_view.specs.OptionWords.{cut, number_len, run_of}
 use Rattle.minus_view.specs.declared.arguments.Case.TheVariants as case
 use Rattle.minus_view.specs.declared.arguments.AtEnd.TheVariants as at_end
 use Rattle.minus_view.specs.declared.arguments.Opening.{Opening}
-use Rattle.minus_view.specs.declared.arguments.Opening.TheVariants.{First, Line, Part, End, Follows, Finds}
+use Rattle.minus_view.specs.declared.arguments.Opening.TheVariants.{First, Line, Part, End, Follows, Finds, FindsBack}
 use Rattle.minus_view.specs.declared.arguments.Paging.{Paging}
 use Rattle.minus_view.specs.declared.arguments.reading.Class.TheVariants.{Digits, Reach}
 use Rattle.minus_view.specs.declared.arguments.option_table.Setting.{Setting}
@@ -43,6 +43,7 @@ bare_opening (Part part) = Part part
 bare_opening End = End
 bare_opening Follows = Follows
 bare_opening (Finds query) = Finds (bare query)
+bare_opening (FindsBack query) = FindsBack (bare query)
 
 -- how texts are paged, told by what the names and the query are
 abbrev pub bare_paging : Paging → Paging
@@ -102,31 +103,51 @@ is_key (b ∷ c ∷ rest) keys = false
 abbrev pub once : List ℕ → List ℕ
 once command = if begins_with 43 command then cut command 1 (length command) else command
 
--- a search behind its `/`: the letters in front of the pattern that say where `less` begins, `*`, `@`, Ctrl-E, Ctrl-F
--- and Ctrl-W, are skipped; nothing where a letter says that the pattern is to be read in another way, `!`, Ctrl-K,
--- Ctrl-N or Ctrl-R
-abbrev pub found : List ℕ → Option Opening
-found search =
+-- the pattern of a search behind its `/` or `?`: the letters in front of it that say where `less` begins, `*`, `@`,
+-- Ctrl-E, Ctrl-F and Ctrl-W, are skipped; nothing where a letter says that the pattern is to be read in another way,
+-- `!`, Ctrl-K, Ctrl-N or Ctrl-R
+abbrev pub pattern_of : List ℕ → Option (List ℕ)
+pattern_of search =
     let from = run_of Reach search in
     if begins_with_one_of (11 ∷ 14 ∷ 18 ∷ 33 ∷ []) (drop from search) then None
-    else Some (Finds (shown (cut search from (length search))))
+    else Some (cut search from (length search))
+
+-- a search on from the first line
+abbrev pub found : List ℕ → Option Opening
+found search = option_map (λ query. Finds (shown query)) (pattern_of search)
+
+-- a search back from the end of the text
+abbrev pub found_back : List ℕ → Option Opening
+found_back search = option_map (λ query. FindsBack (shown query)) (pattern_of search)
+
+-- whether there is nothing, or a point and digits alone
+abbrev pub is_point_part : List ℕ → Bool
+is_point_part [] = true
+is_point_part (b ∷ digits) = (b == 46) && (length (past_number digits) == 0)
+
+-- whether these are digits alone, or have one point among them
+abbrev pub is_part : List ℕ → Bool
+is_part digits = is_point_part (past_number digits)
 
 -- a number and the key behind it: a line, or a part of the text in per cent; nothing for any other key
-abbrev pub placed : (digits key : List ℕ) → Option Opening
-placed digits key =
-    if (length key == 0) || is_key key (codes "gG<>") then option_map Line (line_number digits)
-    else (if is_key key (codes "p%") then option_map Part (line_from 0 digits) else None)
+abbrev pub placed : (command : List ℕ) → Option Opening
+placed command =
+    let end = run_of Digits command in
+    if (length (drop end command) == 0) || is_key (drop end command) (codes "gG<>")
+    then option_map Line (line_number (take end command))
+    else (if is_key (drop end command) (codes "p%") && is_part (take end command) then Some (Part (typed_part command))
+    else None)
 
 -- where the first page begins, by a command: `G` or `>` at the end, `g` or `<` at the first line, `F` at the end and
--- followed, `/` and a query at a match, a number at that line, and one before `p` or `%` at that part of the text;
--- nothing for any other command
+-- followed, `/` and a query at its first match, `?` and a query at its last one, a number at that line, and one before
+-- `p` or `%` at that part of the text; nothing for any other command
 abbrev pub opening_of : List ℕ → Option Opening
 opening_of command =
     if is_key command (codes "G>") then Some End
     else (if is_key command (codes "g<") then Some First
     else (if is_key command (codes "F") then Some Follows
     else (if begins_with 47 command then found (cut command 1 (length command))
-    else (let end = run_of Digits command in placed (take end command) (drop end command)))))
+    else (if begins_with 63 command then found_back (cut command 1 (length command)) else placed command))))
 
 -- the first page begins where the command behind `+` says; nothing where the command is not known
 abbrev pub with_command : Paging → List ℕ → Option Paging

@@ -36,7 +36,7 @@ pub enum Opening<'a> {
     First,
     /// At this line, counted from 1.
     Line(usize),
-    /// At the line at this many per cent of the text.
+    /// At the line at this many millionths of the text.
     Part(usize),
     /// It is the last page.
     End,
@@ -44,6 +44,8 @@ pub enum Opening<'a> {
     Follows,
     /// At the first line in which this query matches.
     Finds(&'a str),
+    /// At the last line in which this query matches: it is searched for back from the end.
+    FindsBack(&'a str),
 }
 
 /// What the end of the text does.

@@ -5,6 +5,7 @@
 
 mod arguments;
 mod events;
+mod heard;
 mod history;
 mod key_sequences;
 mod keys;
@@ -25,7 +26,10 @@ mod text_queue;
 pub use arguments::{
     ArgumentFault, Arguments, AtEnd, Case, Opening, Paging, parse_arguments, takes_value,
 };
-pub use events::{pieces_join, read_events, read_late_events, read_unit, units_are_determined};
+pub use events::{late_unit, pieces_join, read_unit, units_are_determined};
+pub use heard::{
+    Heard, Pasted, Stretch, answers_ask_for_nothing, answers_end, hear, hear_late, pastes_are_texts,
+};
 pub use history::{History, steps_lead_back};
 pub use keys::press;
 pub use line_keys::{LineKey, line_key};

@@ -6,8 +6,8 @@ use crate::options::Options;
 use crate::program::NAP;
 use crate::size::Size;
 use crate::view::Printed;
-use minus::{Event, OutputSink};
-use minus_view::take_marks;
+use minus::OutputSink;
+use minus_view::{Heard, take_marks};
 use std::alloc::Global;
 use std::io::Read;
 use std::thread;
@@ -30,7 +30,7 @@ pub struct Beginning {
     /// Whether the text was read to its end, for now or for good.
     pub is_at_end: bool,
     /// The keys that were pressed.
-    pub pressed: Vec<Event>,
+    pub pressed: Vec<Heard>,
 }
 
 impl Beginning {

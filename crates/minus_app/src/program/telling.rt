@@ -4,6 +4,7 @@ use crate::fault::Fault;
 use crate::program::Program;
 use crate::view::Onward;
 use minus::{Event, OutputSink};
+use minus_view::Heard;
 use std::io::Read;
 
 // What is said where there is no other text.
@@ -17,7 +18,7 @@ fn none_there(neighbour: Neighbour) -> &'static str {
 impl<A: App, S: OutputSink + Drop, R: Read + Drop> Program<A, S, R> {
     // Tells an event: to the application where it leads to an action of the application's, and else to the pager, as a
     // key that was typed behind another.
-    fn tell_one(&mut self, rt: &HostRuntime, event: Event) -> Result<Onward, Fault> {
+    fn tell_event(&mut self, rt: &HostRuntime, event: Event) -> Result<Onward, Fault> {
         let own = if self.view.awaits_key() {
             None
         } else {
@@ -30,6 +31,17 @@ impl<A: App, S: OutputSink + Drop, R: Read + Drop> Program<A, S, R> {
         match self.app.act(act, rt, &mut self.view)? {
             Flow::On => Ok(Onward::On),
             Flow::Ended => Ok(Onward::Ended),
+        }
+    }
+
+    // Tells an event, or a character of a text that is pasted, which is no key.
+    fn tell_one(&mut self, rt: &HostRuntime, heard: Heard) -> Result<Onward, Fault> {
+        match heard {
+            Heard::Event(event) => self.tell_event(rt, event),
+            Heard::Pasted(pasted) => {
+                self.view.paste(pasted)?;
+                Ok(Onward::On)
+            }
         }
     }
 
@@ -56,33 +68,49 @@ impl<A: App, S: OutputSink + Drop, R: Read + Drop> Program<A, S, R> {
         Ok(())
     }
 
-    // Whether an event waits until the text was read on as far as a key has asked: not where that may never be, as in
-    // what another program is writing. An interrupt never waits, and a key that ends the program only behind another
+    // Whether what is heard is a key that ends the program.
+    fn is_end(&self, heard: &Heard) -> bool {
+        match heard {
+            Heard::Event(event) => self.view.is_end(event),
+            Heard::Pasted(_) => false,
+        }
+    }
+
+    // Whether what is heard is a key that interrupts what goes on.
+    fn is_interrupt(&self, heard: &Heard) -> bool {
+        match heard {
+            Heard::Event(event) => self.view.is_interrupt(event),
+            Heard::Pasted(_) => false,
+        }
+    }
+
+    // Whether what is heard waits until the text was read on as far as a key has asked: not where that may never be, as
+    // in what another program is writing. An interrupt never waits, and a key that ends the program only behind another
     // one.
-    fn waits_with(&self, event: &Event) -> bool {
+    fn waits_with(&self, heard: &Heard) -> bool {
         if !self.view.is_reading_on() || self.app.is_written() {
             return false;
         }
-        let ends_now = self.pressed.is_empty() && self.view.is_end(event);
-        !ends_now && !self.view.is_interrupt(event)
+        let ends_now = self.pressed.is_empty() && self.is_end(heard);
+        !ends_now && !self.is_interrupt(heard)
     }
 
-    // Drops the keys that wait, where an event interrupts what goes on.
-    fn drop_keys(&mut self, event: &Event) {
-        if self.view.is_interrupt(event) {
+    // Drops the keys that wait, where one interrupts what goes on.
+    fn drop_keys(&mut self, heard: &Heard) {
+        if self.is_interrupt(heard) {
             self.pressed.clear();
         }
     }
 
-    // Tells events in their order, up to one that ends the session. Answers whether it goes on.
-    pub(super) fn tell(&mut self, rt: &HostRuntime, events: &[Event]) -> Result<bool, Fault> {
-        for event in events {
-            if self.waits_with(event) {
-                self.pressed.push(*event)?;
+    // Tells what was heard in its order, up to a key that ends the session. Answers whether it goes on.
+    pub(super) fn tell(&mut self, rt: &HostRuntime, heard: &[Heard]) -> Result<bool, Fault> {
+        for one in heard {
+            if self.waits_with(one) {
+                self.pressed.push(*one)?;
                 continue;
             }
-            self.drop_keys(event);
-            match self.tell_one(rt, *event)? {
+            self.drop_keys(one);
+            match self.tell_one(rt, *one)? {
                 Onward::On => {}
                 Onward::Suspended => self.suspend(rt)?,
                 Onward::Turns(neighbour) => self.turn_by_key(rt, neighbour)?,

@@ -36,19 +36,6 @@ impl<S: OutputSink + Drop> View<S> {
         self.head_for(Goal::Line(number.saturating_sub(1)))
     }
 
-    // Moves the page to the side, to the right or to the left, where lines are not wrapped.
-    fn shift(&mut self, to_the_right: bool) -> Result<(), Fault> {
-        let count = self.typed.remember_half_width();
-        let state = self.session.state();
-        let columns = count.unwrap_or(state.cols / 2);
-        let left = if to_the_right {
-            state.left_mark.saturating_add(columns)
-        } else {
-            state.left_mark.saturating_sub(columns)
-        };
-        self.command(CommandOf::UserInput(InputEvent::UpdateLeftMark(left)))
-    }
-
     /// Goes to the match at a place among all, counted from 0, reports it, and shows it where lines are cut. A move up ends
     /// following.
     pub(super) fn lead_to(&mut self, place: usize) -> Result<(), Fault> {

@@ -1,9 +1,11 @@
-//! Where a query leads whose capitals do not count, while it is typed: it is drawn over the page beside the session, whose
-//! own preview counts them. The session draws the whole page at each edit of the query, and as the prompt is closed.
+//! Where a query leads whose capitals do not count, or that searches back, while it is typed: it is drawn over the page
+//! beside the session, whose own preview counts them and searches on. The session draws the whole page at each edit of
+//! the query, and as the prompt is closed.
 use crate::fault::Fault;
 use crate::preview::MOST_PREVIEWED;
 use crate::view::View;
-use minus::search::incremental_preview;
+use crate::view::back_preview::rows_back;
+use minus::search::{SearchMode, incremental_preview};
 use minus::{OutputSink, PagerState, Row, page_len, write_bytes};
 use std::alloc::{AllocError, Global};
 
@@ -29,25 +31,30 @@ fn drawn_rows(
 }
 
 impl<S: OutputSink + Drop> View<S> {
-    // The page of the match that the query in the search prompt leads to, where its capitals do not count. Out of memory,
-    // there is none.
-    fn page_of_any_case(&self) -> Option<String> {
+    // The page of the match that the query in the search prompt leads to, where the session's own preview shows another
+    // one. Out of memory, there is none.
+    fn page_of_query(&self) -> Option<String> {
         let state = self.session.state();
         let prompt = &state.open_search()?.prompt;
         let query = prompt.query();
         let is_previewed = query.len() > 1 && self.text().len() <= MOST_PREVIEWED;
-        if !is_previewed || !self.queries.leave_out_case(query) {
+        let is_back = state.search_state.search_mode == SearchMode::Reverse;
+        if !is_previewed || !(is_back || self.queries.leave_out_case(query)) {
             return None;
         }
         let term = self.pattern_of(query)?;
-        let rows = incremental_preview(self.alloc, state, &term).ok()??;
+        let rows = if is_back {
+            rows_back(self.alloc, state, &term, self.reading.is_whole).ok()?
+        } else {
+            incremental_preview(self.alloc, state, &term).ok()??
+        };
         let column = prompt.cursor().saturating_add(1);
         drawn_rows(self.alloc, state, rows.as_slice(), column).ok()
     }
 
-    /// Shows where a query leads whose capitals do not count.
-    pub(super) fn show_any_case(&mut self) -> Result<(), Fault> {
-        if let Some(drawn) = self.page_of_any_case() {
+    /// Shows where a query leads whose capitals do not count, or that searches back.
+    pub(super) fn show_own_preview(&mut self) -> Result<(), Fault> {
+        if let Some(drawn) = self.page_of_query() {
             write_bytes(&mut self.terminal, drawn.as_bytes())?;
         }
         Ok(())

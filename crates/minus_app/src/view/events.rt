@@ -72,21 +72,21 @@ impl<S: OutputSink + Drop> View<S> {
     // The number of the application's action that an event leads to.
     pub(crate) fn own_number(&self, event: &Event) -> Option<usize>
         ensures { result ≡ own_number_at self.now.session.parts.state
-            (register_of self.now.session.parts.classifier) event.now }
+            (register_of self.now.session.parts.classifier.table) event.now }
     {
         let state = self.session.state();
         if state.help_open() || state.open_search().is_some() {
             return None;
         }
-        own_number(self.session.classifier(), event)
+        own_number(&self.session.classifier().table, event)
     }
 
     // What the pager does at an event that no default action does.
     fn action(&self, event: &Event) -> Option<ViewAction>
         ensures { result ≡ view_action_at self.now.session.parts.state
-            (register_of self.now.session.parts.classifier) event.now }
+            (register_of self.now.session.parts.classifier.table) event.now }
     {
-        let action = view_action(self.session.classifier(), event);
+        let action = view_action(&self.session.classifier().table, event);
         held(self.session.state().help_open(), action)
     }
 

@@ -17,8 +17,10 @@ pub enum Goal {
     Part(usize),
     /// The match at this place among all, counted from 0; past the last one it goes on at the first.
     Match(usize),
-    /// The last match of the whole text.
+    /// The last match of the whole text, where a search back goes on past the first one.
     LastMatch,
+    /// The last match of the whole text, where a search back begins at the end.
+    MatchFromEnd,
 }
 
 /// Where a search leads: to the match at a place among all, counted from 0, or to none; and what the prompt row says of
@@ -77,6 +79,9 @@ pub fn match_of_goal(goal: Goal, count: usize, is_whole: bool, is_followed: bool
         Goal::LastMatch if is_whole || is_followed => {
             Some(led_round(count, count.saturating_sub(1), Notice::WentOnAtEnd))
         }
+        Goal::MatchFromEnd if is_whole || is_followed => {
+            Some(led_round(count, count.saturating_sub(1), Notice::Nothing))
+        }
         _ => None,
     }
 }
@@ -96,6 +101,6 @@ pub fn row_of_goal(state: &PagerState, goal: Goal, is_whole: bool) -> Option<usi
             let lines = state.screen.lines_to_row_map().len();
             Some(row_of_line(state, line_at(lines, part)))
         }
-        Goal::End | Goal::Part(_) | Goal::Match(_) | Goal::LastMatch => None,
+        Goal::End | Goal::Part(_) | Goal::Match(_) | Goal::LastMatch | Goal::MatchFromEnd => None,
     }
 }

@@ -2,6 +2,7 @@
 use crate::app::Neighbour;
 use crate::fault::Fault;
 use crate::view::goals::Goal;
+use crate::view::shifts::LongLines;
 use crate::view::typed::Pending;
 use crate::view::{Onward, View};
 use minus::{CommandOf, Event, InputEvent, InputOf, KeyCode, KeyModifiers, OutputSink};
@@ -82,18 +83,16 @@ impl<S: OutputSink + Drop> View<S> {
         self.say(said)
     }
 
-    // Cuts long lines at the screen's edge, or wraps them.
+    // Cuts long lines at the screen's edge, or wraps them. Those that are cut for a shift alone stay so.
     fn turn_wrapping(&mut self) -> Result<(), Fault> {
-        let is_cut = self.session.state().line_wrapping();
-        let said = if is_cut {
-            "long lines are cut (Return)"
-        } else {
+        let is_wrapped = self.side().lines.turned() == LongLines::Wrapped;
+        let said = if is_wrapped {
             "long lines are wrapped (Return)"
+        } else {
+            "long lines are cut (Return)"
         };
-        self.say_before("(laying out)")?;
-        self.step_in_place(InputOf::Command(CommandOf::UserInput(InputEvent::HorizontalScroll(
-            !is_cut,
-        ))))?;
+        self.set_wrapping(is_wrapped)?;
+        self.is_cut_for_shift = false;
         self.say(said)
     }
 

@@ -71,7 +71,7 @@ impl<S: OutputSink + Drop> View<S> {
             let bytes = if is_open { WRAP_OFF } else { WRAP_ON };
             write_bytes(&mut self.terminal, bytes.as_bytes())?;
         }
-        self.show_any_case()?;
+        self.show_own_preview()?;
         self.show_query_row()
     }
 
@@ -79,6 +79,7 @@ impl<S: OutputSink + Drop> View<S> {
     pub(super) fn tell_page(&mut self, event: Event) -> Result<Onward, Fault> {
         let told = self.session.state().search_mark();
         let onward = self.step_in_place(InputOf::Event(event))?;
+        self.heed_wrapping();
         if self.is_searching() {
             self.begin_jump();
             self.queries.told_before = told;
@@ -226,16 +227,24 @@ impl<S: OutputSink + Drop> View<S> {
         self.is_slow() || self.queries.leave_out_case(query)
     }
 
-    // Searches for the query beside the search prompt, which is closed. One that is no pattern is the session's to
-    // refuse.
-    fn search_apart(&mut self, event: Event) -> Result<(), Fault> {
+    // Searches for the query beside the search prompt, which is closed; the page stays. Answers whether it does: one
+    // that is no pattern is the session's to refuse.
+    fn set_query(&mut self) -> Result<bool, Fault> {
         let Some(term) = self.pattern_of(query_of(self.session.state())) else {
-            return self.take_by_key(event);
+            return Ok(false);
         };
-        let page = QueryPage::of(self.session.state());
         let _ = self.step(InputOf::Event(press(KeyCode::Esc, 0)))?;
         self.say_before("(searching)")?;
         self.set_term(Some(term))?;
+        Ok(true)
+    }
+
+    // Searches for the query beside the search prompt, and goes to its match, seen from the page.
+    fn search_apart(&mut self, event: Event) -> Result<(), Fault> {
+        let page = QueryPage::of(self.session.state());
+        if !self.set_query()? {
+            return self.take_by_key(event);
+        }
         self.go_from(page)
     }
 
@@ -252,18 +261,33 @@ impl<S: OutputSink + Drop> View<S> {
         self.go_from(page)
     }
 
-    // Keeps the query, and takes it. Out of memory, it is not kept.
-    fn take_query(&mut self, event: Event) -> Result<(), Fault> {
+    // Keeps the query. Out of memory, it is not kept.
+    fn keep_query(&mut self) {
         let query = query_of(self.session.state());
         let _ = self.queries.history.take(query);
         self.queries.last = String::from_str(self.alloc, query).ok();
         self.queries.hidden = None;
+    }
+
+    // Keeps the query, and takes it.
+    fn take_query(&mut self, event: Event) -> Result<(), Fault> {
+        self.keep_query();
         if self.is_searched_apart() {
             self.search_apart(event)?;
         } else {
             self.take_by_key(event)?;
         }
         self.follow_on()
+    }
+
+    // Opens the search prompt for a search in a direction, and types a query.
+    fn type_query(&mut self, mode: SearchMode, query: &str) -> Result<(), Fault> {
+        self.command(CommandOf::UserInput(InputEvent::Search(mode)))?;
+        self.queries.history.begin();
+        for c in query.chars() {
+            let _ = self.step(InputOf::Event(press(KeyCode::Char(c), 0)))?;
+        }
+        Ok(())
     }
 
     /// Searches for a query from the page on, as if it were typed; for an empty one, nothing.
@@ -275,12 +299,25 @@ impl<S: OutputSink + Drop> View<S> {
         if query.is_empty() {
             return Ok(());
         }
-        self.command(CommandOf::UserInput(InputEvent::Search(SearchMode::Forward)))?;
-        self.queries.history.begin();
-        for c in query.chars() {
-            let _ = self.step(InputOf::Event(press(KeyCode::Char(c), 0)))?;
-        }
+        self.type_query(SearchMode::Forward, query)?;
         self.take_query(press(KeyCode::Enter, 0))
+    }
+
+    /// Searches for a query back from the end of the whole text; for an empty one, nothing.
+    ///
+    /// # Errors
+    ///
+    /// [`Fault::Pager`] where the session refuses.
+    pub(crate) fn search_from_end(&mut self, query: &str) -> Result<(), Fault> {
+        if query.is_empty() {
+            return Ok(());
+        }
+        self.type_query(SearchMode::Reverse, query)?;
+        self.keep_query();
+        if !self.set_query()? {
+            return self.take_by_key(press(KeyCode::Enter, 0));
+        }
+        self.head_for(Goal::MatchFromEnd)
     }
 
     // Removes all characters of the query.

@@ -4,9 +4,7 @@ ghost use Rattle.minus_app.specs.SeenColumns.{left_for};
 
 use crate::fault::Fault;
 use crate::view::View;
-use minus::{
-    CommandOf, InputEvent, OutputSink, PagerState, columns, prefix_columns, strip_escapes,
-};
+use minus::{OutputSink, PagerState, columns, prefix_columns, strip_escapes};
 use std::alloc::{AllocError, Global};
 
 /// Columns of a line from one up to another, both counted from 0.
@@ -54,14 +52,24 @@ fn columns_of_match(
     }))
 }
 
+// The columns of text of the rows of cut lines.
+fn text_columns(state: &PagerState) -> usize {
+    let prefix = prefix_columns(state.line_numbers.is_on(), state.screen.line_count());
+    state.cols.saturating_sub(prefix)
+}
+
+/// The left mark at which the longest line ends where the page does.
+pub fn most_left(state: &PagerState) -> usize {
+    let longest = state.screen.get_max_line_length();
+    longest.saturating_sub(text_columns(state))
+}
+
 // The left mark at which the page shows the match in a row.
 fn left_for_row(alloc: Global, state: &PagerState, row: usize) -> Result<usize, AllocError> {
     let Some(found) = columns_of_match(alloc, state, row)? else {
         return Ok(state.left_mark);
     };
-    let prefix = prefix_columns(state.line_numbers.is_on(), state.screen.line_count());
-    let width = state.cols.saturating_sub(prefix);
-    let most = state.screen.get_max_line_length().saturating_sub(width);
+    let (width, most) = (text_columns(state), most_left(state));
     Ok(left_for(state.left_mark, width, most, found))
 }
 
@@ -76,6 +84,7 @@ impl<S: OutputSink + Drop> View<S> {
         if left == state.left_mark {
             return Ok(());
         }
-        self.command(CommandOf::UserInput(InputEvent::UpdateLeftMark(left)))
+        let side = self.side();
+        self.show_side(side.shifted_to(left))
     }
 }

@@ -4,7 +4,7 @@ ghost use Rattle.minus_commands.specs.Queued.{waiting_of};
 ghost use Rattle.minus_app.specs.Starting.{laid_out};
 
 use crate::fault::Fault;
-use crate::keys::Table;
+use crate::key_table::KeyTable;
 use crate::options::Options;
 use crate::preview::ShowsWithin;
 use crate::size::Size;
@@ -35,7 +35,7 @@ pub struct Start<S> {
     /// Whether the terminal takes a copied text.
     pub copies: bool,
     /// What decides about events.
-    pub keys: Table,
+    pub keys: KeyTable,
     /// Whether the text is all there, and is to be printed where it fits the terminal.
     pub prints: bool,
     /// How much of it was printed.
@@ -75,7 +75,7 @@ fn session_of<S: OutputSink + Drop>(
     pager: PagerOf<AppKinds>,
     terminal: S,
     size: (usize, usize),
-    keys: Table,
+    keys: KeyTable,
 ) -> Result<Core<S, AppKinds>, MinusError> {
     let (cols, rows) = size;
     Ok(init_core_with(pager, RunMode::Dynamic, terminal, cols, rows, keys)?)
@@ -100,6 +100,7 @@ impl<S: OutputSink + Drop> View<S> {
             queries: Queries::new(alloc, options.case),
             reading: Reading::new(options.first_goal()),
             places: Places::new(alloc),
+            is_cut_for_shift: false,
             mouse: Mouse::new(options.mouse, copies),
             tabs,
             at_end: options.at_end,

@@ -1,13 +1,14 @@
 //! What an option sets, by itself or with its value.
 ghost use Rattle.std.specs.Prelude.{◌≡◌, false, option_map};
-ghost use Rattle.minus_view.specs.Paging.{bare_opening, bare_paging, with_setting, line_from, line_number, once, found};
+ghost use Rattle.minus_view.specs.Paging.{bare_opening, bare_paging, with_setting, line_from, line_number, once};
+ghost use Rattle.minus_view.specs.Paging.{pattern_of, found, found_back, is_part};
 ghost use Rattle.minus_view.specs.Paging.{placed, opening_of, with_command, is_number, with_tab_width};
 ghost use Rattle.minus_view.specs.Paging.{words_end, with_name, name_start, with_prompt, with_value};
 
 use super::option_table::{Setting, Valued};
 use super::reading::{Class, begins_with, cut, number_len, run_of};
 use super::{AtEnd, Case, Opening, Paging};
-use crate::numbers::number;
+use crate::numbers::{number, past_number, typed_part};
 
 /// An option that has no value: it is set, or set back.
 pub(super) fn with_setting<'a>(so_far: Paging<'a>, resets: bool, setting: Setting) -> Paging<'a>
@@ -89,25 +90,52 @@ fn once(command: &str) -> &str
     }
 }
 
-// A search behind its `/`: letters in front of the pattern that say where `less` begins are skipped, and there is no
-// search for what does not match.
-fn found(search: &str) -> Option<Opening<'_>>
-    ensures { option_map bare_opening result ≡ found search.now }
+// The pattern of a search behind its `/` or `?`: letters in front of it that say where `less` begins are skipped, and
+// there is none of a search for what does not match.
+fn pattern_of(search: &str) -> Option<&str>
+    ensures { option_map (λ pattern. pattern.now) result ≡ pattern_of search.now }
 {
     let from = run_of(Class::Reach, search.as_bytes());
     match &search.as_bytes()[from..] {
         [0x0B | 0x0E | 0x12 | b'!', ..] => None,
-        _ => Some(Opening::Finds(cut(search, from, search.len()))),
+        _ => Some(cut(search, from, search.len())),
+    }
+}
+
+// A search on from the first line.
+fn found(search: &str) -> Option<Opening<'_>>
+    ensures { option_map bare_opening result ≡ found search.now }
+{
+    Some(Opening::Finds(pattern_of(search)?))
+}
+
+// A search back from the end of the text.
+fn found_back(search: &str) -> Option<Opening<'_>>
+    ensures { option_map bare_opening result ≡ found_back search.now }
+{
+    Some(Opening::FindsBack(pattern_of(search)?))
+}
+
+// Whether these are digits alone, or have one point among them.
+fn is_part(digits: &[u8]) -> bool
+    ensures { result ≡ is_part digits.now }
+{
+    match past_number(digits) {
+        [] => true,
+        [b'.', behind @ ..] => past_number(behind).is_empty(),
+        _ => false,
     }
 }
 
 // A number and the key behind it.
-fn placed<'a>(digits: &[u8], key: &[u8]) -> Option<Opening<'a>>
-    ensures { option_map bare_opening result ≡ placed digits.now key.now }
+fn placed(command: &str) -> Option<Opening<'_>>
+    ensures { option_map bare_opening result ≡ placed command.now }
 {
+    let bytes = command.as_bytes();
+    let (digits, key) = bytes.split_at(run_of(Class::Digits, bytes));
     match key {
         [] | [b'g' | b'G' | b'<' | b'>'] => Some(Opening::Line(line_number(digits)?)),
-        [b'p' | b'%'] => Some(Opening::Part(whole_number(digits)?)),
+        [b'p' | b'%'] if is_part(digits) => Some(Opening::Part(typed_part(command))),
         _ => None,
     }
 }
@@ -121,10 +149,8 @@ fn opening_of(command: &str) -> Option<Opening<'_>>
         [b'g' | b'<'] => Some(Opening::First),
         [b'F'] => Some(Opening::Follows),
         [b'/', ..] => found(cut(command, 1, command.len())),
-        bytes => {
-            let end = run_of(Class::Digits, bytes);
-            placed(&bytes[..end], &bytes[end..])
-        }
+        [b'?', ..] => found_back(cut(command, 1, command.len())),
+        _ => placed(command),
     }
 }
 

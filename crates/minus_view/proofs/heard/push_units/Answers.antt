@@ -1,14 +1,14 @@
 use Rattle.std.proofs.Common.{◌-◌, take, drop, length, sym, arith}
 use Rattle.std.proofs.lemmas.List.{length-take, length-drop}
-use Rattle.minus_view.proofs.EventLaws.{one_more}
+use Rattle.minus_view.proofs.HeardLaws.{one_more}
 use Rattle.minus_view.proofs.KeySequencesLaws.{unit_waits}
-use Rattle.minus_view.proofs.events.push_events.Goals as goal
+use Rattle.minus_view.proofs.heard.push_units.Goals as goal
 
 pub loop-len-preserved : goal.loop-len-preserved
 loop-len-preserved c = record {
   within = omega (arith, c.in-Some.ensures.within);
-  read = one_more c.args.bytes.now c.loop-len.taken c.in-Some.len _ _ _ c.in-Some.ensures.is c.in-Some.ensures.within
-      c.in_ok-push_event.ensures.added c.loop-len.invariant.read;
+  read = one_more c.args.bytes.now c.loop-len.taken c.in-Some.len _ _ _ _ _ _ c.in-Some.ensures.is c.in-Some.ensures.within
+      c.in_ok-stretch.ensures.added c.in_ok-stretch.ensures.behind c.loop-len.invariant.read;
 }
 
 pub returns-clause-short : goal.returns-clause-short
