@@ -321,10 +321,6 @@ struct minus_told minus_set_match_lines(struct minus_pager pager, bool on, struc
 /* Puts each row with the style that its line carries to it, or rows as their texts are. */
 struct minus_told minus_set_carry_style(struct minus_pager pager, bool on, struct minus_handed *out);
 
-/* Moves the page's rows by lines that are deleted and inserted where it scrolls, which every terminal knows, or by
- * scrolls. */
-struct minus_told minus_set_scroll_by_lines(struct minus_pager pager, bool on, struct minus_handed *out);
-
 /* Whether the page shows where a query leads while it is typed: from the first call on the caller decides, before each
  * key; until then the default rule does. While the search prompt is open the first call waits until it is closed. */
 struct minus_told minus_show_search(struct minus_pager pager, bool is_shown, struct minus_handed *out);
@@ -333,8 +329,7 @@ struct minus_told minus_show_search(struct minus_pager pager, bool is_shown, str
 
 /* What a terminal's bytes begin with; call it again with the bytes behind those that it is, until it answers
  * MINUS_READ_MORE. At most 65 bytes are left then: keep them, and put what comes next behind them. `late` says that
- * nothing has come behind these bytes for a while, such as 50 ms: one ESC is the Esc key then, and `ESC P` is Alt-P. An
- * answer of the terminal (DCS, OSC, APC) and a pasted text are read as their bytes are: it is the caller's to drop them. */
+ * nothing has come behind these bytes for a while, such as 50 ms: one ESC is the Esc key then. */
 struct minus_read minus_read(const uint8_t *bytes, size_t len, bool late);
 
 /* A key: by the default bindings, or of the search prompt. MINUS_BAD_ARGUMENT where `code`, `kind` or `value` stand for

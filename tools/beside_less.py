@@ -181,5 +181,4 @@ def main():
     sys.exit(bool(failed))
 
 
-if __name__ == '__main__':
-    main()
+main()

@@ -34,7 +34,7 @@ def unescaped(text):
 
 def pieces(text):
     """What is drawn, in lines: one begins where the cursor is put or rows move, and ends behind a newline."""
-    return [escaped(part) for part in re.split(r'(?<=\n)|(?<!^)(?=\x1b\[(?:[0-9]+(?:;1H|[ST])|H))', text) if part]
+    return [escaped(part) for part in re.split(r'(?<=\n)|(?<!^)(?=\x1b\[[0-9]+(?:;1H|[ST]))', text) if part]
 
 
 def check_played(rows, drawn):

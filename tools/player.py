@@ -17,17 +17,8 @@ def columns(c):
     return 2 if unicodedata.east_asian_width(c) in 'WF' else 1
 
 
-def moved_rows(rows, y, final, blanks):
-    """Rows after as many were deleted (`M`) or inserted (`L`) at a row as there are blank ones."""
-    behind = rows[y + len(blanks):] + blanks if final == 'M' else blanks + rows[y:]
-    return rows[:y] + behind[-(len(rows) - y):] if final == 'M' else (rows[:y] + behind)[:len(rows)]
-
-
 class Player:
     """A screen of cells, each a text and its styles, a link among them, that plays what a terminal is sent."""
-
-    # whether it knows scrolls (`CSI n S`, `CSI n T`), as the Linux console does not
-    scrolls = True
 
     def __init__(self, cols, rows):
         self.cols, self.rows = cols, rows
@@ -78,21 +69,14 @@ class Player:
         elif final == 'H':
             self.y = min(first, self.rows) - 1
             self.x = min(max((values + [1])[1], 1), self.cols) - 1
-        elif final == 'A':
-            self.y = max(self.y - first, 0)
         elif final == 'J':
-            above = self.cells[:self.y] if values[0] == 0 else []
-            self.cells = above + [self.blank() for _ in range(self.rows - len(above))]
+            self.cells = [self.blank() for _ in range(self.rows)]
         elif final == 'K':
             self.cells[self.y] = self.blank()
-        elif final in 'ST' and not self.scrolls:
-            pass
         elif final == 'S':
             self.cells = (self.cells + [self.blank() for _ in range(first)])[-self.rows:]
         elif final == 'T':
             self.cells = ([self.blank() for _ in range(first)] + self.cells)[:self.rows]
-        elif final in 'ML':
-            self.cells = moved_rows(self.cells, self.y, final, [self.blank() for _ in range(first)])
         elif final == 'm':
             # (a marked match ends by 27, which takes 7 back)
             kept = () if values == [0] else tuple(style for style in self.style if style != '7' or numbers != '27')
@@ -122,7 +106,7 @@ class Player:
 
 def moves(text):
     """Whether a text has a sequence that moves the cursor or clears, so that it stands on no row by itself."""
-    return any(unit.group(3) in tuple('HJKLMST') for unit in UNIT.finditer(text))
+    return any(unit.group(3) in tuple('HJKST') for unit in UNIT.finditer(text))
 
 
 class PlainScreen:
@@ -137,7 +121,7 @@ class PlainScreen:
             mark, numbers, final = unit.group(1, 2, 3)
             if mark and numbers == '25':
                 self.is_cursor_shown = final == 'h'
-            elif final in tuple('HJKLMST'):
+            elif final in tuple('HJKST'):
                 self.sequence(numbers, final)
             elif not mark:
                 self.put(unit.group())
@@ -150,8 +134,6 @@ class PlainScreen:
             self.rows = (self.rows + [''] * first)[-len(self.rows):]
         elif final == 'T':
             self.rows = ([''] * first + self.rows)[:len(self.rows)]
-        elif final in 'ML':
-            self.rows = moved_rows(self.rows, self.y, final, [''] * first)
         elif final == 'J':
             self.rows = [''] * len(self.rows)
         else:

@@ -88,7 +88,6 @@ class Numbers:
             lambda: ('wrap', not self.is_one_of(3)), lambda: ('follow', self.is_one_of(3)), lambda: ('strategy', 'pager'),
             lambda: ('strategy', 'process'), lambda: ('unhook', 'after-exit', 1), lambda: ('unhook', 'end', self.below(6)),
             lambda: ('event', 'focus', 'on'), lambda: ('carrystyle', not self.is_one_of(3)),
-            lambda: ('scrollby', 'lines' if self.is_one_of(2) else 'scrolls'),
             lambda: ('matchlines', not self.is_one_of(3)), lambda: ('event', 'resize', self.below(26), self.below(9)),
         ])()
 

@@ -184,7 +184,6 @@ class TerminalTests(unittest.TestCase):
         """Types a command in a new terminal, and waits for its page."""
         self.tearDown()
         self.terminal = Terminal(self.folder, cols, rows, **shell)
-        self.terminal.player.scrolls = False
         self.terminal.send(command + '\n')
         # (a pager that ends by itself may have left its screen by then)
         self.terminal.wait(lambda: b'\x1b[?1049h' in self.terminal.bytes, 'the first page')

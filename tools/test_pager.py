@@ -11,7 +11,6 @@ import sys
 import unittest
 
 import programs
-from pager_tests.answers import AnswerTests
 from pager_tests.ends import EndTests
 from pager_tests.keys import KeyTests
 from pager_tests.launching import InstallTests, LauncherTests

@@ -90,13 +90,7 @@ class LauncherTests(TerminalTests):
         # (`a` and a newline, as `compress` packs them)
         self.write('a.Z', b'\x1f\x9d\x90a\x14\x00')
         self.assertEqual(self.launch('a.Z'), (b'<-> a.Z', b'a\n'))
-        # (of several the program gets those that are no archives)
-        for words, given, rest in (
-            (('b.gz', 'notes'), text.strip(), b'<--><notes> \nstanding\n'),
-            (('-N', '-', 'b.gz'), b'<--><-> ', b'standing\n' + text),
-        ):
-            self.assertEqual(self.launch(*words), (given, rest), words)
-        for words in (('-a.gz',), ('c',), ('plain.gz',), ('empty.gz',), ('none.gz',)):
+        for words in (('b.gz', 'notes'), ('b.gz', '-'), ('-a.gz',), ('c',), ('plain.gz',), ('empty.gz',), ('none.gz',)):
             given = ''.join(f'<{word}>' for word in words).encode() + b' '
             self.assertEqual(self.launch(*words), (given, b'standing\n'), words)
 

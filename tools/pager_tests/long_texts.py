@@ -12,9 +12,9 @@ class LongTextTests(TerminalTests):
         return 1024 * int(re.search(r'VmHWM:\s*(\d+)', contents(f'/proc/{pid}/status').decode())[1])
 
     def test_a_long_pipe_is_read_to_its_end_for_a_key(self):
-        # (1 MB is read below the page without that)
+        # (64 MB are read below the page without that)
         terminal = self.page("seq -f 'line %07.0f of a long pipe' 2700000 | ./minus")
-        terminal.wait_for('input  1-7')
+        terminal.wait_for(' 1-7/')
         self.press('G')
         terminal.wait_for('2699994-2700000/2700000  100%')
         self.assertEqual(terminal.player.texts()[0], 'line 2699994 of a long pipe')

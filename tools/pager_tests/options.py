@@ -4,7 +4,6 @@ import re
 import shlex
 import subprocess
 
-from player import Player
 from programs import TOP
 from terminal import Terminal, TerminalTests, contents
 
@@ -38,27 +37,6 @@ class OptionTests(TerminalTests):
         self.assert_page('a\n        b\n', 'short  1-2/2  ', 'follow on')
         self.quit()
 
-    def test_lines_that_fit_are_printed_as_they_come(self):
-        for more, is_paged in (('a\n', False), (self.LINES, True)):
-            writer = self.open_pipe()
-            self.tearDown()
-            self.terminal = terminal = Terminal(self.folder, 40, 8)
-            terminal.send('(seq 3; cat to_come) | LESS=FRX ./minus\n')
-            terminal.wait(lambda: terminal.player.texts()[1:4] == ['1', '2', '3'], 'the lines')
-            self.assertNotIn(b'\x1b[?1049h', terminal.bytes)
-            os.write(writer, more.encode())
-            os.close(writer)
-            if is_paged:
-                terminal.wait_for('1-7/103')
-                player = Player(40, 8)
-                player.play(terminal.bytes.partition(b'\x1b[?1049h')[0])
-                self.assertEqual(player.texts()[1:], [''] * 7)
-                self.quit()
-            else:
-                terminal.wait(lambda: terminal.player.texts()[1:6] == ['1', '2', '3', 'a', 'ready>'], 'the shell')
-                self.assertNotIn(b'\x1b[?1049h', terminal.bytes)
-            os.remove(os.path.join(self.folder, 'to_come'))
-
     def test_a_first_line_beyond_a_file_shows_the_last_page(self):
         self.write('notes', self.LINES)
         self.page('./minus +200 notes')
@@ -67,19 +45,19 @@ class OptionTests(TerminalTests):
 
     def test_a_first_line_is_waited_for_until_a_pipe_ends(self):
         writer = self.page_pipe('seq 20', '+25')
-        self.terminal.wait_for('(reading 0 MB) ')
-        os.write(writer, b'21\n')
+        self.terminal.wait_for('1-7/20')
         self.terminal.wait_for_turns()
-        self.assertEqual(self.terminal.player.texts()[0], '1')
+        os.write(writer, b'21\n')
+        self.terminal.wait_for('1-7/21')
         os.close(writer)
         self.assert_page(''.join(f'{n}\n' for n in range(1, 22)), 'standard input  15-21/21  ', 'mark 14')
         self.quit()
 
     def test_a_first_line_of_a_pipe(self):
         writer = self.page_pipe('seq 20', '+25')
-        self.terminal.wait_for('(reading 0 MB) ')
+        self.terminal.wait_for('1-7/20')
         os.write(writer, ''.join(f'{n}\n' for n in range(21, 41)).encode())
-        self.terminal.wait_for('input  25-31')
+        self.terminal.wait_for('25-31/40')
         self.end_pipe(writer)
 
     def test_a_name_that_is_no_utf_8(self):
@@ -97,17 +75,10 @@ class OptionTests(TerminalTests):
         self.press(':n')
         terminal.wait_for('other (file 3 of 3)')
         terminal.wait(lambda: terminal.player.texts()[0] == 'one', 'its text')
-        for keys, said in ((':n', 'no next file (Return)'), ('\r:p', 'notes (file 1'), (':p', 'no file before (Return)')):
-            self.press(keys)
-            terminal.wait_for(said)
-        self.press('\r')
-        terminal.wait_for('notes (file 1 of 3)')
-        self.quit()
-        terminal = self.page('./minus notes missing')
-        terminal.wait_for('notes (file 1 of 2)')
         self.press(':n')
-        terminal.wait_for('missing: no such file (Return)')
-        self.press('\r')
+        terminal.wait_for('no such file')
+        self.press('\r:p')
+        terminal.wait_for('notes (file 1 of 3)')
         self.quit()
         name = 'a-name-that-is-longer-than-the-row-of-the-screen'
         self.write(name, self.LINES)
@@ -124,8 +95,7 @@ class OptionTests(TerminalTests):
         for call, there in (
             ('LESS=-i ./minus +/error notes', '95-101/101'), ('LESS="IR" ./minus -p ERROR notes', '95-101/101'),
             ('LESS=i MINUS=R ./minus +G notes', '95-101/101'), ('./minus -i +/Line notes', '(pattern not found)'),
-            ('LESS=-no-such-R ./minus +12 notes', '12-18/101'), ("./minus '+?line 5' notes", '59-65/101'),
-            ("./minus '+?none' notes", '(pattern not found)'), ("./minus '+?(' notes", 'Invalid regular'),
+            ('LESS=-no-such-R ./minus +12 notes', '12-18/101'),
         ):
             self.page(call)
             self.terminal.wait_for(there)
@@ -142,23 +112,6 @@ class OptionTests(TerminalTests):
         self.assert_printed('./minus -F seven', ['x' * 40] + ['y'] * 5)
         self.page('(cat seven; echo y) | ./minus -F')
         self.quit()
-
-    def test_a_search_back_from_the_end_goes_on_back(self):
-        for call in ('./minus "+?^.*0 of" notes', 'cat notes | ./minus "+?^.*0 of"'):
-            self.write('notes', self.LINES)
-            terminal = self.page(call)
-            for keys, place in (('', '94-100/100'), ('n', '90-96/100'), ('n', '80-86/100'), ('N', '90-96/100')):
-                self.press(keys)
-                terminal.wait_for(place)
-            self.assertNotIn('went on', terminal.player.texts()[-1])
-            self.quit()
-
-    def test_a_first_part_may_have_tenths(self):
-        self.write('many', ''.join(f'{n}\n' for n in range(1001)))
-        for words, line in (('+50.5%', 505), ('+.5p', 5), ('+12.34%', 123), ('+7.%', 70), ('+50%', 500)):
-            terminal = self.page(f'./minus {words} many')
-            terminal.wait(lambda: terminal.player.texts()[0] == str(line), f'line {line} by {words}')
-            self.quit()
 
     def test_a_file_goes_on_where_it_was_left(self):
         self.write('one', self.LINES)
@@ -194,7 +147,7 @@ class OptionTests(TerminalTests):
         self.terminal = Terminal(self.folder)
         said = lambda: self.terminal.bytes.count(b'status=') > 1 and self.terminal.ends_with('ready> ')
         for words, status in (
-            ('missing', 1), ('folder', 1), ('-xabc notes', 2), ('-p', 2), ('', 2),
+            ('missing', 1), ('folder', 1), ('--no-such notes', 2), ('+0 notes', 2), ('', 2),
         ):
             self.terminal.bytes = b''
             self.terminal.send(f'./minus {words}; echo status=$?\n')
@@ -212,59 +165,10 @@ class OptionTests(TerminalTests):
         ('+F +12 --no-mouse -F notes', 'page'), ('+9999999999999 notes', 'page'), ('-- notes', 'page'),
         ('--RAW-CONTROL-CHARS --chop-long-lines notes', 'page'),
         ('-h', 'other'), ('-N --help', 'other'), ('--version', 'other'), ('--help --no-such', 'other'),
-        ('--no-such --help', 'other'), ('-p', 'refused'), ('-xabc notes', 'refused'),
+        ('--no-such --help', 'refused'), ('--no-such notes', 'refused'), ('-NZ notes', 'refused'),
+        ('--nomouse notes', 'refused'), ('-p', 'refused'),
+        ('+0 notes', 'refused'), ('+1x notes', 'refused'), ('+10000000000000 notes', 'refused'),
     )
-
-    def test_words_that_are_not_known_are_skipped(self):
-        self.write('notes', self.LINES)
-        # (as newer versions of less, git grep -O and people have them)
-        for words, skipped in (
-            ('--no-such notes', '--no-such'), ('-NZ notes', '-NZ'), ('--header=1 notes', '--header=1'),
-            ('--redraw-on-quit +1x notes', '--redraw-on-quit'), ("+Gk +\\'a notes", '+Gk'), ('+:n notes', '+:n'),
-            ('+0 notes', '+0'), ('+10000000000000 notes', '+10000000000000'), ('--quit notes', '--quit'),
-        ):
-            terminal = self.page(f'./minus {words}', cols=60)
-            terminal.wait_for(f'minus: {skipped} was skipped (Return)')
-            self.assertIn('line 7 of the text', terminal.player.texts()[6])
-            self.press('\r')
-            terminal.wait_for('notes  1-7/100')
-            self.quit()
-        how = dict(cwd=self.folder, input=b'', capture_output=True)
-        run = subprocess.run(['./minus', '--no-such', '-NZ', 'notes'], **how)
-        self.assertEqual((run.returncode, run.stdout), (0, self.LINES.encode()))
-        self.assertEqual(run.stderr, b'minus: --no-such was skipped\n')
-        self.write('short', 'a\n')
-        self.assert_printed('./minus -F --no-such short', ['a', 'minus: --no-such was skipped'])
-
-    def test_no_escape_of_a_name_reaches_the_terminal(self):
-        self.write('notes', self.LINES)
-        odd, shown = 'a\x1b]0;x\x07\u202e\x9b', 'a^[]0;x^G<U+202E><U+009B>'
-        for words, said in ((odd, f'{shown}: no such file'), (f'-x{odd}', f'no number: -x{shown}')):
-            run = subprocess.run(['./minus', words], cwd=self.folder, input=b'', capture_output=True)
-            self.assertEqual(run.stderr.decode(), f'minus: {said}\n')
-        run = subprocess.run(['./minus', f'--{odd}', 'notes'], cwd=self.folder, input=b'', capture_output=True)
-        self.assertEqual(run.stderr.decode(), f'minus: --{shown} was skipped\n')
-        self.write(odd, self.LINES)
-        terminal = self.page('./minus a*', cols=80)
-        terminal.wait_for(f'{shown}  1-7/100')
-        self.assertNotIn(b'\x1b]0;', terminal.bytes)
-        self.quit()
-
-    def test_commands_and_cut_names_of_less_are_done(self):
-        text = 'a long line that takes more than one row of the screen\n' + self.LINES
-        self.write('notes', text)
-        for words, first, lines in (
-            ('+20g', 20, []), ('++20G', 20, []), ('+50p', 51, []), ('+50%', 51, []), ('+\\>', 95, []), ('+g', 1, []),
-            ('+-N +20', 20, ['numbers on']), ('--chop +g', 1, ['wrap off']), ('--LINE --wordwrap +G', 95, ['numbers on']),
-            ("+/\\*@'line 20'", 21, []), ("++/'line 20'", 21, []),
-        ):
-            self.page(f'./minus {words} notes')
-            last = first + 6 - (first == 1 and 'wrap off' not in lines)
-            if '/' in words:
-                self.terminal.wait_for(f'notes  {first}-{last}/101')
-            else:
-                self.assert_page(text, f'notes  {first}-{last}/101  ', f'mark {first if first > 1 else 0}', *lines)
-            self.quit()
 
     def test_the_words(self):
         self.write('notes', self.LINES)
@@ -279,27 +183,6 @@ class OptionTests(TerminalTests):
             elif what == 'other':
                 self.assertNotEqual(launched.stdout, b'', words)
 
-    def test_help_fits_a_terminal_of_80_columns(self):
-        for words in ('--help', '-?'):
-            said = subprocess.run(['./minus', words], cwd=self.folder, input=b'', capture_output=True).stdout.decode()
-            self.assertTrue(said.startswith('usage: minus'))
-            self.assertLessEqual(max(map(len, said.splitlines())), 80)
-
-    def test_a_dumb_terminal_gets_the_text(self):
-        self.write('notes', 'a\n\x1b[1mb\x1b[m\n')
-        self.assert_printed('TERM=dumb ./minus notes', ['a', 'b'])
-
-    def test_the_mouse_is_asked_for_where_the_pager_takes_it(self):
-        self.write('notes', self.LINES)
-        for option, is_asked in (('', False), ('--mouse', True), ('--no-mouse', False)):
-            terminal = self.page(f'./minus {option} notes')
-            terminal.wait_for('1-7/100')
-            self.suspend()
-            self.resume()
-            terminal.wait_for('1-7/100')
-            self.assertEqual(b'\x1b[?1000h' in terminal.bytes, is_asked, option)
-            self.quit()
-
     def test_a_pipe_with_a_name(self):
         os.mkfifo(os.path.join(self.folder, 'pipe'))
         self.page('(seq 3 >pipe &); ./minus pipe')
@@ -311,7 +194,6 @@ class OptionTests(TerminalTests):
         text = ''.join(f'l\u00efne {n}\n' for n in range(1, 101))
         self.write('notes', text)
         terminal = self.page('./minus notes', cols=60)
-        terminal.wait_for('1-7/100')
         size = lambda lines: len(''.join(text.splitlines(True)[:lines]).encode())
         for key, first in (('=', 1), ('\x07', 1), ('30g=', 30), ('G\x07', 94)):
             end, whole = size(first + 6), size(100)
@@ -384,9 +266,9 @@ class OptionTests(TerminalTests):
     def test_less_as_man_and_systemd_set_it(self):
         text = 'an Error, and what makes this line one of more than one row\n' + self.LINES
         self.write('notes', text)
-        prompt = ' Manual page x\\.1\\? bash(1) ?ltline %lt?L/%L.:byte %bB?s/%s..?e (END):?pB %pB\\%.. (press h for help)'
+        prompt = ' Manual page bash(1) ?ltline %lt?L/%L.:byte %bB?s/%s..?e (END):?pB %pB\\%.. (press h for help)'
         self.page(f"cat notes | MAN_PN='bash(1)' LESS='-ix8RmPm{prompt}$PM{prompt}$-R$' ./minus", cols=60)
-        self.assert_page(text, 'Manual page x.1? bash(1)  1-7/101  ')
+        self.assert_page(text, 'Manual page bash(1)  1-7/101  ')
         self.press('/error\r')
         self.terminal.wait_for(' 1/1')
         self.quit()

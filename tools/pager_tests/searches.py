@@ -19,14 +19,9 @@ class SearchTests(TerminalTests):
             ('N', ['type p'], 'notes  50-56/100  '),
             ('3N', ['type 3p'], 'notes  5-11/100  '),
             ('N', ['type p'], 'notes  5-11/100  '),
+            # (past the last match it goes on at the first one)
             ('10n', ['type 10n'], 'notes  59-65/100  '),
-            # (past the last match it goes on at the first one, up to the next key)
-            ('n', ['type n'], '(went on at the top) 5-11/100  '),
-            ('j', ['type j'], 'notes  6-12/100  '),
-            ('k', ['type k'], 'notes  5-11/100  '),
-            # (and past the first one at the last)
-            ('g?line 8\r', ['mark 0', 'type /line 8', 'key enter', 'type 10n'], '(went on at the end) 89-95/100  '),
-            ('/line 5\r', ['type /line 5', 'key enter'], '(went on at the top) 5-11/100  '),
+            ('n', ['type n'], 'notes  5-11/100  '),
         ))
         self.assertTrue(self.terminal.player.texts()[-1].endswith(' 1/11'), self.terminal.player.texts())
         self.quit()
@@ -35,13 +30,12 @@ class SearchTests(TerminalTests):
         self.page_lines()
         self.assert_pages((
             ('30G', ['mark 29'], 'notes  30-36/100  '),
-            # (the library searches on first: the program goes to the last match above the last displayed row)
+            # (the library searches on first: the program goes to the last match above the page)
             ('?line .7\r', ['type ?line .7', 'key enter', 'type n'], 'notes  27-33/100  '),
             ('n', ['type n'], 'notes  17-23/100  '),
             ('N', ['type p'], 'notes  27-33/100  '),
             ('>', ['mark 93'], 'notes  94-100/100  '),
-            ('?line .[789] o\r', ['type ?line .[789] o', 'key enter', 'type 3p'], 'notes  94-100/100  '),
-            ('nnn', ['type 3n'], 'notes  89-95/100  '),
+            ('?line .[789] o\r', ['type ?line .[789] o', 'key enter', 'type n'], 'notes  89-95/100  '),
             # (no match is on the page or below it: the library goes on at the first one of all)
             ('?line 3\r', ['type /line 3', 'key enter', 'type 10n'], 'notes  39-45/100  '),
         ))
@@ -160,28 +154,22 @@ class SearchTests(TerminalTests):
             text = grow('the last\n')
             self.press('\x03')
             self.assert_page(text, 'log  106-112/112  ', 'type /line 98', 'key enter', 'follow on')
-            # (it goes on where no match is below)
-            for keys in ('/line 2\r', 'n', '2n'):
-                self.press(keys)
-                place = '(nothing found below) 106-112/112  '
-                self.assert_page(text, place, 'type /line 2', 'key enter', 'follow on')
-            # (a match further up ends it, and so does a jump there)
-            found = ['type /line 2', 'key enter', 'type 10n']
-            self.press('?line 2\r')
-            self.assert_page(text, 'log  29-35/112  ', *found)
+            # (a match further up ends that, and so does a jump there)
+            self.press('/line 2\r')
+            self.assert_page(text, 'log  2-8/112  ', 'type /line 2', 'key enter')
             text = grow('not followed\n')
-            self.assert_page(text, 'log  29-35/113  ', *found)
+            self.assert_page(text, 'log  2-8/113  ', 'type /line 2', 'key enter')
             self.press('F')
-            self.assert_page(text, 'log  107-113/113  ', *found, 'follow on')
+            self.assert_page(text, 'log  107-113/113  ', 'type /line 2', 'key enter', 'follow on')
             self.press('n')
-            self.assert_page(text, 'log  29-35/113  ', *found)
+            self.assert_page(text, 'log  2-8/113  ', 'type /line 2', 'key enter')
             text = grow('not either\n')
-            self.assert_page(text, 'log  29-35/114  ', *found)
+            self.assert_page(text, 'log  2-8/114  ', 'type /line 2', 'key enter')
         self.quit()
 
     def test_a_pipe_is_read_while_the_search_prompt_is_open(self):
         writer = self.page_pipe('seq 20')
-        self.terminal.wait_for('input  1-7')
+        self.terminal.wait_for('1-7/20')
         self.press('/1')
         self.terminal.wait_for('/1')
         lines = ''.join(f'{n}\n' for n in range(21, 20001))
@@ -189,9 +177,9 @@ class SearchTests(TerminalTests):
             os.write(writer, lines[at:at + 4096].encode())
         self.terminal.wait(lambda: self.terminal.counted('rchar') > len(lines), 'the text to be read')
         self.press('9\r')
-        self.terminal.wait_for('input  14-20')
+        self.terminal.wait_for('14-20/20000')
         self.press('G')
-        self.terminal.wait_for('19994-20000')
+        self.terminal.wait_for('19994-20000/')
         self.end_pipe(writer)
 
     def test_a_resize_while_the_search_prompt_is_open(self):
@@ -219,23 +207,23 @@ class SearchTests(TerminalTests):
     def test_a_text_is_read_on_for_a_key(self):
         writer = self.page_pipe('seq 20')
         terminal = self.terminal
-        terminal.wait_for('input  1-7')
+        terminal.wait_for('1-7/20')
         for keys, more, there in (
-            ('/zebra\r', 'zebra\n', '15-21'), ('g30G', ''.join(f'{n}\n' for n in range(22, 41)), '30-36'),
-            ('/^41$\r', '41\n', '35-41'),
+            ('/zebra\r', 'zebra\n', '15-21/21'), ('g30G', ''.join(f'{n}\n' for n in range(22, 41)), '30-36/40'),
+            ('/^41$\r', '41\n', '35-41/41'),
         ):
             self.press(keys)
             terminal.wait_for('(reading 0 MB)')
             self.assertNotIn('not found', terminal.player.texts()[-1])
             os.write(writer, more.encode())
-            terminal.wait_for(f'input  {there}')
-        # (Ctrl-C ends that)
+            terminal.wait_for(there)
+        # (Ctrl-C ends that, and another one the pager)
         self.press('g/none\r')
         terminal.wait_for('(reading 0 MB)')
         self.press('\x03')
         terminal.wait(lambda: 'reading' not in terminal.player.texts()[-1], 'the end of reading on')
         self.press('j')
-        terminal.wait_for('input  2-8')
+        terminal.wait_for('2-8/41')
         self.press('/none\r')
         terminal.wait_for('(reading 0 MB)')
         os.close(writer)
@@ -284,27 +272,6 @@ class SearchTests(TerminalTests):
         self.assertNotIn(b'(?i)', terminal.bytes)
         self.press('?ONE\r')
         terminal.wait_for('(pattern not found)')
-        self.quit()
-
-    def test_a_preview_knows_whether_capitals_count(self):
-        self.write('notes', self.LINES + 'a Needle\n' + self.LINES + 'a needle\n' + self.LINES)
-        terminal = self.page('./minus -i notes')
-        shown = lambda row, query: terminal.wait(
-            lambda: (terminal.player.texts()[0], terminal.player.texts()[-1]) == (row, '/' + query), f'{row} for {query}')
-        self.press('/need')
-        shown('a Needle', 'need')
-        self.assertEqual((terminal.player.x, terminal.player.y), (5, 7))
-        self.press('LE')
-        shown('line 1 of the text', 'needLE')
-        self.press('\x7f\x7fle')
-        shown('a Needle', 'needle')
-        self.press('\r')
-        terminal.wait_for(' 101-107/302 ')
-        self.press('g-i\r/need')
-        shown('a needle', 'need')
-        self.press('\x03')
-        terminal.wait_for(' 1-7/302 ')
-        self.assertEqual(terminal.player.texts()[0], 'line 1 of the text')
         self.quit()
 
     def test_a_query_longer_than_its_row_moves_to_the_side(self):
@@ -367,7 +334,7 @@ class SearchTests(TerminalTests):
     def test_a_search_back_goes_on_from_the_page(self):
         terminal = self.page_lines()
         for keys, place in (
-            ('84g?line .5\r', '85-91/100'), ('bbb', '64-70/100'), ('n', '55-61/100'), ('70g', '70-76/100'),
+            ('90g?line .5\r', '85-91/100'), ('bbb', '64-70/100'), ('n', '55-61/100'), ('70g', '70-76/100'),
             ('n', '65-71/100'), ('ddd', '77-83/100'), ('N', '85-91/100'), ('g', '1-7/100'), ('N', '15-21/100'),
         ):
             self.press(keys)
@@ -398,68 +365,6 @@ class SearchTests(TerminalTests):
             self.press(f'g/{query}\r')
             terminal.wait_for('(pattern not found)')
             self.press('\r')
-        self.quit()
-
-    def test_a_match_in_a_wrapped_line_shows_its_line(self):
-        line = ''.join(f'{n:02}{"x" * 38}' for n in range(12))
-        self.write('wrapped', f'first\n{line}\n' + self.LINES)
-        terminal = self.page('./minus wrapped')
-        row = lambda begin, place: terminal.wait(
-            lambda: terminal.player.texts()[0].startswith(begin) and terminal.player.texts()[-1].endswith(f' {place}'),
-            f'{begin} at {place}: {terminal.player.texts()}')
-        # (as long as both are on the page, which has seven rows)
-        for keys, begin, place in (
-            ('/04x\r', '00x', '1/1'), ('g/0[368]x\r', '00x', '1/3'), ('n', '00x', '2/3'), ('n', '08x', '3/3'),
-            ('N', '00x', '2/3'), ('N', '00x', '1/3'), ('G?^line|07x\r', 'line 94', '101/101'), ('100n', '07x', '1/101'),
-        ):
-            self.press(keys)
-            row(begin, place)
-        self.quit()
-
-    def test_a_match_at_the_side_of_a_cut_line_is_shown(self):
-        self.write('wide', 'left' + 'x' * 96 + '\x1b[31mneedle\x1b[m' + 'y' * 100 + '\n' + 'z' * 180 + 'end\n')
-        terminal = self.page('./minus -S wide')
-        for query, row in (
-            # (in the middle, as far to the side as the longest line goes; where it is seen, the page stays)
-            ('needle', 'x' * 20 + 'needle' + 'y' * 14), ('xn', 'x' * 20 + 'needle' + 'y' * 14), ('end', 'z' * 20 + 'end'),
-            ('y$', 'y' * 40), ('left', 'left' + 'x' * 36), ('needle', 'x' * 20 + 'needle' + 'y' * 14),
-        ):
-            self.press(f'/{query}\r')
-            terminal.wait(lambda: row in terminal.player.texts()[:2], f'{row} after {query}: {terminal.player.texts()}')
-        self.quit()
-
-    def test_a_preview_back_is_where_enter_leads(self):
-        terminal = self.page_lines()
-        shows = lambda row: terminal.wait(lambda: terminal.player.texts()[0] == f'line {row} of the text', f'line {row}')
-        for keys, row, place in (
-            # (the last match on the page or above it, or else, round, the last one of all)
-            ('50g?line 4', 49, '49-55'), ('?line 9', 9, '9-15'), ('g?line 95', 94, '94-100'), ('20g?LINE 1', 20, '20-26'),
-        ):
-            self.press(keys)
-            shows(row)
-            self.press('\r')
-            terminal.wait_for(f'{place}/100')
-        # (and the page itself, where it leads nowhere)
-        self.press('\r?line 4\x03')
-        terminal.wait_for('20-26/100')
-        shows(20)
-        self.quit()
-        writer = self.page_pipe('seq 30 60')
-        self.terminal.wait_for('input  1-7')
-        self.press('?5.')
-        self.terminal.wait_for_turns()
-        self.assertEqual(self.terminal.player.texts()[0], '30')
-        self.press('\x03')
-        self.end_pipe(writer)
-
-    def test_a_preview_back_leaves_out_capitals(self):
-        self.write('notes', self.LINES + 'An Error\n' + self.LINES)
-        terminal = self.page('./minus -i +150 notes')
-        terminal.wait_for('150-156/201')
-        self.press('?error')
-        terminal.wait(lambda: terminal.player.texts()[0] == 'An Error', 'the match')
-        self.press('\r')
-        terminal.wait_for('101-107/201')
         self.quit()
 
     def test_a_text_of_many_lines_has_a_preview(self):

@@ -47,23 +47,6 @@ class TextTests(TerminalTests):
         terminal.wait(lambda: terminal.player.texts()[-1] != told, 'more of the text')
         self.quit()
 
-    def test_no_total_is_said_before_it_is_known(self):
-        writer = self.page_pipe(':')
-        terminal = self.terminal
-        told = lambda said: terminal.wait(lambda: terminal.player.texts()[-1].rstrip() == said, repr(said))
-        terminal.wait_for_turns()
-        told('standard input')
-        os.write(writer, self.LINES.encode())
-        told('standard input  1-7')
-        self.press('=')
-        end = len(''.join(self.LINES.splitlines(True)[:7]))
-        terminal.wait_for(f'lines 1-7, byte {end} (Return)')
-        self.press('\r10j')
-        told('standard input  11-17')
-        os.close(writer)
-        terminal.wait_for('standard input  11-17/100  ')
-        self.quit()
-
     def test_a_text_of_many_pieces_is_whole(self):
         self.write('numbers', ''.join(f'{n}\n' for n in range(1, 50001)))
         for command in ('./minus numbers', 'cat numbers | ./minus'):
@@ -119,17 +102,14 @@ class TextTests(TerminalTests):
 
     def test_an_endless_pipe_is_read_as_far_as_a_bound(self):
         terminal = self.page('yes "$(printf %01000d 7)" | ./minus -S')
-        bound = 1024 * 1024
+        bound = 64 * 1024 * 1024
         terminal.wait(lambda: terminal.counted('rchar') >= bound, 'as much as the bound')
         terminal.wait_for_turns(8)
         before = terminal.counted('rchar')
         terminal.wait_for_turns(32)
         # (what is read now is the terminal's size alone)
         self.assertLess(terminal.counted('rchar') - before, 4096)
-        self.assertLess(before, 2 * bound)
-        # (and as far as a key asks for)
-        self.press('3000g')
-        terminal.wait_for(' 3000-3006')
+        self.assertLess(before, bound + 1024 * 1024)
         self.quit()
 
     def test_out_of_memory_is_said_and_the_pager_goes_on(self):
@@ -155,22 +135,6 @@ class TextTests(TerminalTests):
             self.page(command)
             self.assert_page(text + end, prompt)
             self.quit()
-
-    def test_a_cell_has_few_accents(self):
-        self.write('many', 'e' + '\u0301' * 200000 + 'x\u0301\n' + self.LINES)
-        terminal = self.page('./minus many')
-        terminal.wait_for('1-7/101')
-        cells = [c for c, _ in terminal.player.cells[0]]
-        self.assertEqual(cells[:2], ['e' + '\u0301' * 30, 'x\u0301'])
-        self.quit()
-
-    def test_characters_that_turn_the_text_are_shown(self):
-        self.write('turned', 'if a \u202e{ \u2066// b\u2069 \u2066admin\u200b\n\U000e0041tag\n')
-        self.page('./minus turned', cols=70)
-        self.assert_page(
-            'if a \x1b[7m<U+202E>\x1b[0m{ \x1b[7m<U+2066>\x1b[0m// b\x1b[7m<U+2069>\x1b[0m '
-            '\x1b[7m<U+2066>\x1b[0madmin\x1b[7m<U+200B>\x1b[0m\n\x1b[7m<U+E0041>\x1b[0mtag\n', 'turned  1-2/2  ')
-        self.quit()
 
     def test_a_log_that_is_cut_or_moved_is_read_anew(self):
         path = self.write('log', self.LINES)
@@ -226,31 +190,9 @@ class TextTests(TerminalTests):
         self.assertIn(b'gzip: ', self.terminal.bytes)
         # (its end is not waited for)
         self.page('yes | head -c 9999999 | gzip >long.gz; ./minus -S long.gz')
-        self.terminal.wait_for('long.gz  1-7')
+        self.terminal.wait_for('long.gz  1-7/')
         self.quit()
         self.assertNotIn(b'gzip: ', self.terminal.bytes)
-
-    def test_archives_among_several_texts(self):
-        for name in ('one', 'two'):
-            self.write(name, ''.join(f'{name} {n}\n' for n in range(1, 50001)))
-        self.write('notes', self.LINES)
-        terminal = self.page('gzip one; xz two; ./minus -N one.gz notes two.xz', cols=60)
-        first = lambda: terminal.player.texts()[0].split('.', 1)[1].strip()
-        for keys, row, there in (
-            ('', 'one 1', 'one.gz (file 1 of 3)  1-7/'), ('/one 50000$\r', 'one 49994', '49994-50000/50000'),
-            (':n', 'line 1 of the text', 'notes (file 2 of 3)'), (':n', 'two 1', 'two.xz (file 3 of 3)'),
-            ('G', 'two 49994', '49994-50000/50000'), (':p:p', 'one 49994', 'one.gz (file 1 of 3)'),
-        ):
-            self.press(keys)
-            terminal.wait_for(there)
-            terminal.wait(lambda: first() == row, row)
-        self.quit()
-        self.assertEqual([p for name in ('gzip', 'xz') for p in terminal.processes(name)], [])
-        # (of one whose unpacker is not there, the end says why its bytes are shown)
-        self.page("sed -i 's/unpack=xz/unpack=no-xz/' minus; ./minus two.xz")
-        self.press('q')
-        self.assert_back(0)
-        self.assertIn(b'a text is packed, and no-xz is not there', self.terminal.bytes)
 
     def test_a_pipe_where_dd_knows_no_flag(self):
         self.command('dd', 'exit 1')

@@ -165,8 +165,7 @@ pub use minus_draw::written_rows::{
     write_lines, write_lines_in_horizontal_scroll, write_text_checked,
 };
 pub use minus_term::{
-    DrawOp, ScrollBy, page_len, top_of, write_op, write_ops, write_search_cursor,
-    write_search_opening,
+    DrawOp, page_len, top_of, write_op, write_ops, write_search_cursor, write_search_opening,
 };
 pub use sink::{
     OutputSink, WithTty, cleanup, clear_entire_screen, draw_bytes, move_cursor, setup, write_bytes,

@@ -1,5 +1,3 @@
 pub mod FeedLaws
 pub mod JumpLaws
 pub mod KeptLaws
-pub mod PrintedRowsLaws
-pub mod TypedNameLaws

@@ -9,8 +9,3 @@ use Rattle.minus_app.specs.declared.view.kept_place.PutAt.{PutAt}
 abbrev pub place_of : Option PutAt → PagerState → ℕ
 place_of None state = start_of state state.upper_mark
 place_of (Some put) state = if put.mark == state.upper_mark then put.byte else start_of state state.upper_mark
-
--- the place to which `''` leads: where the last jump began that has moved the page; one that leads to where it began
--- changes nothing
-abbrev pub place_before : (before begun now : ℕ) → ℕ
-place_before before begun now = if begun == now then before else begun

@@ -8,7 +8,7 @@ use Rattle.minus_app.specs.declared.view_action.ViewAction.TheVariants.{PageDown
 use Rattle.minus_app.specs.declared.view_action.ViewAction.TheVariants.{FirstLine, LastLine, Percent, Right, Left}
 use Rattle.minus_app.specs.declared.view_action.ViewAction.TheVariants.{NextMatch, PreviousMatch, Redraw, Interrupt}
 use Rattle.minus_app.specs.declared.view_action.ViewAction.TheVariants.{SetMark, GoToMark, TellPlace, SetOption}
-use Rattle.minus_app.specs.declared.view_action.ViewAction.TheVariants.{Command, EndTwice, TurnMatches, PassLine, Point}
+use Rattle.minus_app.specs.declared.view_action.ViewAction.TheVariants.{Command, EndTwice, TurnMatches, PassLine}
 
 -- whether it is done while help is open too: what moves the page of help, or draws it
 abbrev pub holds_in_help : ViewAction → Bool
@@ -19,7 +19,6 @@ holds_in_help HalfPageUp = true
 holds_in_help FirstLine = true
 holds_in_help LastLine = true
 holds_in_help Percent = true
-holds_in_help Point = true
 holds_in_help Right = true
 holds_in_help Left = true
 holds_in_help Redraw = true
@@ -29,9 +28,9 @@ holds_in_help action = false
 abbrev pub down : ℕ → ℕ → ℕ
 down mark rows = min (2 ^ 64 - 1) (mark + rows)
 
--- the line at so many millionths of the text, counted from 0
+-- the line at this percentage of the text, counted from 0
 abbrev pub line_at : ℕ → ℕ → ℕ
-line_at lines part = lines * min 1000000 part / 1000000
+line_at lines part = lines * min 100 part / 100
 
 -- the number that holds for a key: the one that was typed before it, or else the last one before such a key
 abbrev pub last_count : Option ℕ → Option ℕ → Option ℕ
@@ -55,13 +54,12 @@ view_description HalfPageUp = codes "half a page up, or N rows"
 view_description FirstLine = codes "first line, or line N"
 view_description LastLine = codes "end of the text, or line N"
 view_description Percent = codes "N per cent of the text"
-view_description Point = codes "the point of a number, as in 50.5%"
 view_description Right = codes "half a page to the right, or N columns"
 view_description Left = codes "half a page to the left, or N columns"
 view_description NextMatch = codes "next match in the direction of the search"
 view_description PreviousMatch = codes "match against the direction of the search"
 view_description Redraw = codes "draw the page again"
-view_description Interrupt = codes "end following, or reading on"
+view_description Interrupt = codes "end following, reading on, or the program"
 view_description SetMark = codes "keep this place under a letter"
 view_description GoToMark = codes "go to the place of a letter, ' back"
 view_description TellPlace = codes "where in the text the page is"

@@ -1,5 +1,5 @@
 -- What the prompt row of the program says.
-use Rattle.std.specs.Prelude.{◌≡◌, ℕ, ◌+◌, ◌-◌, ◌/◌, Bool, List, [], ◌++◌, ◌⊎◌, Option, None, Some, unwrap_or, codes, length}
+use Rattle.std.specs.Prelude.{◌≡◌, ℕ, ◌+◌, ◌-◌, ◌/◌, List, [], ◌++◌, ◌⊎◌, Option, None, Some, unwrap_or, codes, length}
 use Rattle.std.specs.Prelude.{min, slice_get}
 use Rattle.std.specs.Fmt.{decimal}
 use Rattle.minus_term.specs.PageRows.{page_len}
@@ -12,7 +12,7 @@ use Rattle.minus_view.specs.declared.prompt_place.Place.{Place}
 use Rattle.minus_view.specs.PromptPlace.{place_text}
 use Rattle.minus_app.specs.declared.prompt.Notice.{Notice}
 use Rattle.minus_app.specs.declared.prompt.Notice.TheVariants.{Nothing, CutShort, OutOfMemory, NotFound, Reading}
-use Rattle.minus_app.specs.declared.prompt.Notice.TheVariants.{NotCopied, NotBelow, WentOnAtTop, WentOnAtEnd}
+use Rattle.minus_app.specs.declared.prompt.Notice.TheVariants.{NotCopied}
 
 -- what is said of a text of `bytes` bytes besides the place of the page
 abbrev pub notice_text : Notice → ℕ → List ℕ
@@ -20,9 +20,6 @@ notice_text Nothing bytes = []
 notice_text CutShort bytes = codes "(cut short) "
 notice_text OutOfMemory bytes = codes "(out of memory) "
 notice_text NotFound bytes = codes "(pattern not found) "
-notice_text NotBelow bytes = codes "(nothing found below) "
-notice_text WentOnAtTop bytes = codes "(went on at the top) "
-notice_text WentOnAtEnd bytes = codes "(went on at the end) "
 notice_text NotCopied bytes = codes "(nothing copied: tmux) "
 notice_text Reading bytes = codes "(reading " ++ (decimal (bytes / 1000000) ++ codes " MB) ")
 
@@ -45,14 +42,13 @@ start_of state row = start_or_end (length state.screen.document.text) (slice_get
 abbrev pub row_behind : PagerState → ℕ
 row_behind state = min (length (rows_of state.screen.document)) (state.upper_mark + page_len state.rows)
 
--- where in its text the page is, which is whole or not
-pub record IsPlace (state : PagerState) (is_whole : Bool) (place : Place) : Type 0 where
+-- where in its text the page is
+pub record IsPlace (state : PagerState) (place : Place) : Type 0 where
   pub first : IsLineNumber state state.upper_mark place.first
   pub last : IsLineNumber state (row_behind state - 1) place.last
   pub lines : place.lines ≡ length (line_map state.screen.document)
   pub end : place.end ≡ start_of state (row_behind state)
   pub bytes : place.bytes ≡ length state.screen.document.text
-  pub whole : place.is_whole ≡ is_whole
 
 -- what is said of the text, and behind it what the application says, or else the title and the place of the
 -- page, for a prompt row with `columns` columns

@@ -11,22 +11,19 @@ use Rattle.minus_view.specs.declared.arguments.Opening.{Opening}
 use Rattle.minus_view.specs.declared.arguments.Opening.TheVariants as opening
 use Rattle.minus_app.specs.declared.options.Options.{Options}
 use Rattle.minus_app.specs.declared.view.goals.Goal.{Goal}
-use Rattle.minus_app.specs.declared.view.goals.Goal.TheVariants.{Line, Part, End}
+use Rattle.minus_app.specs.declared.view.goals.Goal.TheVariants.{Line, End}
 
 -- the line that is shown first, counted from 0: none where the text begins with its own first line
 abbrev pub first_line : ℕ → Option Goal
 first_line line = if nat_lt line 2 then None else Some (Line (line - 1))
 
--- what the text is read on for so that the first page begins there: its end, a part of it, or a line that is not its
--- first one; a search reads on by itself
+-- what the text is read on for so that the first page begins there: its end, or a line that is not its first one
 abbrev pub goal_of_opening : Opening → Option Goal
 goal_of_opening opening.First = None
 goal_of_opening (opening.Line line) = first_line line
-goal_of_opening (opening.Part part) = Some (Part part)
 goal_of_opening opening.End = Some End
 goal_of_opening opening.Follows = None
 goal_of_opening (opening.Finds query) = None
-goal_of_opening (opening.FindsBack query) = None
 
 -- what the text is read on for at first
 abbrev pub first_goal : Options → Option Goal

@@ -38,24 +38,12 @@ pub enum Neighbour {
     Before,
 }
 
-/// How an application turns to another of its texts.
-#[derive(Drop)]
-pub enum Turned {
-    /// It has turned to it.
-    There,
-    /// There is none.
-    NoneThere,
-    /// None of those that are there is read: why the last one is not, in one line.
-    Unread(String),
-}
-
 /// The action of an application that has no keys of its own.
 #[derive(Clone, Copy, Drop)]
 pub struct NoAct;
 
-/// How many bytes below the page are read at first, where an application says nothing else: more is read for what a key
-/// asks for, so that whoever writes the text writes no more than that.
-pub const AHEAD: usize = 1024 * 1024;
+/// How many bytes below the page are read at first, where an application says nothing else.
+pub const AHEAD: usize = 64 * 1024 * 1024;
 
 /// What the prompt row calls a text that has no title.
 pub const TITLE: &str = "text";
@@ -101,13 +89,13 @@ pub trait App: Drop {
         Ok(Flow::On)
     }
 
-    /// Turns to another text, which `feed` gives from its beginning from then on.
+    /// Turns to another text, which `feed` gives from its beginning from then on, and answers whether there is one.
     ///
     /// # Errors
     ///
     /// Where it fails: the program ends.
-    fn turn_to(&mut self, _rt: &HostRuntime, _neighbour: Neighbour) -> Result<Turned, Fault> {
-        Ok(Turned::NoneThere)
+    fn turn_to(&mut self, _rt: &HostRuntime, _neighbour: Neighbour) -> Result<bool, Fault> {
+        Ok(false)
     }
 
     /// Whether no text comes behind this one.

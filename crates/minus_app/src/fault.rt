@@ -13,9 +13,6 @@ pub enum Fault {
     /// No key of the register ends the program.
     #[error("no key ends the program")]
     NoEnd,
-    /// The reader has ended the program by Ctrl-C, where the options ask for that.
-    #[error("interrupted")]
-    Interrupted,
     /// The terminal, the text or the clock failed.
     #[error("{0}")]
     Io(io::Error),

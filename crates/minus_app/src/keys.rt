@@ -11,8 +11,6 @@ ghost use Rattle.minus_app.specs.Keys.{done_by};
 mod tables;
 
 use crate::fault::Fault;
-use crate::help::OwnKeys;
-use crate::key_table::KeyTable;
 use crate::keys::tables::{DEFAULTS_OF_LESS, ENDS, KEYS_OF_LESS, UNTOLD, VIEWS_OF_LESS};
 use crate::view_action::ViewAction;
 use minus::{
@@ -50,11 +48,8 @@ pub type Table = EventTable<FixedSeed, KeyAction>;
 
 /// The keys of an application whose actions are of the type `A`.
 pub struct AppKeys<A> {
-    alloc: Global,
     table: Table,
     acts: Vec<A>,
-    // What help says of these, by their numbers.
-    own: Vec<OwnKeys>,
     // The keys that were bound to the end of the program; some may be bound to something else by now.
     ends: Vec<Event>,
 }
@@ -63,10 +58,8 @@ pub struct AppKeys<A> {
 impl<A: Drop> Drop for AppKeys<A> {
     fn drop(self) {
         let AppKeys {
-            alloc: _,
             table: _,
             acts: _,
-            own: _,
             ends: _,
         } = self;
     }
@@ -93,7 +86,7 @@ pub fn view_action(table: &Table, event: &Event) -> Option<ViewAction>
 }
 
 // The pager's action that an event leads to.
-pub fn pager_action(table: &Table, event: &Event) -> Option<DefaultAction>
+fn pager_action(table: &Table, event: &Event) -> Option<DefaultAction>
     ensures { result ≡ pager_action (done_by (register_of table.now) event.now) }
 {
     match table.find(event) {
@@ -148,10 +141,8 @@ impl<A: Copy + Drop> AppKeys<A> {
         ensures acts { IfOk result (λ keys. keys.acts.items ≡ []) }
     {
         let mut keys = AppKeys {
-            alloc,
             table: Table::default_bindings(alloc)?,
             acts: Vec::new(alloc),
-            own: Vec::new(alloc),
             ends: Vec::new(alloc),
         };
         push_keys(&mut keys.ends, &ENDS)?;
@@ -219,12 +210,9 @@ impl<A: Copy + Drop> AppKeys<A> {
         ensures same { OnErr result (self.new.acts.items ≡ self.old.acts.items) }
     {
         self.acts.reserve(1)?;
-        self.own.reserve(1)?;
-        let own_keys = OwnKeys::new(self.alloc, keys, description)?;
         let own = KeyAction::Own(self.acts.len());
         self.table
             .add_described_key_events_checked(keys, description, own, remap)?;
-        self.own.push(own_keys).unwrap();
         self.acts.push(act).unwrap();
         Ok(())
     }
@@ -354,21 +342,19 @@ impl<A: Copy + Drop> AppKeys<A> {
     }
 
     // The register, and the application's actions by their numbers, where some key ends the program.
-    pub(crate) fn into_parts(self) -> Result<(KeyTable, Vec<A>), Fault>
+    pub(crate) fn into_parts(self) -> Result<(Table, Vec<A>), Fault>
         ensures ends { OnOk result (SomeEnds self) }
-        ensures table { IfOk result (λ parts. parts.0.table ≡ self.table) }
+        ensures table { IfOk result (λ parts. parts.0 ≡ self.table) }
         ensures acts { IfOk result (λ parts. parts.1 ≡ self.acts) }
     {
         if !self.some_end() {
             return Err(Fault::NoEnd);
         }
         let AppKeys {
-            alloc: _,
             table,
             acts,
-            own,
             ends: _,
         } = self;
-        Ok((KeyTable { table, own }, acts))
+        Ok((table, acts))
     }
 }

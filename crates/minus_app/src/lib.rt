@@ -7,8 +7,6 @@ mod app;
 mod clipboard;
 mod fault;
 mod hand_on;
-mod help;
-mod key_table;
 mod keyboard;
 mod keys;
 mod launch;
@@ -23,7 +21,7 @@ mod text;
 mod view;
 mod view_action;
 
-pub use app::{App, Fed, Flow, Neighbour, NoAct, Turned};
+pub use app::{App, Fed, Flow, Neighbour, NoAct};
 pub use fault::Fault;
 pub use keyboard::Keyboard;
 pub use keys::{AppKeys, KeyAction};

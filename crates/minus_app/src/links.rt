@@ -1,4 +1,4 @@
-//! A writer that turns the links of a prepared text into those of a terminal, and may leave the mouse to that.
+//! A writer that turns the links of a prepared text into those of a terminal.
 use std::alloc::{AllocError, Global};
 use std::io::{self, ErrorKind, Write};
 
@@ -10,8 +10,7 @@ const END: &[u8] = b"\x1b]8;;\x1b\\";
 
 /// A writer before another one, which gets what is written to it, with links: a sequence of a link, as a
 /// [`minus_view::Preparation`] with `links` makes them, opens it (`ESC]8;;..`), and the next reset ends it. One that is
-/// no such link is dropped, and so is what asks for the mouse, where the writer leaves that to the terminal; all other
-/// bytes stay.
+/// no such link is dropped; all other bytes stay.
 #[derive(Drop)]
 pub struct Links<W> {
     inner: W,
@@ -22,8 +21,6 @@ pub struct Links<W> {
     begun: Vec<u8>,
     // Whether a link is open.
     is_open: bool,
-    // Whether what asks for the mouse is dropped.
-    leaves_mouse: bool,
 }
 
 // Whether a sequence resets all styles.
@@ -37,23 +34,6 @@ fn linked(sequence: &[u8]) -> Option<&[u8]> {
         [0x1B, b'[', b';', b';', digits @ .., b'm'] => Some(digits),
         _ => None,
     }
-}
-
-// Whether a sequence asks for the mouse: it sets the mode 1000, 1002, 1003, 1006 or 1015.
-fn asks_for_mouse(sequence: &[u8]) -> bool {
-    matches!(
-        sequence,
-        [
-            0x1B,
-            b'[',
-            b'?',
-            b'1',
-            b'0',
-            b'0',
-            b'0' | b'2' | b'3' | b'6',
-            b'h'
-        ] | [0x1B, b'[', b'?', b'1', b'0', b'1', b'5', b'h']
-    )
 }
 
 // The value of a digit.
@@ -87,15 +67,7 @@ impl<W> Links<W> {
             written: 0,
             begun: Vec::new(alloc),
             is_open: false,
-            leaves_mouse: false,
         }
-    }
-
-    /// This writer, which leaves the mouse to the terminal or not.
-    pub fn leaving_mouse(self, leaves_mouse: bool) -> Links<W> {
-        let mut links = self;
-        links.leaves_mouse = leaves_mouse;
-        links
     }
 
     // Makes bytes ready.
@@ -167,12 +139,8 @@ impl<W> Links<W> {
         match byte {
             0x1B => Ok(()),
             b'[' if len == 2 => Ok(()),
-            b'0'..=b';' | b'?' if len > 2 && len < MOST => Ok(()),
+            b'0'..=b';' if len > 2 && len < MOST => Ok(()),
             b'm' if len > 2 => self.end(),
-            b'h' if self.leaves_mouse && asks_for_mouse(self.begun.as_slice()) => {
-                self.begun.clear();
-                Ok(())
-            }
             _ => self.pass(),
         }
     }

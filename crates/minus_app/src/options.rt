@@ -23,13 +23,8 @@ pub struct Options<'a> {
     pub case: Case,
     /// What the end of the text does.
     pub at_end: AtEnd,
-    /// Whether Ctrl-C ends the program, by [`crate::Fault::Interrupted`].
-    pub ends_at_interrupt: bool,
     /// Where the first page begins.
     pub opening: Opening<'a>,
-    /// What is said at first, in one line: in the prompt row, up to the next key, or on standard error where the text
-    /// is not paged.
-    pub says: Option<&'a str>,
 }
 
 impl<'a> Options<'a> {
@@ -43,9 +38,7 @@ impl<'a> Options<'a> {
             leaves: false,
             case: Case::Exact,
             at_end: AtEnd::Stays,
-            ends_at_interrupt: false,
             opening: Opening::First,
-            says: None,
         }
     }
 
@@ -75,20 +68,14 @@ impl<'a> Options<'a> {
         }
     }
 
-    // What the text is read on for at first: its end, a part of it, or the line that is shown first, where that is not
-    // its first one.
+    // What the text is read on for at first: its end, or the line that is shown first, where that is not its first one.
     pub(crate) fn first_goal(&self) -> Option<Goal>
         ensures { result ≡ first_goal self.now }
     {
         match self.opening {
             Opening::Line(line) if line > 1 => Some(Goal::Line(line - 1)),
-            Opening::Part(part) => Some(Goal::Part(part)),
             Opening::End => Some(Goal::End),
-            Opening::First
-            | Opening::Line(_)
-            | Opening::Follows
-            | Opening::Finds(_)
-            | Opening::FindsBack(_) => None,
+            Opening::First | Opening::Line(_) | Opening::Follows | Opening::Finds(_) => None,
         }
     }
 }

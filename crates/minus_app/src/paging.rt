@@ -32,29 +32,14 @@ pub fn print(rt: &HostRuntime, text: &str) -> Result<(), Fault> {
     Ok(out.flush()?)
 }
 
-// Says on standard error what is said at first, where the text is not paged.
-fn say_unpaged(rt: &HostRuntime, options: &Options<'_>) -> Result<(), Fault> {
-    if let Some(said) = options.says {
-        rt.eprintln(said)?;
-    }
-    Ok(())
-}
-
-// Standard output as the terminal, whose mouse is the pager's or not.
-fn output_of(rt: &HostRuntime, options: &Options<'_>) -> WithTty<Links<Stdout>> {
-    let links = Links::new(rt.alloc(), rt.stdout());
-    WithTty::new(links.leaving_mouse(!options.mouse), true)
-}
-
 // The terminal that a launcher reports.
 fn terminal_of(
     rt: &HostRuntime,
     launch: Launch,
-    options: &Options<'_>,
 ) -> Result<Terminal<WithTty<Links<Stdout>>, File>, Fault> {
     Ok(Terminal {
-        pages: output_of(rt, options),
-        beside: output_of(rt, options),
+        pages: WithTty::new(Links::new(rt.alloc(), rt.stdout()), true),
+        beside: WithTty::new(Links::new(rt.alloc(), rt.stdout()), true),
         keyboard: Keyboard::open(rt)?,
         launch,
     })
@@ -79,12 +64,11 @@ pub fn run<A: App>(
     }
     let mut app = app;
     let Some(launch) = Launch::read(rt)? else {
-        say_unpaged(rt, &options)?;
         return app.hand_on(rt);
     };
-    let terminal = terminal_of(rt, launch, &options)?;
+    let terminal = terminal_of(rt, launch)?;
     let Some(mut program) = Program::start(rt, app, keys, &options, terminal)? else {
-        return say_unpaged(rt, &options);
+        return Ok(());
     };
     let served = program.serve(rt);
     let cleaned = program.finish();

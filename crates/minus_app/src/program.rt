@@ -30,7 +30,7 @@ use crate::program::turning::TopLines;
 use crate::size::SizeFile;
 use crate::view::{Start, View};
 use minus::{Event, OutputSink};
-use minus_view::{Heard, Opening};
+use minus_view::Opening;
 use std::io::Read;
 use std::mem;
 
@@ -63,7 +63,7 @@ pub struct Program<A: App, S, R> {
     growth: Growth,
     keyboard: Keyboard<R>,
     // The keys that wait: those pressed before the first page, or while the text is read on.
-    pressed: Vec<Heard>,
+    pressed: Vec<Event>,
     sizes: SizeFile,
     // How long nothing was done.
     idle: Idle,
@@ -116,9 +116,9 @@ impl<A: App, S: OutputSink + Drop, R: Read + Drop> Program<A, S, R> {
             keyboard,
             launch,
         } = terminal;
-        let (mut app, mut keyboard, mut pages, size) = (app, keyboard, pages, launch.size);
+        let (mut app, mut keyboard, size) = (app, keyboard, launch.size);
         let options = options.with_following(app.follows());
-        let beginning = begin_text(rt, &mut app, &mut keyboard, &mut pages, &options, size)?;
+        let beginning = begin_text(rt, &mut app, &mut keyboard, &options, size)?;
         let start = Start {
             pages,
             beside,
@@ -127,7 +127,6 @@ impl<A: App, S: OutputSink + Drop, R: Read + Drop> Program<A, S, R> {
             keys,
             marks_tabs: app.marks_tabs(),
             prints: options.prints && beginning.is_at_end && beginning.pressed.is_empty(),
-            printed: beginning.printed,
         };
         let text = beginning.text.as_str();
         let Some(view) = View::start(rt.alloc(), start, &options, text)? else {
@@ -144,25 +143,19 @@ impl<A: App, S: OutputSink + Drop, R: Read + Drop> Program<A, S, R> {
             idle: Idle::default(),
             top_lines: TopLines::new(rt.alloc()),
         };
-        program.begin(rt, &options)?;
+        program.begin(&options)?;
         Ok(Some(program))
     }
 
-    // Sets what the options ask for, goes to the line that is shown first, says what is said at first, and makes room
-    // for what is to come.
-    fn begin(&mut self, rt: &HostRuntime, options: &Options<'_>) -> Result<(), Fault> {
+    // Sets what the options ask for, shows where the first page is, goes to the line that is shown first, and makes
+    // room for what is to come.
+    fn begin(&mut self, options: &Options<'_>) -> Result<(), Fault> {
         self.view.set_options(options)?;
         let is_whole = self.growth.is_whole();
         self.view.set_whole(is_whole);
         let _ = self.view.pursue()?;
-        match options.opening {
-            Opening::Finds(query) => self.view.search(query)?,
-            Opening::FindsBack(query) => self.view.search_from_end(query)?,
-            _ => {}
-        }
-        if let Some(said) = options.says {
-            let said = format!(in rt.alloc(); "{said} (Return)")?;
-            self.view.message(said)?;
+        if let Opening::Finds(query) = options.opening {
+            self.view.search(query)?;
         }
         self.show_place()?;
         self.view.make_room(self.app.bytes_left());
@@ -211,7 +204,7 @@ impl<A: App, S: OutputSink + Drop, R: Read + Drop> Program<A, S, R> {
     // The application's action that an event leads to.
     fn own_act(&self, event: &Event) -> Option<A::Act>
         ensures { result ≡ own_act_at self.now.acts.items self.now.view.session.parts.state
-            (register_of self.now.view.session.parts.classifier.table) event.now }
+            (register_of self.now.view.session.parts.classifier) event.now }
     {
         let number = self.view.own_number(event)?;
         self.acts.get(number).copied()

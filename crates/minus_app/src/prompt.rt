@@ -1,6 +1,6 @@
 //! What the prompt row of the program says.
 ghost use Rattle.std.specs.Prelude.{◌≡◌, ◌+◌, min, option_map, string_bytes, IfOk};
-ghost use Rattle.minus_app.specs.Prompt.{start_of, row_behind, notice_text, prompt_text, IsLineNumber, IsPlace};
+ghost use Rattle.minus_app.specs.Prompt.{start_of, notice_text, prompt_text, IsLineNumber, IsPlace};
 
 use minus::{PagerState, page_len};
 use minus_view::{Place, place_text};
@@ -17,12 +17,6 @@ pub enum Notice {
     OutOfMemory,
     /// No row matches the query.
     NotFound,
-    /// No row below the page matches it, and the page stays, since the end of the text is followed.
-    NotBelow,
-    /// The search went past the last match, and on at the first one.
-    WentOnAtTop,
-    /// It went past the first match, and on at the last one.
-    WentOnAtEnd,
     /// The text is read on for what a key asked for.
     Reading,
     /// The terminal takes no text that is copied, as tmux where it is set so.
@@ -39,9 +33,6 @@ impl Notice {
             Notice::CutShort => String::from_str(alloc, "(cut short) "),
             Notice::OutOfMemory => String::from_str(alloc, "(out of memory) "),
             Notice::NotFound => String::from_str(alloc, "(pattern not found) "),
-            Notice::NotBelow => String::from_str(alloc, "(nothing found below) "),
-            Notice::WentOnAtTop => String::from_str(alloc, "(went on at the top) "),
-            Notice::WentOnAtEnd => String::from_str(alloc, "(went on at the end) "),
             Notice::NotCopied => String::from_str(alloc, "(nothing copied: tmux) "),
             Notice::Reading => {
                 let megabytes = bytes / 1_000_000;
@@ -84,19 +75,12 @@ pub fn start_of(state: &PagerState, row: usize) -> usize
     }
 }
 
-/// The row behind the page, counted from 0.
-pub fn row_behind(state: &PagerState) -> usize
-    ensures { result ≡ row_behind state.now }
+/// Where in its text the page is.
+pub fn place_of(state: &PagerState) -> Place
+    ensures { IsPlace state.now result }
 {
     let rows = state.screen.formatted_lines_count();
-    row_after(state.upper_mark, page_len(state.rows), rows)
-}
-
-/// Where in its text the page is, which is whole or not.
-pub fn place_of(state: &PagerState, is_whole: bool) -> Place
-    ensures { IsPlace state.now is_whole result }
-{
-    let behind = row_behind(state);
+    let behind = row_after(state.upper_mark, page_len(state.rows), rows);
     let last = behind.saturating_sub(1);
     Place {
         first: line_number(state, state.upper_mark),
@@ -104,7 +88,6 @@ pub fn place_of(state: &PagerState, is_whole: bool) -> Place
         lines: state.screen.lines_to_row_map().len(),
         end: start_of(state, behind),
         bytes: state.screen.orig_text().len(),
-        is_whole,
     }
 }
 

@@ -11,21 +11,15 @@ use crate::app::{AHEAD, App, Fed, NoAct};
 use crate::fault::Fault;
 use crate::hand_on::{hand_on_bytes, hand_on_text};
 use crate::launch::Launch;
-use crate::program::NAP;
 use crate::prompt::Notice;
 use minus_view::{Preparation, Shape};
 use std::alloc::{AllocError, Global};
 use std::fs::File;
 use std::io::{self, ErrorKind, Read, Stdin};
 use std::os::unix::fs::MetadataExt;
-use std::thread;
-use std::time::Duration;
 
 /// How many bytes of the text are read at once, at most.
 const PIECE: usize = 65_536;
-
-/// How often a fifo that is to come is looked for: some seconds.
-const FIFO_WAITS: u32 = 500;
 
 /// Whether a read that failed so is to be tried again later.
 pub fn is_nothing_now(kind: ErrorKind) -> bool {
@@ -40,8 +34,6 @@ enum Origin {
     File(File),
     // The launcher has set it so that a read does not wait.
     Standard(Stdin),
-    // Another program writes it as it is read.
-    Written(File),
 }
 
 // What a read of the text found.
@@ -60,7 +52,7 @@ impl Origin {
     fn read(&mut self, bytes: &mut [u8]) -> io::Result<Found> {
         let read = match self {
             Origin::Fixed(_) => Ok(0),
-            Origin::File(file) | Origin::Written(file) => file.read(bytes),
+            Origin::File(file) => file.read(bytes),
             Origin::Standard(input) => input.read(bytes),
         };
         match read {
@@ -79,7 +71,7 @@ impl Origin {
                 Ok(metadata) => Some(metadata.len()),
                 Err(_) => None,
             },
-            Origin::Fixed(_) | Origin::Standard(_) | Origin::Written(_) => None,
+            Origin::Fixed(_) | Origin::Standard(_) => None,
         }
     }
 }
@@ -173,25 +165,6 @@ impl Text {
             rt.eprintln("input")?;
         }
         Ok(Text::of(rt.alloc(), Origin::Standard(rt.stdin()), title, PIECE)?)
-    }
-
-    /// The text that another program writes to the fifo at a path, under a title, read as it comes: it is waited for
-    /// until the fifo is there, for some seconds at most, and until that program has opened it.
-    ///
-    /// # Errors
-    ///
-    /// [`Fault::Io`] where it cannot be opened, and [`Fault::Pager`] where there is no memory.
-    pub fn written(rt: &HostRuntime, path: &str, title: &str) -> Result<Text, Fault> {
-        for _ in 0..FIFO_WAITS {
-            match File::open(rt, path) {
-                Ok(file) => return Ok(Text::of(rt.alloc(), Origin::Written(file), title, PIECE)?),
-                Err(cause) if cause.kind() == ErrorKind::NotFound => {
-                    thread::sleep(rt, Duration::from_millis(NAP));
-                }
-                Err(cause) => return Err(Fault::Io(cause)),
-            }
-        }
-        Err(Fault::Io(io::Error::from(ErrorKind::NotFound)))
     }
 
     /// The text of the file at a path, under a title, read on as it grows. Where the file is cut, or another one gets
@@ -316,7 +289,7 @@ impl App for Text {
                 None => Ok(Fed::End),
             },
             Origin::File(_) => self.read_and_look(rt),
-            Origin::Standard(_) | Origin::Written(_) => self.read_on(rt.alloc()),
+            Origin::Standard(_) => self.read_on(rt.alloc()),
         }
     }
 
@@ -326,13 +299,13 @@ impl App for Text {
 
     fn ahead(&self) -> Option<usize> {
         match &self.origin {
-            Origin::Standard(_) | Origin::Written(_) => Some(AHEAD),
+            Origin::Standard(_) => Some(AHEAD),
             Origin::Fixed(_) | Origin::File(_) => None,
         }
     }
 
     fn is_written(&self) -> bool {
-        matches!(&self.origin, Origin::Standard(_) | Origin::Written(_))
+        matches!(&self.origin, Origin::Standard(_))
     }
 
     fn follows(&self) -> bool {
@@ -361,9 +334,7 @@ impl App for Text {
                 Some(text) => hand_on_text(rt, text.as_str()),
                 None => Ok(()),
             },
-            Origin::File(file) | Origin::Written(file) => {
-                hand_on_bytes(rt, file, self.piece.as_mut_slice())
-            }
+            Origin::File(file) => hand_on_bytes(rt, file, self.piece.as_mut_slice()),
             Origin::Standard(input) => hand_on_bytes(rt, input, self.piece.as_mut_slice()),
         }
     }

@@ -2,8 +2,6 @@
 ghost use Rattle.std.specs.Prelude.{◌≡◌};
 
 mod actions;
-mod back_preview;
-mod case_preview;
 mod copying;
 mod events;
 mod following;
@@ -12,8 +10,6 @@ mod jumps;
 mod kept_place;
 mod marks;
 mod moves;
-mod pasting;
-mod printed_rows;
 mod printing;
 mod prompt_row;
 mod queries;
@@ -21,15 +17,13 @@ mod query_row;
 mod reading;
 mod row_of_byte;
 mod searching;
-mod seen_columns;
-mod shifts;
 mod starting;
 mod tabs;
 mod typed;
 
 use crate::app::Neighbour;
 use crate::fault::Fault;
-use crate::key_table::KeyTable;
+use crate::keys::Table;
 use crate::preview::ShowsWithin;
 use crate::prompt::Notice;
 use crate::size::Size;
@@ -37,7 +31,6 @@ use crate::view::copying::Mouse;
 pub use crate::view::goals::Goal;
 use crate::view::kept_place::Places;
 use crate::view::moves::row_of_line;
-pub use crate::view::printing::Printed;
 use crate::view::printing::page_left;
 use crate::view::prompt_row::Notices;
 use crate::view::queries::Queries;
@@ -53,7 +46,7 @@ use minus_view::AtEnd;
 use std::alloc::Global;
 
 /// The kinds of an application's session: its register does not depend on the type of the application's actions.
-type AppKinds = Kinds<NeverCalled, NeverCalled, ShowsWithin, KeyTable>;
+type AppKinds = Kinds<NeverCalled, NeverCalled, ShowsWithin, Table>;
 
 /// The bytes that give the mouse back to the terminal.
 const MOUSE_OFF: &str = "\x1b[?1006l\x1b[?1015l\x1b[?1003l\x1b[?1002l\x1b[?1000l";
@@ -67,7 +60,7 @@ pub enum Onward {
     Suspended,
     /// The session has ended.
     Ended,
-    /// The reader has asked for an end while nothing went on here.
+    /// The reader has asked that no more of the text is written.
     Interrupted,
     /// The end of the text was reached, where that ends the program, unless there is a next text.
     EndReached,
@@ -91,15 +84,11 @@ pub struct View<S> {
     reading: Reading,
     // The places of the text that are kept.
     places: Places,
-    // Whether long lines are cut only as long as the page is shifted to the side.
-    is_cut_for_shift: bool,
     mouse: Mouse,
     // The tabs of the text, where these are told.
     tabs: Tabs,
     // What the end of the text does.
     at_end: AtEnd,
-    // Whether Ctrl-C ends the program.
-    ends_at_interrupt: bool,
     // Whether the page stays on the terminal where the program ends.
     leaves: bool,
 }
@@ -116,11 +105,9 @@ impl<S: Drop> Drop for View<S> {
             queries: _,
             reading: _,
             places: _,
-            is_cut_for_shift: _,
             mouse: _,
             tabs: _,
             at_end: _,
-            ends_at_interrupt: _,
             leaves: _,
         } = self;
     }
@@ -217,8 +204,7 @@ impl<S: OutputSink + Drop> View<S> {
         self.set_notice(Notice::Nothing);
         self.reading = Reading::new(None);
         self.places = Places::new(self.alloc);
-        self.set_text(String::new(self.alloc))?;
-        self.end_shift()
+        self.set_text(String::new(self.alloc))
     }
 
     // Gives the mouse back to the terminal, where the options ask for that.
@@ -277,7 +263,6 @@ impl<S: OutputSink + Drop> View<S> {
     ///
     /// [`Fault::Pager`] where the terminal refuses.
     pub(crate) fn leave(&mut self) -> Result<(), Fault> {
-        self.clear_prompt_row()?;
         cleanup(&mut self.terminal, true).map_err(MinusError::from)?;
         Ok(())
     }
@@ -294,14 +279,6 @@ impl<S: OutputSink + Drop> View<S> {
         self.command(CommandOf::Io(IoCommand::RedrawDisplay))
     }
 
-    // Clears the prompt row, which stays where the terminal has no other screen to go back to.
-    fn clear_prompt_row(&mut self) -> Result<(), Fault> {
-        let rows = self.session.state().rows;
-        let clear = format!(in self.alloc; "\x1b[{rows};1H\x1b[2K")?;
-        write_bytes(&mut self.terminal, clear.as_bytes())?;
-        Ok(())
-    }
-
     // The session, the terminal once more, and whether the page stays there.
     fn into_parts(self) -> (Core<S, AppKinds>, S, bool) {
         let View {
@@ -313,11 +290,9 @@ impl<S: OutputSink + Drop> View<S> {
             queries: _,
             reading: _,
             places: _,
-            is_cut_for_shift: _,
             mouse: _,
             tabs: _,
             at_end: _,
-            ends_at_interrupt: _,
             leaves,
         } = self;
         (session, terminal, leaves)
@@ -329,10 +304,8 @@ impl<S: OutputSink + Drop> View<S> {
     ///
     /// [`Fault::Pager`] where the terminal refuses.
     pub(crate) fn finish(self) -> Result<(), Fault> {
-        let mut view = self;
-        let cleared = view.clear_prompt_row();
-        let alloc = view.alloc;
-        let (session, terminal, leaves) = view.into_parts();
+        let alloc = self.alloc;
+        let (session, terminal, leaves) = self.into_parts();
         let mut terminal = terminal;
         let left = if leaves {
             page_left(alloc, session.state())?
@@ -341,7 +314,6 @@ impl<S: OutputSink + Drop> View<S> {
         };
         let (_, cleaned) = session.finish();
         cleaned.map_err(MinusError::from)?;
-        cleared?;
         write_bytes(&mut terminal, left.as_bytes())?;
         Ok(())
     }

@@ -20,13 +20,9 @@ pub enum ViewAction {
     /// Goes to the line at the counted per cent of the text, or else to the first one; all of the text is read for
     /// that.
     Percent,
-    /// Types a point to the number, which has a part then, as `50.5`: as less has it before the per cent.
-    Point,
-    /// Moves the page to the right by half of its columns, or by as many as are counted; lines that are wrapped
-    /// are cut for that.
+    /// Moves the page to the right by half of its columns, or by as many as are counted, where lines are not wrapped.
     Right,
-    /// Moves the page to the left by half of its columns, or by as many as are counted; lines that were cut for
-    /// that are wrapped again at the first column.
+    /// Moves the page to the left by half of its columns, or by as many as are counted, where lines are not wrapped.
     Left,
     /// Goes to the next match in the direction of the search, seen from the page; the text is read on for that.
     NextMatch,
@@ -34,7 +30,7 @@ pub enum ViewAction {
     PreviousMatch,
     /// Draws the whole page again.
     Redraw,
-    /// Ends what goes on: following, reading on, or what writes the text.
+    /// Ends what goes on, following or reading on, and else the program.
     Interrupt,
     /// Keeps the place of the page under the letter that is typed next.
     SetMark,
@@ -69,13 +65,12 @@ impl ViewAction {
             ViewAction::FirstLine => "first line, or line N",
             ViewAction::LastLine => "end of the text, or line N",
             ViewAction::Percent => "N per cent of the text",
-            ViewAction::Point => "the point of a number, as in 50.5%",
             ViewAction::Right => "half a page to the right, or N columns",
             ViewAction::Left => "half a page to the left, or N columns",
             ViewAction::NextMatch => "next match in the direction of the search",
             ViewAction::PreviousMatch => "match against the direction of the search",
             ViewAction::Redraw => "draw the page again",
-            ViewAction::Interrupt => "end following, or reading on",
+            ViewAction::Interrupt => "end following, reading on, or the program",
             ViewAction::SetMark => "keep this place under a letter",
             ViewAction::GoToMark => "go to the place of a letter, ' back",
             ViewAction::TellPlace => "where in the text the page is",
@@ -99,7 +94,6 @@ impl ViewAction {
             | ViewAction::FirstLine
             | ViewAction::LastLine
             | ViewAction::Percent
-            | ViewAction::Point
             | ViewAction::Right
             | ViewAction::Left
             | ViewAction::Redraw => true,

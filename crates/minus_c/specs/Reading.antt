@@ -1,8 +1,8 @@
 -- What a terminal's bytes begin with, as numbers.
-use Rattle.std.specs.Prelude.{ℕ, List, Bool, Option, None, Some, if◌then◌else◌}
+use Rattle.std.specs.Prelude.{ℕ, List, [], ◌∷◌, Bool, Option, None, Some, if◌then◌else◌}
 use Rattle.minus_term.specs.declared.event.Event.{Event}
 use Rattle.minus_term.specs.declared.event.Event.TheVariants as events
-use Rattle.minus_view.specs.Events.{first_unit, late_unit}
+use Rattle.minus_view.specs.Events.{first_unit, late_events}
 use Rattle.minus_c.specs.Keys.{numbers_of_key}
 use Rattle.minus_c.specs.Mouse.{numbers_of_mouse}
 use Rattle.minus_c.specs.declared.keys.KeyNumbers.{KeyNumbers}
@@ -27,14 +27,14 @@ read_event taken (Some (events.Key key)) = record (read_plain 1 taken) { key = n
 read_event taken (Some (events.Mouse mouse)) = record (read_plain 2 taken) { mouse = numbers_of_mouse mouse }
 read_event taken other = read_plain 3 taken
 
--- what some bytes are, if they are an event; 0 where they are none: more has to come
-abbrev pub read_one : Option (ℕ × Event) → ReadNumbers
-read_one None = read_plain 0 0
-read_one (Some (taken, event)) = read_event taken (Some event)
+-- what the first of some events is that one byte makes; 0 where there is none: more has to come
+abbrev pub read_one : List Event → ReadNumbers
+read_one [] = read_plain 0 0
+read_one (event ∷ events) = read_event 1 (Some event)
 
 -- what the beginning of a unit is, where nothing has followed it for a while or more may follow
 abbrev pub read_late : List ℕ → (late : Bool) → ReadNumbers
-read_late rest late = if late then read_one (late_unit rest) else read_plain 0 0
+read_late rest late = if late then read_one (late_events rest) else read_plain 0 0
 
 -- what the first unit of some bytes is, if it is whole, and else what its beginning is
 abbrev pub read_whole : Option (ℕ × Option Event) → ReadNumbers → ReadNumbers

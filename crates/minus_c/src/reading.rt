@@ -4,8 +4,8 @@ ghost use Rattle.minus_c.specs.Reading.{read_plain, read_event, read_late, read_
 
 use crate::keys::KeyNumbers;
 use crate::mouse::MouseNumbers;
-use minus::Event;
-use minus_view::{late_unit, read_unit};
+use minus::{Event, KeyCode};
+use minus_view::{press, read_unit};
 
 /// The numbers of what bytes begin with.
 const MORE: u8 = 0;
@@ -74,12 +74,9 @@ fn of_event(taken: usize, event: Option<Event>) -> ReadNumbers
 fn of_rest(rest: &[u8], late: bool) -> ReadNumbers
     ensures { result ≡ read_late rest.now late }
 {
-    if !late {
-        return plain(MORE, 0);
-    }
-    match late_unit(rest) {
-        Some((taken, event)) => of_event(taken, Some(event)),
-        None => plain(MORE, 0),
+    match rest {
+        [0x1B] if late => of_event(1, Some(press(KeyCode::Esc, 0))),
+        _ => plain(MORE, 0),
     }
 }
 

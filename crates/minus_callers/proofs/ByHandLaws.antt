@@ -8,7 +8,7 @@ use Rattle.minus_state.specs.Classifying.{Classifies}
 use Rattle.minus_state.specs.Control.{Control, Saved}
 use Rattle.minus_state.specs.States.{control_of, IsFormed}
 use Rattle.minus_commands.specs.declared.commands.CommandOf.{CommandOf}
-use Rattle.minus_commands.specs.declared.commands.CommandOf.TheVariants.{SetData, AppendData, SetPrompt, SendMessage, ShowPrompt, SetLineNumbers, LineWrapping, SetMatchLines, SetCarryStyle, SetScrollBy, FollowOutput, UserInput, Io, SetExitStrategy, SetRunNoOverflow, AddExitCallback, AddHook, RemoveHook, IncrementalSearchCondition, SetInputClassifier}
+use Rattle.minus_commands.specs.declared.commands.CommandOf.TheVariants.{SetData, AppendData, SetPrompt, SendMessage, ShowPrompt, SetLineNumbers, LineWrapping, SetMatchLines, SetCarryStyle, FollowOutput, UserInput, Io, SetExitStrategy, SetRunNoOverflow, AddExitCallback, AddHook, RemoveHook, IncrementalSearchCondition, SetInputClassifier}
 use Rattle.minus_commands.specs.declared.commands.IoCommand.{IoCommand}
 use Rattle.minus_commands.specs.declared.commands.IoCommand.TheVariants.{RedrawPrompt, RedrawDisplay, DrawAppendedText, SetUpperMark, FetchSearchQuery}
 use Rattle.minus_commands.specs.declared.ev_handler.Handled.{Handled}
@@ -33,7 +33,6 @@ is_io (SetLineNumbers numbers) io e = absurd (let both : None ≡ Some io = e in
 is_io (LineWrapping wrapping) io e = absurd (let both : None ≡ Some io = e in cc)
 is_io (SetMatchLines match_lines) io e = absurd (let both : None ≡ Some io = e in cc)
 is_io (SetCarryStyle carry_style) io e = absurd (let both : None ≡ Some io = e in cc)
-is_io (SetScrollBy scroll_by) io e = absurd (let both : None ≡ Some io = e in cc)
 is_io (FollowOutput follow) io e = absurd (let both : None ≡ Some io = e in cc)
 is_io (UserInput event) io e = absurd (let both : None ≡ Some io = e in cc)
 is_io (SetExitStrategy strategy) io e = absurd (let both : None ≡ Some io = e in cc)

@@ -4,8 +4,8 @@ use crate::printed::{push_line, push_made, text_of};
 use bitflags::Flags;
 use minus::{Event, MinusError, parse_usize};
 use minus_view::{
-    ArgumentFault, Arguments, Heard, Place, Preparation, Shape, Stretch, hear, hear_late,
-    parse_arguments, percent, place_text, take_marks, with_tabs,
+    ArgumentFault, Arguments, Place, Preparation, Shape, parse_arguments, percent, place_text,
+    read_events, read_late_events, take_marks, with_tabs,
 };
 use std::alloc::{AllocError, Global};
 
@@ -132,34 +132,22 @@ fn push_event(alloc: Global, out: &mut String, event: &Event) -> Result<(), Allo
     }
 }
 
-// Adds what is heard: an event, or a character that is pasted, behind the end of a line or not so.
-fn push_heard(alloc: Global, out: &mut String, heard: &Heard) -> Result<(), AllocError> {
-    match heard {
-        Heard::Event(event) => push_event(alloc, out, event),
-        Heard::Pasted(pasted) => {
-            let front = if pasted.begins_line { "newline " } else { "" };
-            let character = pasted.character;
-            push_made(out, "= ", format!(in alloc; "pasted {front}{character:?}"))
-        }
-    }
-}
-
-// Adds what is heard of bytes that come in pieces of this many bytes, and of a rest that nothing follows for a while;
-// `waits` where a part of it goes on waiting.
+// Adds the events of bytes that come in pieces of this many bytes, and of a rest that nothing follows for a while; `waits`
+// where a part of it goes on waiting.
 fn push_events(alloc: Global, out: &mut String, rest: &str) -> Result<(), AllocError> {
     let Some((len, rest)) = split_number(rest) else {
         return Ok(());
     };
-    let (mut heard, mut stretch) = (Vec::new(alloc), Stretch::Keys);
+    let mut events = Vec::new(alloc);
     let mut waiting = Vec::new(alloc);
     for piece in bytes_of(alloc, rest)?.chunks(len.max(1)) {
         waiting.extend_from_slice(piece)?;
-        let taken = hear(&mut heard, &mut stretch, waiting.as_slice())?;
+        let taken = read_events(&mut events, waiting.as_slice())?;
         waiting.drain(..taken);
     }
-    let late = hear_late(&mut heard, stretch, waiting.as_slice())?;
-    for one in &heard {
-        push_heard(alloc, out, one)?;
+    let late = read_late_events(&mut events, waiting.as_slice())?;
+    for event in &events {
+        push_event(alloc, out, event)?;
     }
     if late < waiting.len() {
         push_line(out, "= ", "waits")?;
@@ -176,10 +164,8 @@ fn push_asked(alloc: Global, out: &mut String, rest: &str) -> Result<(), AllocEr
     match parse_arguments("", &words) {
         Ok(Arguments::Help) => push_line(out, "= ", "help"),
         Ok(Arguments::Version) => push_line(out, "= ", "version"),
-        Ok(Arguments::Page(paging)) => match paging.skipped {
-            None => push_line(out, "= ", "page"),
-            Some(word) => push_line(out, "= page without ", word),
-        },
+        Ok(Arguments::Page(_)) => push_line(out, "= ", "page"),
+        Err(ArgumentFault::UnknownOption(word)) => push_line(out, "= unknown option ", word),
         Err(ArgumentFault::BadNumber(word)) => push_line(out, "= bad number ", word),
         Err(ArgumentFault::NoValue(word)) => push_line(out, "= no value ", word),
     }
@@ -200,7 +186,6 @@ fn push_place_row(alloc: Global, out: &mut String, rest: &str) -> Result<(), Min
         lines,
         end: part,
         bytes: 100,
-        is_whole: true,
     };
     let text = place_text(alloc, columns, name.as_str(), place)?;
     push_line(out, "= ", text.as_str())?;

@@ -5,7 +5,7 @@ use Rattle.minus_term.specs.declared.event.Event.{Event}
 use Rattle.minus_commands.specs.declared.commands.CommandOf.{CommandOf}
 use Rattle.minus_commands.specs.declared.commands.CommandOf.TheVariants.{SetData, AppendData, SetPrompt, SendMessage}
 use Rattle.minus_commands.specs.declared.commands.CommandOf.TheVariants.{ShowPrompt, SetLineNumbers, LineWrapping}
-use Rattle.minus_commands.specs.declared.commands.CommandOf.TheVariants.{SetMatchLines, SetCarryStyle, SetScrollBy, FollowOutput}
+use Rattle.minus_commands.specs.declared.commands.CommandOf.TheVariants.{SetMatchLines, SetCarryStyle, FollowOutput}
 use Rattle.minus_commands.specs.declared.commands.CommandOf.TheVariants.{UserInput, Io, SetExitStrategy}
 use Rattle.minus_commands.specs.declared.commands.CommandOf.TheVariants.{SetRunNoOverflow, AddExitCallback, AddHook}
 use Rattle.minus_commands.specs.declared.commands.CommandOf.TheVariants.{RemoveHook, IncrementalSearchCondition}
@@ -29,8 +29,7 @@ use Rattle.minus_commands.specs.declared.request.Request.TheVariants as request
 use Rattle.minus_commands.specs.Table.{Wanted, sets_data, appends_data, moves_mark, resizes, exits, ignores}
 use Rattle.minus_commands.specs.Table.{sets_prompt, sends_message, shows_prompt, follows, types, restores_prompt}
 use Rattle.minus_commands.specs.Table.{redraws_prompt, redraws_page, hands_over, sets_numbers, sets_wrapping}
-use Rattle.minus_commands.specs.Table.{sets_match_lines, sets_carry_style, sets_scroll_by, shifts}
-use Rattle.minus_commands.specs.Table.{starts_selection, updates_selection}
+use Rattle.minus_commands.specs.Table.{sets_match_lines, sets_carry_style, shifts, starts_selection, updates_selection}
 use Rattle.minus_commands.specs.Table.{clears_selection, copies_selection, shows_help, moves_to_next_match}
 use Rattle.minus_commands.specs.Table.{moves_to_prev_match, searches, fetches_query}
 use Rattle.minus_state.specs.Classifying.{Classifies}
@@ -83,7 +82,6 @@ wanted_of (SetLineNumbers numbers) = sets_numbers numbers
 wanted_of (LineWrapping wrapping) = sets_wrapping wrapping
 wanted_of (SetMatchLines match_lines) = sets_match_lines match_lines
 wanted_of (SetCarryStyle carry_style) = sets_carry_style carry_style
-wanted_of (SetScrollBy scroll_by) = sets_scroll_by scroll_by
 wanted_of (FollowOutput follow) = follows follow
 wanted_of (UserInput event) = event_wanted event
 wanted_of (Io command) = io_wanted command
@@ -154,7 +152,6 @@ wanted_by (request.SetNumbers numbers) = sets_numbers numbers
 wanted_by (request.SetWrapping wrapping) = sets_wrapping wrapping
 wanted_by (request.SetMatchLines match_lines) = sets_match_lines match_lines
 wanted_by (request.SetCarryStyle carry_style) = sets_carry_style carry_style
-wanted_by (request.SetScrollBy scroll_by) = sets_scroll_by scroll_by
 wanted_by (request.ShiftLeft left) = shifts left
 wanted_by (request.StartSelection x y) = starts_selection x y
 wanted_by (request.UpdateSelection x y) = updates_selection x y

@@ -3,7 +3,6 @@ use Rattle.std.specs.Prelude.{◌≡◌, ℕ, ◌&&◌, is_some, not, List, [], 
 use Rattle.std.specs.Prelude.{encode_utf8, if◌then◌else◌}
 use Rattle.std.specs.Option.{unwrap_or}
 use Rattle.minus_term.specs.Refusals.{Refusal, for_newline, for_size, for_hook_id, for_free_hook_id}
-use Rattle.minus_term.specs.declared.draw.ScrollBy.{ScrollBy}
 use Rattle.minus_text.specs.declared.line_numbers.LineNumbers.{LineNumbers}
 use Rattle.minus_state.specs.Copied.{copied}
 use Rattle.minus_state.specs.Selection.{ends_in_order}
@@ -50,7 +49,6 @@ pub data Wanted (Q K : Type 0) : Type 0 where
   sets_wrapping : Bool → Wanted Q K
   sets_match_lines : Bool → Wanted Q K
   sets_carry_style : Bool → Wanted Q K
-  sets_scroll_by : ScrollBy → Wanted Q K
   shifts : ℕ → Wanted Q K
   starts_selection : (x y : ℕ) → Wanted Q K
   updates_selection : (x y : ℕ) → Wanted Q K
@@ -83,7 +81,6 @@ shape c (sets_numbers numbers) = shows (reformed (record c { numbers = numbers }
 shape c (sets_wrapping wrapping) = shows (reformed (record c { wrapping = wrapping })) true None
 shape c (sets_match_lines match_lines) = shows (reformed (record c { match_lines = match_lines })) true None
 shape c (sets_carry_style carry_style) = shows (reformed (record c { carry_style = carry_style })) true None
-shape c (sets_scroll_by scroll_by) = sets (record c.settings { scroll_by = scroll_by })
 shape c (shifts left) = shows (record c { left = left_after c left }) (may_shift c left) None
 shape c (starts_selection x y) =
     shows (record c { ends = ends_begun c.ends (end_at c x y) }) (is_some (end_at c x y)) None

@@ -3,8 +3,8 @@ use crate::parts::{Boxes, Parts};
 use minus_state::change::AppendStyle;
 use minus_state::input::InputEvent;
 use minus_state::state::ExitStrategy;
+use minus_term::Event;
 use minus_term::hooks::Hook;
-use minus_term::{Event, ScrollBy};
 use minus_text::LineNumbers;
 
 /// A command that asks for a drawing.
@@ -46,8 +46,6 @@ pub enum CommandOf<P: Parts> {
     /// Put each row with the style that its line carries to it, and end it with a reset where it leaves a style open,
     /// or put rows as their texts are.
     SetCarryStyle(bool),
-    /// Move the page's rows by these sequences where it scrolls.
-    SetScrollBy(ScrollBy),
     /// Move to the last page, and go on with what is appended from now on, or no longer.
     FollowOutput(bool),
     /// Do what an event would ask for.

@@ -244,7 +244,6 @@ fn form_any<P: Parts>(
         Request::SetPrompt(text) => Ok(Outcome::setting(state.prompted(text)?)),
         Request::SendMessage(text) => Ok(Outcome::setting(state.messaged(text)?)),
         Request::ShowPrompt(is_shown) => Ok(Outcome::setting(state.with_prompt_shown(is_shown))),
-        Request::SetScrollBy(scroll_by) => Ok(Outcome::setting(state.with_scroll_by(scroll_by))),
         Request::Follow(follow) => Ok(Outcome::following(state, follow)),
         Request::Type(character) => Ok(Outcome::setting(state.typed(alloc, character)?)),
         Request::RestorePrompt => Outcome::restoring(state, alloc),

@@ -16,8 +16,8 @@ use crate::parts::{Boxes, Parts, PartsOf};
 use crate::registration::keep_all;
 use crate::request::{check_command, check_line};
 use minus_state::state::ExitStrategy;
+use minus_term::MinusError;
 use minus_term::hooks::Hook;
-use minus_term::{MinusError, ScrollBy};
 use minus_text::LineNumbers;
 use std::alloc::Global;
 use std::convert::AsStr;
@@ -219,22 +219,6 @@ impl<P: Parts> PagerOf<P> {
         ensures memory { IfErr result (λ e. e ≡ MinusError.Memory) }
     {
         self.queue(CommandOf::SetCarryStyle(on))?;
-        Ok(())
-    }
-
-    /// Moves the page's rows by these sequences where it scrolls: by scrolls, as the original does, or by lines that are
-    /// deleted and inserted, which every terminal knows.
-    ///
-    /// # Errors
-    ///
-    /// [`MinusError::Memory`] where there is no memory, and nothing has changed.
-    pub fn set_scroll_by(&mut self, scroll_by: ScrollBy) -> Result<(), MinusError>
-        ensures ok { OnOk result (waiting_of self.new
-            ≡ waiting_of self.old ++ CommandOf.SetScrollBy scroll_by ∷ []) }
-        ensures err { OnErr result (waiting_of self.new ≡ waiting_of self.old) }
-        ensures memory { IfErr result (λ e. e ≡ MinusError.Memory) }
-    {
-        self.queue(CommandOf::SetScrollBy(scroll_by))?;
         Ok(())
     }
 

@@ -13,7 +13,7 @@ use crate::registration::Handed;
 use minus_state::input::InputEvent;
 use minus_state::search::SearchMode;
 use minus_state::{has_newline, is_size};
-use minus_term::{MinusError, ScrollBy};
+use minus_term::MinusError;
 use minus_text::LineNumbers;
 use std::alloc::{AllocError, Global};
 
@@ -39,7 +39,6 @@ pub enum Request<P: Parts> {
     SetWrapping(bool),
     SetMatchLines(bool),
     SetCarryStyle(bool),
-    SetScrollBy(ScrollBy),
     ShiftLeft(usize),
     StartSelection { x: u16, y: u16 },
     UpdateSelection { x: u16, y: u16 },
@@ -117,7 +116,6 @@ impl<P: Parts> Request<P> {
             CommandOf::LineWrapping(wrapping) => Request::SetWrapping(*wrapping),
             CommandOf::SetMatchLines(match_lines) => Request::SetMatchLines(*match_lines),
             CommandOf::SetCarryStyle(carry_style) => Request::SetCarryStyle(*carry_style),
-            CommandOf::SetScrollBy(scroll_by) => Request::SetScrollBy(*scroll_by),
             CommandOf::FollowOutput(follow) => Request::Follow(*follow),
             CommandOf::UserInput(event) => Request::of_event(*event),
             CommandOf::Io(command) => Request::of_io(*command),
@@ -141,7 +139,6 @@ impl<P: Parts> Request<P> {
             CommandOf::LineWrapping(wrapping) => Request::SetWrapping(wrapping),
             CommandOf::SetMatchLines(match_lines) => Request::SetMatchLines(match_lines),
             CommandOf::SetCarryStyle(carry_style) => Request::SetCarryStyle(carry_style),
-            CommandOf::SetScrollBy(scroll_by) => Request::SetScrollBy(scroll_by),
             CommandOf::FollowOutput(follow) => Request::Follow(follow),
             CommandOf::UserInput(event) => Request::of_event(event),
             CommandOf::Io(command) => Request::of_io(command),

@@ -182,10 +182,10 @@ pub scroll_draws : (c : Control) (search_mark : ℕ) (s : Settings) (mark : ℕ)
 scroll_draws c search_mark s mark some =
     let new : Control = record c { mark = mark; search_mark = search_mark; settings = s } in
     record {
-      shows = scroll_shows_lem s.scroll_by c.rows c.mark mark (all_shown c) (prompt_row c) (prompt_row new) some;
-      cursor = cursor_stays-scroll s.scroll_by c.rows c.mark mark (shown new) (prompt_row new) false;
-      clean = IsClean-scroll (plain c ∷ plain new ∷ []) s.scroll_by c.rows c.mark mark (shown new) (prompt_row new) (1, omega arith, refl);
-      few = scroll_puts_lem s.scroll_by c.rows c.mark mark (all_shown c) (prompt_row new) (screen_of (plain c)) some (page_size c some);
+      shows = scroll_shows_lem c.rows c.mark mark (all_shown c) (prompt_row c) (prompt_row new) some;
+      cursor = cursor_stays-scroll c.rows c.mark mark (shown new) (prompt_row new) false;
+      clean = IsClean-scroll (plain c ∷ plain new ∷ []) c.rows c.mark mark (shown new) (prompt_row new) (1, omega arith, refl);
+      few = scroll_puts_lem c.rows c.mark mark (all_shown c) (prompt_row new) (screen_of (plain c)) some (page_size c some);
       asked = λ e. absurd (let drawn : Scroll c.mark mark ≡ LastRow Prompt = e in cc);
       none = λ q same. absurd (let drawn : Scroll c.mark mark ≡ Nothing = q in cc);
     }

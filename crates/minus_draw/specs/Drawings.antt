@@ -94,7 +94,7 @@ last_row_ops Cursor new = cursor_under new.rows new.search
 abbrev pub ops_of : Drawing → Control → List Op
 ops_of Nothing new = []
 ops_of (Page page) new = page_ops page new
-ops_of (Scroll from to) new = scroll_ops new.settings.scroll_by new.rows from to (shown new) (prompt_row new)
+ops_of (Scroll from to) new = scroll_ops new.rows from to (shown new) (prompt_row new)
 ops_of (Append first old_count) new = append_from new first old_count
 ops_of (LastRow row) new = last_row_ops row new
 

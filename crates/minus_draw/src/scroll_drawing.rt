@@ -24,10 +24,10 @@ fn push_scroll_down(
     requires belongs { Belongs state.now.screen.document change.now.text }
     requires within { k ≤ page_len change.now.rows }
     ensures { OnOk result (AddsShown state.now change.now
-        (λ shown. down_ops change.now.scroll_by change.now.rows k shown prompt.now) out.old.items out.new.items) }
+        (λ shown. down_ops change.now.rows k shown prompt.now) out.old.items out.new.items) }
 {
     let rows = change.rows as u16;
-    write_down_start(out, change.scroll_by, rows, k)?;
+    write_down_start(out, rows, k)?;
     write_after(
         state,
         alloc,
@@ -51,9 +51,9 @@ fn push_scroll_up(
 ) -> Result<(), AllocError>
     requires { Belongs state.now.screen.document change.now.text }
     ensures { OnOk result (AddsShown state.now change.now
-        (λ shown. up_ops change.now.scroll_by change.now.rows k shown prompt.now) out.old.items out.new.items) }
+        (λ shown. up_ops change.now.rows k shown prompt.now) out.old.items out.new.items) }
 {
-    write_up_start(out, change.scroll_by, k)?;
+    write_up_start(out, k)?;
     write_between(state, alloc, out, change, 0, k as usize)?;
     write_prompt_row(out, change.rows as u16, prompt)?;
     Ok(())
@@ -71,7 +71,7 @@ pub(crate) fn push_scroll(
 ) -> Result<(), AllocError>
     requires { Belongs state.now.screen.document change.now.text }
     ensures { OnOk result (AddsShown state.now change.now
-        (λ shown. scroll_ops change.now.scroll_by change.now.rows from to shown prompt.now) out.old.items out.new.items) }
+        (λ shown. scroll_ops change.now.rows from to shown prompt.now) out.old.items out.new.items) }
 {
     let most = page_len(change.rows);
     if from <= to {

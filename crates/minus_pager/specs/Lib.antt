@@ -1,4 +1,3 @@
-pub mod Archives
 pub mod Files
 pub mod Pagings
 pub mod ExitStatus

@@ -1,13 +1,12 @@
 -- What the pager's words say to the library: how a text is paged.
-use Rattle.std.specs.Prelude.{◌&&◌, None, length, nat_lt, option_map}
+use Rattle.std.specs.Prelude.{◌&&◌, length, nat_lt}
 use Rattle.minus_app.specs.declared.options.Options.{Options}
 use Rattle.minus_view.specs.declared.arguments.Paging.{Paging}
-use Rattle.minus_view.specs.Paging.{bare, bare_opening}
+use Rattle.minus_view.specs.Paging.{bare_opening}
 
--- how a text is paged, without the places in memory of what is searched for and of what is said at first
+-- how a text is paged, told by what is searched for, wherever that lies
 abbrev pub bare_options : Options → Options
-bare_options options =
-    record options { opening = bare_opening options.opening; says = option_map bare options.says }
+bare_options options = record options { opening = bare_opening options.opening }
 
 -- how it is paged; one of several texts is not printed
 abbrev pub options_of : Paging → Options
@@ -19,7 +18,5 @@ options_of paging = record {
   leaves = paging.leaves;
   case = paging.case;
   at_end = paging.at_end;
-  ends_at_interrupt = paging.ends_at_interrupt;
   opening = bare_opening paging.opening;
-  says = None;
 }

@@ -4,7 +4,7 @@ ghost use Rattle.minus_pager.specs.ExitStatus.{status_of};
 
 use minus::MinusError;
 use minus_app::Fault;
-use minus_view::{ArgumentFault, shown_name};
+use minus_view::ArgumentFault;
 use std::alloc::{AllocError, AllocFailed, Global};
 use std::io;
 use thiserror::Error;
@@ -18,9 +18,6 @@ pub enum Refusal {
     /// The text is not there, or the terminal is not, or the pager refuses.
     #[error("{0}")]
     Failed(Fault),
-    /// Ctrl-C has ended the program, which it was asked to do.
-    #[error("interrupted")]
-    Interrupted,
 }
 
 impl Refusal {
@@ -30,12 +27,14 @@ impl Refusal {
     ///
     /// [`AllocError`] where there is no memory.
     pub fn of_words(alloc: Global, fault: &ArgumentFault<'_>) -> Result<Refusal, AllocError> {
-        let (why, word) = match fault {
-            ArgumentFault::BadNumber(word) => ("no number", word),
-            ArgumentFault::NoValue(word) => ("nothing follows the option", word),
+        let said = match fault {
+            ArgumentFault::UnknownOption(word) => format!(in alloc; "no such option: {word}")?,
+            ArgumentFault::BadNumber(word) => format!(in alloc; "no number: {word}")?,
+            ArgumentFault::NoValue(word) => format!(in alloc;
+                "nothing follows the option: {word}"
+            )?,
         };
-        let word = shown_name(alloc, word)?;
-        Ok(Refusal::Words(format!(in alloc; "{why}: {word}")?))
+        Ok(Refusal::Words(said))
     }
 
     /// What is said of a file that is not read.
@@ -44,7 +43,6 @@ impl Refusal {
     ///
     /// [`AllocError`] where there is no memory.
     pub fn of_file(alloc: Global, path: &str, why: &str) -> Result<Refusal, AllocError> {
-        let path = shown_name(alloc, path)?;
         let said = format!(in alloc; "{path}{why}")?;
         Ok(Refusal::Failed(Fault::Own(said)))
     }
@@ -55,7 +53,6 @@ impl Refusal {
     {
         match self {
             Refusal::Words(_) => 2,
-            Refusal::Interrupted => 2,
             Refusal::Failed(_) => 1,
         }
     }
@@ -63,10 +60,7 @@ impl Refusal {
 
 impl From<Fault> for Refusal {
     fn from(cause: Fault) -> Refusal {
-        match cause {
-            Fault::Interrupted => Refusal::Interrupted,
-            cause => Refusal::Failed(cause),
-        }
+        Refusal::Failed(cause)
     }
 }
 

@@ -2,10 +2,9 @@
 ghost use Rattle.std.specs.Prelude.{◌≡◌};
 ghost use Rattle.minus_pager.specs.Files.{neighbour_of};
 
-use crate::archives::Archives;
 use crate::exit_status::Refusal;
-use minus_app::{App, Fault, Fed, Neighbour, NoAct, Notice, Text, Turned};
-use minus_view::{Shape, prompt_words};
+use minus_app::{App, Fault, Fed, Neighbour, NoAct, Notice, Text};
+use minus_view::Shape;
 use std::alloc::{AllocError, Global};
 use std::env;
 use std::fs::File;
@@ -59,7 +58,7 @@ fn name_of_input(rt: &HostRuntime, name: Option<&str>) -> Result<String, AllocEr
         return Ok(told);
     }
     if let Some(name) = name {
-        return prompt_words(rt.alloc(), name);
+        return String::from_str(rt.alloc(), name);
     }
     match env::var(rt, MAN_NAME) {
         Ok(page) => Ok(page),
@@ -88,8 +87,8 @@ fn neighbour_of(at: usize, count: usize, neighbour: Neighbour) -> Option<usize>
     }
 }
 
-/// Says on standard error why a text is not read, or no more; the launcher shows that at the end.
-pub fn tell(rt: &HostRuntime, refusal: &Refusal) {
+// Says on standard error why a text is not read; the launcher shows that at the end.
+fn tell(rt: &HostRuntime, refusal: &Refusal) {
     let _ = eprintln!(rt; "minus: {refusal}");
 }
 
@@ -99,8 +98,6 @@ pub struct Files {
     // What standard input is called.
     input: String,
     shape: Shape,
-    // Those of them that are packed.
-    archives: Archives,
     // The place of the one that is paged.
     at: usize,
     text: Text,
@@ -113,7 +110,6 @@ impl Drop for Files {
             words: _,
             input: _,
             shape: _,
-            archives: _,
             at: _,
             text: _,
         } = self;
@@ -132,7 +128,6 @@ impl Files {
         texts: &[&str],
         name: Option<&str>,
         shape: Shape,
-        archives: Archives,
     ) -> Result<Files, Refusal> {
         let alloc = rt.alloc();
         let mut words = Vec::new(alloc);
@@ -144,14 +139,12 @@ impl Files {
             words.push(String::from_str(alloc, "-")?)?;
         }
         let input = name_of_input(rt, name)?;
-        let mut archives = archives;
-        let (at, text) = Files::first_text(rt, &words, input.as_str(), &mut archives)?;
+        let (at, text) = Files::first_text(rt, &words, input.as_str())?;
         let text = text.shaped(alloc, shape);
         Ok(Files {
             words,
             input,
             shape,
-            archives,
             at,
             text,
         })
@@ -162,16 +155,15 @@ impl Files {
         rt: &HostRuntime,
         words: &[String],
         input: &str,
-        archives: &mut Archives,
     ) -> Result<(usize, Text), Refusal> {
         let last = words.len().saturating_sub(1);
         for at in 0..last {
-            match Files::text_at(rt, words, input, archives, at) {
+            match Files::text_at(rt, words, input, at) {
                 Ok(text) => return Ok((at, text)),
                 Err(refusal) => tell(rt, &refusal),
             }
         }
-        Ok((last, Files::text_at(rt, words, input, archives, last)?))
+        Ok((last, Files::text_at(rt, words, input, last)?))
     }
 
     // The text at a place, with its title: where there are several, that says which one it is.
@@ -179,7 +171,6 @@ impl Files {
         rt: &HostRuntime,
         words: &[String],
         input: &str,
-        archives: &mut Archives,
         at: usize,
     ) -> Result<Text, Refusal> {
         let word = match words.get(at) {
@@ -193,10 +184,7 @@ impl Files {
         } else {
             String::from_str(rt.alloc(), name)?
         };
-        match archives.text_at(rt, at, title.as_str())? {
-            Some(text) => Ok(text),
-            None => open(rt, word, title.as_str()),
-        }
+        open(rt, word, title.as_str())
     }
 }
 
@@ -208,28 +196,25 @@ impl App for Files {
     }
 
     // A text that is not read is skipped, and standard error says why.
-    fn turn_to(&mut self, rt: &HostRuntime, neighbour: Neighbour) -> Result<Turned, Fault> {
+    fn turn_to(&mut self, rt: &HostRuntime, neighbour: Neighbour) -> Result<bool, Fault> {
         let count = self.words.len();
-        let (mut at, mut turned) = (self.at, Turned::NoneThere);
+        let mut at = self.at;
         for _ in 0..count {
             let Some(next) = neighbour_of(at, count, neighbour) else {
-                break;
+                return Ok(false);
             };
             at = next;
             let input = self.input.as_str();
-            match Files::text_at(rt, &self.words, input, &mut self.archives, at) {
+            match Files::text_at(rt, &self.words, input, at) {
                 Ok(text) => {
                     self.at = at;
                     self.text = text.shaped(rt.alloc(), self.shape);
-                    return Ok(Turned::There);
+                    return Ok(true);
                 }
-                Err(refusal) => {
-                    tell(rt, &refusal);
-                    turned = Turned::Unread(format!(in rt.alloc(); "{refusal}")?);
-                }
+                Err(refusal) => tell(rt, &refusal),
             }
         }
-        Ok(turned)
+        Ok(false)
     }
 
     fn is_last(&self) -> bool {
@@ -264,7 +249,7 @@ impl App for Files {
     fn hand_on(&mut self, rt: &HostRuntime) -> Result<(), Fault> {
         for _ in 0..self.words.len() {
             self.text.hand_on(rt)?;
-            if !matches!(self.turn_to(rt, Neighbour::Next)?, Turned::There) {
+            if !self.turn_to(rt, Neighbour::Next)? {
                 break;
             }
         }

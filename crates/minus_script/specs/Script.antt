@@ -16,9 +16,7 @@ use Rattle.minus_script.specs.declared.keys.DefaultKeys.{DefaultKeys}
 use Rattle.minus_commands.specs.Reads.{Told, a_command, an_event}
 use Rattle.minus_commands.specs.Table.{Wanted, sets_data, appends_data, moves_mark, resizes, sets_prompt, sends_message}
 use Rattle.minus_commands.specs.Table.{follows, shows_prompt, sets_numbers, sets_wrapping, sets_match_lines}
-use Rattle.minus_commands.specs.Table.{sets_carry_style, sets_scroll_by}
-use Rattle.minus_term.specs.declared.draw.ScrollBy.{ScrollBy}
-use Rattle.minus_term.specs.declared.draw.ScrollBy.TheVariants.{Scrolls, Lines}
+use Rattle.minus_commands.specs.Table.{sets_carry_style}
 use Rattle.minus_input.specs.Number.{usize_of}
 use Rattle.minus_script.specs.DescribedEvents.{key_described, mouse_said}
 use Rattle.minus_script.specs.Escapes.{unescaped}
@@ -72,13 +70,6 @@ abbrev pub switch_of : List ℕ → Option Bool
 switch_of argument =
     if bytes_eq argument (codes "on") then Some true else if bytes_eq argument (codes "off") then Some false else None
 
--- the sequences that an argument names
-abbrev pub scroll_by_of : List ℕ → Option ScrollBy
-scroll_by_of argument =
-    if bytes_eq argument (codes "scrolls") then Some Scrolls
-    else if bytes_eq argument (codes "lines") then Some Lines
-    else None
-
 -- the numbers that an argument asks for
 abbrev pub numbers_of : List ℕ → Option LineNumbers
 numbers_of argument =
@@ -98,7 +89,6 @@ setting_asked word argument =
     else if bytes_eq word (codes "wrap") then option_map sets_wrapping (switch_of argument)
     else if bytes_eq word (codes "matchlines") then option_map sets_match_lines (switch_of argument)
     else if bytes_eq word (codes "carrystyle") then option_map sets_carry_style (switch_of argument)
-    else if bytes_eq word (codes "scrollby") then option_map sets_scroll_by (scroll_by_of argument)
     else if bytes_eq word (codes "numbers") then option_map sets_numbers (numbers_of argument)
     else None
 

@@ -2,20 +2,19 @@
 ghost use Rattle.std.specs.Prelude.{◌≡◌, ◌+◌, ◌<◌, ◌++◌, ◌∷◌, [], map, length, IfOk, IfErr, OnOk, IfSome, IsSome, MatchOption, Ok, Some, None, string_bytes};
 ghost use Rattle.std.specs.Option.{option_map};
 ghost use Rattle.std.specs.List.{position};
-ghost use Rattle.minus_script.specs.Script.{is_newline, script_lines, script_told, line_told, word_told, command_asked, setting_asked, resize_asked, switch_of, numbers_of, scroll_by_of, typed, all_typed};
+ghost use Rattle.minus_script.specs.Script.{is_newline, script_lines, script_told, line_told, word_told, command_asked, setting_asked, resize_asked, switch_of, numbers_of, typed, all_typed};
 ghost use Rattle.minus_script.specs.Script.{key_told, mouse_told};
 ghost use Rattle.minus_script.specs.Escapes.{unescaped, escape_byte, split_escape_of};
 ghost use Rattle.minus_script.specs.ScriptLines.{told_by};
 ghost use Rattle.minus_script.specs.ScriptFaults.{IsScriptFault};
 ghost use Rattle.minus_commands.specs.Reads.{told_of, wanted_of};
-ghost use Rattle.minus_commands.specs.Table.{sets_data, appends_data, moves_mark, sets_prompt, sends_message, follows, shows_prompt, sets_numbers, sets_wrapping, sets_match_lines, sets_carry_style, sets_scroll_by};
+ghost use Rattle.minus_commands.specs.Table.{sets_data, appends_data, moves_mark, sets_prompt, sends_message, follows, shows_prompt, sets_numbers, sets_wrapping, sets_match_lines, sets_carry_style};
 
 use crate::described_events::{parse_key, parse_mouse};
 use crate::fault::ScriptFault;
 use crate::keys::ScriptKinds;
 use minus::{
-    CommandOf, Event, InputEvent, InputOf, KeyCode, KeyEvent, LineNumbers, MouseEvent, ScrollBy,
-    parse_usize,
+    CommandOf, Event, InputEvent, InputOf, KeyCode, KeyEvent, LineNumbers, MouseEvent, parse_usize,
 };
 use std::alloc::{AllocError, Global};
 
@@ -164,24 +163,6 @@ fn carry_style(carry_style: bool) -> Command
     Command::SetCarryStyle(carry_style)
 }
 
-/// The command that moves the page's rows by these sequences.
-fn set_scroll_by(scroll_by: ScrollBy) -> Command
-    ensures { wanted_of result ≡ sets_scroll_by scroll_by }
-{
-    Command::SetScrollBy(scroll_by)
-}
-
-/// The sequences that an argument names.
-fn parse_scroll_by(argument: &str) -> Option<ScrollBy>
-    ensures { result ≡ scroll_by_of argument.now }
-{
-    match argument {
-        "scrolls" => Some(ScrollBy::Scrolls),
-        "lines" => Some(ScrollBy::Lines),
-        _ => None,
-    }
-}
-
 /// The numbers that an argument asks for.
 fn parse_numbers(argument: &str) -> Option<LineNumbers>
     ensures { result ≡ numbers_of argument.now }
@@ -235,7 +216,6 @@ fn parse_setting(alloc: Global, word: &str, argument: &str) -> Result<Option<Com
         "wrap" => parse_switch(argument).map(wrap),
         "matchlines" => parse_switch(argument).map(match_lines),
         "carrystyle" => parse_switch(argument).map(carry_style),
-        "scrollby" => parse_scroll_by(argument).map(set_scroll_by),
         "numbers" => parse_numbers(argument).map(set_numbers),
         _ => None,
     };

@@ -21,7 +21,6 @@ use Rattle.minus_state.specs.ShownPrompt.{shown_in}
 use Rattle.minus_state.specs.Page.{shown_of, all_shown, shown}
 use Rattle.minus_state.specs.NextTexts.{next_document, next_found, next_term, aside_with, IsNext}
 use Rattle.minus_state.specs.Changes.{IsChange, IsFormedFor, IsPlaced, Leads, as_is, shown_by, help_after, settings_after, prompt_after, shown_prompt}
-use Rattle.minus_term.specs.declared.draw.ScrollBy.{ScrollBy}
 use Rattle.minus_state.specs.declared.change.Redraw.{Redraw}
 use Rattle.minus_state.specs.Aside.{aside_of}
 use Rattle.minus_state.specs.OpenSearches.{OpenSearch, search_after}
@@ -48,13 +47,12 @@ same_control a b t c r n w i v m l e p q s h d o =
     ∙ ap (λ (x : SearchMode). let k : Control = record b { mode = x; search = a.search } in k) d
     ∙ ap (λ (x : Option OpenSearch). let k : Control = record b { search = x } in k) o
 
-pub same_settings : (a b : Settings) → a.prompt ≡ b.prompt → a.message ≡ b.message → a.prefix ≡ b.prefix → a.is_shown ≡ b.is_shown → a.scroll_by ≡ b.scroll_by → a.follow ≡ b.follow → a ≡ b
-same_settings a b p m t s w f =
+pub same_settings : (a b : Settings) → a.prompt ≡ b.prompt → a.message ≡ b.message → a.prefix ≡ b.prefix → a.is_shown ≡ b.is_shown → a.follow ≡ b.follow → a ≡ b
+same_settings a b p m t s f =
     ap (λ (x : List ℕ). let k : Settings = record a { prompt = x } in k) p
     ∙ ap (λ (x : Option (List ℕ)). let k : Settings = record a { prompt = b.prompt; message = x } in k) m
     ∙ ap (λ (x : List ℕ). let k : Settings = record a { prompt = b.prompt; message = b.message; prefix = x } in k) t
-    ∙ ap (λ (x : Bool). let k : Settings = record b { is_shown = x; scroll_by = a.scroll_by; follow = a.follow } in k) s
-    ∙ ap (λ (x : ScrollBy). let k : Settings = record b { scroll_by = x; follow = a.follow } in k) w
+    ∙ ap (λ (x : Bool). let k : Settings = record b { is_shown = x; follow = a.follow } in k) s
     ∙ ap (λ (x : Bool). let k : Settings = record b { follow = x } in k) f
 
 -- what is kept as found in the rows that there will be is what the term finds in them

@@ -46,7 +46,6 @@ settings_after s change = record {
   message = message_after change.message s.message;
   prefix = unwrap_or (option_map string_bytes change.prefix) s.prefix;
   is_shown = change.is_shown;
-  scroll_by = change.scroll_by;
   follow = change.follow;
 }
 
@@ -77,7 +76,6 @@ as_is s redraw = record {
   left = s.left_mark;
   ends = ends_of s;
   is_shown = s.prompt_shown;
-  scroll_by = s.scroll_by;
   follow = s.follow;
   mode = s.search_state.search_mode;
   prefix = None;

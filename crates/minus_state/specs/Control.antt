@@ -2,7 +2,6 @@
 -- the page shows, and what is set beside it.
 use Rattle.std.specs.Prelude.{◌≡◌, ℕ, List, Option, None, Some, Bool}
 use Rattle.regex.specs.Patterns.{Re}
-use Rattle.minus_term.specs.declared.draw.ScrollBy.{ScrollBy}
 use Rattle.minus_text.specs.declared.layout.Layout.{Layout}
 use Rattle.minus_text.specs.declared.line_numbers.LineNumbers.{LineNumbers}
 use Rattle.minus_text.specs.Document.{Document, rows_of}
@@ -14,13 +13,12 @@ use Rattle.minus_state.specs.OpenSearches.{OpenSearch}
 use Rattle.minus_state.specs.SearchMark.{search_mark_anew}
 
 -- what is set beside the text: the prompt, a message in its place, the prefix that is typed, whether the prompt row is
--- shown, by which sequences the page's rows are moved, and whether the page goes on with what is appended
+-- shown, and whether the page goes on with what is appended
 pub record Settings : Type 0 where
   pub prompt : List ℕ
   pub message : Option (List ℕ)
   pub prefix : List ℕ
   pub is_shown : Bool
-  pub scroll_by : ScrollBy
   pub follow : Bool
 
 -- what is saved while help is open: the text, whether its lines are wrapped and have numbers, the first row on the
@@ -117,10 +115,6 @@ with_message c text = record c { settings = record c.settings { message = Some t
 -- no message stands there
 abbrev pub without_message : Control → Control
 without_message c = record c { settings = record c.settings { message = None } }
-
--- the page's rows are moved by these sequences where it scrolls
-abbrev pub with_scroll_by : Control → ScrollBy → Control
-with_scroll_by c scroll_by = record c { settings = record c.settings { scroll_by = scroll_by } }
 
 -- the prompt row is shown, or hidden
 abbrev pub with_prompt_shown : Control → Bool → Control

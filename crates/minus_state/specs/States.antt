@@ -3,7 +3,6 @@ use Rattle.std.specs.Prelude.{◌≡◌, ℕ, [], Option, None, true, false, cod
 use Rattle.std.specs.Option.{option_map}
 use Rattle.regex.specs.Patterns.{Re}
 use Rattle.regex.specs.Strings.{regex_pattern}
-use Rattle.minus_term.specs.declared.draw.ScrollBy.TheVariants.{Scrolls}
 use Rattle.minus_text.specs.declared.line_numbers.LineNumbers.TheVariants.{Disabled}
 use Rattle.minus_text.specs.Searched.{searched}
 use Rattle.minus_state.specs.declared.selection.SelectionEnds.{SelectionEnds}
@@ -22,7 +21,6 @@ settings_of s = record {
   message = option_map string_bytes s.message;
   prefix = string_bytes s.prefix_num;
   is_shown = s.prompt_shown;
-  scroll_by = s.scroll_by;
   follow = s.follow;
 }
 
@@ -70,16 +68,9 @@ pub record IsFormed (s : PagerState) : Type 0 where
   pub screen : s.screen ≡ searched (term_of s) (document_of (control_of s))
   pub mode : s.search_mode ≡ (control_of s).mode
 
--- the prompt, no message and no prefix; the prompt row is shown, rows are moved by scrolls, and the page stays where it is at an append
+-- the prompt, no message and no prefix; the prompt row is shown, and the page stays where it is at an append
 abbrev pub first_settings : Settings
-first_settings = record {
-  prompt = codes "minus";
-  message = None;
-  prefix = [];
-  is_shown = true;
-  scroll_by = Scrolls;
-  follow = false;
-}
+first_settings = record { prompt = codes "minus"; message = None; prefix = []; is_shown = true; follow = false }
 
 -- no text, lines without numbers and wrapped, searches in rows, no styles carried, the marks at the first row and
 -- column, nothing selected, no term, and no prompt open

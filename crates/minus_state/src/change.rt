@@ -7,7 +7,7 @@ use crate::search::open_search::SearchChange;
 use crate::selection::SelectionEnds;
 use crate::state::PagerState;
 use crate::state::help::HelpChange;
-use minus_term::{MinusError, ScrollBy};
+use minus_term::MinusError;
 use minus_text::screen::searching::{view_after, view_of};
 use minus_text::{Findings, PendingPush, RowsView, Screen};
 use regex::Regex;
@@ -283,8 +283,6 @@ pub struct Change {
     pub ends: SelectionEnds,
     /// Whether the prompt row is shown.
     pub is_shown: bool,
-    /// By which sequences the page's rows are moved where it scrolls.
-    pub scroll_by: ScrollBy,
     /// Whether the page goes on with what is appended.
     pub follow: bool,
     /// The direction of the last search.
@@ -316,7 +314,6 @@ impl Drop for Change {
             left: _,
             ends: _,
             is_shown: _,
-            scroll_by: _,
             follow: _,
             mode: _,
             prefix: _,
@@ -352,7 +349,6 @@ impl Change {
             left,
             ends,
             is_shown,
-            scroll_by,
             follow,
             mode,
             prefix,
@@ -372,7 +368,6 @@ impl Change {
         state.anchor = ends.anchor;
         state.selection = ends.selection;
         state.prompt_shown = is_shown;
-        state.scroll_by = scroll_by;
         state.follow = follow;
         state.search_mode = mode;
         state.search_state.search_mode = mode;

@@ -35,7 +35,7 @@ use crate::search::{SearchMode, SearchState};
 use crate::selection::{Selection, SelectionEnds};
 use crate::state::help::{Saved, add_aside, replace_aside};
 use crate::state::term::{KeptTerm, kept_pattern, shared_pattern};
-use minus_term::{MinusError, ScrollBy};
+use minus_term::MinusError;
 use minus_text::{Findings, Layout, LineNumbers, Patterns, Screen, Term};
 use regex::Regex;
 use std::alloc::Global;
@@ -136,7 +136,6 @@ pub struct PagerState {
     pub(crate) anchor: Option<Selection>,
     pub(crate) prompt: String,
     pub(crate) prompt_shown: bool,
-    pub(crate) scroll_by: ScrollBy,
     pub(crate) follow: bool,
     pub(crate) saved: Option<Saved>,
     pub(crate) open_search: Option<OpenSearch>,
@@ -164,7 +163,6 @@ impl Drop for PagerState {
             anchor: _,
             prompt: _,
             prompt_shown: _,
-            scroll_by: _,
             follow: _,
             saved: _,
             open_search: _,
@@ -216,7 +214,6 @@ impl PagerState {
             anchor: None,
             prompt: String::from_str(alloc, PROMPT)?,
             prompt_shown: true,
-            scroll_by: ScrollBy::Scrolls,
             follow: false,
             saved: None,
             open_search: None,

@@ -1,14 +1,12 @@
 -- Whether the cursor is shown after drawings.
-use Rattle.std.proofs.Common.{◌≡◌, ℕ, zero, suc, ◌+◌, ◌-◌, leb, nat_eq, min, max, Bool, false, List, [], ◌∷◌, ◌++◌, length, take, drop, refl, ap, ◌∙◌, inl, inr}
+use Rattle.std.proofs.Common.{◌≡◌, ℕ, zero, suc, ◌+◌, ◌-◌, leb, nat_eq, min, max, Bool, false, List, [], ◌∷◌, ◌++◌, length, take, drop, refl, ◌∙◌, inl, inr}
 use Rattle.std.specs.List.{flat_map}
 use Rattle.std.proofs.lemmas.Bool.{cases_Bool}
 use Rattle.minus_term.specs.Operations.{Op}
 use Rattle.minus_term.specs.CursorShown.{switched, cursor_shown}
 use Rattle.minus_term.specs.PageRows.{page_len}
 use Rattle.minus_term.specs.FullRedraw.{row_ops, prompt_ops, full_ops}
-use Rattle.minus_term.specs.Scroll.{rows_up, rows_down, scroll_ops}
-use Rattle.minus_term.specs.declared.draw.ScrollBy.{ScrollBy}
-use Rattle.minus_term.specs.declared.draw.ScrollBy.TheVariants.{Scrolls, Lines}
+use Rattle.minus_term.specs.Scroll.{scroll_ops}
 use Rattle.minus_term.specs.Append.{rows_anew, append_ops}
 use Rattle.minus_term.specs.SearchPrompt.{cursor_ops, edit_ops, closing_ops}
 
@@ -30,23 +28,11 @@ cursor_stays-prompt rows prompt on = elim (cases_Bool (nat_eq (length prompt) 0)
 pub cursor_stays-full : (rows : ℕ) (shown : List (List ℕ)) (prompt : List ℕ) (on : Bool) → cursor_shown (full_ops rows shown prompt) on ≡ on
 cursor_stays-full rows shown prompt on = stays_rows shown (prompt_ops rows prompt) on ∙ cursor_stays-prompt rows prompt on
 
-cursor_stays-up : (by : ScrollBy) (k : ℕ) (on : Bool) → switched (rows_up by k) on ≡ on
-cursor_stays-up Scrolls k on = refl
-cursor_stays-up Lines k on = refl
-
-cursor_stays-down : (by : ScrollBy) (k : ℕ) (on : Bool) → switched (rows_down by k) on ≡ on
-cursor_stays-down Scrolls k on = refl
-cursor_stays-down Lines k on = refl
-
-pub cursor_stays-scroll : (by : ScrollBy) (rows from to : ℕ) (shown : List (List ℕ)) (prompt : List ℕ) (on : Bool) → cursor_shown (scroll_ops by rows from to shown prompt) on ≡ on
-cursor_stays-scroll by rows from to shown prompt on =
-    let last : List Op = prompt_ops rows prompt in
-    let down : List Op = flat_map row_ops (drop (page_len rows - min (to - from) (page_len rows)) shown) ++ last in
-    let up : List Op = flat_map row_ops (take (min (from - to) (page_len rows)) shown) ++ last in
-    elim (cases_Bool (leb from to)) [
-      | inl h ↦ rw h (ap (cursor_shown down) (cursor_stays-up by (min (to - from) (page_len rows)) on) ∙ stays_rows (drop (page_len rows - min (to - from) (page_len rows)) shown) last on ∙ cursor_stays-prompt rows prompt on)
-      | inr h ↦ rw h (ap (cursor_shown up) (cursor_stays-down by (min (from - to) (page_len rows)) on) ∙ stays_rows (take (min (from - to) (page_len rows)) shown) last on ∙ cursor_stays-prompt rows prompt on)
-    ]
+pub cursor_stays-scroll : (rows from to : ℕ) (shown : List (List ℕ)) (prompt : List ℕ) (on : Bool) → cursor_shown (scroll_ops rows from to shown prompt) on ≡ on
+cursor_stays-scroll rows from to shown prompt on = elim (cases_Bool (leb from to)) [
+  | inl h ↦ rw h (stays_rows (drop (page_len rows - min (to - from) (page_len rows)) shown) (prompt_ops rows prompt) on ∙ cursor_stays-prompt rows prompt on)
+  | inr h ↦ rw h (stays_rows (take (min (from - to) (page_len rows)) shown) (prompt_ops rows prompt) on ∙ cursor_stays-prompt rows prompt on)
+]
 
 stays_anew : (i : ℕ) (texts : List (List ℕ)) (blanks : ℕ) (on : Bool) → cursor_shown (rows_anew i texts blanks) on ≡ on
 stays_anew i [] zero on = refl

@@ -1,7 +1,7 @@
 -- How many texts one list of operations after another puts.
 use Rattle.std.proofs.Common.{◌≡◌, ℕ, ◌+◌, ◌≤◌, ◌&&◌, ◌||◌, not, if◌then◌else◌, Bool, true, false, List, [], ◌∷◌, ◌++◌, length, Option, None, Some, refl, sym, arith, inl, inr}
 use Rattle.std.proofs.lemmas.Bool.{cases_Bool}
-use Rattle.minus_term.specs.Operations.{Op, ClearAll, ClearRow, GoTo, Return, NextRow, Put, ScrollUp, ScrollDown, DeleteRows, InsertRows, ShowCursor, HideCursor}
+use Rattle.minus_term.specs.Operations.{Op, ClearAll, ClearRow, GoTo, Return, NextRow, Put, ScrollUp, ScrollDown, ShowCursor, HideCursor}
 use Rattle.minus_term.specs.PlayedScreen.{PlayedScreen, play, play_all, Below, IsBelow}
 use Rattle.minus_term.specs.Puts.{puts, put_of, is_put, is_still, scrolls, is_in_last_row, may_be_in_last_row}
 use Rattle.minus_term.proofs.PlayLaws.{length_below, play_below}
@@ -69,8 +69,6 @@ scrolls_below NextRow s t h e = not_last (length s.texts) (length t.texts) s.row
 scrolls_below (Put text) s t h e = refl
 scrolls_below (ScrollUp n) s t h e = e
 scrolls_below (ScrollDown n) s t h e = e
-scrolls_below (DeleteRows n) s t h e = e
-scrolls_below (InsertRows n) s t h e = e
 scrolls_below ShowCursor s t h e = refl
 scrolls_below HideCursor s t h e = refl
 

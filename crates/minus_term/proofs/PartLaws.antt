@@ -2,8 +2,8 @@
 use Rattle.std.proofs.Common.{◌≡◌, ℕ, ◌==◌, false, List, [], ◌∷◌, ◌++◌, length, codes, refl, sym, ap, ◌∙◌, arith}
 use Rattle.std.proofs.lemmas.List.{append-nil}
 use Rattle.minus_term.specs.FullRedraw.{row_ops, prompt_ops}
-use Rattle.minus_term.specs.Operations.{Op, ClearAll, ClearRow, GoTo, HideCursor, NextRow, Put, Return, ScrollDown, ScrollUp, DeleteRows, InsertRows}
-use Rattle.minus_term.specs.Written.{escape, home, scroll_bytes, written, written_all}
+use Rattle.minus_term.specs.Operations.{Op, ClearAll, ClearRow, GoTo, HideCursor, NextRow, Put, Return, ScrollDown, ScrollUp}
+use Rattle.minus_term.specs.Written.{escape, scroll_bytes, written, written_all}
 use Rattle.minus_term.proofs.WrittenLaws.{op_added, ops_added, written_all-one}
 
 -- a row's text between what stands before and behind it
@@ -45,15 +45,6 @@ scrolled_up old a k e = e ∙ ap (λ (bs : List ℕ). old ++ bs) (sym (written_a
 pub scrolled_down : (old a : List ℕ) (k : ℕ) → a ≡ old ++ scroll_bytes k (84 ∷ []) → a ≡ old ++ written_all (ScrollDown k ∷ [])
 unfolding written
 scrolled_down old a k e = e ∙ ap (λ (bs : List ℕ). old ++ bs) (sym (written_all-one (ScrollDown k)))
-
--- rows were deleted or inserted in the first row
-pub rows_deleted : (old a : List ℕ) (k : ℕ) → a ≡ old ++ (home ++ scroll_bytes k (77 ∷ [])) → a ≡ old ++ written_all (DeleteRows k ∷ [])
-unfolding written
-rows_deleted old a k e = e ∙ ap (λ (bs : List ℕ). old ++ bs) (sym (written_all-one (DeleteRows k)))
-
-pub rows_inserted : (old a : List ℕ) (k : ℕ) → a ≡ old ++ (home ++ scroll_bytes k (76 ∷ [])) → a ≡ old ++ written_all (InsertRows k ∷ [])
-unfolding written
-rows_inserted old a k e = e ∙ ap (λ (bs : List ℕ). old ++ bs) (sym (written_all-one (InsertRows k)))
 
 -- the bytes of what makes each row blank, once the cursor is in the first
 pub cleared_all : written_all (ClearAll ∷ []) ≡ escape ++ codes "2J"

@@ -4,7 +4,7 @@ use Rattle.std.specs.Option.{IfSome, option_map}
 use Rattle.std.proofs.lemmas.Bool.{cases_Bool}
 use Rattle.std.proofs.lemmas.Option.{IfSome_then}
 use Rattle.std.proofs.lemmas.List.{length-replicate, length-set, length-append, length-drop, length-take}
-use Rattle.minus_term.specs.Operations.{Op, ClearAll, ClearRow, GoTo, Return, NextRow, Put, ScrollUp, ScrollDown, DeleteRows, InsertRows, ShowCursor, HideCursor}
+use Rattle.minus_term.specs.Operations.{Op, ClearAll, ClearRow, GoTo, Return, NextRow, Put, ScrollUp, ScrollDown, ShowCursor, HideCursor}
 use Rattle.minus_term.specs.PlayedScreen.{ShownPage, PlayedScreen, blank, unknown_texts, unknown_screen, screen_of, cleared_row, put_text, scrolled_up, scrolled_down, next_texts, next_row, play, play_all, Below, AllBelow, IsBelow, Shows, Draws, PlayIsMonotone, UnknownStandsForAll}
 
 -- the texts of a screen's rows, where they are known
@@ -133,8 +133,6 @@ play_below NextRow s t h = record { texts = next_texts_below s.texts t.texts s.r
 play_below (Put text) s t h = record { texts = put_below text s.texts t.texts s.row t.row h.texts h.row; row = h.row; column = tt }
 play_below (ScrollUp n) s t h = record { texts = scrolled_up_below n s.texts t.texts h.texts; row = h.row; column = h.column }
 play_below (ScrollDown n) s t h = record { texts = scrolled_down_below n s.texts t.texts h.texts; row = h.row; column = h.column }
-play_below (DeleteRows n) s t h = record { texts = scrolled_up_below n s.texts t.texts h.texts; row = refl; column = tt }
-play_below (InsertRows n) s t h = record { texts = scrolled_down_below n s.texts t.texts h.texts; row = refl; column = tt }
 play_below ShowCursor s t h = h
 play_below HideCursor s t h = h
 
@@ -152,8 +150,6 @@ length-play NextRow s = length_next s.texts s.row
 length-play (Put text) s = length_put text s.texts s.row
 length-play (ScrollUp n) s = length_scrolled_up n s.texts
 length-play (ScrollDown n) s = length_scrolled_down n s.texts
-length-play (DeleteRows n) s = length_scrolled_up n s.texts
-length-play (InsertRows n) s = length_scrolled_down n s.texts
 length-play ShowCursor s = refl
 length-play HideCursor s = refl
 

@@ -7,13 +7,11 @@ use Rattle.std.proofs.lemmas.Bool.{cases_Bool, lt-leb, leb-true, leb-false}
 use Rattle.std.proofs.lemmas.List.{length-replicate, length-append, length-map, length-take, length-drop, get_or_at, set_at, map-append, append-nil, take-append-le, take-append-drop, drop-append-le, drop-drop, drop-take, take-take, take_more}
 use Rattle.minus_term.specs.FullRedraw.{page_of, row_ops, prompt_ops}
 use Rattle.minus_term.specs.Operations.{Op, GoTo, ClearRow, ScrollUp, ScrollDown, Return, Put, NextRow}
-use Rattle.minus_term.specs.declared.draw.ScrollBy.{ScrollBy}
-use Rattle.minus_term.specs.declared.draw.ScrollBy.TheVariants.{Scrolls, Lines}
 use Rattle.minus_term.specs.PlayedScreen.{ShownPage, PlayedScreen, Draws, blank, play, play_all, screen_of}
-use Rattle.minus_term.specs.Puts.{puts, put_of, is_put, is_in_last_row, is_still}
-use Rattle.minus_term.specs.Scroll.{shown_from, rows_up, rows_down, down_ops, up_ops, scroll_ops, ScrollShowsItsPage, ScrollPutsFew}
+use Rattle.minus_term.specs.Puts.{puts, put_of, is_in_last_row, is_still}
+use Rattle.minus_term.specs.Scroll.{shown_from, down_ops, up_ops, scroll_ops, ScrollShowsItsPage, ScrollPutsFew}
 use Rattle.minus_term.proofs.FullRedrawLaws.{column_after, column_none, map_blank, play_prompt, IsClean-rows, IsClean-prompt}
-use Rattle.minus_term.specs.Written.{IsClean, IsCleanOp, IsRowOf}
+use Rattle.minus_term.specs.Written.{IsClean, IsRowOf}
 use Rattle.minus_term.proofs.WrittenLaws.{IsClean-append}
 use Rattle.minus_term.proofs.PlayLaws.{Texts, play_all-append, length-play_all}
 use Rattle.minus_term.proofs.PutsLaws.{puts-prompt}
@@ -107,40 +105,12 @@ fill_page rows n shown front above y column prompt l e =
     let count : length (all ++ above) + 1 ≡ rows = omega (arith, e, l, length-append all above, length-append (map Some (front ++ shown)) (replicate (n - length shown) blank), length-map (front ++ shown) Some, length-append front shown, length-replicate (n - length shown) blank) in
     ap (λ (s : PlayedScreen). s.texts) played ∙ play_prompt rows prompt after (all ++ above) y texts count
 
--- ---- both ways to move rows lead to one screen, once the cursor was placed
-
-moved_up : (by : ScrollBy) (k x y : ℕ) (ops : List Op) (s : PlayedScreen) → play_all (rows_up by k ∷ GoTo x y ∷ ops) s ≡ play_all (ScrollUp k ∷ GoTo x y ∷ ops) s
-moved_up Scrolls k x y ops s = refl
-moved_up Lines k x y ops s = refl
-
-moved_down : (by : ScrollBy) (k x y : ℕ) (ops : List Op) (s : PlayedScreen) → play_all (rows_down by k ∷ GoTo x y ∷ ops) s ≡ play_all (ScrollDown k ∷ GoTo x y ∷ ops) s
-moved_down Scrolls k x y ops s = refl
-moved_down Lines k x y ops s = refl
-
--- and neither puts a text
-
-puts_none-up : (by : ScrollBy) (k : ℕ) → is_put (rows_up by k) ≡ false
-puts_none-up Scrolls k = refl
-puts_none-up Lines k = refl
-
-puts_none-down : (by : ScrollBy) (k : ℕ) → is_put (rows_down by k) ≡ false
-puts_none-down Scrolls k = refl
-puts_none-down Lines k = refl
-
-clean_up : (pages : List ShownPage) (by : ScrollBy) (k : ℕ) → IsCleanOp pages (rows_up by k)
-clean_up pages Scrolls k = tt
-clean_up pages Lines k = tt
-
-clean_down : (pages : List ShownPage) (by : ScrollBy) (k : ℕ) → IsCleanOp pages (rows_down by k)
-clean_down pages Scrolls k = tt
-clean_down pages Lines k = tt
-
 -- ---- down
 
 -- the rows that stay have moved up, and blank ones follow
-scrolled_start : (rows k : ℕ) (before : List (List ℕ)) (old : List ℕ) → length before + 1 ≡ rows → k ≤ length before
+down_start : (rows k : ℕ) (before : List (List ℕ)) (old : List ℕ) → length before + 1 ≡ rows → k ≤ length before
     → play_all (ScrollUp k ∷ GoTo 0 (rows - k - 1) ∷ ClearRow ∷ []) (screen_of (record { texts = before ++ old ∷ []; cursor = None })) ≡ filling (drop k before) k (blank ∷ []) (Some 0)
-scrolled_start rows k before old e l =
+down_start rows k before old e l =
     let kept : List (List ℕ) = drop k before in
     let len : length (map Some (before ++ old ∷ [])) ≡ length before + 1 = length-map (before ++ old ∷ []) Some ∙ length-append before (old ∷ []) in
     let n : length (map Some kept) ≡ length before - k = length-map kept Some ∙ length-drop k before in
@@ -164,10 +134,6 @@ scrolled_start rows k before old e l =
     replicate_turn zero = refl
     replicate_turn (suc j) = ap (λ ys. blank ∷ ys) (replicate_turn j)
 
-down_start : (by : ScrollBy) (rows k : ℕ) (before : List (List ℕ)) (old : List ℕ) → length before + 1 ≡ rows → k ≤ length before
-    → play_all (rows_up by k ∷ GoTo 0 (rows - k - 1) ∷ ClearRow ∷ []) (screen_of (record { texts = before ++ old ∷ []; cursor = None })) ≡ filling (drop k before) k (blank ∷ []) (Some 0)
-down_start by rows k before old e l = moved_up by k 0 (rows - k - 1) (ClearRow ∷ []) (screen_of (record { texts = before ++ old ∷ []; cursor = None })) ∙ scrolled_start rows k before old e l
-
 -- what was put into the rows that came in, and blank rows, are the last of the rows
 came_in : (n k : ℕ) (xs : List (List ℕ)) → k ≤ n → drop (n - k) (take n xs) ++ replicate (k - length (drop (n - k) (take n xs))) [] ≡ drop (n - k) (fit n xs)
 came_in n k xs l =
@@ -176,8 +142,8 @@ came_in n k xs l =
     let is : drop (n - k) (take n xs) ≡ take k (drop (n - k) xs) = ap (λ (j : ℕ). drop (n - k) (take j xs)) (sym parts) ∙ drop-take (n - k) k xs in
     rw is (fit_is k (drop (n - k) xs) ∙ sym (drop-fit (n - k) n xs ∙ ap (λ (j : ℕ). fit j (drop (n - k) xs)) rest))
 
-down_shows : (by : ScrollBy) (rows mark d : ℕ) (text : List (List ℕ)) (old new : List ℕ) → 1 ≤ rows → Draws (down_ops by rows (min d (rows - 1)) (shown_from rows (mark + d) text) new) (page_of rows (shown_from rows mark text) old) (page_of rows (shown_from rows (mark + d) text) new)
-down_shows by rows mark d text old new some =
+down_shows : (rows mark d : ℕ) (text : List (List ℕ)) (old new : List ℕ) → 1 ≤ rows → Draws (down_ops rows (min d (rows - 1)) (shown_from rows (mark + d) text) new) (page_of rows (shown_from rows mark text) old) (page_of rows (shown_from rows (mark + d) text) new)
+down_shows rows mark d text old new some =
     let n : ℕ = rows - 1 in
     let k : ℕ = min d n in
     let before : List (List ℕ) = fit n (drop mark text) in
@@ -186,10 +152,10 @@ down_shows by rows mark d text old new some =
     let within : k ≤ n = omega arith in
     let len : length before ≡ n = length-fit n (drop mark text) in
     let count : length last ≤ k = omega (arith, length-drop (n - k) (take n xs), length-take n xs) in
-    let start = down_start by rows k before old (omega arith) (omega arith) in
+    let start = down_start rows k before old (omega arith) (omega arith) in
     let from_page : screen_of (page_of rows (shown_from rows mark text) old) ≡ screen_of (record { texts = before ++ old ∷ []; cursor = None }) = ap (λ (ts : List (List ℕ)). screen_of (record { texts = ts; cursor = None })) (page_texts rows (drop mark text) old) in
     let ops : List Op = flat_map row_ops last ++ prompt_ops rows new in
-    let played : play_all (down_ops by rows k (take n xs) new) (screen_of (page_of rows (shown_from rows mark text) old)) ≡ play_all ops (filling (drop k before) k (blank ∷ []) (Some 0)) = ap (play_all (down_ops by rows k (take n xs) new)) from_page ∙ ap (play_all ops) start in
+    let played : play_all (down_ops rows k (take n xs) new) (screen_of (page_of rows (shown_from rows mark text) old)) ≡ play_all ops (filling (drop k before) k (blank ∷ []) (Some 0)) = ap (play_all (down_ops rows k (take n xs) new)) from_page ∙ ap (play_all ops) start in
     let rows_are : length (drop k before) + k + 0 + 1 ≡ rows = omega (arith, length-drop k before, len) in
     let texts = fill_page rows k last (drop k before) [] blank (Some 0) new count rows_are in
     let kept : drop k before ≡ take (n - k) (fit n xs) = drop-fit k n (drop mark text) ∙ stays n d mark text ∙ sym (take-fit (n - k) n xs (omega arith)) in
@@ -205,8 +171,8 @@ down_shows by rows mark d text old new some =
 
 -- ---- up
 
-up_shows : (by : ScrollBy) (rows mark d : ℕ) (text : List (List ℕ)) (old new : List ℕ) → 1 ≤ rows → Draws (up_ops by rows (min d (rows - 1)) (shown_from rows mark text) new) (page_of rows (shown_from rows (mark + d) text) old) (page_of rows (shown_from rows mark text) new)
-up_shows by rows mark d text old new some =
+up_shows : (rows mark d : ℕ) (text : List (List ℕ)) (old new : List ℕ) → 1 ≤ rows → Draws (up_ops rows (min d (rows - 1)) (shown_from rows mark text) new) (page_of rows (shown_from rows (mark + d) text) old) (page_of rows (shown_from rows mark text) new)
+up_shows rows mark d text old new some =
     let n : ℕ = rows - 1 in
     let k : ℕ = min d n in
     let xs : List (List ℕ) = drop mark text in
@@ -225,9 +191,8 @@ up_shows by rows mark d text old new some =
     let ops : List Op = flat_map row_ops first ++ prompt_ops rows new in
     let moved : min k (length page) ≡ k = omega arith in
     let top : min 0 (length (replicate k blank ++ (kept ++ y ∷ [])) - 1) ≡ 0 = omega arith in
-    let scrolled : play_all (ScrollDown k ∷ GoTo 0 0 ∷ []) (screen_of (record { texts = before ++ old ∷ []; cursor = None })) ≡ filling [] k (kept ++ y ∷ []) (Some 0) = rw (moved, all, below, top) refl in
-    let start : play_all (rows_down by k ∷ GoTo 0 0 ∷ []) (screen_of (record { texts = before ++ old ∷ []; cursor = None })) ≡ filling [] k (kept ++ y ∷ []) (Some 0) = moved_down by k 0 0 [] (screen_of (record { texts = before ++ old ∷ []; cursor = None })) ∙ scrolled in
-    let played : play_all (up_ops by rows k (take n xs) new) (screen_of (page_of rows (shown_from rows (mark + d) text) old)) ≡ play_all ops (filling [] k (kept ++ y ∷ []) (Some 0)) = ap (play_all (up_ops by rows k (take n xs) new)) from_page ∙ ap (play_all ops) start in
+    let start : play_all (ScrollDown k ∷ GoTo 0 0 ∷ []) (screen_of (record { texts = before ++ old ∷ []; cursor = None })) ≡ filling [] k (kept ++ y ∷ []) (Some 0) = rw (moved, all, below, top) refl in
+    let played : play_all (up_ops rows k (take n xs) new) (screen_of (page_of rows (shown_from rows (mark + d) text) old)) ≡ play_all ops (filling [] k (kept ++ y ∷ []) (Some 0)) = ap (play_all (up_ops rows k (take n xs) new)) from_page ∙ ap (play_all ops) start in
     let rows_are : 0 + k + length kept + 1 ≡ rows = omega (arith, length-map (take (n - k) before) Some, length-take (n - k) before, len) in
     let texts = fill_page rows k first [] kept y (Some 0) new count rows_are in
     let put : first ++ replicate (k - length first) [] ≡ take k (fit n xs) = (let is : first ≡ take k xs = take-take k n xs (omega arith) in rw is (fit_is k xs ∙ sym (take-fit k n xs (omega arith)))) in
@@ -248,9 +213,9 @@ up_shows by rows mark d text old new some =
     take-map (suc j) (z ∷ zs) = ap (λ us. Some z ∷ us) (take-map j zs)
 
 pub scroll_shows_lem : ScrollShowsItsPage
-scroll_shows_lem by rows from to text old new some = elim (cases_Bool (leb from to)) [
-  | inl e ↦ (let l : from ≤ to = leb-true from to e in let is : from + (to - from) ≡ to = omega arith in let h = down_shows by rows from (to - from) text old new some in rw e (subst (λ (x : ℕ). Draws (down_ops by rows (min (to - from) (rows - 1)) (shown_from rows x text) new) (page_of rows (shown_from rows from text) old) (page_of rows (shown_from rows x text) new)) is h))
-  | inr e ↦ (let l : to < from = leb-false from to e in let is : to + (from - to) ≡ from = omega arith in let h = up_shows by rows to (from - to) text old new some in rw e (subst (λ (x : ℕ). Draws (up_ops by rows (min (from - to) (rows - 1)) (shown_from rows to text) new) (page_of rows (shown_from rows x text) old) (page_of rows (shown_from rows to text) new)) is h))
+scroll_shows_lem rows from to text old new some = elim (cases_Bool (leb from to)) [
+  | inl e ↦ (let l : from ≤ to = leb-true from to e in let is : from + (to - from) ≡ to = omega arith in let h = down_shows rows from (to - from) text old new some in rw e (subst (λ (x : ℕ). Draws (down_ops rows (min (to - from) (rows - 1)) (shown_from rows x text) new) (page_of rows (shown_from rows from text) old) (page_of rows (shown_from rows x text) new)) is h))
+  | inr e ↦ (let l : to < from = leb-false from to e in let is : to + (from - to) ≡ from = omega arith in let h = up_shows rows to (from - to) text old new some in rw e (subst (λ (x : ℕ). Draws (up_ops rows (min (from - to) (rows - 1)) (shown_from rows to text) new) (page_of rows (shown_from rows x text) old) (page_of rows (shown_from rows to text) new)) is h))
 ]
 
 -- ---- how many texts are put
@@ -276,22 +241,22 @@ puts-page rows shown prompt s e l =
     let none = puts-prompt rows prompt after (length-play_all (flat_map row_ops shown) s ∙ e) l in
     omega (arith, none, puts-some_rows shown (prompt_ops rows prompt) s)
 
-down_puts : (by : ScrollBy) (rows k : ℕ) (shown : List (List ℕ)) (prompt : List ℕ) (s : PlayedScreen) → length s.texts ≡ rows → 0 < rows → k ≤ rows - 1 → length shown ≤ rows - 1 → puts (down_ops by rows k shown prompt) s ≤ k
-down_puts by rows k shown prompt s e l m n =
-    let start : List Op = rows_up by k ∷ GoTo 0 (rows - k - 1) ∷ ClearRow ∷ [] in
+down_puts : (rows k : ℕ) (shown : List (List ℕ)) (prompt : List ℕ) (s : PlayedScreen) → length s.texts ≡ rows → 0 < rows → k ≤ rows - 1 → length shown ≤ rows - 1 → puts (down_ops rows k shown prompt) s ≤ k
+down_puts rows k shown prompt s e l m n =
+    let start : List Op = ScrollUp k ∷ GoTo 0 (rows - k - 1) ∷ ClearRow ∷ [] in
     let few = puts-page rows (drop (rows - 1 - k) shown) prompt (play_all start s) (length-play_all start s ∙ e) l in
-    rw (puts_none-up by k) (omega (arith, few, length-drop (rows - 1 - k) shown, n, m))
+    omega (arith, few, length-drop (rows - 1 - k) shown, n, m)
 
-up_puts : (by : ScrollBy) (rows k : ℕ) (shown : List (List ℕ)) (prompt : List ℕ) (s : PlayedScreen) → length s.texts ≡ rows → 0 < rows → puts (up_ops by rows k shown prompt) s ≤ k
-up_puts by rows k shown prompt s e l =
-    let start : List Op = rows_down by k ∷ GoTo 0 0 ∷ [] in
+up_puts : (rows k : ℕ) (shown : List (List ℕ)) (prompt : List ℕ) (s : PlayedScreen) → length s.texts ≡ rows → 0 < rows → puts (up_ops rows k shown prompt) s ≤ k
+up_puts rows k shown prompt s e l =
+    let start : List Op = ScrollDown k ∷ GoTo 0 0 ∷ [] in
     let few = puts-page rows (take k shown) prompt (play_all start s) (length-play_all start s ∙ e) l in
-    rw (puts_none-down by k) (omega (arith, few, length-take k shown))
+    omega (arith, few, length-take k shown)
 
 pub scroll_puts_lem : ScrollPutsFew
-scroll_puts_lem by rows from to text new s some e = elim (cases_Bool (leb from to)) [
-  | inl h ↦ (let l : from ≤ to = leb-true from to h in let few = down_puts by rows (min (to - from) (rows - 1)) (shown_from rows to text) new s e some (omega arith) (omega (arith, length-take (rows - 1) (drop to text))) in rw h (omega (arith, few)))
-  | inr h ↦ (let few = up_puts by rows (min (from - to) (rows - 1)) (shown_from rows to text) new s e some in let l : to < from = leb-false from to h in rw h (omega (arith, few)))
+scroll_puts_lem rows from to text new s some e = elim (cases_Bool (leb from to)) [
+  | inl h ↦ (let l : from ≤ to = leb-true from to h in let few = down_puts rows (min (to - from) (rows - 1)) (shown_from rows to text) new s e some (omega arith) (omega (arith, length-take (rows - 1) (drop to text))) in rw h (omega (arith, few)))
+  | inr h ↦ (let few = up_puts rows (min (from - to) (rows - 1)) (shown_from rows to text) new s e some in let l : to < from = leb-false from to h in rw h (omega (arith, few)))
 ]
 
 -- ---- a scroll is clean of each list of pages that contains the page that it leads to
@@ -302,14 +267,14 @@ in_rest j xs x h = subst (λ (ys : List _). Contains ys x) (take-append-drop j x
 in_front : {X : Type 0} (j : ℕ) (xs : List X) (x : X) → Contains (take j xs) x → Contains xs x
 in_front j xs x h = subst (λ (ys : List _). Contains ys x) (take-append-drop j xs) (Contains-append_left (take j xs) (drop j xs) x h)
 
-pub IsClean-scroll : (pages : List ShownPage) (by : ScrollBy) (rows from to : ℕ) (shown : List (List ℕ)) (prompt : List ℕ) → Contains pages (page_of rows shown prompt) → IsClean pages (scroll_ops by rows from to shown prompt)
-IsClean-scroll pages by rows from to shown prompt h =
+pub IsClean-scroll : (pages : List ShownPage) (rows from to : ℕ) (shown : List (List ℕ)) (prompt : List ℕ) → Contains pages (page_of rows shown prompt) → IsClean pages (scroll_ops rows from to shown prompt)
+IsClean-scroll pages rows from to shown prompt h =
     let blanks : List (List ℕ) = replicate (rows - 1 - length shown) [] in
     let row : (text : List ℕ) → Contains shown text → IsRowOf pages text = λ text k. (page_of rows shown prompt, h, Contains-append_left (shown ++ blanks) (prompt ∷ []) text (Contains-append_left shown blanks text k)) in
     let last : IsClean pages (prompt_ops rows prompt) = IsClean-prompt pages rows prompt (page_of rows shown prompt, h, Contains-push (shown ++ blanks) prompt) in
     let down : ℕ = rows - 1 - min (to - from) (rows - 1) in
     let up : ℕ = min (from - to) (rows - 1) in
     elim (cases_Bool (leb from to)) [
-      | inl e ↦ rw e (clean_up pages by (min (to - from) (rows - 1)), (tt, (tt, IsClean-append pages (flat_map row_ops (drop down shown)) (prompt_ops rows prompt) (IsClean-rows pages (drop down shown) (λ text k. row text (in_rest down shown text k))) last)))
-      | inr e ↦ rw e (clean_down pages by up, (tt, IsClean-append pages (flat_map row_ops (take up shown)) (prompt_ops rows prompt) (IsClean-rows pages (take up shown) (λ text k. row text (in_front up shown text k))) last))
+      | inl e ↦ rw e (tt, (tt, (tt, IsClean-append pages (flat_map row_ops (drop down shown)) (prompt_ops rows prompt) (IsClean-rows pages (drop down shown) (λ text k. row text (in_rest down shown text k))) last)))
+      | inr e ↦ rw e (tt, (tt, IsClean-append pages (flat_map row_ops (take up shown)) (prompt_ops rows prompt) (IsClean-rows pages (take up shown) (λ text k. row text (in_front up shown text k))) last))
     ]

@@ -3,7 +3,7 @@ use Rattle.std.proofs.Common.{◌≡◌, ℕ, ◌+◌, ◌-◌, ◌<◌, ◌==�
 use Rattle.std.specs.List.{Contains}
 use Rattle.std.proofs.lemmas.Grind.{flat_map-append}
 use Rattle.std.proofs.lemmas.List.{append-nil, map_more, take_rest}
-use Rattle.minus_term.specs.Operations.{Op, ClearAll, ClearRow, GoTo, Return, NextRow, Put, ScrollUp, ScrollDown, DeleteRows, InsertRows, ShowCursor, HideCursor}
+use Rattle.minus_term.specs.Operations.{Op, ClearAll, ClearRow, GoTo, Return, NextRow, Put, ScrollUp, ScrollDown, ShowCursor, HideCursor}
 use Rattle.minus_term.specs.PlayedScreen.{ShownPage}
 use Rattle.minus_term.specs.Written.{escape, scroll_bytes, written, written_all, IsCleanOp, IsClean}
 
@@ -37,8 +37,6 @@ clean_op these those more Return h = tt
 clean_op these those more NextRow h = tt
 clean_op these those more (ScrollUp n) h = tt
 clean_op these those more (ScrollDown n) h = tt
-clean_op these those more (DeleteRows n) h = tt
-clean_op these those more (InsertRows n) h = tt
 clean_op these those more ShowCursor h = tt
 clean_op these those more HideCursor h = tt
 

@@ -13,8 +13,6 @@ pub data Op : Type 0 where
   Put : (text : List ℕ) → Op
   ScrollUp : (n : ℕ) → Op
   ScrollDown : (n : ℕ) → Op
-  DeleteRows : (n : ℕ) → Op
-  InsertRows : (n : ℕ) → Op
   ShowCursor : Op
   HideCursor : Op
 
@@ -28,7 +26,5 @@ op_of code.NextRow = NextRow
 op_of (code.Put text) = Put text.now
 op_of (code.ScrollUp n) = ScrollUp n
 op_of (code.ScrollDown n) = ScrollDown n
-op_of (code.DeleteRows n) = DeleteRows n
-op_of (code.InsertRows n) = InsertRows n
 op_of code.ShowCursor = ShowCursor
 op_of code.HideCursor = HideCursor

@@ -3,7 +3,7 @@ use Rattle.std.specs.Prelude.{◌≡◌, ℕ, ◌+◌, ◌-◌, nat_le, min, Lis
 use Rattle.std.specs.Prelude.{Option, Some, None, IfSome, slice_set, slice_index_or, if◌then◌else◌, Bool}
 use Rattle.std.specs.Option.{option_map}
 use Rattle.minus_term.specs.Operations.{Op, ClearAll, ClearRow, GoTo, Return, NextRow, Put, ScrollUp, ScrollDown}
-use Rattle.minus_term.specs.Operations.{DeleteRows, InsertRows, ShowCursor, HideCursor}
+use Rattle.minus_term.specs.Operations.{ShowCursor, HideCursor}
 
 -- a page that a screen is to show: the text of each of its rows and, where the cursor has
 -- a place in the last row, its column
@@ -57,7 +57,7 @@ abbrev pub next_row : ℕ → Option ℕ → Option ℕ
 next_row rows None = None
 next_row rows (Some row) = if is_last_row rows row then Some row else Some (row + 1)
 
--- the screen after one operation; a terminal may leave the cursor in any column where rows are deleted or inserted
+-- the screen after one operation
 abbrev pub play : Op → PlayedScreen → PlayedScreen
 play ClearAll s = record { texts = replicate (length s.texts) blank; row = s.row; column = s.column }
 play ClearRow s = record { texts = cleared_row s.texts s.row; row = s.row; column = s.column }
@@ -67,8 +67,6 @@ play NextRow s = record { texts = next_texts s.texts s.row; row = next_row (leng
 play (Put text) s = record { texts = put_text text s.texts s.row; row = s.row; column = None }
 play (ScrollUp n) s = record { texts = scrolled_up n s.texts; row = s.row; column = s.column }
 play (ScrollDown n) s = record { texts = scrolled_down n s.texts; row = s.row; column = s.column }
-play (DeleteRows n) s = record { texts = scrolled_up n s.texts; row = Some 0; column = None }
-play (InsertRows n) s = record { texts = scrolled_down n s.texts; row = Some 0; column = None }
 play ShowCursor s = s
 play HideCursor s = s
 

@@ -1,7 +1,7 @@
 -- How many texts a list of operations puts on a screen.
 use Rattle.std.specs.Prelude.{ℕ, ◌+◌, nat_lt, List, [], ◌∷◌, length, Option, Some, None, Bool, true, false}
 use Rattle.std.specs.Prelude.{if◌then◌else◌, ◌&&◌, ◌||◌, not}
-use Rattle.minus_term.specs.Operations.{Op, NextRow, Put, ScrollUp, ScrollDown, DeleteRows, InsertRows}
+use Rattle.minus_term.specs.Operations.{Op, NextRow, Put, ScrollUp, ScrollDown}
 use Rattle.minus_term.specs.PlayedScreen.{PlayedScreen, is_last_row, play}
 
 -- whether a row, counted from 0, is known to be the last of a screen with this number of rows
@@ -24,8 +24,6 @@ is_put op = false
 abbrev pub scrolls : Op → PlayedScreen → Bool
 scrolls (ScrollUp n) s = nat_lt 0 n
 scrolls (ScrollDown n) s = nat_lt 0 n
-scrolls (DeleteRows n) s = nat_lt 0 n
-scrolls (InsertRows n) s = nat_lt 0 n
 scrolls NextRow s = may_be_in_last_row (length s.texts) s.row
 scrolls op s = false
 

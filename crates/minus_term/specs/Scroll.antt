@@ -1,9 +1,7 @@
 -- The drawing of a page whose mark moved.
 use Rattle.std.specs.Prelude.{ℕ, ◌+◌, ◌-◌, ◌≤◌, nat_le, min, List, ◌∷◌, ◌++◌, length, take, drop, ◌≡◌, if◌then◌else◌}
 use Rattle.std.specs.List.{flat_map}
-use Rattle.minus_term.specs.Operations.{Op, ClearRow, GoTo, ScrollUp, ScrollDown, DeleteRows, InsertRows}
-use Rattle.minus_term.specs.declared.draw.ScrollBy.{ScrollBy}
-use Rattle.minus_term.specs.declared.draw.ScrollBy.TheVariants.{Scrolls, Lines}
+use Rattle.minus_term.specs.Operations.{Op, ClearRow, GoTo, ScrollUp, ScrollDown}
 use Rattle.minus_term.specs.FullRedraw.{row_ops, prompt_ops, page_of}
 use Rattle.minus_term.specs.PageRows.{page_len}
 use Rattle.minus_term.specs.PlayedScreen.{PlayedScreen, Draws}
@@ -13,33 +11,23 @@ use Rattle.minus_term.specs.Puts.{puts}
 abbrev pub shown_from : ℕ → ℕ → List (List ℕ) → List (List ℕ)
 shown_from rows mark text = take (page_len rows) (drop mark text)
 
--- the operation that moves the screen's rows up by k
-abbrev pub rows_up : ScrollBy → ℕ → Op
-rows_up Scrolls k = ScrollUp k
-rows_up Lines k = DeleteRows k
-
--- the operation that moves the screen's rows down by k
-abbrev pub rows_down : ScrollBy → ℕ → Op
-rows_down Scrolls k = ScrollDown k
-rows_down Lines k = InsertRows k
-
 -- the page's rows move up by k, the row in which the prompt stood becomes blank, and the
 -- last k rows of text are put; then the prompt
-abbrev pub down_ops : ScrollBy → ℕ → ℕ → List (List ℕ) → List ℕ → List Op
-down_ops by rows k shown prompt =
-    rows_up by k ∷ GoTo 0 (rows - k - 1) ∷ ClearRow ∷ flat_map row_ops (drop (page_len rows - k) shown)
+abbrev pub down_ops : ℕ → ℕ → List (List ℕ) → List ℕ → List Op
+down_ops rows k shown prompt =
+    ScrollUp k ∷ GoTo 0 (rows - k - 1) ∷ ClearRow ∷ flat_map row_ops (drop (page_len rows - k) shown)
     ++ prompt_ops rows prompt
 
 -- the page's rows move down by k, and the first k rows of text are put; then the prompt
-abbrev pub up_ops : ScrollBy → ℕ → ℕ → List (List ℕ) → List ℕ → List Op
-up_ops by rows k shown prompt = rows_down by k ∷ GoTo 0 0 ∷ flat_map row_ops (take k shown) ++ prompt_ops rows prompt
+abbrev pub up_ops : ℕ → ℕ → List (List ℕ) → List ℕ → List Op
+up_ops rows k shown prompt = ScrollDown k ∷ GoTo 0 0 ∷ flat_map row_ops (take k shown) ++ prompt_ops rows prompt
 
 -- the operations that lead from one mark to another on a terminal with this number of rows: no row
 -- moves further than the page has rows of text
-abbrev pub scroll_ops : ScrollBy → ℕ → ℕ → ℕ → List (List ℕ) → List ℕ → List Op
-scroll_ops by rows from to shown prompt =
-    if nat_le from to then down_ops by rows (min (to - from) (page_len rows)) shown prompt
-    else up_ops by rows (min (from - to) (page_len rows)) shown prompt
+abbrev pub scroll_ops : ℕ → ℕ → ℕ → List (List ℕ) → List ℕ → List Op
+scroll_ops rows from to shown prompt =
+    if nat_le from to then down_ops rows (min (to - from) (page_len rows)) shown prompt
+    else up_ops rows (min (from - to) (page_len rows)) shown prompt
 
 -- the rows between two marks
 abbrev pub distance : ℕ → ℕ → ℕ
@@ -48,13 +36,13 @@ distance from to = (to - from) + (from - to)
 -- a scroll leads from the page at one mark to the page at another, whatever prompt stood there and stands there now
 abbrev pub ScrollShowsItsPage : Type 0
 ScrollShowsItsPage =
-    (by : ScrollBy) (rows from to : ℕ) (text : List (List ℕ)) (old new : List ℕ) → 1 ≤ rows
-    → Draws (scroll_ops by rows from to (shown_from rows to text) new) (page_of rows (shown_from rows from text) old)
+    (rows from to : ℕ) (text : List (List ℕ)) (old new : List ℕ) → 1 ≤ rows
+    → Draws (scroll_ops rows from to (shown_from rows to text) new) (page_of rows (shown_from rows from text) old)
     (page_of rows (shown_from rows to text) new)
 
 -- a scroll puts no more texts than rows are moved, and no more than the page has rows of
 -- text; the prompt is not counted
 abbrev pub ScrollPutsFew : Type 0
 ScrollPutsFew =
-    (by : ScrollBy) (rows from to : ℕ) (text : List (List ℕ)) (new : List ℕ) (s : PlayedScreen) → 1 ≤ rows
-    → length s.texts ≡ rows → puts (scroll_ops by rows from to (shown_from rows to text) new) s ≤ min (distance from to) (page_len rows)
+    (rows from to : ℕ) (text : List (List ℕ)) (new : List ℕ) (s : PlayedScreen) → 1 ≤ rows → length s.texts ≡ rows
+    → puts (scroll_ops rows from to (shown_from rows to text) new) s ≤ min (distance from to) (page_len rows)

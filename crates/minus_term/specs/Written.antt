@@ -2,16 +2,12 @@
 use Rattle.std.specs.Prelude.{◌≡◌, ℕ, ◌+◌, ◌==◌, List, [], ◌∷◌, ◌++◌, flat_map, if◌then◌else◌, decimal, codes, Contains}
 use Rattle.std.specs.Prelude.{◌⊎◌, ⊤}
 use Rattle.minus_term.specs.Operations.{Op, ClearAll, ClearRow, GoTo, Return, NextRow, Put, ScrollUp, ScrollDown}
-use Rattle.minus_term.specs.Operations.{DeleteRows, InsertRows, ShowCursor, HideCursor}
+use Rattle.minus_term.specs.Operations.{ShowCursor, HideCursor}
 use Rattle.minus_term.specs.PlayedScreen.{ShownPage}
 
 -- the escape character and `[`, by which a control sequence of a terminal begins
 abbrev pub escape : List ℕ
 escape = 27 ∷ codes "["
-
--- the sequence that moves the cursor to the first column of the first row
-abbrev pub home : List ℕ
-home = escape ++ codes "H"
 
 -- the sequence that moves the rows by n: none for 0
 abbrev pub scroll_bytes : ℕ → List ℕ → List ℕ
@@ -27,8 +23,6 @@ written NextRow = codes "\n"
 written (Put text) = text
 written (ScrollUp n) = scroll_bytes n (codes "S")
 written (ScrollDown n) = scroll_bytes n (codes "T")
-written (DeleteRows n) = home ++ scroll_bytes n (codes "M")
-written (InsertRows n) = home ++ scroll_bytes n (codes "L")
 written ShowCursor = escape ++ codes "?25h"
 written HideCursor = escape ++ codes "?25l"
 

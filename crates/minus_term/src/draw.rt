@@ -5,20 +5,10 @@ ghost use Rattle.minus_term.specs.Append.{AppendShowsItsPage, AppendPutsFew};
 ghost use Rattle.minus_term.specs.Scroll.{ScrollShowsItsPage, ScrollPutsFew};
 ghost use Rattle.minus_term.specs.Operations.{op_of, GoTo};
 ghost use Rattle.minus_term.specs.PlayedScreen.{PlayIsMonotone, UnknownStandsForAll};
-ghost use Rattle.minus_term.specs.Written.{escape, home, written, written_all, scroll_bytes};
+ghost use Rattle.minus_term.specs.Written.{escape, written, written_all, scroll_bytes};
 
 use itoa::write_digits;
 use std::alloc::{AllocError, Global};
-
-/// By which sequences of a terminal the rows of its screen are moved.
-#[derive(Clone, Copy, Debug, PartialEq, Eq)]
-pub enum ScrollBy {
-    /// By scrolls, `CSI n S` and `CSI n T`.
-    Scrolls,
-    /// By lines that are deleted and inserted in the first row, `CSI n M` and `CSI n L`: for terminals that know of no
-    /// scrolls, as the Linux console.
-    Lines,
-}
 
 /// One operation on a terminal.
 #[derive(Clone, Copy, Debug, PartialEq, Eq)]
@@ -39,10 +29,6 @@ pub enum DrawOp<'a> {
     ScrollUp(u16),
     /// Moves the rows down, by this many.
     ScrollDown(u16),
-    /// Moves the cursor to the first row, and deletes this many rows there: those behind them move up.
-    DeleteRows(u16),
-    /// Moves the cursor to the first row, and inserts this many blank rows there: the others move down.
-    InsertRows(u16),
     /// Makes the cursor visible.
     ShowCursor,
     /// Makes the cursor invisible.
@@ -88,7 +74,6 @@ fn write_number(bytes: &mut [u8; ROOM], end: usize, n: u64) -> usize
 fn write_escape(bytes: &mut [u8; ROOM], end: usize) -> usize
     requires some { 2 ≤ end }
     requires within { end ≤ 48 }
-    ensures at { result ≡ end - 2 }
     ensures written { drop result bytes.new ≡ escape ++ drop end bytes.old }
 {
     let end = write_byte(bytes, end, b'[');
@@ -136,24 +121,6 @@ pub(crate) fn push_scroll(out: &mut Vec<u8>, n: u16, letter: u8) -> Result<(), A
     push_bytes(out, &bytes[start..])
 }
 
-// Adds a move of the cursor to the first row and the bytes that move the rows by n there, with the sequence's letter, or
-// on an error none of them.
-pub(crate) fn push_in_first_row(out: &mut Vec<u8>, n: u16, letter: u8) -> Result<(), AllocError>
-    ensures ok { OnOk result (out.new.items ≡ out.old.items ++ (home ++ scroll_bytes n (letter ∷ []))) }
-    ensures err { OnErr result (out.new.items ≡ out.old.items) }
-{
-    if n == 0 {
-        return push_bytes(out, b"\x1b[H");
-    }
-    let mut bytes = [0; ROOM];
-    let end = write_byte(&mut bytes, ROOM, letter);
-    let end = write_number(&mut bytes, end, u64::from(n));
-    let end = write_escape(&mut bytes, end);
-    let end = write_byte(&mut bytes, end, b'H');
-    let start = write_escape(&mut bytes, end);
-    push_bytes(out, &bytes[start..])
-}
-
 /// Adds the bytes of an operation to a buffer, or on an error none of them.
 #[tactic(auto, unfolding(crate::specs::Written::written))]
 pub fn write_op(alloc: Global, out: &mut Vec<u8>, op: &DrawOp<'_>) -> Result<(), AllocError>
@@ -169,8 +136,6 @@ pub fn write_op(alloc: Global, out: &mut Vec<u8>, op: &DrawOp<'_>) -> Result<(),
         DrawOp::Put(text) => push_bytes(out, text.as_bytes()),
         DrawOp::ScrollUp(n) => push_scroll(out, *n, b'S'),
         DrawOp::ScrollDown(n) => push_scroll(out, *n, b'T'),
-        DrawOp::DeleteRows(n) => push_in_first_row(out, *n, b'M'),
-        DrawOp::InsertRows(n) => push_in_first_row(out, *n, b'L'),
         DrawOp::ShowCursor => push_bytes(out, b"\x1b[?25h"),
         DrawOp::HideCursor => push_bytes(out, b"\x1b[?25l"),
     }

@@ -20,7 +20,7 @@ pub mod wrappers;
 pub mod writes;
 
 pub use draw::{
-    DrawOp, ScrollBy, append_puts_few, append_shows_its_page, full_redraw_puts_few,
+    DrawOp, append_puts_few, append_shows_its_page, full_redraw_puts_few,
     full_redraw_shows_its_page, play_is_monotone, scroll_puts_few, scroll_shows_its_page,
     the_unknown_screen_stands_for_all, write_op, write_ops,
 };

@@ -2,32 +2,11 @@
 //! only means out of memory; it may leave some of a part behind.
 ghost use Rattle.std.specs.Prelude.{◌≡◌, [], ◌∷◌, ◌++◌, ◌-◌, ◌≤◌, OnOk};
 ghost use Rattle.minus_term.specs.PageRows.{page_len};
-ghost use Rattle.minus_term.specs.Operations.{ClearRow, GoTo, HideCursor};
-ghost use Rattle.minus_term.specs.Scroll.{rows_down, rows_up};
+ghost use Rattle.minus_term.specs.Operations.{ClearRow, GoTo, HideCursor, ScrollDown, ScrollUp};
 ghost use Rattle.minus_term.specs.Written.{written_all};
 
-use crate::draw::{ScrollBy, push_at_row, push_go_to, push_in_first_row, push_scroll};
+use crate::draw::{push_at_row, push_go_to, push_scroll};
 use std::alloc::AllocError;
-
-// Adds the sequences that move the screen's rows up by k.
-fn push_rows_up(out: &mut Vec<u8>, by: ScrollBy, k: u16) -> Result<(), AllocError>
-    ensures { OnOk result (out.new.items ≡ out.old.items ++ written_all (rows_up by k ∷ [])) }
-{
-    match by {
-        ScrollBy::Scrolls => push_scroll(out, k, b'S'),
-        ScrollBy::Lines => push_in_first_row(out, k, b'M'),
-    }
-}
-
-// Adds the sequences that move the screen's rows down by k.
-fn push_rows_down(out: &mut Vec<u8>, by: ScrollBy, k: u16) -> Result<(), AllocError>
-    ensures { OnOk result (out.new.items ≡ out.old.items ++ written_all (rows_down by k ∷ [])) }
-{
-    match by {
-        ScrollBy::Scrolls => push_scroll(out, k, b'T'),
-        ScrollBy::Lines => push_in_first_row(out, k, b'L'),
-    }
-}
 
 /// Adds what a move of the page's rows up by k begins with: the row in which the prompt stood is made blank, and the
 /// cursor stays in it.
@@ -35,18 +14,13 @@ fn push_rows_down(out: &mut Vec<u8>, by: ScrollBy, k: u16) -> Result<(), AllocEr
 /// # Errors
 ///
 /// [`AllocError`] where there is no memory for the bytes: a beginning of them was added.
-pub fn write_down_start(
-    out: &mut Vec<u8>,
-    by: ScrollBy,
-    rows: u16,
-    k: u16,
-) -> Result<(), AllocError>
+pub fn write_down_start(out: &mut Vec<u8>, rows: u16, k: u16) -> Result<(), AllocError>
     requires some { 1 ≤ rows }
     requires within { k ≤ page_len rows }
     ensures { OnOk result (out.new.items
-        ≡ out.old.items ++ written_all (rows_up by k ∷ GoTo 0 (rows - k - 1) ∷ ClearRow ∷ [])) }
+        ≡ out.old.items ++ written_all (ScrollUp k ∷ GoTo 0 (rows - k - 1) ∷ ClearRow ∷ [])) }
 {
-    push_rows_up(out, by, k)?;
+    push_scroll(out, k, b'S')?;
     push_at_row(out, rows - k - 1, b"\x1b[2K")?;
     Ok(())
 }
@@ -56,10 +30,10 @@ pub fn write_down_start(
 /// # Errors
 ///
 /// [`AllocError`] where there is no memory for the bytes: a beginning of them was added.
-pub fn write_up_start(out: &mut Vec<u8>, by: ScrollBy, k: u16) -> Result<(), AllocError>
-    ensures { OnOk result (out.new.items ≡ out.old.items ++ written_all (rows_down by k ∷ GoTo 0 0 ∷ [])) }
+pub fn write_up_start(out: &mut Vec<u8>, k: u16) -> Result<(), AllocError>
+    ensures { OnOk result (out.new.items ≡ out.old.items ++ written_all (ScrollDown k ∷ GoTo 0 0 ∷ [])) }
 {
-    push_rows_down(out, by, k)?;
+    push_scroll(out, k, b'T')?;
     push_go_to(out, 0, 0)?;
     Ok(())
 }

@@ -1,13 +1,9 @@
 -- A text without a character that an escape sequence begins with has no escape sequence.
-use Rattle.std.proofs.Common.{◌≡◌, ℕ, suc, ◌+◌, Bool, true, false, not, is_some, List, [], ◌∷◌, ◌++◌, length, take, drop, Option, None, Some, ◌⊎◌, inl, inr, ⊎_elim, true≢false, refl, sym, ap, ◌∙◌, arith, take-append-drop}
-use Rattle.std.specs.List.{list_all}
-use Rattle.std.proofs.lemmas.Bool.{cases_Bool, and_parts}
+use Rattle.std.proofs.Common.{◌≡◌, ℕ, ◌+◌, true, false, is_some, List, [], ◌∷◌, ◌++◌, take, drop, Option, None, Some, ◌⊎◌, inl, inr, ⊎_elim, refl, sym, ap, ◌∙◌, arith, take-append-drop}
 use Rattle.std.proofs.lemmas.Bool.Decides.{nat_tests}
-use Rattle.std.proofs.lemmas.List.Folds.{list_all-append}
 use Rattle.std.proofs.lemmas.Str.{encode_ascii}
 use Rattle.std.specs.Char.{encode_utf8, len_utf8}
 use Rattle.std.specs.Str.Iter.{HasSubslice}
-use Rattle.memchr.specs.Find.{Nowhere, Passes, is_byte2}
 use Rattle.regex_hir.specs.Find.{find_str, Match}
 use Rattle.regex_hir.specs.Matches.{Matches}
 use Rattle.regex_hir.specs.Text.{char_at}
@@ -46,29 +42,3 @@ not_found text (Some m) e none = absurd (none (begins text m.start m.trace.end (
 
 pub no_escapes : (text : List ℕ) → ¬ (HasEscapeStart text) → escape_places text ≡ []
 no_escapes text none = no_place escape_sequence text (not_found text (find_str escape_sequence text 0) refl none)
-
--- ---- a text without the first bytes of these characters
-
--- no byte passes a test, where a search finds none
-none_pass : (test : ℕ → Bool) (hay : List ℕ) → Nowhere (Passes test hay) 0 (length hay) → list_all (λ b. not (test b)) hay ≡ true
-none_pass test [] h = refl
-none_pass test (c ∷ cs) h = elim (cases_Bool (test c)) [
-  | inl t ↦ absurd (h 0 (omega arith) (omega arith) t)
-  | inr f ↦ rw f (none_pass test cs (λ j l m. h (suc j) (omega arith) (omega (arith, m))))
-]
-
-passes_inside : (p : ℕ → Bool) (before rest : List ℕ) (b : ℕ) → list_all p (before ++ b ∷ rest) ≡ true → p b ≡ true
-passes_inside p before rest b h =
-    let both = and_parts (list_all p before) (list_all p (b ∷ rest)) (sym (list_all-append p before (b ∷ rest)) ∙ h) in
-    (and_parts (p b) (list_all p rest) both.1).0
-
-abbrev begins_none : ℕ → Bool
-begins_none b = not (is_byte2 27 194 b)
-
-pub no_start : (text : List ℕ) → Nowhere (Passes (is_byte2 27 194) text) 0 (length text) → ¬ (HasEscapeStart text)
-no_start text none start =
-    let all : list_all begins_none text ≡ true = none_pass (is_byte2 27 194) text none in
-    ⊎_elim
-    (λ (esc : HasSubslice text (27 ∷ [])). true≢false (sym (passes_inside begins_none esc.0 esc.1 27 (ap (list_all begins_none) (sym esc.2) ∙ all))))
-    (λ (wide : HasSubslice text (194 ∷ 155 ∷ [])). true≢false (sym (passes_inside begins_none wide.0 (155 ∷ wide.1) 194 (ap (list_all begins_none) (sym wide.2) ∙ all))))
-    start

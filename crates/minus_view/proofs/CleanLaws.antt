@@ -6,7 +6,7 @@ use Rattle.std.proofs.lemmas.Bool.{and_from}
 use Rattle.std.proofs.lemmas.Bool.Decides.{nat_tests}
 use Rattle.minus_view.specs.declared.shown.Spot.{Spot}
 use Rattle.minus_view.specs.declared.shown.Spot.TheVariants.{Line, Escape, Numbers}
-use Rattle.minus_view.specs.Shown.{needs_mark, step, read, IsShown, follows, is_clean}
+use Rattle.minus_view.specs.Shown.{is_control, step, read, IsShown, follows, is_clean}
 
 abbrev is_behind_escape : Spot → Bool
 is_behind_escape Escape = true
@@ -66,7 +66,7 @@ number_step c resets false true next e f h = let clean = number_clean c f in (cl
 number_step c resets false false next e f h = absurd (cc)
 
 clean_step : (spot next : Spot) (c : ℕ) → step spot c ≡ Some next → (follows c (is_behind_escape spot) ≡ true) × (is_behind_escape next ≡ (c == 27))
-clean_step (Line styled) next c h = line_step styled (c == 27) (c == 10) (needs_mark c) next h
+clean_step (Line styled) next c h = line_step styled (c == 27) (c == 10) (is_control c) next h
 clean_step Escape next c h = escape_step c (c == 91) next refl h
 clean_step (Numbers resets) next c h = number_step c resets (c == 109) (is_in_range 48 59 c) next refl refl h
 

@@ -11,7 +11,7 @@ use Rattle.std.proofs.lemmas.Nat.{mod_below}
 use Rattle.unicode_width.specs.Width.{char_width}
 use Rattle.minus_view.specs.declared.prepare.Preparation.{Preparation}
 use Rattle.minus_view.specs.declared.prepare.Shape.{Shape}
-use Rattle.minus_view.specs.Shown.{needs_mark, is_plain}
+use Rattle.minus_view.specs.Shown.{is_control, is_plain}
 use Rattle.minus_view.specs.TabMarks.{tab_text}
 use Rattle.minus_view.specs.Prepared.{char_columns, expanded, held, IsAt, IsPlain, IsText, Takes, is_text}
 use Rattle.minus_view.specs.TabColumns.{apart, column_after, next_column, tab_len}
@@ -107,8 +107,8 @@ pub printed_column : (b : ℕ) → is_plain true b ≡ true → (b ≡ 10 → �
     → (char_columns b ≡ 1) × ((tabs col : ℕ) → next_column tabs col b ≡ col + 1)
 printed_column b h other = (ap (λ o. unwrap_or o 0) (printed_width b h other), λ tabs col. grind (arith, nat_tests))
 
--- and it needs no mark, and is one byte
-pub printed_shown : (b : ℕ) → is_plain true b ≡ true → (b ≡ 10 → ⊥) → (needs_mark b ≡ false) × (encode_utf8 b ≡ b ∷ [])
+-- and it is no control character, and one byte
+pub printed_shown : (b : ℕ) → is_plain true b ≡ true → (b ≡ 10 → ⊥) → (is_control b ≡ false) × (encode_utf8 b ≡ b ∷ [])
 printed_shown b h other = (grind (arith, nat_tests), encode_ascii b (grind (arith, nat_tests)))
 
 -- no bytes are left

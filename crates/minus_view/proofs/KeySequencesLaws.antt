@@ -5,7 +5,7 @@ use Rattle.std.specs.Int.{is_in_range}
 use Rattle.std.proofs.lemmas.Bool.Decides.{nat_tests}
 use Rattle.std.proofs.lemmas.List.Sums.{prefix_len-le-length}
 use Rattle.std.proofs.lemmas.List.Folds.{prefix_len-append}
-use Rattle.minus_view.specs.KeySequences.{tail_len, more_of, character_len, final_len, parameters_len, sequence_len, escaped_len, unit_len, begins_answer, answer_len}
+use Rattle.minus_view.specs.KeySequences.{tail_len, more_of, character_len, final_len, parameters_len, sequence_len, escaped_len, unit_len}
 
 -- a tail of at most `most` bytes waits only where there are fewer
 tail_waits : (most first last : ℕ) (bs : List ℕ) → tail_len most first last bs ≡ None → length bs < most
@@ -54,22 +54,15 @@ sequence_waits (b ∷ bs) h = elim (one_waits (b == 91) (option_map (λ n. n + 1
   ]
 ]
 
-answer_waits : (bs : List ℕ) → answer_len bs ≡ None → length bs < 1
-answer_waits [] h = omega arith
-answer_waits (b ∷ bs) h = absurd (cc)
-
 escaped_waits : (bs : List ℕ) → escaped_len bs ≡ None → length bs < 65
 escaped_waits [] h = omega arith
 escaped_waits (b ∷ bs) h = elim (one_waits (b == 91) (option_map (λ n. n + 1) (sequence_len bs)) _ h) [
   | inl e ↦ let few = sequence_waits bs (map_one (sequence_len bs) e) in omega arith
   | inr e ↦ elim (one_waits (b == 79) (option_map (λ n. n + 1) (tail_len 1 0x20 0x7E bs)) _ e) [
     | inl e2 ↦ let few = tail_waits 1 0x20 0x7E bs (map_one (tail_len 1 0x20 0x7E bs) e2) in omega arith
-    | inr e2 ↦ elim (one_waits (b == 27) (Some 0) _ e2) [
+    | inr e2 ↦ elim (one_waits (b == 27) (Some 0) (character_len b bs) e2) [
       | inl e3 ↦ absurd (cc)
-      | inr e3 ↦ elim (one_waits (begins_answer b) (answer_len bs) (character_len b bs) e3) [
-        | inl e4 ↦ let few = answer_waits bs e4 in omega arith
-        | inr e4 ↦ let few = character_waits b bs e4 in omega arith
-      ]
+      | inr e3 ↦ let few = character_waits b bs e3 in omega arith
     ]
   ]
 ]
@@ -132,17 +125,12 @@ sequence_stays (b ∷ bs) more n h =
     one_stays (b == 91) _ _ _ _ n (fixed_stays 1 0x20 0x7E bs more n)
     (one_stays (b == 77) _ _ _ _ n (fixed_stays 3 0x20 0xFF bs more n) (parameters_stay (b ∷ bs) more n)) h
 
-answer_stays : (bs more : List ℕ) (n : ℕ) → answer_len bs ≡ Some n → answer_len (bs ++ more) ≡ Some n
-answer_stays [] more n h = absurd (cc)
-answer_stays (b ∷ bs) more n h = h
-
 escaped_stays : (bs more : List ℕ) (n : ℕ) → escaped_len bs ≡ Some n → escaped_len (bs ++ more) ≡ Some n
 escaped_stays [] more n h = absurd (cc)
 escaped_stays (b ∷ bs) more n h =
     one_stays (b == 91) _ _ _ _ n (map_stays (λ n. n + 1) (sequence_len bs) (sequence_len (bs ++ more)) n (sequence_stays bs more))
     (one_stays (b == 79) _ _ _ _ n (fixed_stays 1 0x20 0x7E bs more n)
-    (one_stays (b == 27) (Some 0) _ (Some 0) _ n (λ e. e)
-    (one_stays (begins_answer b) _ _ _ _ n (answer_stays bs more n) (character_stays b bs more n)))) h
+    (one_stays (b == 27) (Some 0) _ (Some 0) _ n (λ e. e) (character_stays b bs more n))) h
 
 pub unit_stays : (bs more : List ℕ) (n : ℕ) → unit_len bs ≡ Some n → unit_len (bs ++ more) ≡ Some n
 unit_stays [] more n h = absurd (cc)

@@ -2,10 +2,8 @@ pub mod CleanLaws
 pub mod OptionWordsLaws
 pub mod EventLaws
 pub mod ExpandedLaws
-pub mod HeardLaws
 pub mod HistoryLaws
 pub mod MeaningLaws
-pub mod NamesLaws
 pub mod PlainLaws
 pub mod PreparedLaws
 pub mod ReadingLaws

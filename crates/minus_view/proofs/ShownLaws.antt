@@ -7,7 +7,7 @@ use Rattle.std.specs.Str.{IsUtf8, chars}
 use Rattle.std.specs.Option.{option_and_then}
 use Rattle.std.proofs.lemmas.Str.{chars-append, chars-nil, chars_past_char, IsUtf8-encode}
 use Rattle.minus_view.specs.declared.shown.Spot.{Spot}
-use Rattle.minus_view.specs.Shown.{read, step, needs_mark, in_line, IsShown}
+use Rattle.minus_view.specs.Shown.{read, step, is_control, in_line, IsShown}
 
 -- a text after another one is read from where that one ends
 pub read-append : (xs ys : List ℕ) (at : Option Spot) → read (xs ++ ys) at ≡ read ys (read xs at)
@@ -49,12 +49,12 @@ pub read_newline : read (chars (10 ∷ [])) (Some (Line false)) ≡ Some (Line f
 unfolding chars
 read_newline = refl
 
--- a character that needs no mark stays in its line
-pub stays : (c : ℕ) (styled : Bool) → needs_mark c ≡ false → in_line styled c ≡ Some (Line styled)
+-- a character that is no control character stays in its line
+pub stays : (c : ℕ) (styled : Bool) → is_control c ≡ false → in_line styled c ≡ Some (Line styled)
 stays c styled h = grind arith
 
 -- and so do the bytes that spell it
-pub read_encode : (c : ℕ) (styled : Bool) → IsScalar c → needs_mark c ≡ false → read (chars (encode_utf8 c)) (Some (Line styled)) ≡ Some (Line styled)
+pub read_encode : (c : ℕ) (styled : Bool) → IsScalar c → is_control c ≡ false → read (chars (encode_utf8 c)) (Some (Line styled)) ≡ Some (Line styled)
 read_encode c styled s h =
     ap (λ cs. read cs (Some (Line styled))) (chars_past_char (encode_utf8 c) [] c (IsUtf8-encode c s) (sym (append-nil (encode_utf8 c))) ∙ ap (λ cs. c ∷ cs) chars-nil)
     ∙ stays c styled h

@@ -11,11 +11,10 @@ use Rattle.minus_view.specs.declared.arguments.Paging.{Paging}
 use Rattle.minus_view.specs.declared.arguments.Arguments.{Arguments}
 use Rattle.minus_view.specs.declared.arguments.Arguments.TheVariants.{Page, Help, Version}
 use Rattle.minus_view.specs.declared.arguments.ArgumentFault.{ArgumentFault}
-use Rattle.minus_view.specs.declared.arguments.ArgumentFault.TheVariants.{BadNumber, NoValue}
+use Rattle.minus_view.specs.declared.arguments.ArgumentFault.TheVariants.{UnknownOption, BadNumber, NoValue}
 use Rattle.minus_view.specs.declared.arguments.reading.Ending.{Ending}
 use Rattle.minus_view.specs.declared.arguments.reading.Ending.TheVariants as ending
 use Rattle.minus_view.specs.declared.arguments.option_table.Valued.{Valued}
-use Rattle.minus_view.specs.declared.arguments.option_table.Valued.TheVariants as valued
 use Rattle.minus_view.specs.declared.arguments.words.Words.{Words}
 use Rattle.minus_view.specs.declared.arguments.words.Step.{Step}
 use Rattle.minus_view.specs.declared.arguments.words.Step.TheVariants.{Options, End, Text, Says}
@@ -28,6 +27,7 @@ bare_arguments Version = Version
 
 -- a fault of the words without the place in memory of the word that it names
 abbrev pub bare_fault : ArgumentFault → ArgumentFault
+bare_fault (UnknownOption word) = UnknownOption (bare word)
 bare_fault (BadNumber word) = BadNumber (bare word)
 bare_fault (NoValue word) = NoValue (bare word)
 
@@ -63,11 +63,9 @@ default_paging = record {
   mouse = false;
   case = Exact;
   at_end = Stays;
-  ends_at_interrupt = false;
   tabs = 8;
   opening = First;
   name = None;
-  skipped = None;
   texts = shown_all [];
 }
 
@@ -77,25 +75,15 @@ is_option [] = false
 is_option (c ∷ []) = false
 is_option (c ∷ d ∷ rest) = (c == 45) || (c == 43)
 
--- the word is skipped, in which an option or a command is that there is not: the first such word is kept
-abbrev pub skipped_of : Option (Bor (List ℕ)) → List ℕ → Option (Bor (List ℕ))
-skipped_of (Some before) word = Some before
-skipped_of None word = Some (shown word)
-
--- the options so far, where a word is skipped
-abbrev pub skipping : Paging → List ℕ → Paging
-skipping so_far word = record so_far { skipped = skipped_of so_far.skipped word }
-
--- the answer to a word of options, by what its reading ended with: more words follow, where the word may have been
--- skipped, the last option waits for its value in the next word, help or the version is asked for, or the word is at
--- fault
+-- the answer to a word of options, by what its reading ended with: more words follow, the last option waits for its
+-- value in the next word, help or the version is asked for, or the word is at fault
 abbrev pub after_word : Paging → Ending → List ℕ → Result Step ArgumentFault
 after_word paging ending.Nothing word = Ok (Options (record { paging = paging; waiting = None }))
 after_word paging (ending.Waits valued) word =
     Ok (Options (record { paging = paging; waiting = Some (valued, shown word) }))
 after_word paging ending.Help word = Ok (Says Help)
 after_word paging ending.Version word = Ok (Says Version)
-after_word paging ending.Unknown word = Ok (Options (record { paging = skipping paging word; waiting = None }))
+after_word paging ending.Unknown word = Err (UnknownOption (shown word))
 after_word paging ending.BadNumber word = Err (BadNumber (shown word))
 
 -- the answer to a word of options: `-h` asks for help, and in any other word the options are read from the left
@@ -104,23 +92,14 @@ read_word so_far word =
     if bytes_eq word (codes "-h") then Ok (Says Help)
     else (let reading = read_options (new_reading so_far) 0 word in after_word reading.paging reading.ending word)
 
--- the answer to a value that an option does not take: a command is skipped, and else the value is at fault
-abbrev pub without_value : Paging → Valued → List ℕ → Result Step ArgumentFault
-without_value so_far valued.Command value = Ok (Options (record { paging = skipping so_far value; waiting = None }))
-without_value so_far valued.Number value = Err (BadNumber (shown value))
-without_value so_far valued.Text value = Err (BadNumber (shown value))
-without_value so_far valued.Tabs value = Err (BadNumber (shown value))
-without_value so_far valued.Pattern value = Err (BadNumber (shown value))
-without_value so_far valued.Prompt value = Err (BadNumber (shown value))
-
--- the answer to a word that is the value of an option: what it sets, or that the option does not take it
-abbrev pub after_value : Option Paging → Paging → Valued → List ℕ → Result Step ArgumentFault
-after_value (Some paging) so_far valued value = Ok (Options (record { paging = paging; waiting = None }))
-after_value None so_far valued value = without_value so_far valued value
+-- the answer to a word that is the value of an option: what it sets, or a fault where the option does not take it
+abbrev pub after_value : Option Paging → List ℕ → Result Step ArgumentFault
+after_value (Some paging) value = Ok (Options (record { paging = paging; waiting = None }))
+after_value None value = Err (BadNumber (shown value))
 
 -- the answer to a word that is the value of the option `valued`, which the word before ended with
 abbrev pub read_value : Paging → Valued → List ℕ → Result Step ArgumentFault
-read_value so_far valued value = after_value (with_value so_far valued value) so_far valued value
+read_value so_far valued value = after_value (with_value so_far valued value) value
 
 -- the answer to one word other than `--`: the value of the option that waits for one, or else options, or
 -- else the first text, which ends the options

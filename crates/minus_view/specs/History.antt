@@ -16,10 +16,6 @@ no_queries = record { taken = []; back = 0; typed = [] }
 abbrev pub query_back : List (List ℕ) → ℕ → Option (List ℕ)
 query_back taken back = slice_get taken (length taken - back)
 
--- the query that was taken last, if one was
-abbrev pub newest : Queries → Option (List ℕ)
-newest h = query_back h.taken 1
-
 -- a query, or this one where there is none
 abbrev pub query_or : List ℕ → Option (List ℕ) → List ℕ
 query_or otherwise None = otherwise
@@ -57,7 +53,7 @@ is_query query (Some other) = bytes_eq other query
 
 -- whether the query is the one that was taken last
 abbrev pub is_newest : Queries → List ℕ → Bool
-is_newest h query = is_query query (newest h)
+is_newest h query = is_query query (query_back h.taken 1)
 
 -- a query was taken: it is the newest one, but an empty one is not kept, nor one that is the newest already
 abbrev pub with_taken : Queries → List ℕ → Queries

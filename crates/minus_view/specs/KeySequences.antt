@@ -1,7 +1,7 @@
 -- How many bytes the first unit of a terminal's bytes has. A unit is a character, a sequence of a key or of the
 -- mouse, or a byte that is neither; it is never empty. Where the bytes end before the unit, the answer is nothing.
-use Rattle.std.specs.Prelude.{ℕ, ◌+◌, ◌==◌, ◌&&◌, ◌||◌, Bool, List, [], ◌∷◌, Option, Some, None}
-use Rattle.std.specs.Prelude.{if◌then◌else◌, option_map, drop, length, min, nat_lt}
+use Rattle.std.specs.Prelude.{ℕ, ◌+◌, ◌==◌, ◌&&◌, List, [], ◌∷◌, Option, Some, None, if◌then◌else◌, option_map, length}
+use Rattle.std.specs.Prelude.{drop, min, nat_lt}
 use Rattle.std.specs.List.{prefix_len}
 use Rattle.std.specs.Int.{is_in_range}
 
@@ -38,24 +38,14 @@ sequence_len (b ∷ bytes) =
     if b == 91 then option_map (λ n. n + 1) (tail_len 1 0x20 0x7E bytes)
     else (if b == 77 then option_map (λ n. n + 1) (tail_len 3 0x20 0xFF bytes) else parameters_len (b ∷ bytes))
 
--- whether a byte behind `ESC` begins an answer of the terminal, which ECMA-48 names a control string: `P` (DCS), `X`
--- (SOS), `]` (OSC), `^` (PM) and `_` (APC)
-abbrev pub begins_answer : ℕ → Bool
-begins_answer b = (b == 80) || (b == 88) || is_in_range 0x5D 0x5F b
-
--- such a byte, once another one has come behind it: alone it may be a key with Alt
-abbrev pub answer_len : List ℕ → Option ℕ
-answer_len [] = None
-answer_len (b ∷ bytes) = Some 1
-
--- what follows `ESC`: `[` and its sequence, `O` and one byte, what begins an answer, a character with Alt, or nothing
--- where a second `ESC` follows
+-- what follows `ESC`: `[` and its sequence, `O` and one byte, a character with Alt, or nothing where a second `ESC`
+-- follows
 abbrev pub escaped_len : List ℕ → Option ℕ
 escaped_len [] = None
 escaped_len (b ∷ bytes) =
     if b == 91 then option_map (λ n. n + 1) (sequence_len bytes)
     else (if b == 79 then option_map (λ n. n + 1) (tail_len 1 0x20 0x7E bytes)
-    else (if b == 27 then Some 0 else (if begins_answer b then answer_len bytes else character_len b bytes)))
+    else (if b == 27 then Some 0 else character_len b bytes))
 
 -- the first unit
 abbrev pub unit_len : List ℕ → Option ℕ

@@ -1,13 +1,9 @@
 pub mod Arguments
-pub mod CellMarks
 pub mod OptionWords
 pub mod Events
-pub mod Heard
 pub mod History
 pub mod Keys
-pub mod LineKeys
 pub mod Meaning
-pub mod Names
 pub mod Mouse
 pub mod Numbers
 pub mod OptionTable

@@ -1,14 +1,14 @@
 -- The table of options, by their letters and by their names: what each does here, as `less` has them. A letter is told
 -- by its code, and a name by its bytes.
 use Rattle.std.specs.Prelude.{ℕ, ◌==◌, ◌||◌, Bool, true, false, List, [], ◌∷◌, Option, Some, None, if◌then◌else◌, codes}
-use Rattle.std.specs.Prelude.{bytes_eq, unwrap_or}
+use Rattle.std.specs.Prelude.{bytes_eq}
 use Rattle.std.specs.Int.{is_in_range}
-use Rattle.std.specs.List.{list_any, starts_with}
+use Rattle.std.specs.List.{list_any}
 use Rattle.minus_view.specs.declared.arguments.Case.TheVariants.{Smart, Ignored}
 use Rattle.minus_view.specs.declared.arguments.AtEnd.TheVariants.{EndsAtSecond, EndsAtFirst}
 use Rattle.minus_view.specs.declared.arguments.option_table.Setting.{Setting}
 use Rattle.minus_view.specs.declared.arguments.option_table.Setting.TheVariants.{Idle, Numbers, Chops, Prints, Leaves}
-use Rattle.minus_view.specs.declared.arguments.option_table.Setting.TheVariants.{Squeezes, Mouse, Case, AtEnd, EndsAtInterrupt}
+use Rattle.minus_view.specs.declared.arguments.option_table.Setting.TheVariants.{Squeezes, Mouse, Case, AtEnd}
 use Rattle.minus_view.specs.declared.arguments.option_table.Valued.{Valued}
 use Rattle.minus_view.specs.declared.arguments.option_table.Valued.TheVariants.{Number, Text, Tabs, Pattern}
 use Rattle.minus_view.specs.declared.arguments.option_table.Valued.TheVariants.{Prompt, Command}
@@ -25,7 +25,7 @@ is_named name names = list_any (bytes_eq name) names
 
 -- letters that mean nothing here: options of `less`, digits, blanks and `$`
 abbrev pub is_idle_letter : ℕ → Bool
-is_idle_letter c = is_in_range 48 57 c || is_one_of c (9 ∷ codes " $aABcCdfgGJLmMqQrRuUwW~")
+is_idle_letter c = is_in_range 48 57 c || is_one_of c (9 ∷ codes " $aABcCdfgGJKLmMqQrRuUwW~")
 
 -- a letter that has a value
 abbrev pub letter_value : ℕ → Option Valued
@@ -50,8 +50,7 @@ letter_setting c =
     else (if c == 73 then Some (Case Ignored)  -- I
     else (if c == 101 then Some (AtEnd EndsAtSecond)  -- e
     else (if c == 69 then Some (AtEnd EndsAtFirst)  -- E
-    else (if c == 75 then Some EndsAtInterrupt  -- K
-    else (if is_idle_letter c then Some Idle else None)))))))))))
+    else (if is_idle_letter c then Some Idle else None))))))))))
 
 -- an option that sets something; or one that has a value; or neither
 abbrev pub kind_of : Option Setting → Option Valued → Kind → Kind
@@ -72,9 +71,9 @@ is_idle_name name =
     ∷ codes "UNDERLINE-SPECIAL" ∷ codes "auto-buffers" ∷ codes "clear-screen" ∷ codes "dumb" ∷ codes "file-size"
     ∷ codes "follow-name" ∷ codes "force" ∷ codes "hilite-search" ∷ codes "hilite-unread" ∷ codes "incsearch"
     ∷ codes "long-prompt" ∷ codes "no-histdups" ∷ codes "no-keypad" ∷ codes "no-lessopen" ∷ codes "old-bot"
-    ∷ codes "quiet" ∷ codes "raw-control-chars" ∷ codes "save-marks"
+    ∷ codes "quiet" ∷ codes "quit-on-intr" ∷ codes "raw-control-chars" ∷ codes "save-marks"
     ∷ codes "search-skip-screen" ∷ codes "silent" ∷ codes "status-column" ∷ codes "tilde"
-    ∷ codes "underline-special" ∷ codes "use-backslash" ∷ codes "use-color" ∷ codes "wordwrap" ∷ [])
+    ∷ codes "underline-special" ∷ codes "use-backslash" ∷ codes "use-color" ∷ [])
 
 -- a name that sets something, and has no value
 abbrev pub name_setting : List ℕ → Option Setting
@@ -91,8 +90,7 @@ name_setting name =
     else (if bytes_eq name (codes "IGNORE-CASE") then Some (Case Ignored)
     else (if bytes_eq name (codes "quit-at-eof") then Some (AtEnd EndsAtSecond)
     else (if bytes_eq name (codes "QUIT-AT-EOF") then Some (AtEnd EndsAtFirst)
-    else (if bytes_eq name (codes "quit-on-intr") then Some EndsAtInterrupt
-    else (if is_idle_name name then Some Idle else None)))))))))))))
+    else (if is_idle_name name then Some Idle else None))))))))))))
 
 -- a name that has a value
 abbrev pub name_value : List ℕ → Option Valued
@@ -112,43 +110,6 @@ abbrev pub name_other : List ℕ → Kind
 name_other name =
     if bytes_eq name (codes "help") then Help else (if bytes_eq name (codes "version") then Version else Unknown)
 
--- all names
-abbrev pub names : List (List ℕ)
-names =
-    codes "CLEAR-SCREEN" ∷ codes "HILITE-SEARCH" ∷ codes "HILITE-UNREAD" ∷ codes "IGNORE-CASE" ∷ codes "LINE-NUMBERS"
-    ∷ codes "LOG-FILE" ∷ codes "LONG-PROMPT" ∷ codes "MOUSE" ∷ codes "QUIET" ∷ codes "QUIT-AT-EOF"
-    ∷ codes "RAW-CONTROL-CHARS" ∷ codes "SEARCH-SKIP-SCREEN" ∷ codes "SILENT" ∷ codes "UNDERLINE-SPECIAL"
-    ∷ codes "auto-buffers" ∷ codes "buffers" ∷ codes "chop-long-lines" ∷ codes "clear-screen" ∷ codes "color"
-    ∷ codes "dumb" ∷ codes "file-size" ∷ codes "follow-name" ∷ codes "force" ∷ codes "help" ∷ codes "hilite-search"
-    ∷ codes "hilite-unread" ∷ codes "ignore-case" ∷ codes "incsearch" ∷ codes "jump-target" ∷ codes "lesskey-file"
-    ∷ codes "lesskey-src" ∷ codes "line-num-width" ∷ codes "line-numbers" ∷ codes "log-file" ∷ codes "long-prompt"
-    ∷ codes "max-back-scroll" ∷ codes "max-forw-scroll" ∷ codes "mouse" ∷ codes "no-histdups" ∷ codes "no-init"
-    ∷ codes "no-keypad" ∷ codes "no-lessopen" ∷ codes "no-mouse" ∷ codes "old-bot" ∷ codes "pattern" ∷ codes "prompt"
-    ∷ codes "quiet" ∷ codes "quit-at-eof" ∷ codes "quit-if-one-screen" ∷ codes "quit-on-intr" ∷ codes "quotes"
-    ∷ codes "raw-control-chars" ∷ codes "rscroll" ∷ codes "save-marks" ∷ codes "search-skip-screen" ∷ codes "shift"
-    ∷ codes "silent" ∷ codes "squeeze-blank-lines" ∷ codes "status-col-width" ∷ codes "status-column" ∷ codes "tabs"
-    ∷ codes "tag" ∷ codes "tag-file" ∷ codes "tilde" ∷ codes "underline-special" ∷ codes "use-backslash"
-    ∷ codes "use-color" ∷ codes "version" ∷ codes "wheel-lines" ∷ codes "window" ∷ codes "wordwrap" ∷ []
-
--- whether a name begins so
-abbrev pub begins_name : (whole front : List ℕ) → Bool
-begins_name whole front = starts_with ◌==◌ whole front
-
--- the only one of these names that begins so, where it is `found` already or comes; where none or several do, `front`
-abbrev pub whole_from : Option (List ℕ) → List ℕ → List (List ℕ) → List ℕ
-whole_from found front [] = unwrap_or found front
-whole_from None front (name ∷ rest) = whole_from (if begins_name name front then Some name else None) front rest
-whole_from (Some whole) front (name ∷ rest) =
-    if begins_name name front then front else whole_from (Some whole) front rest
-
--- a name that may be cut where no other begins so, as it is in the table
-abbrev pub whole_name : List ℕ → List ℕ
-whole_name front = whole_from None front names
-
 -- the option of a name
-abbrev pub kind_named : List ℕ → Kind
-kind_named name = kind_of (name_setting name) (name_value name) (name_other name)
-
--- the option of a name, or of its beginning
 abbrev pub name_kind : List ℕ → Kind
-name_kind front = kind_named (whole_name front)
+name_kind name = kind_of (name_setting name) (name_value name) (name_other name)

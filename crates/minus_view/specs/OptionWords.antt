@@ -4,7 +4,7 @@ use Rattle.std.specs.Prelude.{slice_range, slice_index}
 use Rattle.std.specs.Int.{is_in_range}
 use Rattle.std.specs.List.{prefix_len}
 use Rattle.minus_view.specs.declared.arguments.reading.Class.{Class}
-use Rattle.minus_view.specs.declared.arguments.reading.Class.TheVariants.{Blank, Name, Word, Text, Digits, Reach}
+use Rattle.minus_view.specs.declared.arguments.reading.Class.TheVariants.{Blank, Name, Word, Text, Digits}
 use Rattle.minus_view.specs.declared.arguments.option_table.Valued.{Valued}
 use Rattle.minus_view.specs.declared.arguments.option_table.Valued.TheVariants as valued
 
@@ -23,15 +23,13 @@ abbrev pub is_blank : ℕ → Bool
 is_blank b = (b == 32) || (b == 9)
 
 -- whether a byte may stand in a blank, in an option's name (no blank, `$` or `=`), in a word (no blank or `$`), in a
--- text (no `$`), in a number (a digit, `.` or `,`), or before a pattern, where it says in which texts and from where on
--- `less` searches (`*`, `@`, Ctrl-E, Ctrl-F or Ctrl-W)
+-- text (no `$`) or in a number (a digit, `.` or `,`)
 abbrev pub is_of : Class → ℕ → Bool
 is_of Blank b = is_blank b
 is_of Name b = not (is_blank b || (b == 36) || (b == 61))
 is_of Word b = not (is_blank b || (b == 36))
 is_of Text b = not (b == 36)
 is_of Digits b = is_in_range 48 57 b || (b == 46) || (b == 44)
-is_of Reach b = (b == 42) || (b == 64) || (b == 5) || (b == 6) || (b == 23)
 
 -- how many bytes at the front are of the class
 abbrev pub run_of : Class → List ℕ → ℕ

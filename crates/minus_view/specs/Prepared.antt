@@ -7,7 +7,7 @@ use Rattle.minus_view.specs.declared.look.Glyph.{Glyph}
 use Rattle.minus_view.specs.declared.look.Look.TheVariants.{Plain}
 use Rattle.minus_view.specs.declared.prepare.Place.TheVariants.{Text}
 use Rattle.minus_view.specs.declared.prepare.Preparation.{Preparation}
-use Rattle.minus_view.specs.Shown.{is_plain, needs_mark}
+use Rattle.minus_view.specs.Shown.{is_control, is_plain}
 use Rattle.minus_view.specs.TabColumns.{apart, column_after, next_column, tab_len}
 use Rattle.minus_view.specs.TabMarks.{tab_text, tab_places, unmarked, with_tabs}
 
@@ -22,7 +22,7 @@ held p = string_bytes p.sheet.text ++ glyph_bytes p.held
 
 -- the last character was printed once
 abbrev pub IsPlainGlyph : Option Glyph → Type 0
-IsPlainGlyph (Some glyph) = (glyph.look ≡ Plain) × (needs_mark glyph.c ≡ false)
+IsPlainGlyph (Some glyph) = (glyph.look ≡ Plain) × (is_control glyph.c ≡ false)
 IsPlainGlyph None = Unit {0}
 
 -- nothing is begun: no sequence and no character of several bytes, no style, no backspace, no colours, no link; and no

@@ -2,12 +2,19 @@
 -- there are, and a part of the text in per cent.
 use Rattle.std.specs.Prelude.{ℕ, ◌+◌, ◌-◌, ◌*◌, ◌/◌, ◌==◌, Bool, true, false, List, [], ◌∷◌, ◌++◌, chars, codes, min}
 use Rattle.std.specs.Prelude.{length, nat_lt, if◌then◌else◌}
+use Rattle.std.specs.Int.{is_in_range}
 use Rattle.std.specs.List.{flat_map}
 use Rattle.std.specs.Str.{encode_utf8_all}
 use Rattle.std.specs.Fmt.{decimal}
 use Rattle.minus_view.specs.declared.prompt_place.Place.{Place}
-use Rattle.minus_view.specs.Names.{shown_as}
 use Rattle.minus_view.specs.Prepared.{char_columns}
+
+-- the characters that a character of a name is shown as: a control character is `^` and its letter or sign, and one
+-- from U+0080 to U+009F is `?`
+abbrev pub shown_as : ℕ → List ℕ
+shown_as c =
+    if is_in_range 0 0x1F c then 94 ∷ (c + 64) ∷ []
+    else (if c == 0x7F then 94 ∷ 63 ∷ [] else (if is_in_range 0x80 0x9F c then 63 ∷ [] else c ∷ []))
 
 -- how many per cent of a whole a part is; nothing is all of nothing
 abbrev pub percent : ℕ → ℕ → ℕ
@@ -31,27 +38,19 @@ name_within room name =
 
 -- as `20-43/100  27%`: the displayed lines, counted from 1, how many lines there are, and the part of the text up to
 -- the last displayed row
-abbrev pub whole_numbers : Place → List ℕ
-whole_numbers place =
+abbrev pub numbers : Place → List ℕ
+numbers place =
     let part = percent place.end place.bytes in
     decimal place.first
     ++ (codes "-" ++ (decimal place.last
     ++ (codes "/" ++ (decimal place.lines ++ (codes "  " ++ (decimal part ++ codes "%"))))))
 
--- of a text that is not whole neither is known, and nothing is said where it has no line yet
-abbrev pub numbers : Place → List ℕ
-numbers place =
-    if place.is_whole then whole_numbers place
-    else (if place.lines == 0 then [] else decimal place.first ++ (codes "-" ++ decimal place.last))
-
--- as `notes.txt  20-43/100  27%`, where there is a name and numbers; it has the columns that the numbers and two blanks
--- leave
+-- as `notes.txt  20-43/100  27%`, where there is a name; it has the columns that the numbers and two blanks leave
 abbrev pub with_name : List ℕ → List ℕ → List ℕ
 with_name [] said = said
-with_name (b ∷ name) [] = b ∷ name
-with_name (b ∷ name) (c ∷ said) = (b ∷ name) ++ (codes "  " ++ c ∷ said)
+with_name (b ∷ name) said = (b ∷ name) ++ (codes "  " ++ said)
 
--- the text of the prompt row, for a number of columns: the name as it is shown, of which `..` and its end
+-- the text of the prompt row, for a number of columns: the name without control characters, of which `..` and its end
 -- are shown where the columns that the numbers of the place and two blanks leave are too few, and then these numbers
 abbrev pub place_text : ℕ → List ℕ → Place → List ℕ
 place_text columns name place =

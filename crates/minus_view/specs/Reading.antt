@@ -1,5 +1,5 @@
 -- The options that a text says, from the left.
-use Rattle.std.specs.Prelude.{ℕ, ◌+◌, ◌-◌, ◌==◌, ◌&&◌, Bool, true, false, not, List, [], ◌∷◌, Option, Some, None}
+use Rattle.std.specs.Prelude.{ℕ, ◌+◌, ◌-◌, ◌==◌, Bool, true, false, not, List, [], ◌∷◌, Option, Some, None}
 use Rattle.std.specs.Prelude.{if◌then◌else◌, length, drop, slice_index}
 use Rattle.minus_view.specs.OptionWords.{cut, run_of, value_len}
 use Rattle.minus_view.specs.OptionTable.{letter_kind, name_kind}
@@ -11,7 +11,6 @@ use Rattle.minus_view.specs.declared.arguments.reading.Ending.{Ending}
 use Rattle.minus_view.specs.declared.arguments.reading.Ending.TheVariants as ending
 use Rattle.minus_view.specs.declared.arguments.reading.Reading.{Reading}
 use Rattle.minus_view.specs.declared.arguments.option_table.Valued.{Valued}
-use Rattle.minus_view.specs.declared.arguments.option_table.Valued.TheVariants as valued
 use Rattle.minus_view.specs.declared.arguments.option_table.Kind.{Kind}
 use Rattle.minus_view.specs.declared.arguments.option_table.Kind.TheVariants.{Sets, Takes, Begins, Help}
 use Rattle.minus_view.specs.declared.arguments.option_table.Kind.TheVariants.{Version, Unknown}
@@ -48,15 +47,13 @@ long_item bytes =
     let kind = known (name_kind (cut bytes 2 end)) is_told in
     ended_at kind bytes (named_end kind is_told bytes end)
 
--- the first option of some bytes: `--` and its name, what begins options, or a letter; the command `-` behind `+` sets
--- the options that follow
+-- the first option of some bytes: `--` and its name, what begins options, or a letter
 abbrev pub item_of : List ℕ → Item
 item_of bytes =
-    if begins_with 43 bytes && begins_with 45 (drop 1 bytes) then ended_at (Begins false) bytes 1
-    else (if not (begins_with 45 bytes) then ended_at (letter_kind (slice_index bytes 0)) bytes 1
+    if not (begins_with 45 bytes) then ended_at (letter_kind (slice_index bytes 0)) bytes 1
     else (if begins_with 45 (drop 1 bytes) then long_item bytes
     else (if begins_with 43 (drop 1 bytes) then ended_at (Begins true) bytes 2
-    else ended_at (Begins false) bytes 1)))
+    else ended_at (Begins false) bytes 1))
 
 -- what was read so far, without the places in memory of its texts
 abbrev pub bare_reading : Reading → Reading
@@ -80,26 +77,17 @@ first_of (ending.Waits valued) now = ending.Waits valued
 abbrev pub ends_with : Reading → Ending → Reading
 ends_with so_far ending = record so_far { ending = first_of so_far.ending ending }
 
--- what it says that an option does not take its value: a command is not known, and a number is none
-abbrev pub refused : Valued → Ending
-refused valued.Command = ending.Unknown
-refused valued.Number = ending.BadNumber
-refused valued.Text = ending.BadNumber
-refused valued.Tabs = ending.BadNumber
-refused valued.Pattern = ending.BadNumber
-refused valued.Prompt = ending.BadNumber
-
--- the reading after an option with its value: what the value sets, or that the option does not take it
-abbrev pub valued_with : Reading → Valued → Option Paging → Reading
-valued_with so_far valued (Some paging) = record so_far { paging = paging }
-valued_with so_far valued None = ends_with so_far (refused valued)
+-- the reading after an option with its value: what the value sets, or a bad number where the option does not take it
+abbrev pub valued_with : Reading → Option Paging → Reading
+valued_with so_far (Some paging) = record so_far { paging = paging }
+valued_with so_far None = ends_with so_far ending.BadNumber
 
 -- the reading after an option that has a value: where the bytes end before the value, the
 -- option waits for it in the next word
 abbrev pub with_valued : Reading → Valued → List ℕ → Bool → Reading
 with_valued so_far valued value ends =
     if ends then ends_with so_far (ending.Waits valued)
-    else valued_with so_far valued (with_value so_far.paging valued value)
+    else valued_with so_far (with_value so_far.paging valued value)
 
 -- an option that has none
 abbrev pub with_kind : Reading → Kind → Reading

@@ -1,4 +1,4 @@
--- What a shown text is: characters that need no mark, newlines, and sequences `ESC [ digits, : and ; m`,
+-- What a shown text is: characters that are no control characters, newlines, and sequences `ESC [ digits, : and ; m`,
 -- each whole. No line ends, and neither does the text, where a style is open. A text is here the list of its
 -- characters.
 use Rattle.std.specs.Prelude.{ℕ, ◌≡◌, chars, ◌==◌, ◌&&◌, ◌||◌, Bool, true, false, not, List, [], ◌∷◌, ◌++◌, Option}
@@ -12,23 +12,12 @@ use Rattle.minus_view.specs.declared.shown.Spot.TheVariants.{Line, Escape, Numbe
 abbrev pub is_control : ℕ → Bool
 is_control c = is_in_range 0 0x1F c || is_in_range 0x7F 0x9F c
 
--- a character that changes the direction of what follows (U+202A to U+202E, U+2066 to U+2069), or that no terminal
--- shows: the space without width (U+200B) and the tags (U+E0001, U+E0020 to U+E007F)
-abbrev pub is_hidden : ℕ → Bool
-is_hidden c =
-    is_in_range 0x202A 0x202E c || is_in_range 0x2066 0x2069 c || (c == 0x200B) || (c == 0xE0001)
-    || is_in_range 0xE0020 0xE007F c
-
--- a character that is shown by a mark, since the terminal would not show it
-abbrev pub needs_mark : ℕ → Bool
-needs_mark c = is_control c || is_hidden c
-
--- in a line: `ESC` begins a sequence, a newline stands only where no style is open, and no other character needs a mark
+-- in a line: `ESC` begins a sequence, and a newline stands only where no style is open
 abbrev pub in_line : Bool → ℕ → Option Spot
 in_line styled c =
     if c == 27 then Some Escape
     else (if c == 10 then (if styled then None else Some (Line false))
-    else (if needs_mark c then None else Some (Line styled)))
+    else (if is_control c then None else Some (Line styled)))
 
 -- in the numbers of a sequence: `m` ends it, and it resets all styles where it had zeros alone, or nothing
 abbrev pub in_numbers : Bool → ℕ → Option Spot
@@ -57,18 +46,18 @@ ShownTextsJoin =
     IsShown []
     × ((first second : List ℕ) → IsUtf8 first → IsShown first → IsShown second → IsShown (first ++ second))
 
--- whether a character is allowed in a text where none needs a mark but newlines and `ESC`s that a `[` follows;
+-- whether a character is allowed in a text whose only control characters are newlines and `ESC`s that a `[` follows;
 -- `escaped` says that an `ESC` stands right before it
 abbrev pub follows : ℕ → Bool → Bool
-follows c escaped = if escaped then c == 91 else (not (needs_mark c) || (c == 10) || (c == 27))
+follows c escaped = if escaped then c == 91 else (not (is_control c) || (c == 10) || (c == 27))
 
--- whether in a text, right behind an `ESC` if `escaped`, no character needs a mark but
+-- whether a text, right behind an `ESC` if `escaped`, has no control characters but
 -- newlines and `ESC`s that a `[` follows
 abbrev pub is_clean : Bool → List ℕ → Bool
 is_clean escaped [] = not escaped
 is_clean escaped (c ∷ cs) = follows c escaped && is_clean (c == 27) cs
 
--- in a shown text no character needs a mark but newlines and `ESC`s that a `[` follows
+-- a shown text has no control characters but newlines and `ESC`s that a `[` follows
 abbrev pub ShownTextsAreClean : Type 0
 ShownTextsAreClean = (bytes : List ℕ) → IsShown bytes → is_clean false (chars bytes) ≡ true
 

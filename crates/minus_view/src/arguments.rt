@@ -3,8 +3,7 @@
 //! What a variable sets is read first, and then the words, up to `--` or the first that begins with neither `-` nor
 //! `+`; a `-` alone is a text. A word holds one option or several, `-NS`, and the value of the last one stands in the
 //! rest of the word, up to a `$`, or in the next word. A text of letters alone, `FRX`, is one of options in a
-//! variable. Behind `-+` the options that have no value are set back. A name may be cut where one alone begins so.
-//! Options and commands that there are not are skipped.
+//! variable. Behind `-+` the options that have no value are set back.
 ghost use Rattle.std.specs.Prelude.{◌≡◌};
 ghost use Rattle.minus_view.specs.Arguments.{bare_answer, default_paging, arguments_of};
 ghost use Rattle.minus_view.specs.Paging.{bare_paging, texts_of};
@@ -14,7 +13,6 @@ mod option_table;
 mod reading;
 mod words;
 
-pub use option_table::takes_value;
 use reading::read_options;
 use words::read_words;
 
@@ -36,16 +34,12 @@ pub enum Opening<'a> {
     First,
     /// At this line, counted from 1.
     Line(usize),
-    /// At the line at this many millionths of the text.
-    Part(usize),
     /// It is the last page.
     End,
     /// It is the last page, and the end of the text is followed.
     Follows,
     /// At the first line in which this query matches.
     Finds(&'a str),
-    /// At the last line in which this query matches: it is searched for back from the end.
-    FindsBack(&'a str),
 }
 
 /// What the end of the text does.
@@ -78,16 +72,12 @@ pub struct Paging<'a> {
     pub case: Case,
     /// What the end of the text does.
     pub at_end: AtEnd,
-    /// Whether Ctrl-C ends the pager.
-    pub ends_at_interrupt: bool,
     /// How far tabs stand apart, in columns: from 1 to 65535.
     pub tabs: usize,
     /// Where the first page begins.
     pub opening: Opening<'a>,
-    /// What a text is called that has no name, as a prompt of `less` says it ([`crate::prompt_words`]).
+    /// What a text is called that has no name.
     pub name: Option<&'a str>,
-    /// The first word that was skipped, since it has an option or a command that there is not.
-    pub skipped: Option<&'a str>,
     /// The names of the texts; `-` is standard input, and so is no name at all.
     pub texts: &'a [&'a str],
 }
@@ -106,7 +96,9 @@ pub enum Arguments<'a> {
 /// Why the words ask for nothing, with the word at fault.
 #[derive(Clone, Copy, PartialEq, Eq)]
 pub enum ArgumentFault<'a> {
-    /// A number that is none, or out of its range.
+    /// An option that there is not.
+    UnknownOption(&'a str),
+    /// A number that is none, or out of its range; or a command behind `+` that there is not.
     BadNumber(&'a str),
     /// The value of an option is missing.
     NoValue(&'a str),
@@ -125,17 +117,15 @@ fn default_paging<'a>() -> Paging<'a>
         mouse: false,
         case: Case::Exact,
         at_end: AtEnd::Stays,
-        ends_at_interrupt: false,
         tabs: 8,
         opening: Opening::First,
         name: None,
-        skipped: None,
         texts: &[],
     }
 }
 
-/// What the words behind the program's name ask for, where a variable sets options, as `-R -S` or `RS`. In `set`, what
-/// asks for help or the version, or lacks its value, is skipped too, and no word there is reported as skipped.
+/// What the words behind the program's name ask for, where a variable sets options, as `-R -S` or `RS`. What there is
+/// not in `set` is skipped there, and so is what asks for help or the version, or lacks its value.
 ///
 /// # Errors
 ///

@@ -42,8 +42,8 @@ impl Model for History {
 }
 
 impl History {
-    ghost use Rattle.std.specs.Prelude.{◌≡◌, OnOk, OnErr, IfOk, option_map};
-    ghost use Rattle.minus_view.specs.History.{no_queries, newest, shown_query, has_older, has_newer, older, newer, begun, is_newest, with_taken};
+    ghost use Rattle.std.specs.Prelude.{◌≡◌, OnOk, OnErr, IfOk};
+    ghost use Rattle.minus_view.specs.History.{no_queries, shown_query, has_older, has_newer, older, newer, begun, is_newest, with_taken};
 
     /// No query was taken yet.
     pub fn new(alloc: Global) -> History
@@ -65,22 +65,12 @@ impl History {
         self.typed.clear();
     }
 
-    /// The query that was taken last, if one was.
-    pub fn newest(&self) -> Option<&str>
-        ensures { option_map (λ q. q.now) result ≡ newest self.now }
-    {
-        match self.taken.last() {
-            Some(query) => Some(query.as_str()),
-            None => None,
-        }
-    }
-
     // Whether a query is the one that was taken last.
     fn is_newest(&self, query: &str) -> bool
         ensures { result ≡ is_newest self.now query.now }
     {
-        match self.newest() {
-            Some(newest) => newest == query,
+        match self.taken.last() {
+            Some(newest) => newest.as_str() == query,
             None => false,
         }
     }

@@ -3,7 +3,6 @@ ghost use Rattle.std.specs.Prelude.{◌≡◌, ◌+◌, ◌<◌, ◌≤◌, leng
 ghost use Rattle.std.specs.List.{prefix_len};
 ghost use Rattle.std.specs.Int.{is_in_range};
 ghost use Rattle.minus_view.specs.KeySequences.{tail_len, more_of, character_len, final_len, parameters_len, sequence_len, escaped_len, unit_len};
-ghost use Rattle.minus_view.specs.KeySequences.{answer_len, begins_answer};
 
 /// How many parameters a sequence has at most: a longer one ends there.
 const MOST_PARAMETERS: usize = 64;
@@ -98,24 +97,6 @@ fn sequence_len(bytes: &[u8]) -> Option<usize>
     }
 }
 
-/// Whether a byte behind `ESC` begins an answer of the terminal.
-pub(crate) fn begins_answer(byte: u8) -> bool
-    ensures { result ≡ begins_answer byte }
-{
-    matches!(byte, b'P' | b'X' | b']'..=b'_')
-}
-
-// The length of such a byte, once another one has come behind it.
-fn answer_len(bytes: &[u8]) -> Option<usize>
-    ensures is { result ≡ answer_len bytes.now }
-    ensures within { IfSome result (λ n. n ≤ length bytes.now) }
-{
-    match bytes {
-        [] => None,
-        _ => Some(1),
-    }
-}
-
 // The length of what follows `ESC`.
 fn escaped_len(bytes: &[u8]) -> Option<usize>
     ensures is { result ≡ escaped_len bytes.now }
@@ -132,7 +113,6 @@ fn escaped_len(bytes: &[u8]) -> Option<usize>
             None => None,
         },
         [0x1B, ..] => Some(0),
-        [byte, rest @ ..] if begins_answer(*byte) => answer_len(rest),
         [byte, rest @ ..] => character_len(*byte, rest),
     }
 }

@@ -1,19 +1,15 @@
 //! What a program needs around a pager: the events of a terminal, from the bytes that it sends; the bytes of a file
-//! as a text that a pager can show, and names as they are shown; the program's arguments; and the text of the prompt
-//! row.
+//! as a text that a pager can show; the program's arguments; and the text of the prompt row.
 #![tactic(auto)]
 
 mod arguments;
 mod events;
-mod heard;
 mod history;
 mod key_sequences;
 mod keys;
-mod line_keys;
 mod look;
 mod meaning;
 mod mouse;
-mod names;
 mod numbers;
 mod prepare;
 mod prompt_place;
@@ -23,18 +19,10 @@ mod shown;
 mod tab_marks;
 mod text_queue;
 
-pub use arguments::{
-    ArgumentFault, Arguments, AtEnd, Case, Opening, Paging, parse_arguments, takes_value,
-};
-pub use events::{late_unit, pieces_join, read_unit, units_are_determined};
-pub use heard::{
-    Heard, Pasted, Stretch, answers_ask_for_nothing, answers_end, hear, hear_late, pastes_are_texts,
-};
+pub use arguments::{ArgumentFault, Arguments, AtEnd, Case, Opening, Paging, parse_arguments};
+pub use events::{pieces_join, read_events, read_late_events, read_unit, units_are_determined};
 pub use history::{History, steps_lead_back};
 pub use keys::press;
-pub use line_keys::{LineKey, line_key};
-pub use names::{names_are_clean, prompt_words, shown_name};
-pub use numbers::typed_part;
 pub use prepare::{Preparation, Shape, plain_text_stays};
 pub use prompt_place::{Place, percent, place_text};
 pub use search_keys::{SearchKey, search_key};

@@ -57,8 +57,8 @@ fn ascii_key(byte: u8, bits: u8) -> Event
     }
 }
 
-/// The character that some bytes spell, if it is one.
-pub(crate) fn character(bytes: &[u8]) -> Option<char>
+// The character that some bytes spell, if it is one.
+fn character(bytes: &[u8]) -> Option<char>
     ensures { result ≡ character bytes.now }
 {
     match str::from_utf8(bytes) {

@@ -1,7 +1,6 @@
-//! The numbers in a sequence, and a number of per cent that is typed.
+//! The numbers in a sequence.
 ghost use Rattle.std.specs.Prelude.{◌≡◌, ◌+◌, ◌-◌, ◌*◌, ◌≤◌, min, option_map};
 ghost use Rattle.minus_view.specs.Numbers.{number, past_number, past_semicolon};
-ghost use Rattle.minus_view.specs.Numbers.{tenths_counted, behind_point, typed_part};
 
 use crate::key_sequences::run_len;
 
@@ -44,39 +43,4 @@ pub(crate) fn past_semicolon(bytes: &[u8]) -> Option<&[u8]>
         [b';', rest @ ..] => Some(rest),
         _ => None,
     }
-}
-
-// How many ten-thousandths the last of a number of digits behind a point counts.
-fn tenths_counted(digits: usize) -> usize
-    ensures { result ≡ tenths_counted digits }
-{
-    match digits {
-        1 => 1000,
-        2 => 100,
-        3 => 10,
-        _ => 1,
-    }
-}
-
-// The ten-thousandths that the first four digits behind a point make.
-fn behind_point(bytes: &[u8]) -> usize
-    ensures { result ≡ behind_point bytes.now }
-{
-    match bytes {
-        [b'.', digits @ ..] => {
-            let count = run_len(b'0', b'9', digits).min(4);
-            usize::from(number(&digits[..count])) * tenths_counted(count)
-        }
-        _ => 0,
-    }
-}
-
-/// How many millionths of a whole a number of per cent is that was typed, as 505,000 for `50.5`: at most all of it. Of
-/// its part four digits count, as in `less`.
-pub fn typed_part(typed: &str) -> usize
-    ensures { result ≡ typed_part typed.now }
-{
-    let bytes = typed.as_bytes();
-    let whole = usize::from(number(bytes)) * 10_000;
-    (whole + behind_point(past_number(bytes))).min(1_000_000)
 }

@@ -1,13 +1,11 @@
 //! A file's bytes as a text that a pager can show.
 //!
 //! Tabs become spaces up to the next column that their distance divides, and a carriage return before a newline is
-//! dropped. Any other control character is shown as `^A`, each byte of what is no character in UTF-8 as `<E4>`, and
-//! as `<U+202E>` a character from U+0080 to U+009F, one that changes the direction of what follows, and one that no
-//! terminal shows, in reverse video as all marks; a backspace that strikes over a character aside: the same character
-//! twice is bold, and one with `_` is underlined. Sequences `ESC[..m` are kept, with `:` too: styles are reset at each
-//! newline and opened again behind it, and behind a mark of bytes. Any other sequence is dropped whole. Of the
-//! characters without a width behind one with a width, 30 are kept. Where tabs stand 8 columns apart, `a\tb\r\n`
-//! becomes `a       b\n`.
+//! dropped. Any other control character is shown as `^A`, and each byte of what is no character in UTF-8 as `<E4>`, in
+//! reverse video as all marks; a backspace that strikes over a character aside: the same character twice is bold, and
+//! one with `_` is underlined. Sequences `ESC[..m` are kept, with `:` too: styles are reset at each newline and opened
+//! again behind it, and behind a mark of bytes. Any other sequence is dropped whole. Where tabs stand 8 columns apart,
+//! `a\tb\r\n` becomes `a       b\n`.
 //!
 //! [`Preparation::add`] takes the bytes in pieces that are cut anywhere, and each text that it hands out is reset at
 //! its end. It holds back the last character, since a backspace may follow, and what was begun;
@@ -21,7 +19,6 @@ ghost use Rattle.minus_view.specs.Prepared.{HandsOut, HandsOutHeld, TakesAll, Ta
 
 mod begun;
 mod bytes;
-mod cell_marks;
 mod characters;
 mod sequences;
 mod tab_columns;
@@ -85,8 +82,6 @@ pub struct Preparation {
     // The columns of the line before the held character.
     column: usize,
     held: Option<Glyph>,
-    // How many characters without a width stand behind the last one with a width, but the held one.
-    marks: usize,
     // Whether the next character strikes over the held one.
     is_back: bool,
     // How the last character on the sheet was struck.
@@ -147,7 +142,6 @@ impl Preparation {
             place: Place::Text,
             column: 0,
             held: None,
-            marks: 0,
             is_back: false,
             look: Look::Plain,
             sequence: String::new(alloc),

@@ -1,9 +1,9 @@
 //! The text of the prompt row: where in the text the page is.
-ghost use Rattle.std.specs.Prelude.{◌≡◌, string_bytes, IfOk};
-ghost use Rattle.minus_view.specs.PromptPlace.{percent, fits, end_within, name_within, numbers, with_name};
-ghost use Rattle.minus_view.specs.PromptPlace.{place_text};
+ghost use Rattle.std.specs.Prelude.{◌≡◌, ◌++◌, string_bytes, IfOk};
+ghost use Rattle.std.specs.List.{flat_map};
+ghost use Rattle.std.specs.Str.{chars, encode_utf8_all};
+ghost use Rattle.minus_view.specs.PromptPlace.{shown_as, percent, fits, end_within, name_within, place_text};
 
-use crate::names::{clean_characters, push_all};
 use crate::prepare::columns;
 use std::alloc::{AllocError, Global};
 
@@ -20,8 +20,47 @@ pub struct Place {
     pub end: usize,
     /// The length of the text in bytes.
     pub bytes: usize,
-    /// Whether that is all of it: else neither the number of lines nor a part of the text is known.
-    pub is_whole: bool,
+}
+
+// Adds the characters that a character of a name is shown as.
+fn push_clean(shown: &mut Vec<char>, c: char) -> Result<(), AllocError>
+    ensures { IfOk result (λ _. shown.new.items ≡ shown.old.items ++ shown_as c) }
+{
+    match c {
+        '\0'..='\x1F' => {
+            shown.push('^')?;
+            shown.push(char::from(c as u8 + 64))?;
+        }
+        '\x7F' => {
+            shown.push('^')?;
+            shown.push('?')?;
+        }
+        '\u{80}'..='\u{9F}' => shown.push('?')?,
+        _ => shown.push(c)?,
+    }
+    Ok(())
+}
+
+// The characters of a name, as they are shown: `^A` stands for a control character, and `?` for one from U+0080 to
+// U+009F.
+fn clean_characters(alloc: Global, name: &str) -> Result<Vec<char>, AllocError>
+    ensures { IfOk result (λ shown. shown.items ≡ flat_map shown_as (chars name.now)) }
+{
+    let mut shown = Vec::new(alloc);
+    for c in name.chars() {
+        push_clean(&mut shown, c)?;
+    }
+    Ok(shown)
+}
+
+// Adds characters to a text.
+fn push_all(text: &mut String, characters: &[char]) -> Result<(), AllocError>
+    ensures { IfOk result (λ _. string_bytes text.new ≡ string_bytes text.old ++ encode_utf8_all characters.now) }
+{
+    for c in characters {
+        text.push(*c)?;
+    }
+    Ok(())
 }
 
 /// How many per cent of a whole a part of it is, rounded down and at most 100; 100 where the whole is nothing.
@@ -76,38 +115,9 @@ fn name_within(alloc: Global, room: usize, name: &[char]) -> Result<String, Allo
     Ok(text)
 }
 
-// The numbers of a place, as `20-43/100  27%`; of a text that is not whole, as `20-43`, or nothing where it has no line.
-fn numbers(alloc: Global, place: Place) -> Result<String, AllocError>
-    ensures { IfOk result (λ text. string_bytes text ≡ numbers place) }
-{
-    let (first, last, lines) = (place.first, place.last, place.lines);
-    if place.is_whole {
-        let part = percent(place.end, place.bytes);
-        return format!(in alloc; "{first}-{last}/{lines}  {part}%");
-    }
-    if lines == 0 {
-        return Ok(String::new(alloc));
-    }
-    format!(in alloc; "{first}-{last}")
-}
-
-// A name and what is said behind it, with two blanks between them.
-fn with_name(alloc: Global, name: String, said: String) -> Result<String, AllocError>
-    ensures { IfOk result (λ text. string_bytes text ≡ with_name (string_bytes name) (string_bytes said)) }
-{
-    if name.is_empty() {
-        return Ok(said);
-    }
-    if said.is_empty() {
-        return Ok(name);
-    }
-    format!(in alloc; "{name}  {said}")
-}
-
-/// The text of the prompt row, as `notes.txt  20-43/100  27%`: the name, as [`crate::shown_name`] has it; the first and
-/// the last displayed line; how many lines there are; and the part of the text up to the last displayed row, in per
-/// cent. The last two are left out of a text that is not whole, and all numbers where it has no line. A text wider than
-/// the row has `..` and the end of the name, or no name; the numbers are always there.
+/// The text of the prompt row, as `notes.txt  20-43/100  27%`: the name, with `^A` for a control character; the first
+/// and the last displayed line; how many lines there are; and the part of the text up to the last displayed row, in per
+/// cent. A text wider than the row has `..` and the end of the name, or no name; the numbers are always there.
 ///
 /// # Errors
 ///
@@ -120,8 +130,13 @@ pub fn place_text(
 ) -> Result<String, AllocError>
     ensures { IfOk result (λ text. string_bytes text ≡ place_text columns name.now place) }
 {
-    let numbers = numbers(alloc, place)?;
+    let (first, last, lines) = (place.first, place.last, place.lines);
+    let part = percent(place.end, place.bytes);
+    let numbers = format!(in alloc; "{first}-{last}/{lines}  {part}%")?;
     let room = columns.saturating_sub(numbers.len() + 2);
     let name = name_within(alloc, room, &clean_characters(alloc, name)?)?;
-    with_name(alloc, name, numbers)
+    if name.is_empty() {
+        return Ok(numbers);
+    }
+    format!(in alloc; "{name}  {numbers}")
 }

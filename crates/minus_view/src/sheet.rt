@@ -2,11 +2,11 @@
 ghost use Rattle.std.specs.Prelude.{encode_utf8, ◌≡◌, ◌++◌, [], true, false, chars, replicate, string_bytes, IfOk, Some};
 ghost use Rattle.std.specs.Char.{IsScalar};
 ghost use Rattle.std.specs.List.{list_all};
-ghost use Rattle.minus_view.specs.Shown.{read, needs_mark, is_plain, IsShown, PutsLine};
+ghost use Rattle.minus_view.specs.Shown.{read, is_control, is_plain, IsShown, PutsLine};
 ghost use Rattle.minus_view.specs.TabMarks.{tab_mark, tab_text};
 ghost use Rattle.minus_view.specs.declared.shown.Spot.TheVariants.{Line};
 
-use crate::shown::{Spot, needs_mark, read};
+use crate::shown::{Spot, is_control, read};
 use std::alloc::{AllocError, Global};
 
 /// The sequence that resets all styles.
@@ -26,13 +26,13 @@ pub(crate) struct Sheet {
     ghost shown: { read (chars (string_bytes text)) (Some (Line false)) ≡ Some (Line styled) },
 }
 
-// The character, or U+FFFD for one that needs a mark.
+// The character, or U+FFFD for a control character.
 fn shown_char(c: char) -> char
-    ensures shown { needs_mark result ≡ false }
+    ensures shown { is_control result ≡ false }
     ensures scalar { IsScalar result }
-    ensures same { needs_mark c ≡ false → result ≡ c }
+    ensures same { is_control c ≡ false → result ≡ c }
 {
-    if needs_mark(c) {
+    if is_control(c) {
         char::REPLACEMENT_CHARACTER
     } else {
         c
@@ -139,10 +139,10 @@ impl Sheet {
         self.put_mark()
     }
 
-    /// Puts a character on it; U+FFFD stands for one that needs a mark.
+    /// Puts a character on it; U+FFFD stands for a control character.
     pub(crate) fn put_char(&mut self, c: char) -> Result<(), AllocError>
         ensures styled { self.new.styled ≡ self.old.styled }
-        ensures put { IfOk result (λ _. needs_mark c ≡ false
+        ensures put { IfOk result (λ _. is_control c ≡ false
             → string_bytes self.new.text ≡ string_bytes self.old.text ++ encode_utf8 c) }
     {
         let shown = shown_char(c);

@@ -1,6 +1,6 @@
 //! The grammar that every prepared text meets, read from the left.
 ghost use Rattle.std.specs.Prelude.{◌≡◌, chars};
-ghost use Rattle.minus_view.specs.Shown.{step, read, is_control, is_hidden, needs_mark, ShownTextsJoin, ShownTextsAreClean};
+ghost use Rattle.minus_view.specs.Shown.{step, read, is_control, ShownTextsJoin, ShownTextsAreClean};
 
 /// Where a shown text stands, behind some of its characters.
 #[derive(Clone, Copy)]
@@ -20,27 +20,6 @@ pub(crate) fn is_control(c: char) -> bool
     c < ' ' || ('\u{7F}'..='\u{9F}').contains(&c)
 }
 
-/// Whether a character changes the direction of what follows, or no terminal shows it.
-pub(crate) fn is_hidden(c: char) -> bool
-    ensures { result ≡ is_hidden c }
-{
-    matches!(
-        c,
-        '\u{202A}'..='\u{202E}'
-            | '\u{2066}'..='\u{2069}'
-            | '\u{200B}'
-            | '\u{E0001}'
-            | '\u{E0020}'..='\u{E007F}'
-    )
-}
-
-/// Whether a character is shown by a mark.
-pub(crate) fn needs_mark(c: char) -> bool
-    ensures { result ≡ needs_mark c }
-{
-    is_control(c) || is_hidden(c)
-}
-
 // Behind one character more; nothing where it may not stand there.
 fn step(spot: Spot, c: char) -> Option<Spot>
     ensures { result ≡ step spot c }
@@ -55,7 +34,7 @@ fn step(spot: Spot, c: char) -> Option<Spot>
                 } else {
                     Some(Spot::Line(false))
                 }
-            } else if needs_mark(c) {
+            } else if is_control(c) {
                 None
             } else {
                 Some(Spot::Line(styled))
@@ -99,7 +78,7 @@ pub fn shown_texts_join()
     ensures { ShownTextsJoin }
 {}
 
-/// A law: in a shown text no character needs a mark but newlines and `ESC`, and behind each `ESC` stands `[`.
+/// A law: a shown text has no control character but newlines and `ESC`, and behind each `ESC` stands `[`.
 pub fn shown_texts_are_clean()
     ensures { ShownTextsAreClean }
 {}

@@ -31,7 +31,7 @@ pub(super) const DEFAULTS_OF_LESS: [(&[&str], DefaultAction); 5] = [
 ];
 
 // The other keys of `less`.
-pub(super) const VIEWS_OF_LESS: [(&[&str], ViewAction); 22] = [
+pub(super) const VIEWS_OF_LESS: [(&[&str], ViewAction); 21] = [
     (
         &["space", "f", "c-f", "c-v", "z", "pagedown"],
         ViewAction::PageDown,
@@ -42,7 +42,6 @@ pub(super) const VIEWS_OF_LESS: [(&[&str], ViewAction); 22] = [
     (&["g", "<", "m-<", "home"], ViewAction::FirstLine),
     (&["s-g", ">", "m->", "end"], ViewAction::LastLine),
     (&["p", "%"], ViewAction::Percent),
-    (&["."], ViewAction::Point),
     (&["right", "m-)"], ViewAction::Right),
     (&["left", "m-("], ViewAction::Left),
     (&["n"], ViewAction::NextMatch),

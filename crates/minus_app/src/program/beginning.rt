@@ -1,13 +1,11 @@
-//! The beginning of a text, which is read before the first page, and printed as it comes where all of it may fit.
+//! The beginning of a text, which is read before the first page.
 use crate::app::{App, Fed};
 use crate::fault::Fault;
 use crate::keyboard::Keyboard;
 use crate::options::Options;
 use crate::program::NAP;
 use crate::size::Size;
-use crate::view::Printed;
-use minus::OutputSink;
-use minus_view::{Heard, take_marks};
+use minus::Event;
 use std::alloc::Global;
 use std::io::Read;
 use std::thread;
@@ -21,24 +19,18 @@ const MOST_PRINTED: usize = 256 * 1024;
 pub struct Beginning {
     /// The text.
     pub text: String,
-    /// How much of it was printed.
-    pub printed: Printed,
-    // Whether what is printed leaves room on the terminal.
-    fits: bool,
     /// Whether it may feed more.
     pub may_grow: bool,
     /// Whether the text was read to its end, for now or for good.
     pub is_at_end: bool,
     /// The keys that were pressed.
-    pub pressed: Vec<Heard>,
+    pub pressed: Vec<Event>,
 }
 
 impl Beginning {
     fn new(alloc: Global) -> Beginning {
         Beginning {
             text: String::new(alloc),
-            printed: Printed::default(),
-            fits: true,
             may_grow: true,
             is_at_end: false,
             pressed: Vec::new(alloc),
@@ -59,53 +51,26 @@ impl Beginning {
     // Whether it is known that the text fits a terminal of this many rows, or that it does not; or keys are pressed.
     fn is_known(&self, rows: usize) -> bool {
         self.is_at_end
-            || !self.fits
             || !self.pressed.is_empty()
             || self.text.len() > MOST_PRINTED
             || self.text.lines().count() >= rows
     }
 
-    // Prints the whole lines that have come, as long as they fit a terminal of this size.
-    fn print<S: OutputSink>(
-        &mut self,
-        alloc: Global,
-        pages: &mut S,
-        marks_tabs: bool,
-        size: Size,
-    ) -> Result<(), Fault> {
-        let Some((whole, _)) = self.text.as_str().rsplit_once('\n') else {
-            return Ok(());
-        };
-        self.fits = if marks_tabs {
-            let unmarked = take_marks(alloc, whole)?;
-            self.printed
-                .print_on(alloc, pages, unmarked.text.as_str(), size)?
-        } else {
-            self.printed.print_on(alloc, pages, whole, size)?
-        };
-        Ok(())
-    }
-
-    // Reads a text that is printed where it fits a terminal of this size: all of it, unless it is longer than that, or
-    // keys are pressed before it ends. Lines without numbers are printed while more of them is being written.
-    fn read_to_fit<A: App, S: OutputSink, R: Read + Drop>(
+    // Reads a text that is printed where it fits a terminal of this many rows: all of it, unless it is longer than
+    // that, or keys are pressed before it ends.
+    fn read_to_fit<A: App, R: Read + Drop>(
         &mut self,
         rt: &HostRuntime,
         app: &mut A,
         keyboard: &mut Keyboard<R>,
-        pages: &mut S,
-        numbers: bool,
-        size: Size,
+        rows: usize,
     ) -> Result<(), Fault> {
         for _ in 0..u64::MAX {
             if !self.read(rt, app)? {
-                if !numbers {
-                    self.print(rt.alloc(), pages, app.marks_tabs(), size)?;
-                }
                 thread::sleep(rt, Duration::from_millis(NAP));
             }
             let _ = keyboard.read(rt, &mut self.pressed)?;
-            if self.is_known(usize::from(size.rows)) {
+            if self.is_known(rows) {
                 break;
             }
         }
@@ -117,19 +82,17 @@ impl Beginning {
 ///
 /// # Errors
 ///
-/// Those of the application's feed, [`Fault::Io`] where the keyboard failed, and [`Fault::Pager`] where the terminal
-/// refuses what is printed.
-pub fn begin_text<A: App, S: OutputSink, R: Read + Drop>(
+/// Those of the application's feed, and [`Fault::Io`] where the keyboard failed.
+pub fn begin_text<A: App, R: Read + Drop>(
     rt: &HostRuntime,
     app: &mut A,
     keyboard: &mut Keyboard<R>,
-    pages: &mut S,
     options: &Options<'_>,
     size: Size,
 ) -> Result<Beginning, Fault> {
     let mut beginning = Beginning::new(rt.alloc());
     if options.prints {
-        beginning.read_to_fit(rt, app, keyboard, pages, options.numbers, size)?;
+        beginning.read_to_fit(rt, app, keyboard, usize::from(size.rows))?;
     } else {
         let _ = beginning.read(rt, app)?;
     }

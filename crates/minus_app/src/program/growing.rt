@@ -140,22 +140,18 @@ impl<A: App, S: OutputSink + Drop, R: Read + Drop> Program<A, S, R> {
         Ok(true)
     }
 
-    /// Heeds that no text comes: what the text is read on for may not come any more, how long the text is may be known,
-    /// and the application may say something of it.
+    /// Heeds that no text comes: what the text is read on for may not come any more, and the application may say
+    /// something of the text.
     pub(super) fn look_at_end(&mut self) -> Result<(), Fault> {
         let is_whole = self.growth.is_whole();
-        let mut is_to_say = is_whole != self.view.is_whole();
         self.view.set_whole(is_whole);
         if self.view.pause()? {
             self.show_place()?;
         }
         let (said, notice) = (self.view.notice(), self.app.notice());
         if said != Notice::OutOfMemory && notice != said {
-            is_to_say = true;
-            self.view.set_notice(notice);
-        }
-        if is_to_say {
             self.growth.pieces = self.growth.pieces.max(1);
+            self.view.set_notice(notice);
         }
         Ok(())
     }

@@ -1,5 +1,5 @@
 //! How a program goes from one text of its application to another.
-use crate::app::{App, Neighbour, Turned};
+use crate::app::{App, Neighbour};
 use crate::fault::Fault;
 use crate::program::Program;
 use crate::view::Goal;
@@ -41,15 +41,15 @@ impl TopLines {
 }
 
 impl<A: App, S: OutputSink + Drop, R: Read + Drop> Program<A, S, R> {
-    // Shows the next text of the application, or the one before, from the line on where it was left, if there is one.
+    // Shows the next text of the application, or the one before, from the line on where it was left. Answers whether
+    // there is one.
     pub(super) fn turn_to(
         &mut self,
         rt: &HostRuntime,
         neighbour: Neighbour,
-    ) -> Result<Turned, Fault> {
-        let turned = self.app.turn_to(rt, neighbour)?;
-        if !matches!(&turned, Turned::There) {
-            return Ok(turned);
+    ) -> Result<bool, Fault> {
+        if !self.app.turn_to(rt, neighbour)? {
+            return Ok(false);
         }
         let left = self.view.top_line();
         let line = self.top_lines.turn_to(neighbour, left)?;
@@ -59,6 +59,6 @@ impl<A: App, S: OutputSink + Drop, R: Read + Drop> Program<A, S, R> {
         if line > 0 {
             self.view.head_for(Goal::Line(line))?;
         }
-        Ok(turned)
+        Ok(true)
     }
 }

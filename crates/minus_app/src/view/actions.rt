@@ -1,8 +1,7 @@
 //! What the keys do that no default action of the pager does.
 use crate::fault::Fault;
-use crate::prompt::Notice;
 use crate::view::goals::Goal;
-use crate::view::jumps::{first_match_from, jump_to, top_of_match};
+use crate::view::jumps::{first_match_from, jump_to};
 use crate::view::moves::row_of_move;
 use crate::view::typed::Pending;
 use crate::view::{Onward, View};
@@ -36,32 +35,42 @@ impl<S: OutputSink + Drop> View<S> {
         self.head_for(Goal::Line(number.saturating_sub(1)))
     }
 
-    /// Goes to the match at a place among all, counted from 0, reports it, and shows it where lines are cut. A move up ends
-    /// following.
-    pub(super) fn lead_to(&mut self, place: usize) -> Result<(), Fault> {
+    // Moves the page to the side, to the right or to the left, where lines are not wrapped.
+    fn shift(&mut self, to_the_right: bool) -> Result<(), Fault> {
+        let count = self.typed.remember_half_width();
         let state = self.session.state();
-        let Some(row) = state.matches().row(place) else {
-            return Ok(());
+        let columns = count.unwrap_or(state.cols / 2);
+        let left = if to_the_right {
+            state.left_mark.saturating_add(columns)
+        } else {
+            state.left_mark.saturating_sub(columns)
         };
-        let top = top_of_match(state, row);
-        self.end_following_above(top)?;
-        let jump = jump_to(self.session.state(), place);
-        self.command(CommandOf::UserInput(InputEvent::MoveToNextMatch(jump)))?;
-        if top < row {
-            self.command(CommandOf::Io(IoCommand::SetUpperMark(top)))?;
-        }
-        self.show_columns(row)
+        self.command(CommandOf::UserInput(InputEvent::UpdateLeftMark(left)))
     }
 
-    // The match that is reported, where the page is at it: that begins with its row or shows it from its line on, or is
-    // the last one and has it.
+    /// Keeps where a jump begins, but for one in help.
+    pub(super) fn begin_jump(&mut self) {
+        if !self.session.state().help_open() {
+            self.places.before = self.place();
+        }
+    }
+
+    /// Goes to the match at a place among all, counted from 0, and reports it. A move up ends following.
+    pub(super) fn lead_to(&mut self, place: usize) -> Result<(), Fault> {
+        if let Some(row) = self.session.state().matches().row(place) {
+            self.end_following_above(row)?;
+        }
+        let jump = jump_to(self.session.state(), place);
+        self.command(CommandOf::UserInput(InputEvent::MoveToNextMatch(jump)))
+    }
+
+    // The match that is reported, where the page is at it: that begins with its row, or is the last one and has it.
     fn match_at_page(&self) -> Option<usize> {
         let state = self.session.state();
-        let (told, mark) = (state.search_mark(), state.upper_mark);
+        let told = state.search_mark();
         let row = state.matches().row(told)?;
-        let is_at_top = row == mark || top_of_match(state, row) == mark;
-        let is_on_last = row > mark && mark >= state.top();
-        (is_at_top || is_on_last).then_some(told)
+        let is_on_last = row > state.upper_mark && state.upper_mark >= state.top();
+        (row == state.upper_mark || is_on_last).then_some(told)
     }
 
     // Goes on among the matches, down the text, past the last one at the first.
@@ -85,7 +94,7 @@ impl<S: OutputSink + Drop> View<S> {
             None => first_match_from(state, state.upper_mark),
         };
         if behind == 0 {
-            self.notices.of_search = Notice::NotFound;
+            self.notices.was_missed = true;
             return Ok(());
         }
         self.lead_to(behind.saturating_sub(jump))
@@ -95,33 +104,32 @@ impl<S: OutputSink + Drop> View<S> {
     /// shown again for that.
     pub(super) fn next_match(&mut self, is_onward: bool) -> Result<(), Fault> {
         self.show_hidden()?;
-        let is_searched = self.session.state().term().is_some();
-        if !is_searched && !self.search_newest()? {
+        if self.session.state().term().is_none() {
             return self.say("nothing was searched for before (Return)");
         }
         let jump = self.typed.count.unwrap_or(1);
         self.begin_jump();
-        let is_back = self.session.state().search_state.search_mode == SearchMode::Reverse;
-        if is_onward == is_back {
-            return self.match_up(jump);
+        match self.session.state().search_state.search_mode {
+            SearchMode::Unknown => Ok(()),
+            SearchMode::Forward if is_onward => self.match_down(jump),
+            SearchMode::Reverse if !is_onward => self.match_down(jump),
+            SearchMode::Forward | SearchMode::Reverse => self.match_up(jump),
         }
-        self.match_down(jump)
     }
 
-    // Ends what goes on here: a number that is typed, too. Or else the program, where that is asked for.
+    // Ends what goes on, or else the program: a number that is typed, too. Where the text is not whole, what goes on is
+    // its writing.
     fn interrupt(&mut self, was_reading: bool) -> Result<Onward, Fault> {
-        if self.ends_at_interrupt {
-            return Err(Fault::Interrupted);
-        }
-        if was_reading || self.typed.count.is_some() || self.end_following()? {
+        if was_reading || self.typed.count.is_some() {
             return Ok(Onward::On);
         }
+        if self.end_following()? {
+            return Ok(Onward::On);
+        }
+        if self.reading.is_whole {
+            return Ok(Onward::Ended);
+        }
         Ok(Onward::Interrupted)
-    }
-
-    /// Says which key ends the program.
-    pub(crate) fn say_end(&mut self) -> Result<(), Fault> {
-        self.say("q ends (Return)")
     }
 
     // Takes the marks of the matches off the page, or puts them there again.
@@ -140,14 +148,7 @@ impl<S: OutputSink + Drop> View<S> {
     // Goes to the line at the counted per cent of the text, or else to the first one.
     fn go_to_part(&mut self) -> Result<(), Fault> {
         self.begin_jump();
-        self.head_for(Goal::Part(self.typed.part))
-    }
-
-    // Types the point of a number.
-    fn type_point(&mut self, event: Event) -> Result<(), Fault> {
-        self.begin_event();
-        self.end_message(event)?;
-        self.command(CommandOf::UserInput(InputEvent::Number('.')))
+        self.head_for(Goal::Percent(self.typed.count.unwrap_or(0)))
     }
 
     // Waits for the key that is typed next.
@@ -159,10 +160,6 @@ impl<S: OutputSink + Drop> View<S> {
     /// Does what a key asks for that no default action does. The session is told the key too: it asks that for nothing,
     /// and the typed number goes.
     pub(super) fn do_action(&mut self, action: ViewAction, event: Event) -> Result<Onward, Fault> {
-        if action == ViewAction::Point {
-            self.type_point(event)?;
-            return Ok(Onward::On);
-        }
         let was_reading = self.is_reading_on();
         self.take_count(event)?;
         match action {
@@ -174,7 +171,6 @@ impl<S: OutputSink + Drop> View<S> {
             ViewAction::FirstLine => self.go_to_first()?,
             ViewAction::LastLine => self.go_to_last()?,
             ViewAction::Percent => self.go_to_part()?,
-            ViewAction::Point => (),
             ViewAction::Right => self.shift(true)?,
             ViewAction::Left => self.shift(false)?,
             ViewAction::NextMatch => self.next_match(true)?,
@@ -187,7 +183,7 @@ impl<S: OutputSink + Drop> View<S> {
             ViewAction::SetOption => self.await_key(Pending::Option)?,
             ViewAction::Command => self.await_key(Pending::Command)?,
             ViewAction::EndTwice => self.await_key(Pending::End)?,
-            ViewAction::PassLine => self.begin_line(&event),
+            ViewAction::PassLine => self.await_key(Pending::Line)?,
         }
         Ok(Onward::On)
     }

@@ -3,7 +3,7 @@
 //! An event is asked about in this order, and the first that has a use for it takes it:
 //! 1. the key before it, as the `m` of `ma`;
 //! 2. the search prompt, while it is open (`searching`);
-//! 3. `(pattern not found)` and `(nothing found below)`, which Enter only answers;
+//! 3. `(pattern not found)`, which Enter only answers;
 //! 4. an action of the program's (`actions`), for which Esc before a key stands for Alt;
 //! 5. Ctrl-Z, which suspends the program;
 //! 6. the session.
@@ -19,7 +19,7 @@ use crate::view_action::ViewAction;
 use minus::{
     Event, InputClassifier, InputEvent, InputOf, KeyCode, KeyEvent, KeyModifiers, OutputSink,
 };
-use minus_view::{AtEnd, press, typed_part};
+use minus_view::{AtEnd, press};
 
 // Whether an event is the key that suspends the program.
 fn is_suspend(event: &Event) -> bool {
@@ -72,28 +72,27 @@ impl<S: OutputSink + Drop> View<S> {
     // The number of the application's action that an event leads to.
     pub(crate) fn own_number(&self, event: &Event) -> Option<usize>
         ensures { result ≡ own_number_at self.now.session.parts.state
-            (register_of self.now.session.parts.classifier.table) event.now }
+            (register_of self.now.session.parts.classifier) event.now }
     {
         let state = self.session.state();
         if state.help_open() || state.open_search().is_some() {
             return None;
         }
-        own_number(&self.session.classifier().table, event)
+        own_number(self.session.classifier(), event)
     }
 
     // What the pager does at an event that no default action does.
     fn action(&self, event: &Event) -> Option<ViewAction>
         ensures { result ≡ view_action_at self.now.session.parts.state
-            (register_of self.now.session.parts.classifier.table) event.now }
+            (register_of self.now.session.parts.classifier) event.now }
     {
-        let action = view_action(&self.session.classifier().table, event);
+        let action = view_action(self.session.classifier(), event);
         held(self.session.state().help_open(), action)
     }
 
     /// Takes the typed number for an action. The key asks the session for nothing, which forgets the number at it.
     pub(crate) fn take_count(&mut self, event: Event) -> Result<(), Fault> {
         let prefix = self.session.state().prefix_num.as_str();
-        self.typed.part = typed_part(prefix);
         self.typed.count = prefix.parse::<usize>().ok();
         self.begin_event();
         self.end_message(event)?;
@@ -102,10 +101,9 @@ impl<S: OutputSink + Drop> View<S> {
     }
 
     // What the events before this one left to be said is gone, and what the text was read on for.
-    pub(super) fn begin_event(&mut self) {
+    fn begin_event(&mut self) {
         self.reading.goal = None;
         self.notices.begin_event();
-        self.drop_jump();
     }
 
     /// What an event asks the session for.
@@ -134,7 +132,7 @@ impl<S: OutputSink + Drop> View<S> {
     /// the search prompt waits for more, or a message is to be read.
     pub(crate) fn ends_at_first(&self) -> bool {
         let state = self.session.state();
-        let is_told = self.notices.was_missed() || state.message.is_some();
+        let is_told = self.notices.was_missed || state.message.is_some();
         let waits = self.is_searching() || self.typed.pending.is_some() || is_told;
         self.at_end == AtEnd::EndsAtFirst && self.is_at_end() && !waits && !state.follow_output()
     }
@@ -164,7 +162,6 @@ impl<S: OutputSink + Drop> View<S> {
         let (asks_down, was_at_end) = (self.asks_down(&event), self.is_at_end());
         let was_open = self.is_searching();
         let onward = self.tell_key(event)?;
-        self.end_jump();
         self.heed_prompt(was_open)?;
         let ends = self.at_end != AtEnd::Stays && asks_down && was_at_end;
         if ends && onward == Onward::On {
@@ -183,9 +180,9 @@ impl<S: OutputSink + Drop> View<S> {
         event
     }
 
-    // Whether an event only answers that no match was found.
+    // Whether an event only answers that no row matches.
     fn answers(&self, event: &Event) -> bool {
-        self.notices.was_missed() && !self.is_searching() && *event == press(KeyCode::Enter, 0)
+        self.notices.was_missed && !self.is_searching() && *event == press(KeyCode::Enter, 0)
     }
 
     // Tells the session an event, or does what it leads to.

@@ -23,11 +23,6 @@ fn leads_up(state: &PagerState, asked: InputEvent) -> bool
 }
 
 impl<S: OutputSink + Drop> View<S> {
-    /// Whether the end of the text is followed, or will be once the search prompt is closed.
-    pub(super) fn is_followed(&self) -> bool {
-        self.session.state().follow_output() || self.queries.rests_from.is_some()
-    }
-
     /// Ends following, and answers whether the end was followed.
     pub(super) fn end_following(&mut self) -> Result<bool, Fault> {
         let was_followed = self.session.state().follow_output();

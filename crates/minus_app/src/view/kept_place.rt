@@ -1,7 +1,4 @@
-//! The place of the page in its text, which stays where the rows become others, and where a jump began.
-ghost use Rattle.std.specs.Prelude.{◌≡◌, OnOk};
-ghost use Rattle.minus_app.specs.KeptPlace.{place_before, place_of};
-
+//! The place of the page in its text, which stays where the rows become others.
 use crate::fault::Fault;
 use crate::prompt::start_of;
 use crate::view::marks::Mark;
@@ -47,10 +44,8 @@ pub struct Places {
     put_at: Option<PutAt>,
     // The place of the page that help covers, in bytes of its text, and what its rows depended on.
     covered: Option<(usize, Shape)>,
-    // Where the last jump began that has moved the page, in bytes of the text.
+    // Where the last jump began, in bytes of the text.
     pub(super) before: usize,
-    // Where a jump has begun that has not yet led anywhere.
-    begun: Option<usize>,
     pub(super) marks: Vec<Mark>,
 }
 
@@ -61,20 +56,15 @@ impl Places {
             put_at: None,
             covered: None,
             before: 0,
-            begun: None,
             marks: Vec::new(alloc),
         }
     }
 }
 
-// The place before the last jump, once one has led from a place to another.
-fn place_before(before: usize, begun: usize, now: usize) -> usize
-    ensures { result ≡ place_before before begun now }
-{
-    if begun == now { before } else { begun }
-}
-
 impl<S: OutputSink + Drop> View<S> {
+    ghost use Rattle.std.specs.Prelude.{◌≡◌, OnOk};
+    ghost use Rattle.minus_app.specs.KeptPlace.{place_of};
+
     // The place of the page in its text, in bytes.
     pub(super) fn place(&self) -> usize
         ensures { result ≡ place_of self.now.places.put_at self.now.session.parts.state }
@@ -83,34 +73,6 @@ impl<S: OutputSink + Drop> View<S> {
         match self.places.put_at {
             Some(put) if put.mark == state.upper_mark => put.byte,
             _ => start_of(state, state.upper_mark),
-        }
-    }
-
-    /// Heeds that a jump begins, but for one in help.
-    pub(super) fn begin_jump(&mut self) {
-        if !self.session.state().help_open() {
-            self.places.begun = Some(self.place());
-        }
-    }
-
-    /// Forgets a jump that has not led anywhere, where an event begins that is not one of its query.
-    pub(super) fn drop_jump(&mut self) {
-        if !self.is_searching() {
-            self.places.begun = None;
-        }
-    }
-
-    /// Keeps where a jump began, if the page has moved since. One for which the text is read on is not over.
-    pub(super) fn end_jump(&mut self) {
-        let Some(begun) = self.places.begun else {
-            return;
-        };
-        if self.is_searching() {
-            return;
-        }
-        self.places.before = place_before(self.places.before, begun, self.place());
-        if !self.is_reading_on() {
-            self.places.begun = None;
         }
     }
 

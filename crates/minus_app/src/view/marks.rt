@@ -2,11 +2,10 @@
 use crate::app::Neighbour;
 use crate::fault::Fault;
 use crate::view::goals::Goal;
-use crate::view::shifts::LongLines;
 use crate::view::typed::Pending;
 use crate::view::{Onward, View};
 use minus::{CommandOf, Event, InputEvent, InputOf, KeyCode, KeyModifiers, OutputSink};
-use minus_view::{Case, takes_value};
+use minus_view::Case;
 
 /// A place that is kept under a letter.
 #[derive(Clone, Copy)]
@@ -64,7 +63,7 @@ impl<S: OutputSink + Drop> View<S> {
             return self.say("no such mark (Return)");
         };
         self.begin_jump();
-        let _ = self.end_following()?;
+        self.command(CommandOf::FollowOutput(false))?;
         self.put_at(byte)
     }
 
@@ -83,16 +82,18 @@ impl<S: OutputSink + Drop> View<S> {
         self.say(said)
     }
 
-    // Cuts long lines at the screen's edge, or wraps them. Those that are cut for a shift alone stay so.
+    // Cuts long lines at the screen's edge, or wraps them.
     fn turn_wrapping(&mut self) -> Result<(), Fault> {
-        let is_wrapped = self.side().lines.turned() == LongLines::Wrapped;
-        let said = if is_wrapped {
-            "long lines are wrapped (Return)"
-        } else {
+        let is_cut = self.session.state().line_wrapping();
+        let said = if is_cut {
             "long lines are cut (Return)"
+        } else {
+            "long lines are wrapped (Return)"
         };
-        self.set_wrapping(is_wrapped)?;
-        self.is_cut_for_shift = false;
+        self.say_before("(laying out)")?;
+        self.step_in_place(InputOf::Command(CommandOf::UserInput(InputEvent::HorizontalScroll(
+            !is_cut,
+        ))))?;
         self.say(said)
     }
 
@@ -120,10 +121,6 @@ impl<S: OutputSink + Drop> View<S> {
             'i' => self.turn_case(Case::Smart),
             'I' => self.turn_case(Case::Ignored),
             'F' => self.say("-F is for the start of the pager (Return)"),
-            _ if letter == '-' || takes_value(letter) => {
-                self.typed.begin_line(Some('-'), letter);
-                Ok(())
-            }
             _ => self.say("no such option here (Return)"),
         }
     }
@@ -134,27 +131,17 @@ impl<S: OutputSink + Drop> View<S> {
             'q' | 'Q' => Ok(Onward::Ended),
             'n' => Ok(Onward::Turns(Neighbour::Next)),
             'p' => Ok(Onward::Turns(Neighbour::Before)),
-            _ => {
-                self.typed.begin_line(Some(':'), letter);
+            'e' => {
+                self.typed.pending = Some(Pending::Line);
                 Ok(Onward::On)
             }
-        }
-    }
-
-    /// Begins a line behind a key of `less` that does nothing here.
-    pub(super) fn begin_line(&mut self, event: &Event) {
-        if let Some(letter) = typed(event) {
-            self.typed.begin_line(None, letter);
+            _ => Ok(Onward::On),
         }
     }
 
     /// Does what a key says that was typed behind another. Esc, Ctrl-C and any other key without a character ask for
-    /// nothing, but for those of a line.
+    /// nothing.
     pub(super) fn take_key(&mut self, pending: Pending, event: Event) -> Result<Onward, Fault> {
-        if pending == Pending::Line {
-            self.typed.type_to_line(&event);
-            return Ok(Onward::On);
-        }
         let Some(letter) = typed(&event) else {
             return Ok(Onward::On);
         };
@@ -164,7 +151,8 @@ impl<S: OutputSink + Drop> View<S> {
             Pending::Option => self.set_option(letter)?,
             Pending::Command => return self.do_command(letter),
             Pending::End if letter == 'Z' => return Ok(Onward::Ended),
-            Pending::End | Pending::Line => (),
+            Pending::End => (),
+            Pending::Line => self.typed.pending = Some(Pending::Line),
         }
         Ok(Onward::On)
     }

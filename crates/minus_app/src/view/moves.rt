@@ -13,11 +13,11 @@ pub fn row_of_line(state: &PagerState, line: usize) -> usize
     state.line_first_row(line).unwrap_or(usize::MAX)
 }
 
-/// The line at this many millionths of the text, counted from 0.
+/// The line at this many per cent of the text, counted from 0.
 pub fn line_at(lines: usize, part: usize) -> usize
     ensures { result ≡ line_at lines part }
 {
-    (lines as u128 * part.min(1_000_000) as u128 / 1_000_000) as usize
+    (lines as u128 * part.min(100) as u128 / 100) as usize
 }
 
 /// Keeps the number that was typed before a key, if one was, for the next such key too, and answers what holds.

@@ -3,8 +3,8 @@ use crate::fault::Fault;
 use crate::prompt::{Notice, place_of, prompt_text};
 use crate::view::View;
 use minus::{CommandOf, Event, InputEvent, OutputSink};
-use minus_view::{Place, percent};
-use std::alloc::{AllocError, Global};
+use minus_view::percent;
+use std::alloc::AllocError;
 
 /// From this many bytes of text on, a search or another layout takes longer than a tenth of a second.
 const SLOW_BYTES: usize = 32 * 1024 * 1024;
@@ -18,8 +18,8 @@ pub struct Notices {
     pub(super) was_short: bool,
     // Whether the terminal took no text that was to be copied.
     pub(super) was_kept: bool,
-    // What is said of a search that a key asked for.
-    pub(super) of_search: Notice,
+    // Whether no row matched the query that a key took.
+    pub(super) was_missed: bool,
 }
 
 impl Notices {
@@ -29,7 +29,7 @@ impl Notices {
             of_text: Notice::Nothing,
             was_short: false,
             was_kept: false,
-            of_search: Notice::Nothing,
+            was_missed: false,
         }
     }
 
@@ -37,23 +37,8 @@ impl Notices {
     pub(super) fn begin_event(&mut self) {
         self.was_short = false;
         self.was_kept = false;
-        self.of_search = Notice::Nothing;
+        self.was_missed = false;
     }
-
-    /// Whether a search has found no match.
-    pub(super) fn was_missed(&self) -> bool {
-        self.of_search == Notice::NotFound || self.of_search == Notice::NotBelow
-    }
-}
-
-// What is said of a place in lines and in bytes.
-fn told_place(alloc: Global, place: Place) -> Result<String, AllocError> {
-    let (first, last, end) = (place.first, place.last, place.end);
-    if !place.is_whole {
-        return format!(in alloc; "lines {first}-{last}, byte {end} (Return)");
-    }
-    let (lines, bytes, part) = (place.lines, place.bytes, percent(end, place.bytes));
-    format!(in alloc; "lines {first}-{last} of {lines}, byte {end} of {bytes}, {part}% (Return)")
 }
 
 impl<S: OutputSink + Drop> View<S> {
@@ -128,8 +113,8 @@ impl<S: OutputSink + Drop> View<S> {
             Notice::NotCopied
         } else if self.reading.goal.is_some() {
             Notice::Reading
-        } else if self.notices.of_search != Notice::Nothing {
-            self.notices.of_search
+        } else if self.notices.was_missed {
+            Notice::NotFound
         } else {
             self.notices.of_text
         }
@@ -142,14 +127,13 @@ impl<S: OutputSink + Drop> View<S> {
     ///
     /// [`Fault::Pager`] where the session refuses.
     pub(crate) fn show_place(&mut self, own: Option<&str>, title: &str) -> Result<(), Fault> {
-        let place = place_of(self.session.state(), self.reading.is_whole);
-        let notice = self.notice_now();
-        let (Ok(columns), Ok(typed)) = (self.columns_left(), self.typed.text(self.alloc)) else {
-            return Ok(());
-        };
-        let own = match &typed {
-            Some(typed) => Some(typed.as_str()),
+        let (place, notice) = (place_of(self.session.state()), self.notice_now());
+        let own = match self.typed.pending {
+            Some(pending) => Some(pending.text()),
             None => own,
+        };
+        let Ok(columns) = self.columns_left() else {
+            return Ok(());
         };
         if let Ok(text) = prompt_text(self.alloc, columns, own, title, place, notice) {
             self.command(CommandOf::SetPrompt(text))?;
@@ -172,8 +156,18 @@ impl<S: OutputSink + Drop> View<S> {
 
     /// Says in the prompt row where in the text the page is, in lines and in bytes.
     pub(super) fn tell_place(&mut self) -> Result<(), Fault> {
-        let place = place_of(self.session.state(), self.reading.is_whole);
-        let text = told_place(self.alloc, place)?;
+        let place = place_of(self.session.state());
+        let (first, last, lines, end, bytes) = (
+            place.first,
+            place.last,
+            place.lines,
+            place.end,
+            place.bytes,
+        );
+        let part = percent(end, bytes);
+        let text = format!(in self.alloc;
+            "lines {first}-{last} of {lines}, byte {end} of {bytes}, {part}% (Return)"
+        )?;
         self.message(text)
     }
 }

@@ -4,7 +4,7 @@ ghost use Rattle.minus_app.specs.Reading.{bytes_below, wants_more};
 
 use crate::fault::Fault;
 use crate::view::View;
-use crate::view::goals::{Goal, Led, match_of_goal, row_of_goal};
+use crate::view::goals::{Goal, row_of_goal};
 use minus::{CommandOf, InputOf, MinusError, OutputSink, PagerState};
 
 /// What the text is read on for, and how much of it is there.
@@ -54,11 +54,6 @@ impl<S: OutputSink + Drop> View<S> {
         self.reading.goal.is_some()
     }
 
-    /// Whether all of the text is there, as far as is known.
-    pub(crate) fn is_whole(&self) -> bool {
-        self.reading.is_whole
-    }
-
     /// Says whether all of the text is there.
     pub(crate) fn set_whole(&mut self, is_whole: bool) {
         self.reading.is_whole = is_whole;
@@ -104,22 +99,25 @@ impl<S: OutputSink + Drop> View<S> {
         }
     }
 
-    // Goes where a search leads, and says what is to be said of that.
-    fn arrive_at_match(&mut self, led: Led) -> Result<(), Fault> {
-        self.notices.of_search = led.said;
-        match led.place {
-            Some(place) => self.lead_to(place),
-            None => Ok(()),
+    // Goes to a match among those that are there, or past the last one on at the first.
+    fn arrive_at_match(&mut self, place: usize) -> Result<(), Fault> {
+        let count = self.session.state().matches().len();
+        if count == 0 {
+            self.notices.was_missed = true;
+            return Ok(());
         }
+        self.lead_to(place % count)
     }
 
     // Goes where a goal leads, and answers whether it does: else the text is to be read on. The text of help is whole.
     fn arrive(&mut self, goal: Goal) -> Result<bool, Fault> {
         let state = self.session.state();
         let is_whole = self.reading.is_whole || state.help_open();
-        let count = state.matches().len();
-        if let Some(led) = match_of_goal(goal, count, is_whole, self.is_followed()) {
-            self.arrive_at_match(led)?;
+        if let Goal::Match(place) = goal {
+            if !is_whole && place >= state.matches().len() {
+                return Ok(false);
+            }
+            self.arrive_at_match(place)?;
             return Ok(true);
         }
         let Some(row) = row_of_goal(state, goal, is_whole) else {
@@ -181,7 +179,6 @@ impl<S: OutputSink + Drop> View<S> {
             return Ok(false);
         }
         self.reading.goal = None;
-        self.end_jump();
         Ok(true)
     }
 }

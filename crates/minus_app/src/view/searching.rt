@@ -5,10 +5,10 @@
 //! 3. Any other key is the session's, which types it.
 //! 4. A query that was taken leads to its match, once the text was read so far (`goals`).
 //!
-//! So `?err` and Enter, typed on a page of the rows 40 to 62 with matches in the rows 12, 50 and 70, leads to row 50.
+//! So `?err` and Enter, typed on row 40 of a text with matches in the rows 12 and 50, leads to row 12.
 use crate::fault::Fault;
 use crate::view::goals::Goal;
-use crate::view::jumps::{QueryPage, jump_to};
+use crate::view::jumps::{first_match_from, jump_back, jump_to};
 use crate::view::{Onward, View};
 use minus::{
     CommandOf, Event, InputEvent, InputOf, IoCommand, KeyCode, KeyModifiers, MinusError,
@@ -58,6 +58,11 @@ fn word_len(query: &str, cursor: usize) -> usize {
     len
 }
 
+// Whether no row matches what was searched for.
+fn has_missed(state: &PagerState) -> bool {
+    state.term().is_some() && state.matches().is_empty()
+}
+
 impl<S: OutputSink + Drop> View<S> {
     /// Whether the search prompt is open.
     pub(crate) fn is_searching(&self) -> bool {
@@ -71,7 +76,6 @@ impl<S: OutputSink + Drop> View<S> {
             let bytes = if is_open { WRAP_OFF } else { WRAP_ON };
             write_bytes(&mut self.terminal, bytes.as_bytes())?;
         }
-        self.show_own_preview()?;
         self.show_query_row()
     }
 
@@ -79,7 +83,6 @@ impl<S: OutputSink + Drop> View<S> {
     pub(super) fn tell_page(&mut self, event: Event) -> Result<Onward, Fault> {
         let told = self.session.state().search_mark();
         let onward = self.step_in_place(InputOf::Event(event))?;
-        self.heed_wrapping();
         if self.is_searching() {
             self.begin_jump();
             self.queries.told_before = told;
@@ -125,23 +128,27 @@ impl<S: OutputSink + Drop> View<S> {
         self.follow_on()
     }
 
-    // Goes to the match of the term, seen from the page that its query was taken at. Where there is none in the
-    // direction of the search, the page is that one again, and the search goes round.
-    fn go_from(&mut self, page: QueryPage) -> Result<(), Fault> {
+    // Goes to the match of the query that was taken at this page: the session has searched on, in both directions.
+    fn go_to_match(&mut self, mark: usize) -> Result<(), Fault> {
         let state = self.session.state();
+        if state.message.is_some() {
+            return self.restore_match();
+        }
         let is_back = state.search_state.search_mode == SearchMode::Reverse;
-        if let Some(place) = page.match_of(state, is_back) {
-            return self.lead_to(place);
+        let first = first_match_from(state, mark);
+        if first < state.matches().len() || self.reading.is_whole {
+            self.notices.was_missed = has_missed(state);
+            if is_back {
+                let back = jump_back(state, mark);
+                return self.command(CommandOf::UserInput(back));
+            }
+            return Ok(());
         }
-        let goal = if is_back {
-            Goal::LastMatch
-        } else {
-            Goal::Match(state.matches().len())
-        };
-        if state.upper_mark != page.first {
-            self.command(CommandOf::Io(IoCommand::SetUpperMark(page.first)))?;
+        if is_back && first > 0 {
+            return self.lead_to(first - 1);
         }
-        self.head_for(goal)
+        self.command(CommandOf::Io(IoCommand::SetUpperMark(mark)))?;
+        self.head_for(Goal::Match(first))
     }
 
     /// Searches for a pattern from now on, or for none; the page stays. Out of memory, nothing changes, and the prompt
@@ -170,8 +177,8 @@ impl<S: OutputSink + Drop> View<S> {
         self.set_term(Some(term))
     }
 
-    /// The pattern of a query, whose capitals may not count; none where it is none, or there is no memory for it.
-    pub(super) fn pattern_of(&self, query: &str) -> Option<Regex> {
+    // The pattern of a query, whose capitals may not count; none where it is none, or there is no memory for it.
+    fn pattern_of(&self, query: &str) -> Option<Regex> {
         let front = if self.queries.leave_out_case(query) {
             ANY_CASE
         } else {
@@ -179,21 +186,6 @@ impl<S: OutputSink + Drop> View<S> {
         };
         let source = format!(in self.alloc; "{front}{query}").ok()?;
         Regex::new(self.alloc, source.as_str()).ok()
-    }
-
-    /// Searches for the query that was taken last, where nothing is searched for. Answers whether there is one.
-    pub(super) fn search_newest(&mut self) -> Result<bool, Fault> {
-        let Some(term) = self.newest_pattern() else {
-            return Ok(false);
-        };
-        self.say_before("(searching)")?;
-        self.set_term(Some(term))?;
-        Ok(true)
-    }
-
-    // The pattern of the query that was taken last.
-    fn newest_pattern(&self) -> Option<Regex> {
-        self.pattern_of(self.queries.history.newest()?)
     }
 
     // Keeps the pattern whose matches are not shown any more. Out of memory, the one before is kept.
@@ -227,67 +219,51 @@ impl<S: OutputSink + Drop> View<S> {
         self.is_slow() || self.queries.leave_out_case(query)
     }
 
-    // Searches for the query beside the search prompt, which is closed; the page stays. Answers whether it does: one
-    // that is no pattern is the session's to refuse.
-    fn set_query(&mut self) -> Result<bool, Fault> {
+    // Goes to the match of the term that was set while the page began with a row: as of a query that was taken there.
+    fn go_from(&mut self, mark: usize) -> Result<(), Fault> {
+        let state = self.session.state();
+        let first = first_match_from(state, mark);
+        if state.search_state.search_mode == SearchMode::Reverse && first > 0 {
+            return self.lead_to(first - 1);
+        }
+        self.head_for(Goal::Match(first))
+    }
+
+    // Searches for the query beside the search prompt, which is closed. One that is no pattern is the session's to
+    // refuse.
+    fn search_apart(&mut self, event: Event) -> Result<(), Fault> {
         let Some(term) = self.pattern_of(query_of(self.session.state())) else {
-            return Ok(false);
+            return self.take_by_key(event);
         };
+        let mark = self.session.state().upper_mark;
         let _ = self.step(InputOf::Event(press(KeyCode::Esc, 0)))?;
         self.say_before("(searching)")?;
         self.set_term(Some(term))?;
-        Ok(true)
+        self.go_from(mark)
     }
 
-    // Searches for the query beside the search prompt, and goes to its match, seen from the page.
-    fn search_apart(&mut self, event: Event) -> Result<(), Fault> {
-        let page = QueryPage::of(self.session.state());
-        if !self.set_query()? {
-            return self.take_by_key(event);
-        }
-        self.go_from(page)
-    }
-
-    // Lets the session take the query, which searches on, in both directions. One that is no pattern leaves a message.
+    // Lets the session take the query.
     fn take_by_key(&mut self, event: Event) -> Result<(), Fault> {
-        let page = QueryPage::of(self.session.state());
+        let mark = self.session.state().upper_mark;
         let _ = self.step(InputOf::Event(event))?;
         if self.is_searching() {
             return Ok(());
         }
-        if self.session.state().message.is_some() {
-            return self.restore_match();
-        }
-        self.go_from(page)
+        self.go_to_match(mark)
     }
 
-    // Keeps the query. Out of memory, it is not kept.
-    fn keep_query(&mut self) {
+    // Keeps the query, and takes it. Out of memory, it is not kept.
+    fn take_query(&mut self, event: Event) -> Result<(), Fault> {
         let query = query_of(self.session.state());
         let _ = self.queries.history.take(query);
         self.queries.last = String::from_str(self.alloc, query).ok();
         self.queries.hidden = None;
-    }
-
-    // Keeps the query, and takes it.
-    fn take_query(&mut self, event: Event) -> Result<(), Fault> {
-        self.keep_query();
         if self.is_searched_apart() {
             self.search_apart(event)?;
         } else {
             self.take_by_key(event)?;
         }
         self.follow_on()
-    }
-
-    // Opens the search prompt for a search in a direction, and types a query.
-    fn type_query(&mut self, mode: SearchMode, query: &str) -> Result<(), Fault> {
-        self.command(CommandOf::UserInput(InputEvent::Search(mode)))?;
-        self.queries.history.begin();
-        for c in query.chars() {
-            let _ = self.step(InputOf::Event(press(KeyCode::Char(c), 0)))?;
-        }
-        Ok(())
     }
 
     /// Searches for a query from the page on, as if it were typed; for an empty one, nothing.
@@ -299,25 +275,12 @@ impl<S: OutputSink + Drop> View<S> {
         if query.is_empty() {
             return Ok(());
         }
-        self.type_query(SearchMode::Forward, query)?;
+        self.command(CommandOf::UserInput(InputEvent::Search(SearchMode::Forward)))?;
+        self.queries.history.begin();
+        for c in query.chars() {
+            let _ = self.step(InputOf::Event(press(KeyCode::Char(c), 0)))?;
+        }
         self.take_query(press(KeyCode::Enter, 0))
-    }
-
-    /// Searches for a query back from the end of the whole text; for an empty one, nothing.
-    ///
-    /// # Errors
-    ///
-    /// [`Fault::Pager`] where the session refuses.
-    pub(crate) fn search_from_end(&mut self, query: &str) -> Result<(), Fault> {
-        if query.is_empty() {
-            return Ok(());
-        }
-        self.type_query(SearchMode::Reverse, query)?;
-        self.keep_query();
-        if !self.set_query()? {
-            return self.take_by_key(press(KeyCode::Enter, 0));
-        }
-        self.head_for(Goal::MatchFromEnd)
     }
 
     // Removes all characters of the query.

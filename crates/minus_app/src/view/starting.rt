@@ -1,25 +1,20 @@
 //! How a view is started: with the beginning of a text, which is printed where it is all of it and fits the terminal.
-ghost use Rattle.std.specs.Prelude.{◌≡◌, ◌++◌, OnOk};
-ghost use Rattle.minus_commands.specs.Queued.{waiting_of};
-ghost use Rattle.minus_app.specs.Starting.{laid_out};
 
 use crate::fault::Fault;
-use crate::key_table::KeyTable;
+use crate::keys::Table;
 use crate::options::Options;
 use crate::preview::ShowsWithin;
 use crate::size::Size;
 use crate::view::copying::Mouse;
 use crate::view::kept_place::Places;
-use crate::view::printing::{Printed, print_if_fits};
+use crate::view::printing::print_if_fits;
 use crate::view::prompt_row::Notices;
 use crate::view::queries::Queries;
 use crate::view::reading::Reading;
 use crate::view::tabs::Tabs;
 use crate::view::typed::Typed;
 use crate::view::{AppKinds, View};
-use minus::{
-    CommandOf, Core, Layout, MinusError, OutputSink, PagerOf, RunMode, ScrollBy, init_core_with,
-};
+use minus::{CommandOf, Core, Layout, MinusError, OutputSink, PagerOf, RunMode, init_core_with};
 use minus_view::Opening;
 use std::alloc::Global;
 
@@ -35,26 +30,20 @@ pub struct Start<S> {
     /// Whether the terminal takes a copied text.
     pub copies: bool,
     /// What decides about events.
-    pub keys: KeyTable,
+    pub keys: Table,
     /// Whether the text is all there, and is to be printed where it fits the terminal.
     pub prints: bool,
-    /// How much of it was printed.
-    pub printed: Printed,
     /// Whether the text comes with marks of its tabs.
     pub marks_tabs: bool,
 }
 
-// Tells a pager how rows are laid out, and that its page scrolls by lines that are deleted and inserted, which every
-// terminal knows.
-fn lay_out(pager: &mut PagerOf<AppKinds>, layout: Layout) -> Result<(), MinusError>
-    ensures { OnOk result (waiting_of pager.new ≡ waiting_of pager.old ++ laid_out layout) }
-{
+// Sets what a text is shown by, before it is there.
+fn set_up(pager: &mut PagerOf<AppKinds>, layout: Layout) -> Result<(), MinusError> {
     pager.set_line_numbers(layout.numbers)?;
-    pager.tell(CommandOf::LineWrapping(layout.wrapping))?;
+    pager.horizontal_scroll(!layout.wrapping)?;
     pager.set_match_lines(layout.match_lines)?;
     pager.set_carry_style(layout.carry_style)?;
-    pager.set_scroll_by(ScrollBy::Lines)?;
-    Ok(())
+    pager.set_incremental_search_condition(ShowsWithin)
 }
 
 // A pager with the beginning of a text.
@@ -64,8 +53,7 @@ fn pager_of(
     beginning: &str,
 ) -> Result<PagerOf<AppKinds>, MinusError> {
     let mut pager = PagerOf::new(alloc);
-    lay_out(&mut pager, layout)?;
-    pager.set_incremental_search_condition(ShowsWithin)?;
+    set_up(&mut pager, layout)?;
     pager.push_str(beginning)?;
     Ok(pager)
 }
@@ -75,7 +63,7 @@ fn session_of<S: OutputSink + Drop>(
     pager: PagerOf<AppKinds>,
     terminal: S,
     size: (usize, usize),
-    keys: KeyTable,
+    keys: Table,
 ) -> Result<Core<S, AppKinds>, MinusError> {
     let (cols, rows) = size;
     Ok(init_core_with(pager, RunMode::Dynamic, terminal, cols, rows, keys)?)
@@ -95,23 +83,20 @@ impl<S: OutputSink + Drop> View<S> {
             alloc,
             session,
             terminal,
-            typed: Typed::new(alloc),
+            typed: Typed::default(),
             notices: Notices::new(),
             queries: Queries::new(alloc, options.case),
             reading: Reading::new(options.first_goal()),
             places: Places::new(alloc),
-            is_cut_for_shift: false,
             mouse: Mouse::new(options.mouse, copies),
             tabs,
             at_end: options.at_end,
-            ends_at_interrupt: options.ends_at_interrupt,
             leaves: options.leaves,
         }
     }
 
     /// Starts a session with the beginning of a text. Where that is all of it, and is to be printed where it fits the
-    /// terminal, what was not printed yet is printed there, and there is no session; else what was printed is taken
-    /// away.
+    /// terminal, it is printed there, and there is no session.
     ///
     /// # Errors
     ///
@@ -129,7 +114,6 @@ impl<S: OutputSink + Drop> View<S> {
             copies,
             keys,
             prints,
-            printed,
             marks_tabs,
         } = start;
         let mut tabs = Tabs::new(alloc, marks_tabs);
@@ -137,10 +121,9 @@ impl<S: OutputSink + Drop> View<S> {
         let beginning = text.as_str();
         let (cols, rows) = (usize::from(size.cols), usize::from(size.rows));
         let (mut pages, layout) = (pages, options.layout(cols));
-        if prints && print_if_fits(alloc, &mut pages, beginning, layout, rows, printed)? {
+        if prints && print_if_fits(alloc, &mut pages, beginning, layout, rows)? {
             return Ok(None);
         }
-        printed.erase(alloc, &mut pages)?;
         let pager = pager_of(alloc, layout, beginning)?;
         let session = session_of(pager, pages, (cols, rows), keys)?;
         let view = View::of_session(alloc, session, beside, copies, tabs, options);

@@ -5,7 +5,7 @@ ghost use Rattle.minus_c.specs.EnumNumbers.{line_numbers_of, exit_strategy_of};
 use crate::enum_numbers::{exit_strategy_of, line_numbers_of};
 use crate::kept::{Handed, Kept, hand_back, opened};
 use crate::told::{BAD_ARGUMENT, Told};
-use minus::{CommandOf, ScrollBy};
+use minus::CommandOf;
 
 /// Lets the prompt row say this.
 #[unsafe(no_mangle)]
@@ -120,21 +120,6 @@ pub extern "C" fn minus_set_carry_style(kept: Kept, on: bool, out: &mut Handed) 
 {
     let mut held = opened(kept);
     let answer = held.tell(CommandOf::SetCarryStyle(on));
-    hand_back(held, out, answer)
-}
-
-/// Moves the page's rows by lines that are deleted and inserted where it scrolls, or by scrolls.
-#[unsafe(no_mangle)]
-pub extern "C" fn minus_set_scroll_by_lines(kept: Kept, on: bool, out: &mut Handed) -> Told
-    ensures given { out.new.given ≡ true }
-{
-    let scroll_by = if on {
-        ScrollBy::Lines
-    } else {
-        ScrollBy::Scrolls
-    };
-    let mut held = opened(kept);
-    let answer = held.tell(CommandOf::SetScrollBy(scroll_by));
     hand_back(held, out, answer)
 }
 

@@ -27,8 +27,6 @@ fn writes_each_operation(rt: HostRuntime) {
         (&DrawOp::ScrollUp(12), "\x1b[12S"),
         (&DrawOp::ScrollDown(0), ""),
         (&DrawOp::ScrollDown(3), "\x1b[3T"),
-        (&DrawOp::DeleteRows(12), "\x1b[H\x1b[12M"),
-        (&DrawOp::InsertRows(3), "\x1b[H\x1b[3L"),
         (&DrawOp::ShowCursor, "\x1b[?25h"),
         (&DrawOp::HideCursor, "\x1b[?25l"),
     ];

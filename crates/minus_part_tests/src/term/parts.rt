@@ -1,8 +1,8 @@
 //! The bytes of the parts of a page's drawing.
 use crate::facts::assert_holds;
 use minus_term::{
-    ScrollBy, write_closing_start, write_down_start, write_page, write_row, write_row_end,
-    write_row_start, write_up_start,
+    write_closing_start, write_down_start, write_page, write_row, write_row_end, write_row_start,
+    write_up_start,
 };
 use std::alloc::{AllocError, Global};
 
@@ -28,13 +28,12 @@ fn writes_pages(rt: HostRuntime) {
 // What moves and closings begin with, and rows.
 fn parts(alloc: Global) -> Result<Vec<u8>, AllocError> {
     let mut out = Vec::new(alloc);
-    write_down_start(&mut out, ScrollBy::Scrolls, 24, 3)?;
+    write_down_start(&mut out, 24, 3)?;
     write_row(&mut out, "one")?;
-    write_up_start(&mut out, ScrollBy::Scrolls, 3)?;
+    write_up_start(&mut out, 3)?;
     write_row_start(&mut out)?;
     write_row_end(&mut out)?;
-    write_down_start(&mut out, ScrollBy::Scrolls, 1, 0)?;
-    write_down_start(&mut out, ScrollBy::Lines, 1, 0)?;
+    write_down_start(&mut out, 1, 0)?;
     write_closing_start(&mut out, 65535)?;
     Ok(out)
 }
@@ -42,7 +41,7 @@ fn parts(alloc: Global) -> Result<Vec<u8>, AllocError> {
 #[test]
 fn writes_parts(rt: HostRuntime) {
     let bytes =
-        b"\x1b[3S\x1b[21;1H\x1b[2K\rone\n\x1b[3T\x1b[1;1H\r\n\x1b[1;1H\x1b[2K\x1b[H\x1b[1;1H\x1b[2K\x1b[65536;1H\x1b[2K\x1b[?25l";
+        b"\x1b[3S\x1b[21;1H\x1b[2K\rone\n\x1b[3T\x1b[1;1H\r\n\x1b[1;1H\x1b[2K\x1b[65536;1H\x1b[2K\x1b[?25l";
     let is_written = match parts(rt.alloc()) {
         Ok(out) => out.as_slice() == bytes.as_slice(),
         Err(_) => false,

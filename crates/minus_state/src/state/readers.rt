@@ -1,6 +1,5 @@
 //! What a state answers.
 use crate::state::PagerState;
-use minus_term::ScrollBy;
 
 impl PagerState {
     ghost use Rattle.std.specs.Prelude.{◌≡◌, slice_get, string_bytes};
@@ -26,13 +25,6 @@ impl PagerState {
         ensures { result ≡ (control_of self.now).settings.is_shown }
     {
         self.prompt_shown
-    }
-
-    /// By which sequences the page's rows are moved where it scrolls.
-    pub fn scroll_by(&self) -> ScrollBy
-        ensures { result ≡ (control_of self.now).settings.scroll_by }
-    {
-        self.scroll_by
     }
 
     /// The first row of a line, both counted from 0, if there is such a line.

@@ -1,12 +1,12 @@
 //! What is set in a state, one thing by itself, at once or formed beside it.
 use crate::change::{Change, MessageChange, Redraw};
 use crate::state::{PagerState, has_newline};
-use minus_term::{MinusError, ScrollBy};
+use minus_term::MinusError;
 
 impl PagerState {
     ghost use Rattle.std.specs.Prelude.{◌≡◌, true, false, string_bytes, OnOk, OnErr, IfOk, IfErr};
     ghost use Rattle.minus_state.specs.Changes.{Leads};
-    ghost use Rattle.minus_state.specs.Control.{with_message, with_prompt_shown, with_scroll_by, without_message, with_follow};
+    ghost use Rattle.minus_state.specs.Control.{with_message, with_prompt_shown, without_message, with_follow};
     ghost use Rattle.minus_state.specs.Help.{with_prompt};
     ghost use Rattle.minus_state.specs.States.{control_of};
     ghost use Rattle.minus_state.specs.ShownPrompt.{has_newline, IsNewlineRefused};
@@ -44,16 +44,6 @@ impl PagerState {
     {
         let mut change = self.redrawn(Redraw::Stays);
         change.is_shown = is_shown;
-        change
-    }
-
-    /// The state whose page's rows are moved by these sequences where it scrolls.
-    pub fn with_scroll_by(&self, scroll_by: ScrollBy) -> Change
-        ensures next { Leads self.now result (with_scroll_by (control_of self.now) scroll_by) }
-        ensures redraw { result.redraw ≡ Redraw.Stays }
-    {
-        let mut change = self.redrawn(Redraw::Stays);
-        change.scroll_by = scroll_by;
         change
     }
 

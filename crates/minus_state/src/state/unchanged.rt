@@ -22,7 +22,6 @@ impl PagerState {
             left: self.left_mark,
             ends: self.ends(),
             is_shown: self.prompt_shown,
-            scroll_by: self.scroll_by,
             follow: self.follow,
             mode: self.search_state.search_mode,
             prefix: None,

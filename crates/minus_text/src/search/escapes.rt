@@ -8,18 +8,13 @@ ghost use Rattle.minus_text.specs.FixedPatterns.{match_places};
 ghost use Rattle.minus_text.specs.Highlight.{StandIn};
 
 use crate::search::patterns::Patterns;
-use memchr::memchr2;
 use regex::{Match, Matcher};
 use std::alloc::{AllocError, Global};
 
-// Whether a text has a character that an escape sequence begins with. A text without one has no escape sequence. Most
-// texts have neither of the first bytes of these characters, which one pass tells.
+// Whether a text has a character that an escape sequence begins with. A text without one has no escape sequence.
 pub(crate) fn has_escape_start(text: &str) -> bool
     ensures { IsTrue result ↔ HasEscapeStart text.now }
 {
-    if memchr2(0x1b, 0xc2, text.as_bytes()).is_none() {
-        return false;
-    }
     text.contains("\u{1B}") || text.contains("\u{9B}")
 }
 

@@ -1,9 +1,6 @@
 //! The table of options, by their letters and by their names.
-ghost use Rattle.std.specs.Prelude.{◌≡◌, is_some};
-ghost use Rattle.minus_view.specs.OptionTable.{is_idle_letter, letter_setting, letter_value, kind_of, letter_kind};
-ghost use Rattle.minus_view.specs.OptionTable.{is_idle_name, name_setting, name_value, name_other, begins_name, whole_from};
-ghost use Rattle.minus_view.specs.OptionTable.{whole_name, name_kind};
-ghost use Rattle.minus_view.specs.Paging.{texts_of};
+ghost use Rattle.std.specs.Prelude.{◌≡◌};
+ghost use Rattle.minus_view.specs.OptionTable.{is_idle_letter, letter_setting, letter_value, kind_of, letter_kind, is_idle_name, name_setting, name_value, name_other, name_kind};
 
 use super::{AtEnd, Case};
 
@@ -20,7 +17,6 @@ pub(super) enum Setting {
     Mouse(bool),
     Case(Case),
     AtEnd(AtEnd),
-    EndsAtInterrupt,
 }
 
 /// What the value of an option is.
@@ -66,6 +62,7 @@ fn is_idle_letter(letter: u8) -> bool
             | b'g'
             | b'G'
             | b'J'
+            | b'K'
             | b'L'
             | b'm'
             | b'M'
@@ -96,7 +93,6 @@ fn letter_setting(letter: u8) -> Option<Setting>
         b'I' => Some(Setting::Case(Case::Ignored)),
         b'e' => Some(Setting::AtEnd(AtEnd::EndsAtSecond)),
         b'E' => Some(Setting::AtEnd(AtEnd::EndsAtFirst)),
-        b'K' => Some(Setting::EndsAtInterrupt),
         _ if is_idle_letter(letter) => Some(Setting::Idle),
         _ => None,
     }
@@ -114,16 +110,6 @@ fn letter_value(letter: u8) -> Option<Valued>
         b'b' | b'h' | b'j' | b'y' | b'z' | b'#' => Some(Valued::Number),
         b'D' | b'k' | b'o' | b'O' | b't' | b'T' | b'"' => Some(Valued::Text),
         _ => None,
-    }
-}
-
-/// Whether the option of a letter has a value, as `P` has.
-pub fn takes_value(letter: char) -> bool
-    ensures { result ≡ is_some (letter_value letter) }
-{
-    match letter {
-        '\0'..='\x7F' => letter_value(letter as u8).is_some(),
-        _ => false,
     }
 }
 
@@ -167,7 +153,6 @@ fn name_setting(name: &str) -> Option<Setting>
         "IGNORE-CASE" => Some(Setting::Case(Case::Ignored)),
         "quit-at-eof" => Some(Setting::AtEnd(AtEnd::EndsAtSecond)),
         "QUIT-AT-EOF" => Some(Setting::AtEnd(AtEnd::EndsAtFirst)),
-        "quit-on-intr" => Some(Setting::EndsAtInterrupt),
         _ if is_idle_name(name) => Some(Setting::Idle),
         _ => None,
     }
@@ -233,6 +218,7 @@ fn is_idle_name(name: &str) -> bool
             | "no-lessopen"
             | "old-bot"
             | "quiet"
+            | "quit-on-intr"
             | "raw-control-chars"
             | "save-marks"
             | "search-skip-screen"
@@ -242,7 +228,6 @@ fn is_idle_name(name: &str) -> bool
             | "underline-special"
             | "use-backslash"
             | "use-color"
-            | "wordwrap"
     )
 }
 
@@ -257,115 +242,9 @@ fn name_other(name: &str) -> Kind
     }
 }
 
-// All names, of which one may be cut where no other begins so.
-const NAMES: [&str; 71] = [
-    "CLEAR-SCREEN",
-    "HILITE-SEARCH",
-    "HILITE-UNREAD",
-    "IGNORE-CASE",
-    "LINE-NUMBERS",
-    "LOG-FILE",
-    "LONG-PROMPT",
-    "MOUSE",
-    "QUIET",
-    "QUIT-AT-EOF",
-    "RAW-CONTROL-CHARS",
-    "SEARCH-SKIP-SCREEN",
-    "SILENT",
-    "UNDERLINE-SPECIAL",
-    "auto-buffers",
-    "buffers",
-    "chop-long-lines",
-    "clear-screen",
-    "color",
-    "dumb",
-    "file-size",
-    "follow-name",
-    "force",
-    "help",
-    "hilite-search",
-    "hilite-unread",
-    "ignore-case",
-    "incsearch",
-    "jump-target",
-    "lesskey-file",
-    "lesskey-src",
-    "line-num-width",
-    "line-numbers",
-    "log-file",
-    "long-prompt",
-    "max-back-scroll",
-    "max-forw-scroll",
-    "mouse",
-    "no-histdups",
-    "no-init",
-    "no-keypad",
-    "no-lessopen",
-    "no-mouse",
-    "old-bot",
-    "pattern",
-    "prompt",
-    "quiet",
-    "quit-at-eof",
-    "quit-if-one-screen",
-    "quit-on-intr",
-    "quotes",
-    "raw-control-chars",
-    "rscroll",
-    "save-marks",
-    "search-skip-screen",
-    "shift",
-    "silent",
-    "squeeze-blank-lines",
-    "status-col-width",
-    "status-column",
-    "tabs",
-    "tag",
-    "tag-file",
-    "tilde",
-    "underline-special",
-    "use-backslash",
-    "use-color",
-    "version",
-    "wheel-lines",
-    "window",
-    "wordwrap",
-];
-
-// Whether a name begins so.
-fn begins_name(whole: &str, front: &str) -> bool
-    ensures { result ≡ begins_name whole.now front.now }
+/// The option of a name.
+pub(super) fn name_kind(name: &str) -> Kind
+    ensures { result ≡ name_kind name.now }
 {
-    whole.as_bytes().starts_with(front.as_bytes())
-}
-
-// The only one of these names that begins so; what is there, where none or several do.
-fn whole_in<'a>(names: &[&'a str], front: &'a str) -> &'a str
-    ensures { result.now ≡ whole_from None front.now (texts_of names.now) }
-{
-    let mut found = None;
-    for name in names {
-        if begins_name(*name, front) {
-            if found.is_some() {
-                return front;
-            }
-            found = Some(*name);
-        }
-    }
-    found.unwrap_or(front)
-}
-
-// A name that may be cut, as it is in the table.
-fn whole_name(front: &str) -> &str
-    ensures { result.now ≡ whole_name front.now }
-{
-    whole_in(&NAMES, front)
-}
-
-/// The option of a name, or of its beginning.
-pub(super) fn name_kind(front: &str) -> Kind
-    ensures { result ≡ name_kind front.now }
-{
-    let name = whole_name(front);
     kind_of(name_setting(name), name_value(name), name_other(name))
 }

@@ -6,22 +6,20 @@ ghost use Rattle.minus_view.specs.Paging.{bare_paging};
 ghost use Rattle.minus_view.specs.OptionWords.{is_between, cut, is_of, number_len, value_len};
 ghost use Rattle.minus_view.specs.Paging.{begins_with};
 ghost use Rattle.minus_view.specs.Reading.{begun_at, ended_at, known, named_end, long_item, item_of, bare_reading, first_of};
-ghost use Rattle.minus_view.specs.Reading.{refused, with_valued, with_kind, with_item, new_reading, read_options};
+ghost use Rattle.minus_view.specs.Reading.{with_valued, with_kind, with_item, new_reading, read_options};
 
 use super::Paging;
 use super::option_effects::{with_setting, with_value};
 use super::option_table::{Kind, Valued, letter_kind, name_kind};
 
-//// What stands in options.
+/// What stands in options.
 #[derive(Clone, Copy)]
-pub(super) enum Class {
+enum Class {
     Blank,
     Name,
     Word,
     Text,
     Digits,
-    /// Letters before a pattern that say where `less` searches: in all texts, from the first line on, around the end.
-    Reach,
 }
 
 /// An option at the front of some bytes: its value, if it has one, stands from one place to another one, where the
@@ -97,12 +95,11 @@ fn is_of(class: Class, byte: u8) -> bool
         Class::Word => !matches!(byte, b' ' | b'\t' | b'$'),
         Class::Text => byte != b'$',
         Class::Digits => matches!(byte, b'0'..=b'9' | b'.' | b','),
-        Class::Reach => matches!(byte, b'*' | b'@' | 5 | 6 | 0x17),
     }
 }
 
-/// How many bytes at the front are of these.
-pub(super) fn run_of(class: Class, bytes: &[u8]) -> usize
+// How many bytes at the front are of these.
+fn run_of(class: Class, bytes: &[u8]) -> usize
     ensures is { result ≡ prefix_len (is_of class) bytes.now }
     ensures within { result ≤ length bytes.now }
 {
@@ -172,8 +169,8 @@ fn ended_at(kind: Kind, bytes: &[u8], end: usize) -> Item
     }
 }
 
-/// Whether bytes begin with this one.
-pub(super) fn begins_with(first: u8, bytes: &[u8]) -> bool
+// Whether bytes begin with this one.
+fn begins_with(first: u8, bytes: &[u8]) -> bool
     ensures is { result ≡ begins_with first bytes.now }
     ensures some { result ≡ true → 0 < length bytes.now }
 {
@@ -234,9 +231,6 @@ fn item_at(text: &str, at: usize) -> Item
     ensures within { at + result.to ≤ length text.now }
 {
     let bytes = &text.as_bytes()[at..];
-    if begins_with(b'+', bytes) && begins_with(b'-', &bytes[1..]) {
-        return ended_at(Kind::Begins(false), bytes, 1);
-    }
     if !begins_with(b'-', bytes) {
         return ended_at(letter_kind(bytes[0]), bytes, 1);
     }
@@ -259,16 +253,6 @@ fn first_of(before: Ending, now: Ending) -> Ending
     }
 }
 
-// What it says that an option does not take its value.
-fn refused(valued: Valued) -> Ending
-    ensures { result ≡ refused valued }
-{
-    match valued {
-        Valued::Command => Ending::Unknown,
-        _ => Ending::BadNumber,
-    }
-}
-
 // An option that has a value.
 fn with_valued<'a>(so_far: Reading<'a>, valued: Valued, value: &'a str, ends: bool) -> Reading<'a>
     ensures { bare_reading result ≡ with_valued (bare_reading so_far.entry) valued value.now ends }
@@ -282,7 +266,7 @@ fn with_valued<'a>(so_far: Reading<'a>, valued: Valued, value: &'a str, ends: bo
     match with_value(so_far.paging, valued, value) {
         Some(paging) => Reading { paging, ..so_far },
         None => Reading {
-            ending: first_of(so_far.ending, refused(valued)),
+            ending: first_of(so_far.ending, Ending::BadNumber),
             ..so_far
         },
     }

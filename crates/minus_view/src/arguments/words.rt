@@ -1,6 +1,6 @@
 //! The words behind the program's name, from the left.
 ghost use Rattle.std.specs.Prelude.{◌≡◌};
-ghost use Rattle.minus_view.specs.Arguments.{bare_answer, bare_words, bare_step, is_option, skipping, read_word};
+ghost use Rattle.minus_view.specs.Arguments.{bare_answer, bare_words, bare_step, is_option, read_word};
 ghost use Rattle.minus_view.specs.Arguments.{read_value, next_word, paged, new_words, read_words};
 ghost use Rattle.minus_view.specs.Paging.{bare_paging, texts_of};
 
@@ -37,19 +37,6 @@ fn is_option(word: &str) -> bool
     matches!(word.as_bytes(), [b'-' | b'+', _, ..])
 }
 
-// A word is skipped, in which an option or a command is that there is not.
-fn skipping<'a>(so_far: Paging<'a>, word: &'a str) -> Paging<'a>
-    ensures { bare_paging result ≡ skipping (bare_paging so_far.entry) word.now }
-{
-    match so_far.skipped {
-        Some(_) => so_far,
-        None => Paging {
-            skipped: Some(word),
-            ..so_far
-        },
-    }
-}
-
 // A word of options.
 fn read_word<'a>(so_far: Paging<'a>, word: &'a str) -> Result<Step<'a>, ArgumentFault<'a>>
     ensures { bare_step result ≡ read_word (bare_paging so_far.entry) word.now }
@@ -58,15 +45,18 @@ fn read_word<'a>(so_far: Paging<'a>, word: &'a str) -> Result<Step<'a>, Argument
         return Ok(Step::Says(Arguments::Help));
     }
     let reading = read_options(so_far, word);
-    let (paging, waiting) = match reading.ending {
-        Ending::Nothing => (reading.paging, None),
-        Ending::Unknown => (skipping(reading.paging, word), None),
-        Ending::Waits(valued) => (reading.paging, Some((valued, word))),
+    let waiting = match reading.ending {
+        Ending::Nothing => None,
+        Ending::Waits(valued) => Some((valued, word)),
         Ending::Help => return Ok(Step::Says(Arguments::Help)),
         Ending::Version => return Ok(Step::Says(Arguments::Version)),
+        Ending::Unknown => return Err(ArgumentFault::UnknownOption(word)),
         Ending::BadNumber => return Err(ArgumentFault::BadNumber(word)),
     };
-    Ok(Step::Options(Words { paging, waiting }))
+    Ok(Step::Options(Words {
+        paging: reading.paging,
+        waiting,
+    }))
 }
 
 // A word that is the value of an option.
@@ -77,15 +67,13 @@ fn read_value<'a>(
 ) -> Result<Step<'a>, ArgumentFault<'a>>
     ensures { bare_step result ≡ read_value (bare_paging so_far.entry) valued value.now }
 {
-    let paging = match (with_value(so_far, valued, value), valued) {
-        (Some(paging), _) => paging,
-        (None, Valued::Command) => skipping(so_far, value),
-        (None, _) => return Err(ArgumentFault::BadNumber(value)),
-    };
-    Ok(Step::Options(Words {
-        paging,
-        waiting: None,
-    }))
+    match with_value(so_far, valued, value) {
+        Some(paging) => Ok(Step::Options(Words {
+            paging,
+            waiting: None,
+        })),
+        None => Err(ArgumentFault::BadNumber(value)),
+    }
 }
 
 // One word.

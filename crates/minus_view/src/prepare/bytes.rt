@@ -4,7 +4,7 @@ ghost use Rattle.minus_view.specs.Prepared.{IsPlain};
 
 use super::begun::Begun;
 use super::{Place, Preparation};
-use crate::shown::needs_mark;
+use crate::shown::is_control;
 use std::alloc::AllocError;
 
 impl Preparation {
@@ -102,8 +102,7 @@ impl Preparation {
         }
         self.place = Place::Text;
         match char::from_u32(code) {
-            Some(c) if code >= least && needs_mark(c) => self.hidden(c),
-            Some(c) if code >= least => self.character(c),
+            Some(c) if code >= least && !is_control(c) => self.character(c),
             _ => self.broken(begun),
         }
     }

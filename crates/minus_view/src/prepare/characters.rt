@@ -6,13 +6,11 @@ ghost use Rattle.minus_view.specs.Prepared.{char_columns, held, IsAt, IsPlain, I
 ghost use Rattle.minus_view.specs.TabColumns.{apart, column_after, IsColumnAfter};
 ghost use Rattle.minus_view.specs.declared.prepare.Place.TheVariants.{Text};
 
-use super::cell_marks::{is_left_out, marks_after};
 use super::tab_columns::{apart, column_after};
 use super::{Place, Preparation};
 use crate::look::{Glyph, Look, struck, turn};
-use crate::names::{code_digit, hex_digit};
 use crate::sheet::RESET;
-use crate::shown::needs_mark;
+use crate::shown::is_control;
 use std::alloc::AllocError;
 use unicode_width::UnicodeWidthChar;
 
@@ -24,6 +22,15 @@ pub(crate) fn columns(c: char) -> usize
     match c.width() {
         Some(columns) => columns,
         None => 0,
+    }
+}
+
+// A hexadecimal digit.
+fn digit(value: u8) -> char {
+    match value {
+        0..=9 => char::from(b'0' + value),
+        10..=15 => char::from(b'A' - 10 + value),
+        _ => '?',
     }
 }
 
@@ -53,7 +60,7 @@ impl Preparation {
         ensures all { IsPlainGlyph self.now.held → result ≡ true }
     {
         match self.held {
-            Some(Glyph { c, look }) => matches!(look, Look::Plain) && !needs_mark(c),
+            Some(Glyph { c, look }) => matches!(look, Look::Plain) && !is_control(c),
             None => true,
         }
     }
@@ -115,14 +122,13 @@ impl Preparation {
             self.open(glyph.look)?;
             self.sheet.put_char(glyph.c)?;
             self.held = None;
-            self.marks = marks_after(self.marks, glyph.c);
             self.is_blank = false;
             self.column = self.column % apart(self.shape) + columns(glyph.c);
         }
         Ok(())
     }
 
-    // A character: it strikes over the held one, or is held in its place, but for one that the cell has no room for.
+    // A character: it strikes over the held one, or is held in its place.
     pub(super) fn character(&mut self, c: char) -> Result<(), AllocError> {
         match self.held {
             Some(under) if self.is_back => {
@@ -131,12 +137,10 @@ impl Preparation {
             }
             _ => {
                 self.release()?;
-                if !is_left_out(self.marks, c) {
-                    self.held = Some(Glyph {
-                        c,
-                        look: Look::Plain,
-                    });
-                }
+                self.held = Some(Glyph {
+                    c,
+                    look: Look::Plain,
+                });
             }
         }
         Ok(())
@@ -156,7 +160,6 @@ impl Preparation {
         if !bytes.is_empty() {
             self.open(Look::Plain)?;
             self.sheet.put_plain(newlines, as_text(newlines, bytes))?;
-            self.marks = 0;
             self.is_blank = false;
             self.column = column_after(apart(self.shape), self.column, bytes);
         }
@@ -205,23 +208,8 @@ impl Preparation {
     // A byte that belongs to no character, shown.
     pub(super) fn stray(&mut self, byte: u8) -> Result<(), AllocError> {
         self.mark('<')?;
-        self.mark(hex_digit(byte / 16))?;
-        self.mark(hex_digit(byte % 16))?;
-        self.mark('>')
-    }
-
-    // A character that no terminal shows, by its number.
-    pub(super) fn hidden(&mut self, c: char) -> Result<(), AllocError> {
-        for mark in ['<', 'U', '+'] {
-            self.mark(mark)?;
-        }
-        if c > '\u{FFFF}' {
-            self.mark(code_digit(c, 0x1_0000))?;
-        }
-        self.mark(code_digit(c, 0x1000))?;
-        self.mark(code_digit(c, 0x100))?;
-        self.mark(code_digit(c, 0x10))?;
-        self.mark(code_digit(c, 1))?;
+        self.mark(digit(byte / 16))?;
+        self.mark(digit(byte % 16))?;
         self.mark('>')
     }
 
@@ -236,7 +224,6 @@ impl Preparation {
         self.sheet.put_newline()?;
         self.look = Look::Plain;
         self.is_open = false;
-        self.marks = 0;
         self.column = 0;
         Ok(())
     }

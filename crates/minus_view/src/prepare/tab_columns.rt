@@ -52,7 +52,6 @@ impl Preparation {
         let tabs = apart(self.shape);
         self.sheet
             .put_tab(self.shape.marks_tabs, tabs - self.column % tabs)?;
-        self.marks = 0;
         self.is_blank = false;
         self.column = 0;
         Ok(())

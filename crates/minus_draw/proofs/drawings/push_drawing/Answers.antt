@@ -4,7 +4,6 @@ use Rattle.std.proofs.lemmas.Result.{on_ok_weaker}
 use Rattle.minus_term.proofs.WrittenLaws.{no_op}
 use Rattle.minus_term.specs.Scroll.{scroll_ops}
 use Rattle.minus_term.specs.Written.{written_all}
-use Rattle.minus_state.specs.Control.{Settings}
 use Rattle.minus_state.specs.Page.{shown}
 use Rattle.minus_state.specs.States.{control_of}
 use Rattle.minus_state.proofs.ChangeLaws.{formed_for, shown_is}
@@ -20,10 +19,9 @@ returns-in-Scroll c =
     let out : List ℕ = c.args.out.now.items in
     on_ok_weaker c.push_scroll.result (λ e formed new h can same.
     e (formed_for c.args.state.now c.args.change.now new formed h)
-    ∙ ap (λ (texts : List (List ℕ)). out ++ written_all (scroll_ops c.args.change.now.scroll_by c.args.change.now.rows c.in-Scroll.from c.in-Scroll.to texts c.args.prompt.now)) (shown_is c.args.state.now c.args.change.now new formed h)
-    ∙ ap (λ (s : Settings). out ++ written_all (scroll_ops s.scroll_by c.args.change.now.rows c.in-Scroll.from c.in-Scroll.to (shown new) c.args.prompt.now)) h.settings_are
-    ∙ ap (λ (n : ℕ). out ++ written_all (scroll_ops new.settings.scroll_by n c.in-Scroll.from c.in-Scroll.to (shown new) c.args.prompt.now)) h.rows_are
-    ∙ ap (λ (row : List ℕ). out ++ written_all (scroll_ops new.settings.scroll_by new.rows c.in-Scroll.from c.in-Scroll.to (shown new) row)) same
+    ∙ ap (λ (texts : List (List ℕ)). out ++ written_all (scroll_ops c.args.change.now.rows c.in-Scroll.from c.in-Scroll.to texts c.args.prompt.now)) (shown_is c.args.state.now c.args.change.now new formed h)
+    ∙ ap (λ (n : ℕ). out ++ written_all (scroll_ops n c.in-Scroll.from c.in-Scroll.to (shown new) c.args.prompt.now)) h.rows_are
+    ∙ ap (λ (row : List ℕ). out ++ written_all (scroll_ops new.rows c.in-Scroll.from c.in-Scroll.to (shown new) row)) same
     ∙ sym (ap (λ (d : Drawing). out ++ written_all (ops_of d new)) c.in-Scroll.is)) c.push_scroll.ensures
 
 pub returns-in-Append : goal.returns-in-Append

@@ -11,7 +11,7 @@ pub returns : goal.returns
 returns o c =
     let same : help_open (control_of c.state.result.now) ≡ help_open (control_of c.args.self.now.session.parts.state) =
     ap (λ s. help_open (control_of s)) c.state.ensures.same in
-    let done = ap (λ k. view_action (done_by (register_of k.table) c.args.event.now)) c.classifier.ensures in
+    let done = ap (λ k. view_action (done_by (register_of k) c.args.event.now)) c.classifier.ensures in
     c.held.ensures
     ∙ ap (λ h. held h c.view_action-action.result) (c.help_open.ensures ∙ same)
     ∙ ap (held (help_open (control_of c.args.self.now.session.parts.state))) (c.view_action-action.ensures ∙ done)

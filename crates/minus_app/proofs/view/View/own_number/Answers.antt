@@ -22,5 +22,5 @@ returns o c =
     let taken : (help_open (control_of state) || is_some (control_of state).search) ≡ false =
     ap (λ (h : Bool). h || is_some (control_of state).search) help ∙ search in
     c.own_number.ensures
-    ∙ ap (λ k. own_number (done_by (register_of k.table) c.args.event.now)) c.classifier.ensures
-    ∙ sym (ap (λ (b : Bool). if b then None else own_number (done_by (register_of c.args.self.now.session.parts.classifier.table) c.args.event.now)) taken)
+    ∙ ap (λ k. own_number (done_by (register_of k) c.args.event.now)) c.classifier.ensures
+    ∙ sym (ap (λ (b : Bool). if b then None else own_number (done_by (register_of c.args.self.now.session.parts.classifier) c.args.event.now)) taken)

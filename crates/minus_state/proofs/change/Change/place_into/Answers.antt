@@ -28,7 +28,7 @@ returns-clause-placed c =
       search_mode = refl;
       cols = refl;
       rows = refl;
-      settings = same_settings _ _ c.put_text-2.ensures c.put.ensures c.put_text.ensures refl refl refl ∙ ap (λ (s : Settings). settings_after s change) text.beside.settings;
+      settings = same_settings _ _ c.put_text-2.ensures c.put.ensures c.put_text.ensures refl refl ∙ ap (λ (s : Settings). settings_after s change) text.beside.settings;
       help = c.put-2.ensures ∙ ap (help_after change.help) text.aside;
       search = c.put-3.ensures ∙ ap (search_after change.search) text.beside.search;
     }

@@ -1,6 +1,5 @@
-use Rattle.std.proofs.Common.{[], ◌∷◌, inl, inr, sym, ◌∙◌, ⊎_elim, true≢false, rules}
+use Rattle.std.proofs.Common.{[], ◌∷◌, inl, inr, sym, ◌∙◌, ⊎_elim, true≢false}
 use Rattle.std.proofs.lemmas.Str.Pattern.{contains_text}
-use Rattle.minus_text.proofs.NoEscapeLaws.{no_start}
 use Rattle.minus_text.proofs.search.escapes.has_escape_start.Goals as goal
 
 pub returns-then-contains : goal.returns-then-contains
@@ -15,9 +14,3 @@ returns-else-contains c =
       λ has. inr (wide.0 has),
       λ start. ⊎_elim (λ one. absurd (true≢false (sym (esc.1 one) ∙ c.if-contains.false))) wide.1 start,
     )
-
-pub returns-then-is_none : goal.returns-then-is_none
-returns-then-is_none c = (
-  λ has. absurd (true≢false (sym has)),
-  λ start. absurd (no_start c.args.text.now (search (rules, c.memchr2.ensures, c.if-is_none.true)) start),
-)

@@ -3,7 +3,7 @@ use Rattle.std.specs.List.{list_all}
 use Rattle.std.proofs.lemmas.Bool.{and_parts}
 use Rattle.std.proofs.lemmas.List.{append_assoc, append-nil}
 use Rattle.std.proofs.lemmas.List.Folds.{list_all-append}
-use Rattle.minus_view.specs.Shown.{needs_mark, is_plain}
+use Rattle.minus_view.specs.Shown.{is_control, is_plain}
 use Rattle.minus_view.specs.Prepared.{char_columns, glyph_bytes, glyph_columns, held}
 use Rattle.minus_view.specs.TabColumns.{apart, column_after}
 use Rattle.minus_view.specs.declared.prepare.Shape.{Shape}
@@ -33,7 +33,7 @@ returns-in_ok-put_plain-in-Some-clause-plain c = λ newlines.
         unlinked = put.0.unlinked;
         styled = put.0.styled;
         keeps = put.0.keeps;
-        glyph = (refl, ap needs_mark c.from.ensures ∙ printed.0);
+        glyph = (refl, ap is_control c.from.ensures ∙ printed.0);
       },
       ap (λ xs. string_bytes c.put_plain.new.self.sheet.text ++ xs) (ap encode_utf8 c.from.ensures ∙ printed.1)
           ∙ ap (λ xs. xs ++ last ∷ []) (put.1 ∙ ap (λ xs. xs ++ front) base) ∙ append_assoc (held before) front (last ∷ [])

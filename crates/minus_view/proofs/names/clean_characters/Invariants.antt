@@ -1,8 +1,0 @@
--- The characters so far are shown.
-use Rattle.std.proofs.Common.{◌≡◌}
-use Rattle.std.specs.List.{flat_map}
-use Rattle.minus_view.specs.Names.{shown_as}
-use Rattle.minus_view.proofs.names.clean_characters.Given as goal
-
-abbrev pub invariant-loop-c : goal.invariant-loop-c
-invariant-loop-c l = l.shown.items ≡ flat_map shown_as l.yielded
