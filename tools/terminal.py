@@ -243,9 +243,8 @@ class TerminalTests(unittest.TestCase):
     def wait_for_reader(self):
         """Waits until `cat` has the pipe open: what is written before that is lost where this end is closed too early."""
         path = os.path.realpath(os.path.join(self.folder, 'to_come'))
-        files = lambda pid: glob.glob(f'/proc/{pid}/fd/*')
-        cats = lambda: self.terminal.processes('cat')
-        self.terminal.wait(lambda: any(os.path.realpath(it) == path for pid in cats() for it in files(pid)), 'the reader')
+        has_it = lambda pid: path in map(os.path.realpath, glob.glob(f'/proc/{pid}/fd/*'))
+        self.terminal.wait(lambda: any(map(has_it, self.terminal.processes('cat'))), 'the reader of the pipe')
 
     def end_pipe(self, writer):
         """The pager ends before the pipe's producer does, and then the shell goes on."""

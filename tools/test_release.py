@@ -144,7 +144,7 @@ class ReleaseTests(unittest.TestCase):
     def test_the_pager_pages(self):
         self.assert_pages(f'{self.pager}/bin/minus text')
 
-    @unittest.skipUnless(shutil.which('cc'), 'there is no cc')
+    @unittest.skipUnless(shutil.which('cc', path=path_without_rt()), 'there is no cc')
     def test_c_pages(self):
         flags = ['-I../include', '-L../lib', '-lminus_c']
         if shutil.which('pkg-config'):
@@ -154,14 +154,14 @@ class ReleaseTests(unittest.TestCase):
         self.run_in_room('cc', *examples, *flags, '-o', 'page')
         self.assert_pages('./page text')
 
-    @unittest.skipUnless(shutil.which('cc'), 'there is no cc')
+    @unittest.skipUnless(shutil.which('cc', path=path_without_rt()), 'there is no cc')
     def test_python_pages(self):
         heap, archive = (os.path.join(self.library, path) for path in ('examples/heap.c', 'lib/libminus_c.a'))
         whole = ['-Wl,--whole-archive', archive, '-Wl,--no-whole-archive']
         self.run_in_room('cc', '-shared', '-fPIC', '-I', f'{self.library}/include', heap, *whole, '-o', 'libminus.so')
         self.assert_pages(f'{sys.executable} {self.library}/examples/page.py ./libminus.so text')
 
-    @unittest.skipUnless(shutil.which('cargo'), 'there is no cargo')
+    @unittest.skipUnless(shutil.which('cargo', path=path_without_rt()), 'there is no cargo')
     @unittest.skipIf(MISSING, f'{REGISTRY} has no {MISSING}')
     def test_rust_pages(self):
         os.mkdir(os.path.join(self.room, 'src'))
